@@ -13,16 +13,16 @@ abbrev pub accu_byte : (accumulator k : ℕ) → ℕ
 accu_byte accumulator k = accumulator / 2 ^ (8 * k) % 2 ^ 8
 
 -- TAK: accumulators 1 and 2 exchanged
-abbrev pub toggled : Regs → Regs
-toggled r = record r { a1 = r.a2; a2 = r.a1 }
+abbrev pub accumulators_toggled : Regs → Regs
+accumulators_toggled r = record r { a1 = r.a2; a2 = r.a1 }
 
 -- PUSH: accumulator 1 copied to accumulator 2
-abbrev pub pushed : Regs → Regs
-pushed r = record r { a2 = r.a1 }
+abbrev pub accumulator_pushed : Regs → Regs
+accumulator_pushed r = record r { a2 = r.a1 }
 
 -- POP: accumulator 2 copied to accumulator 1
-abbrev pub popped : Regs → Regs
-popped r = record r { a1 = r.a2 }
+abbrev pub accumulator_popped : Regs → Regs
+accumulator_popped r = record r { a1 = r.a2 }
 
 -- CAW: the bytes of ACCU 1-L in the opposite order
 unfoldable pub with_word_reversed : Regs → Regs
@@ -34,9 +34,9 @@ with_bytes_reversed r =
     record r { a1 = accu_byte r.a1 0 * 2 ^ 24 + accu_byte r.a1 1 * 2 ^ 16 + accu_byte r.a1 2 * 2 ^ 8 + accu_byte r.a1 3 }
 
 -- INC and +: n added to the lowest w bits of accumulator 1, modulo 2 ^ w
-unfoldable pub increased : (w n : ℕ) → Regs → Regs
-increased w n r = record r { a1 = with_low w r.a1 ((r.a1 + n) % 2 ^ w) }
+unfoldable pub accumulator_increased : (w n : ℕ) → Regs → Regs
+accumulator_increased w n r = record r { a1 = with_low w r.a1 ((r.a1 + n) % 2 ^ w) }
 
 -- DEC: n taken from the lowest w bits of accumulator 1, modulo 2 ^ w
-unfoldable pub decreased : (w n : ℕ) → Regs → Regs
-decreased w n r = record r { a1 = with_low w r.a1 (modulo w (pos r.a1 -ℤ pos n)) }
+unfoldable pub accumulator_decreased : (w n : ℕ) → Regs → Regs
+accumulator_decreased w n r = record r { a1 = with_low w r.a1 (modulo w (pos r.a1 -ℤ pos n)) }

@@ -6,7 +6,7 @@ use Rattle.status_word.specs.declared.registers.Regs.{Regs}
 use Rattle.alu.specs.declared.codes.Codes.{Codes}
 use Rattle.plc_base.specs.declared.instructions.Compare.{Compare}
 use Rattle.plc_base.specs.declared.instructions.Compare.TheVariants.{Eq, Ne, Gt, Lt, Ge, Le}
-use Rattle.alu.specs.Signed.{signed}
+use Rattle.alu.specs.Signed.{signed_value}
 use Rattle.alu.specs.Codes.{codes_shown}
 
 -- whether the comparison holds between the left and the right integer
@@ -32,5 +32,5 @@ with_comparison how left right r =
     record r { status = with_answer (holds_between how left right) (codes_shown (order_codes left right) r.status) }
 
 -- the comparison of accumulator 2 with accumulator 1 as integers of w bits, 16 or 32
-abbrev pub compared : (w : ℕ) → Compare → Regs → Regs
-compared w how r = with_comparison how (signed w r.a2) (signed w r.a1) r
+abbrev pub accumulators_compared : (w : ℕ) → Compare → Regs → Regs
+accumulators_compared w how r = with_comparison how (signed_value w r.a2) (signed_value w r.a1) r

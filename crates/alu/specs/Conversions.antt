@@ -4,16 +4,16 @@ use Rattle.std.specs.Prelude.{◌≡◌, ℕ, ◌-◌, ◌%◌, ◌^◌, Bool, t
 use Rattle.plc_base.specs.Bcd.{signed_of_bcd, bcd_of_signed}
 use Rattle.status_word.specs.declared.registers.Regs.{Regs}
 use Rattle.status_word.specs.declared.statuses.Status.{Status}
-use Rattle.alu.specs.Signed.{signed, modulo}
+use Rattle.alu.specs.Signed.{signed_value, modulo}
 use Rattle.alu.specs.Accumulators.{with_low}
 
 -- INVI (w = 16) and INVD (w = 32): each of the lowest w bits of accumulator 1 inverted
-unfoldable pub inverted : (w : ℕ) → Regs → Regs
-inverted w r = record r { a1 = with_low w r.a1 (2 ^ w - 1 - r.a1 % 2 ^ w) }
+unfoldable pub accumulator_inverted : (w : ℕ) → Regs → Regs
+accumulator_inverted w r = record r { a1 = with_low w r.a1 (2 ^ w - 1 - r.a1 % 2 ^ w) }
 
 -- ITD: the integer of 16 bits as one of 32
-unfoldable pub widened : Regs → Regs
-widened r = record r { a1 = modulo 32 (signed 16 r.a1) }
+unfoldable pub accumulator_widened : Regs → Regs
+accumulator_widened r = record r { a1 = modulo 32 (signed_value 16 r.a1) }
 
 -- BTI: the number of the signed BCD word of three digits in ACCU 1-L; none where it is no such word
 unfoldable pub from_bcd_word : Regs → Option Regs
@@ -35,8 +35,8 @@ with_bcd w (Some bcd) r = record r { a1 = with_low w r.a1 bcd; status = with_ove
 
 -- ITB: the integer in ACCU 1-L as a signed BCD word of three digits
 unfoldable pub to_bcd_word : Regs → Regs
-to_bcd_word r = with_bcd 16 (bcd_of_signed 3 (signed 16 r.a1)) r
+to_bcd_word r = with_bcd 16 (bcd_of_signed 3 (signed_value 16 r.a1)) r
 
 -- DTB: the integer in accumulator 1 as a signed BCD double word of seven digits
 unfoldable pub to_bcd_dword : Regs → Regs
-to_bcd_dword r = with_bcd 32 (bcd_of_signed 7 (signed 32 r.a1)) r
+to_bcd_dword r = with_bcd 32 (bcd_of_signed 7 (signed_value 32 r.a1)) r

@@ -4,8 +4,8 @@ use Rattle.std.specs.Prelude.{ℕ, ◌+◌, ◌-◌, ◌*◌, ◌/◌, ◌^◌, 
 use Rattle.status_word.specs.declared.registers.Regs.{Regs}
 use Rattle.status_word.specs.Check.{exclusive_or}
 use Rattle.alu.specs.declared.codes.Codes.{Codes}
-use Rattle.alu.specs.Signed.{signed, modulo, is_below_zero}
-use Rattle.alu.specs.Codes.{of_sign, unordered, codes_shown}
+use Rattle.alu.specs.Signed.{signed_value, modulo, is_below_zero}
+use Rattle.alu.specs.Codes.{of_sign, unordered_codes, codes_shown}
 
 -- the quotient cut toward zero: that of the sizes, negative where just one of the two numbers is
 abbrev pub quotient : (dividend divisor : ℤ) → ℤ
@@ -32,7 +32,7 @@ with_result accumulator codes r = record r { a1 = accumulator; status = codes_sh
 
 -- a division by zero: accumulator 1 stays, CC 1/1, OV 1, OS 1
 abbrev pub divided_by_zero : Regs → Regs
-divided_by_zero r = with_result r.a1 unordered r
+divided_by_zero r = with_result r.a1 unordered_codes r
 
 -- an overflow of the quotient: CC 1/0 and OV 1
 abbrev pub quotient_overflow : Codes
@@ -64,12 +64,12 @@ with_remainder dividend divisor r =
 
 -- /I
 abbrev pub divided_i : Regs → Regs
-divided_i r = with_words (signed 16 r.a2) (signed 16 r.a1) r
+divided_i r = with_words (signed_value 16 r.a2) (signed_value 16 r.a1) r
 
 -- /D
 abbrev pub divided_d : Regs → Regs
-divided_d r = with_quotient (signed 32 r.a2) (signed 32 r.a1) r
+divided_d r = with_quotient (signed_value 32 r.a2) (signed_value 32 r.a1) r
 
 -- MOD
 abbrev pub remainder_d : Regs → Regs
-remainder_d r = with_remainder (signed 32 r.a2) (signed 32 r.a1) r
+remainder_d r = with_remainder (signed_value 32 r.a2) (signed_value 32 r.a1) r

@@ -4,7 +4,7 @@ use Rattle.std.specs.Prelude.{ℕ, ◌-◌, ◌*◌, ◌/◌, ◌%◌, ◌^◌, 
 use Rattle.std.specs.Int.{int_shr}
 use Rattle.status_word.specs.declared.registers.Regs.{Regs}
 use Rattle.plc_base.specs.Bits.{has_bit}
-use Rattle.alu.specs.Signed.{signed, modulo}
+use Rattle.alu.specs.Signed.{signed_value, modulo}
 use Rattle.alu.specs.Codes.{codes_shown}
 use Rattle.alu.specs.Accumulators.{with_low}
 
@@ -38,4 +38,4 @@ unfoldable pub shifted_signed : (w n : ℕ) → Regs → Regs
 shifted_signed w n r =
     let places = min n w
     in if n == 0 then r
-    else with_shifted w (modulo w (int_shr (signed w r.a1) places)) (has_bit (r.a1 % 2 ^ w) (places - 1)) r
+    else with_shifted w (modulo w (int_shr (signed_value w r.a1) places)) (has_bit (r.a1 % 2 ^ w) (places - 1)) r

@@ -19,8 +19,8 @@ is_below_zero (pos n) = false
 is_below_zero (negsuc n) = true
 
 -- the integer in the lowest w bits of an accumulator
-unfoldable pub signed : (w accumulator : ℕ) → ℤ
-signed w accumulator = from_bits w (accumulator % 2 ^ w)
+unfoldable pub signed_value : (w accumulator : ℕ) → ℤ
+signed_value w accumulator = from_bits w (accumulator % 2 ^ w)
 
 -- what w bits keep of an integer: its remainder modulo 2 ^ w, which is not negative
 unfoldable pub modulo : (w : ℕ) → ℤ → ℕ

@@ -3,7 +3,7 @@
 use Rattle.std.specs.Prelude.{ℕ, ◌^◌, true, false, not, ◌==◌, if◌then◌else◌, ℤ, pos, ◌+ℤ◌, ◌-ℤ◌, neg_ℤ, unsigned_abs, int_lt}
 use Rattle.status_word.specs.declared.registers.Regs.{Regs}
 use Rattle.alu.specs.declared.codes.Codes.{Codes}
-use Rattle.alu.specs.Signed.{signed, modulo, in_range}
+use Rattle.alu.specs.Signed.{signed_value, modulo, in_range}
 use Rattle.alu.specs.Codes.{of_sign, codes_shown}
 use Rattle.alu.specs.Accumulators.{with_low}
 
@@ -19,13 +19,13 @@ unfoldable pub with_sum : (w : ℕ) → ℤ → Regs → Regs
 with_sum w z r = record r { a1 = with_low w r.a1 (modulo w z); status = codes_shown (sum_codes w z) r.status }
 
 -- +I (w = 16) and +D (w = 32): accumulator 2 plus accumulator 1
-abbrev pub added : (w : ℕ) → Regs → Regs
-added w r = with_sum w (signed w r.a2 +ℤ signed w r.a1) r
+abbrev pub accumulators_added : (w : ℕ) → Regs → Regs
+accumulators_added w r = with_sum w (signed_value w r.a2 +ℤ signed_value w r.a1) r
 
 -- -I and -D: accumulator 2 minus accumulator 1
-abbrev pub subtracted : (w : ℕ) → Regs → Regs
-subtracted w r = with_sum w (signed w r.a2 -ℤ signed w r.a1) r
+abbrev pub accumulators_subtracted : (w : ℕ) → Regs → Regs
+accumulators_subtracted w r = with_sum w (signed_value w r.a2 -ℤ signed_value w r.a1) r
 
 -- NEGI and NEGD: 0 minus accumulator 1
 abbrev pub accu_negated : (w : ℕ) → Regs → Regs
-accu_negated w r = with_sum w (neg_ℤ (signed w r.a1)) r
+accu_negated w r = with_sum w (neg_ℤ (signed_value w r.a1)) r

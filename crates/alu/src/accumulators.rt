@@ -1,11 +1,11 @@
 ghost use Rattle.std.specs.Prelude.{◌≡◌};
-ghost use Rattle.alu.specs.Accumulators.{toggled, pushed, popped, with_word_reversed, with_bytes_reversed, increased, decreased};
+ghost use Rattle.alu.specs.Accumulators.{accumulators_toggled, accumulator_pushed, accumulator_popped, with_word_reversed, with_bytes_reversed, accumulator_increased, accumulator_decreased};
 
 use status_word::Regs;
 
 /// TAK: toggles accumulator 1 with accumulator 2.
 pub fn tak(r: &mut Regs)
-    ensures { r.new ≡ toggled r.old }
+    ensures { r.new ≡ accumulators_toggled r.old }
 {
     let first = r.a1;
     r.a1 = r.a2;
@@ -14,14 +14,14 @@ pub fn tak(r: &mut Regs)
 
 /// PUSH: copies accumulator 1 to accumulator 2.
 pub fn push(r: &mut Regs)
-    ensures { r.new ≡ pushed r.old }
+    ensures { r.new ≡ accumulator_pushed r.old }
 {
     r.a2 = r.a1;
 }
 
 /// POP: copies accumulator 2 to accumulator 1.
 pub fn pop(r: &mut Regs)
-    ensures { r.new ≡ popped r.old }
+    ensures { r.new ≡ accumulator_popped r.old }
 {
     r.a1 = r.a2;
 }
@@ -44,36 +44,36 @@ pub fn cad(r: &mut Regs)
 }
 
 /// INC: adds `n` to ACCU 1-L-L, the lowest byte of accumulator 1, modulo 256.
-#[tactic(auto, unfolding(crate::specs::Accumulators::increased, crate::specs::Accumulators::with_low))]
+#[tactic(auto, unfolding(crate::specs::Accumulators::accumulator_increased, crate::specs::Accumulators::with_low))]
 pub fn inc(r: &mut Regs, n: u8)
-    ensures { r.new ≡ increased 8 n r.old }
+    ensures { r.new ≡ accumulator_increased 8 n r.old }
 {
     let low = r.a1 % 0x100;
     r.a1 = r.a1 - low + (low + u32::from(n)) % 0x100;
 }
 
 /// DEC: takes `n` from ACCU 1-L-L, the lowest byte of accumulator 1, modulo 256.
-#[tactic(auto, unfolding(crate::specs::Accumulators::decreased, crate::specs::Accumulators::with_low, crate::specs::Signed::modulo))]
+#[tactic(auto, unfolding(crate::specs::Accumulators::accumulator_decreased, crate::specs::Accumulators::with_low, crate::specs::Signed::modulo))]
 pub fn dec(r: &mut Regs, n: u8)
-    ensures { r.new ≡ decreased 8 n r.old }
+    ensures { r.new ≡ accumulator_decreased 8 n r.old }
 {
     let low = r.a1 % 0x100;
     r.a1 = r.a1 - low + (low + 0x100 - u32::from(n)) % 0x100;
 }
 
 /// `+ n`: adds `n` to ACCU 1-L, modulo 65536.
-#[tactic(auto, unfolding(crate::specs::Accumulators::increased, crate::specs::Accumulators::with_low))]
+#[tactic(auto, unfolding(crate::specs::Accumulators::accumulator_increased, crate::specs::Accumulators::with_low))]
 pub fn add_const(r: &mut Regs, n: u16)
-    ensures { r.new ≡ increased 16 n r.old }
+    ensures { r.new ≡ accumulator_increased 16 n r.old }
 {
     let low = r.a1 % 0x1_0000;
     r.a1 = r.a1 - low + (low + u32::from(n)) % 0x1_0000;
 }
 
 /// `+ L#n`: adds `n` to accumulator 1, modulo 4294967296.
-#[tactic(auto, unfolding(crate::specs::Accumulators::increased, crate::specs::Accumulators::with_low))]
+#[tactic(auto, unfolding(crate::specs::Accumulators::accumulator_increased, crate::specs::Accumulators::with_low))]
 pub fn add_const_wide(r: &mut Regs, n: u32)
-    ensures { r.new ≡ increased 32 n r.old }
+    ensures { r.new ≡ accumulator_increased 32 n r.old }
 {
     r.a1 = r.a1.wrapping_add(n);
 }

@@ -1,6 +1,6 @@
 ghost use Rattle.std.specs.Prelude.{◌≡◌};
 ghost use Rattle.alu.specs.Signed.{format_width};
-ghost use Rattle.alu.specs.Codes.{of_sign, unordered, codes_shown};
+ghost use Rattle.alu.specs.Codes.{of_sign, unordered_codes, codes_shown};
 ghost use Rattle.alu.specs.Sums.{sum_codes};
 ghost use Rattle.alu.specs.Division.{quotient_overflow};
 
@@ -46,7 +46,7 @@ impl Codes {
 
     /// A division by zero.
     pub(crate) fn unordered() -> Codes
-        ensures { result ≡ unordered }
+        ensures { result ≡ unordered_codes }
     {
         Codes::new(true, true, true)
     }

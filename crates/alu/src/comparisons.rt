@@ -1,7 +1,7 @@
 ghost use Rattle.std.specs.Prelude.{◌≡◌};
-ghost use Rattle.alu.specs.Signed.{format_width, signed};
+ghost use Rattle.alu.specs.Signed.{format_width, signed_value};
 ghost use Rattle.alu.specs.Codes.{codes_shown};
-ghost use Rattle.alu.specs.Comparison.{holds_between, order_codes, with_comparison, compared};
+ghost use Rattle.alu.specs.Comparison.{holds_between, order_codes, with_comparison, accumulators_compared};
 
 use crate::codes::Codes;
 use crate::formats::Format;
@@ -36,7 +36,7 @@ fn answer(r: &mut Regs, how: Compare, left: i64, right: i64)
 
 /// ==I, <>I, >I, <I, >=I and <=I: compares ACCU 2-L with ACCU 1-L as integers of 16 bits.
 pub fn compare_i(r: &mut Regs, how: Compare)
-    ensures { r.new ≡ compared 16 how r.old }
+    ensures { r.new ≡ accumulators_compared 16 how r.old }
 {
     let left = Format::Int.read(r.a2);
     let right = Format::Int.read(r.a1);
@@ -46,7 +46,7 @@ pub fn compare_i(r: &mut Regs, how: Compare)
 /// ==D, <>D, >D, <D, >=D and <=D: compares accumulator 2 with accumulator 1 as integers of 32
 /// bits.
 pub fn compare_d(r: &mut Regs, how: Compare)
-    ensures { r.new ≡ compared 32 how r.old }
+    ensures { r.new ≡ accumulators_compared 32 how r.old }
 {
     let left = Format::Dint.read(r.a2);
     let right = Format::Dint.read(r.a1);

@@ -2,33 +2,33 @@ ghost use Rattle.std.specs.Prelude.{◌≡◌, ◌<◌, ◌^◌};
 ghost use Rattle.std.specs.Option.{ForSome};
 ghost use Rattle.alu.specs.Signed.{format_width};
 ghost use Rattle.plc_base.specs.Changes.{ChangesOrStays};
-ghost use Rattle.alu.specs.Conversions.{inverted, widened, from_bcd_word, from_bcd_dword, to_bcd_word, to_bcd_dword, with_bcd, with_overflow};
+ghost use Rattle.alu.specs.Conversions.{accumulator_inverted, accumulator_widened, from_bcd_word, from_bcd_dword, to_bcd_word, to_bcd_dword, with_bcd, with_overflow};
 
 use crate::formats::{Format, dint_of, int_of, low_dword, word_of};
 use plc_base::{BadBcd, bcd_to_int, bcd7_to_dint, dint_to_bcd7, int_to_bcd};
 use status_word::{Regs, Status};
 
 /// INVI: the ones' complement of ACCU 1-L.
-#[tactic(auto, unfolding(crate::specs::Conversions::inverted))]
+#[tactic(auto, unfolding(crate::specs::Conversions::accumulator_inverted))]
 pub fn inv_i(r: &mut Regs)
-    ensures { r.new ≡ inverted 16 r.old }
+    ensures { r.new ≡ accumulator_inverted 16 r.old }
 {
     let word = word_of(r.a1);
     r.a1 = Format::Int.replace(r.a1, u32::from(!word));
 }
 
 /// INVD: the ones' complement of accumulator 1.
-#[tactic(auto, unfolding(crate::specs::Conversions::inverted, crate::specs::Accumulators::with_low))]
+#[tactic(auto, unfolding(crate::specs::Conversions::accumulator_inverted, crate::specs::Accumulators::with_low))]
 pub fn inv_d(r: &mut Regs)
-    ensures { r.new ≡ inverted 32 r.old }
+    ensures { r.new ≡ accumulator_inverted 32 r.old }
 {
     r.a1 = !r.a1;
 }
 
 /// ITD: the integer of 16 bits in ACCU 1-L as an integer of 32 bits in accumulator 1.
-#[tactic(auto, unfolding(crate::specs::Conversions::widened))]
+#[tactic(auto, unfolding(crate::specs::Conversions::accumulator_widened))]
 pub fn itd(r: &mut Regs)
-    ensures { r.new ≡ widened r.old }
+    ensures { r.new ≡ accumulator_widened r.old }
 {
     r.a1 = low_dword(Format::Int.read(r.a1));
 }

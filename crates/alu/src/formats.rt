@@ -1,5 +1,5 @@
 ghost use Rattle.std.specs.Prelude.{◌≡◌, ◌<◌, ◌≤◌, ◌-◌, ◌%◌, ◌^◌, negsuc, pos, ◌≤ℤ◌, ◌<ℤ◌, unsigned_abs};
-ghost use Rattle.alu.specs.Signed.{format_width, signed, modulo, in_range};
+ghost use Rattle.alu.specs.Signed.{format_width, signed_value, modulo, in_range};
 ghost use Rattle.alu.specs.Accumulators.{with_low};
 
 /// The format of the integers that an instruction works on: INT, 16 bits in the low word of an
@@ -13,7 +13,7 @@ pub(crate) enum Format {
 impl Format {
     /// The integer in an accumulator.
     pub(crate) fn read(self, accumulator: u32) -> i64
-        ensures value { result ≡ signed (format_width self) accumulator }
+        ensures value { result ≡ signed_value (format_width self) accumulator }
         ensures size { unsigned_abs result ≤ 2 ^ 31 }
         ensures low { negsuc (2 ^ 31 - 1) ≤ℤ result }
         ensures high { result <ℤ pos (2 ^ 31) }
@@ -121,17 +121,17 @@ pub(crate) fn word_of(accumulator: u32) -> u16
 }
 
 /// The integer of 16 bits in the low word of an accumulator.
-#[tactic(auto, unfolding(crate::specs::Signed::signed))]
+#[tactic(auto, unfolding(crate::specs::Signed::signed_value))]
 pub(crate) fn int_of(accumulator: u32) -> i16
-    ensures { result ≡ signed 16 accumulator }
+    ensures { result ≡ signed_value 16 accumulator }
 {
     word_of(accumulator).cast_signed()
 }
 
 /// The integer of 32 bits in an accumulator.
-#[tactic(auto, unfolding(crate::specs::Signed::signed))]
+#[tactic(auto, unfolding(crate::specs::Signed::signed_value))]
 pub(crate) fn dint_of(accumulator: u32) -> i32
-    ensures { result ≡ signed 32 accumulator }
+    ensures { result ≡ signed_value 32 accumulator }
 {
     accumulator.cast_signed()
 }

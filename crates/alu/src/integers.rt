@@ -1,7 +1,7 @@
 ghost use Rattle.std.specs.Prelude.{◌≡◌, ◌<◌, ◌≤◌, ◌+◌, ◌*◌, ◌^◌, ◌*ℤ◌, unsigned_abs, is_none, IfSome};
-ghost use Rattle.alu.specs.Signed.{format_width, signed};
-ghost use Rattle.alu.specs.Sums.{with_sum, added, subtracted, accu_negated};
-ghost use Rattle.alu.specs.Products.{with_product, multiplied};
+ghost use Rattle.alu.specs.Signed.{format_width, signed_value};
+ghost use Rattle.alu.specs.Sums.{with_sum, accumulators_added, accumulators_subtracted, accu_negated};
+ghost use Rattle.alu.specs.Products.{with_product, accumulators_multiplied};
 ghost use Rattle.alu.specs.Division.{quotient, remainder, is_zero, is_least_by_minus_one, with_result, divided_by_zero, divided_i, divided_d, remainder_d};
 
 use crate::codes::Codes;
@@ -19,7 +19,7 @@ fn put_sum(r: &mut Regs, format: Format, sum: i64)
 
 /// +I: adds ACCU 1-L to ACCU 2-L as integers of 16 bits.
 pub fn add_i(r: &mut Regs)
-    ensures { r.new ≡ added 16 r.old }
+    ensures { r.new ≡ accumulators_added 16 r.old }
 {
     let sum = Format::Int.read(r.a2) + Format::Int.read(r.a1);
     put_sum(r, Format::Int, sum);
@@ -27,7 +27,7 @@ pub fn add_i(r: &mut Regs)
 
 /// +D: adds accumulator 1 to accumulator 2 as integers of 32 bits.
 pub fn add_d(r: &mut Regs)
-    ensures { r.new ≡ added 32 r.old }
+    ensures { r.new ≡ accumulators_added 32 r.old }
 {
     let sum = Format::Dint.read(r.a2) + Format::Dint.read(r.a1);
     put_sum(r, Format::Dint, sum);
@@ -35,7 +35,7 @@ pub fn add_d(r: &mut Regs)
 
 /// -I: subtracts ACCU 1-L from ACCU 2-L as integers of 16 bits.
 pub fn sub_i(r: &mut Regs)
-    ensures { r.new ≡ subtracted 16 r.old }
+    ensures { r.new ≡ accumulators_subtracted 16 r.old }
 {
     let difference = Format::Int.read(r.a2) - Format::Int.read(r.a1);
     put_sum(r, Format::Int, difference);
@@ -43,7 +43,7 @@ pub fn sub_i(r: &mut Regs)
 
 /// -D: subtracts accumulator 1 from accumulator 2 as integers of 32 bits.
 pub fn sub_d(r: &mut Regs)
-    ensures { r.new ≡ subtracted 32 r.old }
+    ensures { r.new ≡ accumulators_subtracted 32 r.old }
 {
     let difference = Format::Dint.read(r.a2) - Format::Dint.read(r.a1);
     put_sum(r, Format::Dint, difference);
@@ -86,7 +86,7 @@ fn put_product(r: &mut Regs, format: Format, product: i64)
 
 /// *I: multiplies ACCU 2-L by ACCU 1-L as integers of 16 bits; the product has 32.
 pub fn mul_i(r: &mut Regs)
-    ensures { r.new ≡ multiplied 16 r.old }
+    ensures { r.new ≡ accumulators_multiplied 16 r.old }
 {
     let product = product(Format::Int.read(r.a2), Format::Int.read(r.a1));
     put_product(r, Format::Int, product);
@@ -94,7 +94,7 @@ pub fn mul_i(r: &mut Regs)
 
 /// *D: multiplies accumulator 2 by accumulator 1 as integers of 32 bits.
 pub fn mul_d(r: &mut Regs)
-    ensures { r.new ≡ multiplied 32 r.old }
+    ensures { r.new ≡ accumulators_multiplied 32 r.old }
 {
     let product = product(Format::Dint.read(r.a2), Format::Dint.read(r.a1));
     put_product(r, Format::Dint, product);

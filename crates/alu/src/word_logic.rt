@@ -1,6 +1,6 @@
 ghost use Rattle.std.specs.Prelude.{◌≡◌, ◌<◌, ◌%◌, ◌^◌};
 ghost use Rattle.alu.specs.Signed.{format_width};
-ghost use Rattle.alu.specs.WordLogic.{logic_operand, with_combined, anded, ored, xored};
+ghost use Rattle.alu.specs.WordLogic.{logic_operand, with_combined, accumulator_anded, accumulator_ored, accumulator_xored};
 
 use crate::codes::Codes;
 use crate::formats::{Format, word_of};
@@ -36,7 +36,7 @@ fn put_combined(r: &mut Regs, format: Format, bits: u32)
 
 /// AW: combines ACCU 1-L with the constant, or else with ACCU 2-L, by AND.
 pub fn and_w(r: &mut Regs, k: Option<u16>)
-    ensures { r.new ≡ anded 16 k r.old }
+    ensures { r.new ≡ accumulator_anded 16 k r.old }
 {
     let (first, second) = operands(r, k);
     put_combined(r, Format::Int, u32::from(first & second));
@@ -44,7 +44,7 @@ pub fn and_w(r: &mut Regs, k: Option<u16>)
 
 /// OW: combines ACCU 1-L with the constant, or else with ACCU 2-L, by OR.
 pub fn or_w(r: &mut Regs, k: Option<u16>)
-    ensures { r.new ≡ ored 16 k r.old }
+    ensures { r.new ≡ accumulator_ored 16 k r.old }
 {
     let (first, second) = operands(r, k);
     put_combined(r, Format::Int, u32::from(first | second));
@@ -52,7 +52,7 @@ pub fn or_w(r: &mut Regs, k: Option<u16>)
 
 /// XOW: combines ACCU 1-L with the constant, or else with ACCU 2-L, by exclusive OR.
 pub fn xor_w(r: &mut Regs, k: Option<u16>)
-    ensures { r.new ≡ xored 16 k r.old }
+    ensures { r.new ≡ accumulator_xored 16 k r.old }
 {
     let (first, second) = operands(r, k);
     put_combined(r, Format::Int, u32::from(first ^ second));
@@ -60,7 +60,7 @@ pub fn xor_w(r: &mut Regs, k: Option<u16>)
 
 /// AD: combines accumulator 1 with the constant, or else with accumulator 2, by AND.
 pub fn and_d(r: &mut Regs, k: Option<u32>)
-    ensures { r.new ≡ anded 32 k r.old }
+    ensures { r.new ≡ accumulator_anded 32 k r.old }
 {
     let (first, second) = wide_operands(r, k);
     put_combined(r, Format::Dint, first & second);
@@ -68,7 +68,7 @@ pub fn and_d(r: &mut Regs, k: Option<u32>)
 
 /// OD: combines accumulator 1 with the constant, or else with accumulator 2, by OR.
 pub fn or_d(r: &mut Regs, k: Option<u32>)
-    ensures { r.new ≡ ored 32 k r.old }
+    ensures { r.new ≡ accumulator_ored 32 k r.old }
 {
     let (first, second) = wide_operands(r, k);
     put_combined(r, Format::Dint, first | second);
@@ -76,7 +76,7 @@ pub fn or_d(r: &mut Regs, k: Option<u32>)
 
 /// XOD: combines accumulator 1 with the constant, or else with accumulator 2, by exclusive OR.
 pub fn xor_d(r: &mut Regs, k: Option<u32>)
-    ensures { r.new ≡ xored 32 k r.old }
+    ensures { r.new ≡ accumulator_xored 32 k r.old }
 {
     let (first, second) = wide_operands(r, k);
     put_combined(r, Format::Dint, first ^ second);

@@ -8,8 +8,8 @@ use Rattle.plc_base.specs.Least.{least, lesser}
 use Rattle.plc_base.proofs.LeastLemmas.{least-append, lesser_assoc, lesser_nothing}
 use Rattle.block_layout.specs.declared.cells.Cell.{Cell}
 use Rattle.block_layout.specs.declared.verdicts.Verdict.{Verdict}
-use Rattle.block_layout.specs.Around.{Outside, in_rest, onto}
-use Rattle.block_layout.specs.Cells.{cell_of, cells_of, is_sound, is_temp, opened}
+use Rattle.block_layout.specs.Around.{Outside, refusals_in_rest, declarations_before_next}
+use Rattle.block_layout.specs.Cells.{cell_of, cells_of, is_sound, is_temp, with_first_cell_opening}
 use Rattle.block_layout.specs.Rule21.{broken_21}
 use Rattle.block_layout.specs.Rule56.{broken_56}
 use Rattle.block_layout.specs.Types.{Types}
@@ -75,24 +75,24 @@ cells_begun y o section before [] = refl
 cells_begun y o section before (d ∷ ds) = ap (λ (l : List Cell). cell_of y o section before d ∷ l) (cells_begun y o section (d ∷ before) ds)
 
 opened_step : (y : Types) (section : PartKind) (d : Declaration) (sound : Bool) (vs : List Verdict) (ds : List Declaration) (rest : List Cell) →
-    cells_by y section true vs ds ≡ rest → cells_by y section false vs ds ≡ opened rest →
-    cell_with y section sound (not false && sound) d ∷ cells_by y section (false || sound) vs ds ≡ opened (cell_with y section sound false d ∷ rest)
+    cells_by y section true vs ds ≡ rest → cells_by y section false vs ds ≡ with_first_cell_opening rest →
+    cell_with y section sound (not false && sound) d ∷ cells_by y section (false || sound) vs ds ≡ with_first_cell_opening (cell_with y section sound false d ∷ rest)
 unfolding cell_with
 opened_step y section d true vs ds rest begun closed = ap (λ (l : List Cell). cell_with y section true true d ∷ l) begun
 opened_step y section d false vs ds rest begun closed = ap (λ (l : List Cell). cell_with y section false false d ∷ l) closed
 
-pub cells_opened : (y : Types) (o : Outside) (section : PartKind) (before ds : List Declaration) → cells_by y section false (verdicts_of y o before ds) ds ≡ opened (cells_of y o section before ds)
+pub cells_opened : (y : Types) (o : Outside) (section : PartKind) (before ds : List Declaration) → cells_by y section false (verdicts_of y o before ds) ds ≡ with_first_cell_opening (cells_of y o section before ds)
 unfolding cell_with cell_of
 cells_opened y o section before [] = refl
 cells_opened y o section before (d ∷ ds) =
     opened_step y section d (is_sound y o before d) (verdicts_of y o (d ∷ before) ds) ds (cells_of y o section (d ∷ before) ds)
     (cells_begun y o section (d ∷ before) ds) (cells_opened y o section (d ∷ before) ds)
 
-pub twice_same : (y : Types) (o : Outside) (before ds : List Declaration) → by_verdicts twice_by (verdicts_of y o before ds) ds ≡ in_rest (broken_21 o) before ds
+pub twice_same : (y : Types) (o : Outside) (before ds : List Declaration) → by_verdicts twice_by (verdicts_of y o before ds) ds ≡ refusals_in_rest (broken_21 o) before ds
 twice_same y o before [] = refl
 twice_same y o before (d ∷ ds) = ap (λ (l : List Refusal). broken_21 o before d ++ l) (twice_same y o (d ∷ before) ds)
 
-pub deep_same : (y : Types) (o : Outside) (before ds : List Declaration) → by_verdicts deep_by (verdicts_of y o before ds) ds ≡ in_rest (broken_56 y o) before ds
+pub deep_same : (y : Types) (o : Outside) (before ds : List Declaration) → by_verdicts deep_by (verdicts_of y o before ds) ds ≡ refusals_in_rest (broken_56 y o) before ds
 deep_same y o before [] = refl
 deep_same y o before (d ∷ ds) = ap (λ (l : List Refusal). broken_56 y o before d ++ l) (deep_same y o (d ∷ before) ds)
 
@@ -104,10 +104,10 @@ pub section_added : (y : Types) (o : Outside) (before : List Declaration) (p : P
     SectionAdded y o before p old new open_
 section_added y o before p old new open_ vs us ds are same judged are_components are_temps is_twice is_deep =
     let by : us ≡ verdicts_of y o before p.items = same ∙ judged.verdicts ∙ ap (λ (l : List Declaration). verdicts_of y o before l) are in
-    let cells : cells_by y p.kind false us p.items ≡ opened (cells_of y o p.kind before p.items) =
+    let cells : cells_by y p.kind false us p.items ≡ with_first_cell_opening (cells_of y o p.kind before p.items) =
     ap (λ (l : List Verdict). cells_by y p.kind false l p.items) by ∙ cells_opened y o p.kind before p.items in
     record {
-      lists = subst (λ (l : List Declaration). AreOpen y o (onto before l) open_) are judged.lists;
+      lists = subst (λ (l : List Declaration). AreOpen y o (declarations_before_next before l) open_) are judged.lists;
       components = are_components ∙ ap (λ (l : List Cell). old.components.items ++ (if is_temp p.kind then [] else l)) cells;
       temps = are_temps ∙ ap (λ (l : List Cell). old.temps.items ++ (if is_temp p.kind then l else [])) cells;
       twice = is_twice ∙ ap (λ (l : List Refusal). lesser old.twice (least l)) (ap (λ (l : List Declaration). by_verdicts twice_by us l) are ∙ ap (λ (l : List Verdict). by_verdicts twice_by l p.items) by ∙ twice_same y o before p.items);

@@ -8,8 +8,8 @@ use Rattle.std.specs.List.{list_any, slice_get}
 use Rattle.plc_base.specs.Kinds.{is_data_type}
 use Rattle.stl_ast.specs.declared.blocks.Block.{Block}
 use Rattle.block_layout.specs.Rule43.{contains_itself, leads_to, uses_of}
-use Rattle.block_layout.specs.Heads.{flagged}
-use Rattle.block_layout.specs.Cycles.{Marks, is_new, spread, uses_of_all, with_mark, with_marks}
+use Rattle.block_layout.specs.Heads.{breach_flags}
+use Rattle.block_layout.specs.Cycles.{Marks, is_new, with_uses_marked, uses_of_all, with_mark, with_marks}
 use Rattle.block_layout.specs.Types.{Types}
 
 -- ---- a number among others
@@ -261,7 +261,7 @@ first_uses uses b bs x used =
     (λ later. inr (used.0, later, used.2))
     used.1
 
-marked_spread : (uses : List (List ℕ)) (m : Marks) (bs : List ℕ) → Marked (UsedBy uses bs) m (spread uses m bs)
+marked_spread : (uses : List (List ℕ)) (m : Marks) (bs : List ℕ) → Marked (UsedBy uses bs) m (with_uses_marked uses m bs)
 marked_spread uses m [] = record {
   size = refl;
   kept = λ x old. old;
@@ -273,7 +273,7 @@ marked_spread uses m [] = record {
 }
 marked_spread uses m (b ∷ bs) =
     let own = get_or uses b [] in
-    then (λ x. Among x own) (UsedBy uses bs) (UsedBy uses (b ∷ bs)) m (with_marks m own) (spread uses (with_marks m own) bs)
+    then (λ x. Among x own) (UsedBy uses bs) (UsedBy uses (b ∷ bs)) m (with_marks m own) (with_uses_marked uses (with_marks m own) bs)
     (λ x among. (b, inl refl, among)) (λ x used. (used.0, inr used.1, used.2)) (first_uses uses b bs)
     (marked_all m own) (marked_spread uses (with_marks m own) bs)
 
@@ -319,7 +319,7 @@ first_round y blocks a reached found none only = subst (λ (l : List Bool). IsRo
     }))
 
 pub next_round : (y : Types) (blocks : List Block) (a s : ℕ) (uses : List (List ℕ)) (reached : List Bool) (found : List ℕ) (after : Marks) →
-    uses ≡ uses_of_all y blocks → after ≡ spread uses (reached, []) found → IsRound y blocks a s reached found →
+    uses ≡ uses_of_all y blocks → after ≡ with_uses_marked uses (reached, []) found → IsRound y blocks a s reached found →
     IsRound y blocks a (suc s) after.0 after.1
 next_round y blocks a s uses reached found after are is_after r =
     let m : Marked (UsedBy uses found) (reached, []) after = subst (λ (k : Marks). Marked (UsedBy uses found) (reached, []) k) (sym is_after) (marked_spread uses (reached, []) found) in
@@ -420,11 +420,11 @@ contains_by y blocks before b us place r are here is_type is_r =
     (is_r ∙ ap (λ (n : ℕ). leads_to y blocks n place place) (length-uses y blocks us are) ∙ ap (λ (n : ℕ). leads_to y blocks (length blocks) n n) (sym here))
 
 pub flags_next : (breaks : List Block → Block → Bool) (bs : List Block) (i : ℕ) (b : Block) (before : List Block) (done now whole : List Bool) (flag : Bool) → i < length bs → b ≡ get_or bs i b →
-    flag ≡ breaks before b → now ≡ done ++ flag ∷ [] → done ++ flagged breaks before (drop i bs) ≡ whole → now ++ flagged breaks (b ∷ before) (drop (i + 1) bs) ≡ whole
+    flag ≡ breaks before b → now ≡ done ++ flag ∷ [] → done ++ breach_flags breaks before (drop i bs) ≡ whole → now ++ breach_flags breaks (b ∷ before) (drop (i + 1) bs) ≡ whole
 flags_next breaks bs i b before done now whole flag within is_b is_flag is_now so_far =
-    ap (λ (l : List Bool). l ++ flagged breaks (b ∷ before) (drop (i + 1) bs)) (is_now ∙ ap (λ (f : Bool). done ++ f ∷ []) is_flag)
-    ∙ append_assoc done (breaks before b ∷ []) (flagged breaks (b ∷ before) (drop (i + 1) bs))
-    ∙ ap (λ (l : List Block). done ++ flagged breaks before l) (sym (drop_more bs i b within ∙ ap (λ (x : Block). x ∷ drop (i + 1) bs) (sym is_b))) ∙ so_far
+    ap (λ (l : List Bool). l ++ breach_flags breaks (b ∷ before) (drop (i + 1) bs)) (is_now ∙ ap (λ (f : Bool). done ++ f ∷ []) is_flag)
+    ∙ append_assoc done (breaks before b ∷ []) (breach_flags breaks (b ∷ before) (drop (i + 1) bs))
+    ∙ ap (λ (l : List Block). done ++ breach_flags breaks before l) (sym (drop_more bs i b within ∙ ap (λ (x : Block). x ∷ drop (i + 1) bs) (sym is_b))) ∙ so_far
 
 -- one more block is marked, of those from a place on
 pub marks_turn : (m n whole : Marks) (bs : List ℕ) (i b : ℕ) → i < length bs → b ≡ get_or bs i b → n ≡ with_mark m b →
@@ -435,7 +435,7 @@ marks_turn m n whole bs i b within is_b is_n so_far =
 
 -- what one more block uses is marked
 pub spread_turn : (uses : List (List ℕ)) (m n whole : Marks) (bs : List ℕ) (i b : ℕ) → i < length bs → b ≡ get_or bs i b → n ≡ with_marks m (get_or uses b []) →
-    spread uses m (drop i bs) ≡ whole → spread uses n (drop (i + 1) bs) ≡ whole
+    with_uses_marked uses m (drop i bs) ≡ whole → with_uses_marked uses n (drop (i + 1) bs) ≡ whole
 spread_turn uses m n whole bs i b within is_b is_n so_far =
-    ap (λ (k : Marks). spread uses k (drop (i + 1) bs)) is_n
-    ∙ ap (λ (l : List ℕ). spread uses m l) (sym (drop_more bs i b within ∙ ap (λ (x : ℕ). x ∷ drop (i + 1) bs) (sym is_b))) ∙ so_far
+    ap (λ (k : Marks). with_uses_marked uses k (drop (i + 1) bs)) is_n
+    ∙ ap (λ (l : List ℕ). with_uses_marked uses m l) (sym (drop_more bs i b within ∙ ap (λ (x : ℕ). x ∷ drop (i + 1) bs) (sym is_b))) ∙ so_far

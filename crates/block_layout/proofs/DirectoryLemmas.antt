@@ -8,8 +8,8 @@ use Rattle.std.proofs.lemmas.Bool.{cases_Bool}
 use Rattle.std.proofs.lemmas.Bool.Decides.{nat_tests}
 use Rattle.plc_base.specs.Kinds.{is_same_kind}
 use Rattle.plc_base.specs.declared.blocks.BlockId.{BlockId}
-use Rattle.block_layout.specs.Blocks.{block_place, is_id}
-use Rattle.block_layout.specs.Numbered.{is_number, numbered_place, number_of, numbers_of}
+use Rattle.block_layout.specs.Blocks.{place_of_block, is_id}
+use Rattle.block_layout.specs.Numbered.{block_has_number, numbered_place, number_of_kind, numbers_of_kind}
 
 order_apart : (n q : ℕ) → nat_eq q n ≡ false → is_eq (nat_cmp n q) ≡ false
 order_apart n q d =
@@ -19,7 +19,7 @@ order_apart n q d =
     (cases_Bool (nat_lt n q))
 
 one_more : (q : ℕ) (ns : List (Option ℕ)) (m : Option ℕ) →
-    numbered_place q (ns ++ m ∷ []) ≡ option_or (numbered_place q ns) (if is_number q m then Some (length ns) else None)
+    numbered_place q (ns ++ m ∷ []) ≡ option_or (numbered_place q ns) (if block_has_number q m then Some (length ns) else None)
 one_more q [] m = grind arith
 one_more q (n ∷ ns) m = let later = one_more q ns m in grind arith
 
@@ -59,7 +59,7 @@ number_new before after ns now n is_index unknown is_now updates q =
     grind (arith, more, d, apart, here))
     (cases_Bool (nat_eq q n)) ∙ ap (λ (l : List (Option ℕ)). numbered_place q l) (sym is_now)
 
-same_number : (id : BlockId) (other : Option BlockId) → is_number id.number (number_of id.kind other) ≡ is_id id other
+same_number : (id : BlockId) (other : Option BlockId) → block_has_number id.number (number_of_kind id.kind other) ≡ is_id id other
 same_number id None = refl
 same_number id (Some other) =
     ⊎_elim
@@ -67,6 +67,6 @@ same_number id (Some other) =
     (λ n. rw n refl)
     (cases_Bool (is_same_kind id.kind other.kind))
 
-pub place_by_kind : (id : BlockId) (ids : List (Option BlockId)) → numbered_place id.number (numbers_of id.kind ids) ≡ block_place id ids
+pub place_by_kind : (id : BlockId) (ids : List (Option BlockId)) → numbered_place id.number (numbers_of_kind id.kind ids) ≡ place_of_block id ids
 place_by_kind id [] = refl
 place_by_kind id (i ∷ is) = let here = same_number id i in let later = place_by_kind id is in rw here (rw later refl)

@@ -15,7 +15,7 @@ use Rattle.plc_base.proofs.LeastLemmas.{least-append}
 use Rattle.plc_base.proofs.GatheredLemmas.{gathered_done, gathered_next}
 use Rattle.block_layout.specs.Heads.{on_heads}
 use Rattle.block_layout.specs.Rule53.{data_blocks}
-use Rattle.block_layout.specs.Rule54.{data_length, total}
+use Rattle.block_layout.specs.Rule54.{data_length, total_data_length}
 use Rattle.block_layout.specs.Types.{Types}
 
 gathered_by_itself : (p : Block → Bool) (rule : ℕ) (before blocks : List Block) →
@@ -89,10 +89,10 @@ pub mapped_at : (f : Block → ℕ) (blocks : List Block) (ns : List ℕ) (i : �
 mapped_at f blocks ns i b are within is_b = ap (λ (l : List ℕ). get_or l i 0) are ∙ get_or-map f blocks i b 0 within ∙ ap f (sym is_b)
 
 -- one block more in a total that is held at a greatest number
-pub total_more : (y : Types) (blocks : List Block) (b : Block) (before : List Block) (sum one next most : ℕ) → sum ≡ min (total y blocks before) most → one ≡ data_length y blocks b →
-    next ≡ min (sum + one) most → next ≡ min (total y blocks (b ∷ before)) most
+pub total_more : (y : Types) (blocks : List Block) (b : Block) (before : List Block) (sum one next most : ℕ) → sum ≡ min (total_data_length y blocks before) most → one ≡ data_length y blocks b →
+    next ≡ min (sum + one) most → next ≡ min (total_data_length y blocks (b ∷ before)) most
 total_more y blocks b before sum one next most is_sum is_one is_next =
-    let all : total y blocks (b ∷ before) ≡ data_length y blocks b + total y blocks before = sum_by-cons (data_length y blocks) b before in
+    let all : total_data_length y blocks (b ∷ before) ≡ data_length y blocks b + total_data_length y blocks before = sum_by-cons (data_length y blocks) b before in
     omega (arith, all, is_sum, is_one, is_next)
 
 -- ten tests in two steps

@@ -8,9 +8,9 @@ use Rattle.stl_ast.specs.declared.blocks.Block.{Block}
 use Rattle.stl_symbols.specs.Symbol.{Symbol}
 use Rattle.block_layout.specs.Before.{IsBefore}
 use Rattle.block_layout.specs.Blocks.{id_of, ids_of}
-use Rattle.block_layout.specs.Heads.{flagged}
+use Rattle.block_layout.specs.Heads.{breach_flags}
 use Rattle.block_layout.specs.Layouts.{block_layout, layouts_by, layouts_from}
-use Rattle.block_layout.specs.Measures.{types_of, with_all_bits, with_all_depths}
+use Rattle.block_layout.specs.Measures.{types_of_source, with_all_bits, with_all_depths}
 use Rattle.block_layout.specs.Rule43.{contains_itself, leads_to}
 use Rattle.block_layout.specs.Types.{Types}
 use Rattle.block_layout.specs.declared.blocks.BlockLayout.{BlockLayout}
@@ -50,7 +50,7 @@ laid_end y blocks done b at over =
 
 -- a data type contains itself whatever stands before it, but for their number
 pub itself_at : (y : Types) (blocks bs start before : List Block) (k : ℕ) (b : Block) → k < length bs → length before ≡ k + length start →
-    get_or (flagged (contains_itself y blocks) start bs) k false ≡ contains_itself y blocks before (get_or bs k b)
+    get_or (breach_flags (contains_itself y blocks) start bs) k false ≡ contains_itself y blocks before (get_or bs k b)
 itself_at y blocks [] start before k b within same = absurd (let never : ⊥ = omega arith in never)
 itself_at y blocks (x ∷ xs) start before zero b within same =
     let here : length start ≡ length before = omega arith in ap (λ (n : ℕ). is_data_type x.kind && leads_to y blocks (length blocks) n n) here
@@ -62,15 +62,15 @@ unfolding block_layout
 ids_laid y blocks before [] = refl
 ids_laid y blocks before (b ∷ bs) = ap (λ (l : List (Option BlockId)). id_of y.symbols b ∷ l) (ids_laid y blocks (b ∷ before) bs)
 
-measured_ids : (symbols : List Symbol) (blocks : List Block) → (types_of symbols blocks).ids ≡ ids_of symbols blocks
-unfolding types_of with_all_bits with_all_depths
+measured_ids : (symbols : List Symbol) (blocks : List Block) → (types_of_source symbols blocks).ids ≡ ids_of symbols blocks
+unfolding types_of_source with_all_bits with_all_depths
 measured_ids symbols blocks = refl
 
-measured_symbols : (symbols : List Symbol) (blocks : List Block) → (types_of symbols blocks).symbols ≡ symbols
-unfolding types_of with_all_bits with_all_depths
+measured_symbols : (symbols : List Symbol) (blocks : List Block) → (types_of_source symbols blocks).symbols ≡ symbols
+unfolding types_of_source with_all_bits with_all_depths
 measured_symbols symbols blocks = refl
 
-pub ids_listed : (symbols : List Symbol) (blocks : List Block) → (types_of symbols blocks).ids ≡ map (λ b. b.id) (layouts_by (types_of symbols blocks) blocks)
+pub ids_listed : (symbols : List Symbol) (blocks : List Block) → (types_of_source symbols blocks).ids ≡ map (λ b. b.id) (layouts_by (types_of_source symbols blocks) blocks)
 unfolding layouts_by
 ids_listed symbols blocks =
-    measured_ids symbols blocks ∙ ap (λ (s : List Symbol). ids_of s blocks) (sym (measured_symbols symbols blocks)) ∙ sym (ids_laid (types_of symbols blocks) blocks [] blocks)
+    measured_ids symbols blocks ∙ ap (λ (s : List Symbol). ids_of s blocks) (sym (measured_symbols symbols blocks)) ∙ sym (ids_laid (types_of_source symbols blocks) blocks [] blocks)

@@ -9,7 +9,7 @@ use Rattle.block_layout.specs.declared.blocks.Shape.TheVariants as shape
 use Rattle.block_layout.specs.declared.outlines.Outline.{Outline}
 use Rattle.block_layout.specs.Cells.{components_of, temps_of}
 use Rattle.block_layout.specs.Facts.{outline_of}
-use Rattle.block_layout.specs.Lengths.{bits_of_cells, block_bits, is_structured, length_of, shape_of}
+use Rattle.block_layout.specs.Lengths.{bits_of_cells, block_bits, is_structured, length_of_block, shape_of}
 use Rattle.block_layout.specs.Types.{Types}
 
 got_mapped : {X Z : Type 0} (f : X → Z) (xs : List X) (i : ℕ) → slice_get (map f xs) i ≡ option_map f (slice_get xs i)
@@ -29,20 +29,20 @@ bits_there y blocks outlines place r are is_r =
     ∙ ap (λ (o : Option (List Cell)). bits_of_cells o) (components_there y (slice_get blocks place))
 
 pub own_length : (y : Types) (blocks : List Block) (b : Block) (outlines : List Outline) (place r : ℕ) (s : Shape) → outlines ≡ map (outline_of y) blocks → slice_get blocks place ≡ Some b →
-    s ≡ shape_of y b → s ≡ shape.Own → is_structured b.kind ≡ true → r ≡ bits_of_cells (option_map (λ o. o.components) (slice_get outlines place)) → r / 8 ≡ length_of y blocks b
-unfolding length_of
+    s ≡ shape_of y b → s ≡ shape.Own → is_structured b.kind ≡ true → r ≡ bits_of_cells (option_map (λ o. o.components) (slice_get outlines place)) → r / 8 ≡ length_of_block y blocks b
+unfolding length_of_block
 own_length y blocks b outlines place r s are there is_shape own structured is_r =
     rw structured (rw (sym is_shape ∙ own)
     (ap (λ (n : ℕ). n / 8) (bits_there y blocks outlines place r are is_r ∙ ap (λ (o : Option Block). block_bits y o) there)))
 
 pub other_length : (y : Types) (blocks : List Block) (b : Block) (outlines : List Outline) (other r : ℕ) (s : Shape) → outlines ≡ map (outline_of y) blocks →
-    s ≡ shape_of y b → s ≡ shape.Of other → is_structured b.kind ≡ true → r ≡ bits_of_cells (option_map (λ o. o.components) (slice_get outlines other)) → r / 8 ≡ length_of y blocks b
-unfolding length_of
+    s ≡ shape_of y b → s ≡ shape.Of other → is_structured b.kind ≡ true → r ≡ bits_of_cells (option_map (λ o. o.components) (slice_get outlines other)) → r / 8 ≡ length_of_block y blocks b
+unfolding length_of_block
 other_length y blocks b outlines other r s are is_shape of_other structured is_r =
     rw structured (rw (sym is_shape ∙ of_other) (ap (λ (n : ℕ). n / 8) (bits_there y blocks outlines other r are is_r)))
 
-pub no_length : (y : Types) (blocks : List Block) (b : Block) (s : Shape) → s ≡ shape_of y b → s ≡ shape.Unknown → is_structured b.kind ≡ true → 0 ≡ length_of y blocks b
-unfolding length_of
+pub no_length : (y : Types) (blocks : List Block) (b : Block) (s : Shape) → s ≡ shape_of y b → s ≡ shape.Unknown → is_structured b.kind ≡ true → 0 ≡ length_of_block y blocks b
+unfolding length_of_block
 no_length y blocks b s is_shape unknown structured = rw structured (rw (sym is_shape ∙ unknown) refl)
 
 got_at : {X : Type 0} (xs : List X) (i : ℕ) (x : X) → i < length xs → x ≡ get_or xs i x → slice_get xs i ≡ Some x

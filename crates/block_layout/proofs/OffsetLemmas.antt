@@ -7,11 +7,11 @@ use Rattle.stl_ast.specs.declared.declarations.Simple.TheVariants as simple
 use Rattle.block_layout.specs.declared.cells.Cell.{Cell}
 use Rattle.block_layout.specs.declared.cells.Element.{Element}
 use Rattle.block_layout.specs.declared.cells.Element.TheVariants.{Plain, Structure, DateAndTime, Udt, Unknown}
-use Rattle.block_layout.specs.Sizes.{largest}
+use Rattle.block_layout.specs.Sizes.{largest_size}
 use Rattle.block_layout.specs.declared.members.Member.{Member}
-use Rattle.block_layout.specs.Members.{component, members_of}
+use Rattle.block_layout.specs.Members.{component_of_name, members_of}
 use Rattle.block_layout.specs.Places.{AreOffsets, FindsSound, IsLeastPlace, IsOneOf, Sibling, is_sound_cell, siblings, sound_offsets}
-use Rattle.block_layout.specs.Sizes.{alignment, capped, cell_bits, element_alignment, element_of, end_of, stepped, up}
+use Rattle.block_layout.specs.Sizes.{alignment, capped_size, cell_bits, element_alignment, element_of, components_end, end_behind_cell, next_multiple}
 
 -- a place that is the least is one alone
 pub same_place : (end align p q : ℕ) → IsLeastPlace end align p → IsLeastPlace end align q → p ≡ q
@@ -55,57 +55,57 @@ or_even false false n h = inr (inr refl)
 aligned : (c : Cell) → IsAlignment (alignment c)
 aligned c = or_even c.opens (nat_eq (length c.bounds) 0) (element_alignment c.of) (element_aligned c.of)
 
-least_1 : (n : ℕ) → IsLeastPlace n 1 (up n 1)
-unfolding up
+least_1 : (n : ℕ) → IsLeastPlace n 1 (next_multiple n 1)
+unfolding next_multiple
 least_1 n = record { behind = omega arith; meets = omega arith; least = λ m at meets. omega arith }
 
-least_8 : (n : ℕ) → IsLeastPlace n 8 (up n 8)
-unfolding up
+least_8 : (n : ℕ) → IsLeastPlace n 8 (next_multiple n 8)
+unfolding next_multiple
 least_8 n = record { behind = omega arith; meets = omega arith; least = λ m at meets. omega arith }
 
-least_16 : (n : ℕ) → IsLeastPlace n 16 (up n 16)
-unfolding up
+least_16 : (n : ℕ) → IsLeastPlace n 16 (next_multiple n 16)
+unfolding next_multiple
 least_16 n = record { behind = omega arith; meets = omega arith; least = λ m at meets. omega arith }
 
-up_is_least : (n align : ℕ) → IsAlignment align → IsLeastPlace n align (up n align)
+up_is_least : (n align : ℕ) → IsAlignment align → IsLeastPlace n align (next_multiple n align)
 up_is_least n align h =
     ⊎_elim
-    (λ one. subst (λ (a : ℕ). IsLeastPlace n a (up n a)) (sym one) (least_1 n))
+    (λ one. subst (λ (a : ℕ). IsLeastPlace n a (next_multiple n a)) (sym one) (least_1 n))
     (λ more. ⊎_elim
-    (λ eight. subst (λ (a : ℕ). IsLeastPlace n a (up n a)) (sym eight) (least_8 n))
-    (λ sixteen. subst (λ (a : ℕ). IsLeastPlace n a (up n a)) (sym sixteen) (least_16 n))
+    (λ eight. subst (λ (a : ℕ). IsLeastPlace n a (next_multiple n a)) (sym eight) (least_8 n))
+    (λ sixteen. subst (λ (a : ℕ). IsLeastPlace n a (next_multiple n a)) (sym sixteen) (least_16 n))
     more)
     h
 
-pub here_least : (n : ℕ) (c : Cell) → IsLeastPlace n (alignment c) (up n (alignment c))
+pub here_least : (n : ℕ) (c : Cell) → IsLeastPlace n (alignment c) (next_multiple n (alignment c))
 here_least n c = up_is_least n (alignment c) (aligned c)
 
 -- the end of components is no lower than where they begin
 pub record Grows (at next : ℕ) : Type 0 where
   pub above : at ≤ next
-  pub near : next ≤ largest
+  pub near : next ≤ largest_size
 
-grows_by : (here sound : Bool) (at first bits : ℕ) → at ≤ largest → at ≤ first → Grows at (if here then if sound then capped (first + bits) else at else at)
+grows_by : (here sound : Bool) (at first bits : ℕ) → at ≤ largest_size → at ≤ first → Grows at (if here then if sound then capped_size (first + bits) else at else at)
 grows_by true true at first bits near past_ = record { above = omega arith; near = omega arith }
 grows_by true false at first bits near past_ = record { above = omega arith; near = near }
 grows_by false sound at first bits near past_ = record { above = omega arith; near = near }
 
-step_grows : (level at : ℕ) (c : Cell) (bits : ℕ) → at ≤ largest → Grows at (stepped level at c bits)
-step_grows level at c bits near = grows_by (nat_eq c.level level) c.sound at (up at (alignment c)) bits near (here_least at c).behind
+step_grows : (level at : ℕ) (c : Cell) (bits : ℕ) → at ≤ largest_size → Grows at (end_behind_cell level at c bits)
+step_grows level at c bits near = grows_by (nat_eq c.level level) c.sound at (next_multiple at (alignment c)) bits near (here_least at c).behind
 
-end_step : (level at : ℕ) (c : Cell) (cs : List Cell) → nat_lt c.level level ≡ false → end_of level at (c ∷ cs) ≡ end_of level (stepped level at c (cell_bits c cs)) cs
-unfolding end_of element_of
+end_step : (level at : ℕ) (c : Cell) (cs : List Cell) → nat_lt c.level level ≡ false → components_end level at (c ∷ cs) ≡ components_end level (end_behind_cell level at c (cell_bits c cs)) cs
+unfolding components_end element_of
 end_step level at c cs stays = rw stays refl
 
-end_stop : (level at : ℕ) (c : Cell) (cs : List Cell) → nat_lt c.level level ≡ true → end_of level at (c ∷ cs) ≡ at
-unfolding end_of
+end_stop : (level at : ℕ) (c : Cell) (cs : List Cell) → nat_lt c.level level ≡ true → components_end level at (c ∷ cs) ≡ at
+unfolding components_end
 end_stop level at c cs lower = rw lower refl
 
-end_none : (level at : ℕ) → end_of level at [] ≡ at
-unfolding end_of
+end_none : (level at : ℕ) → components_end level at [] ≡ at
+unfolding components_end
 end_none level at = refl
 
-end_grows : (level at : ℕ) (cells : List Cell) → at ≤ largest → at ≤ end_of level at cells
+end_grows : (level at : ℕ) (cells : List Cell) → at ≤ largest_size → at ≤ components_end level at cells
 end_grows level at [] near = let none = end_none level at in omega arith
 end_grows level at (c ∷ cs) near =
     ⊎_elim
@@ -113,7 +113,7 @@ end_grows level at (c ∷ cs) near =
     (λ stays.
     let step = end_step level at c cs stays in
     let grows = step_grows level at c (cell_bits c cs) near in
-    let later = end_grows level (stepped level at c (cell_bits c cs)) cs grows.near in
+    let later = end_grows level (end_behind_cell level at c (cell_bits c cs)) cs grows.near in
     omega (arith, step, grows.above, later))
     (cases_Bool (nat_lt c.level level))
 
@@ -122,48 +122,48 @@ abbrev offsets_from : (level at : ℕ) → List Cell → List ℕ
 offsets_from level at [] = []
 offsets_from level at (c ∷ cs) =
     if nat_lt c.level level then []
-    else (if c.sound && nat_eq c.level level then up at (alignment c) ∷ [] else []) ++ offsets_from level (stepped level at c (cell_bits c cs)) cs
+    else (if c.sound && nat_eq c.level level then next_multiple at (alignment c) ∷ [] else []) ++ offsets_from level (end_behind_cell level at c (cell_bits c cs)) cs
 
-pub step_here : (level at : ℕ) (c : Cell) (bits : ℕ) → (c.sound && nat_eq c.level level) ≡ true → stepped level at c bits ≡ capped (up at (alignment c) + bits)
+pub step_here : (level at : ℕ) (c : Cell) (bits : ℕ) → (c.sound && nat_eq c.level level) ≡ true → end_behind_cell level at c bits ≡ capped_size (next_multiple at (alignment c) + bits)
 step_here level at c bits here = by_tests c.sound (nat_eq c.level level) here where
-  by_tests : (sound same : Bool) → (sound && same) ≡ true → (if same then if sound then capped (up at (alignment c) + bits) else at else at) ≡ capped (up at (alignment c) + bits)
+  by_tests : (sound same : Bool) → (sound && same) ≡ true → (if same then if sound then capped_size (next_multiple at (alignment c) + bits) else at else at) ≡ capped_size (next_multiple at (alignment c) + bits)
   by_tests true true h = refl
   by_tests true false h = cc
   by_tests false same h = cc
 
-pub step_stays : (level at : ℕ) (c : Cell) (bits : ℕ) → (c.sound && nat_eq c.level level) ≡ false → stepped level at c bits ≡ at
+pub step_stays : (level at : ℕ) (c : Cell) (bits : ℕ) → (c.sound && nat_eq c.level level) ≡ false → end_behind_cell level at c bits ≡ at
 step_stays level at c bits other = by_tests c.sound (nat_eq c.level level) other where
-  by_tests : (sound same : Bool) → (sound && same) ≡ false → (if same then if sound then capped (up at (alignment c) + bits) else at else at) ≡ at
+  by_tests : (sound same : Bool) → (sound && same) ≡ false → (if same then if sound then capped_size (next_multiple at (alignment c) + bits) else at else at) ≡ at
   by_tests true true h = cc
   by_tests true false h = refl
   by_tests false true h = refl
   by_tests false false h = refl
 
 -- the first of those that are left, and those behind it
-from_here : (level at : ℕ) (c : Cell) (cs : List Cell) (next : ℕ) → (c.sound && nat_eq c.level level) ≡ true → nat_lt c.level level ≡ false → next ≡ up at (alignment c) + cell_bits c cs →
-    stepped level at c (cell_bits c cs) ≡ next → AreOffsets next (siblings level cs) (offsets_from level next cs) → AreOffsets at (siblings level (c ∷ cs)) (offsets_from level at (c ∷ cs))
+from_here : (level at : ℕ) (c : Cell) (cs : List Cell) (next : ℕ) → (c.sound && nat_eq c.level level) ≡ true → nat_lt c.level level ≡ false → next ≡ next_multiple at (alignment c) + cell_bits c cs →
+    end_behind_cell level at c (cell_bits c cs) ≡ next → AreOffsets next (siblings level cs) (offsets_from level next cs) → AreOffsets at (siblings level (c ∷ cs)) (offsets_from level at (c ∷ cs))
 from_here level at c cs next here stays is_next is_step later =
     rw stays (rw here (rw is_step (here_least at c, subst (λ (n : ℕ). AreOffsets n (siblings level cs) (offsets_from level next cs)) is_next later)))
 
 from_there : (level at : ℕ) (c : Cell) (cs : List Cell) → (c.sound && nat_eq c.level level) ≡ false → nat_lt c.level level ≡ false →
-    stepped level at c (cell_bits c cs) ≡ at → AreOffsets at (siblings level cs) (offsets_from level at cs) → AreOffsets at (siblings level (c ∷ cs)) (offsets_from level at (c ∷ cs))
+    end_behind_cell level at c (cell_bits c cs) ≡ at → AreOffsets at (siblings level cs) (offsets_from level at cs) → AreOffsets at (siblings level (c ∷ cs)) (offsets_from level at (c ∷ cs))
 from_there level at c cs other stays is_step later = rw stays (rw other (rw is_step later))
 
-are_from : (level at : ℕ) (cells : List Cell) → at ≤ largest → end_of level at cells < largest → AreOffsets at (siblings level cells) (offsets_from level at cells)
+are_from : (level at : ℕ) (cells : List Cell) → at ≤ largest_size → components_end level at cells < largest_size → AreOffsets at (siblings level cells) (offsets_from level at cells)
 are_from level at [] near short = tt
 are_from level at (c ∷ cs) near short =
     ⊎_elim
     (λ lower. rw lower tt)
     (λ stays.
-    let next = stepped level at c (cell_bits c cs) in
+    let next = end_behind_cell level at c (cell_bits c cs) in
     let grows = step_grows level at c (cell_bits c cs) near in
-    let ends : end_of level next cs < largest = subst (λ (n : ℕ). n < largest) (end_step level at c cs stays) short in
+    let ends : components_end level next cs < largest_size = subst (λ (n : ℕ). n < largest_size) (end_step level at c cs stays) short in
     let later = are_from level next cs grows.near ends in
     ⊎_elim
     (λ here.
     let below = end_grows level next cs grows.near in
     let is = step_here level at c (cell_bits c cs) here in
-    let whole : next ≡ up at (alignment c) + cell_bits c cs = omega (arith, is, below, ends) in
+    let whole : next ≡ next_multiple at (alignment c) + cell_bits c cs = omega (arith, is, below, ends) in
     from_here level at c cs next here stays whole refl later)
     (λ other.
     let is = step_stays level at c (cell_bits c cs) other in
@@ -203,16 +203,16 @@ from_members all level at p (c ∷ cs) e =
     (λ lower. rw lower refl)
     (λ stays.
     rw stays
-    (one_sound all c p (up at (alignment c)) (nat_eq c.level level) c.sound (members_of level (stepped level at c (cell_bits c cs)) (p + 1) cs) (at_place all p c cs e) refl
-    ∙ ap (λ (l : List ℕ). (if c.sound && nat_eq c.level level then up at (alignment c) ∷ [] else []) ++ l)
-    (from_members all level (stepped level at c (cell_bits c cs)) (p + 1) cs (behind_place all p c cs e))))
+    (one_sound all c p (next_multiple at (alignment c)) (nat_eq c.level level) c.sound (members_of level (end_behind_cell level at c (cell_bits c cs)) (p + 1) cs) (at_place all p c cs e) refl
+    ∙ ap (λ (l : List ℕ). (if c.sound && nat_eq c.level level then next_multiple at (alignment c) ∷ [] else []) ++ l)
+    (from_members all level (end_behind_cell level at c (cell_bits c cs)) (p + 1) cs (behind_place all p c cs e))))
     (cases_Bool (nat_lt c.level level))
 
-pub offsets_are : (level : ℕ) (cells : List Cell) → end_of level 0 cells < largest → AreOffsets 0 (siblings level cells) (sound_offsets level cells)
+pub offsets_are : (level : ℕ) (cells : List Cell) → components_end level 0 cells < largest_size → AreOffsets 0 (siblings level cells) (sound_offsets level cells)
 offsets_are level cells short =
     subst (λ (l : List ℕ). AreOffsets 0 (siblings level cells) l) (sym (from_members cells level 0 0 cells refl)) (are_from level 0 cells (omega arith) short)
 
-pub offsets_alone : (level : ℕ) (cells : List Cell) (places : List ℕ) → end_of level 0 cells < largest → AreOffsets 0 (siblings level cells) places → places ≡ sound_offsets level cells
+pub offsets_alone : (level : ℕ) (cells : List Cell) (places : List ℕ) → components_end level 0 cells < largest_size → AreOffsets 0 (siblings level cells) places → places ≡ sound_offsets level cells
 offsets_alone level cells places short are = one_places 0 (siblings level cells) places (sound_offsets level cells) are (offsets_are level cells short)
 
 -- ---- a component that is found by its name
@@ -231,22 +231,22 @@ kept_behind all m n ms more = by (is_sound_cell (slice_get all n.place))
     by true = inr more
     by false = more
 
-found_sound : (all : List Cell) (level at p : ℕ) (cells : List Cell) (name : List ℕ) (m : Member) → component level at p name cells ≡ Some m →
+found_sound : (all : List Cell) (level at p : ℕ) (cells : List Cell) (name : List ℕ) (m : Member) → component_of_name level at p name cells ≡ Some m →
     is_sound_cell (slice_get all m.place) ≡ true → IsOneOf m (sound_ones all (members_of level at p cells))
-unfolding component members_of
+unfolding component_of_name members_of
 found_sound all level at p [] name m e sound = absurd cc
 found_sound all level at p (c ∷ cs) name m e sound =
     by (nat_lt c.level level) (nat_eq c.level level) (bytes_eq name c.name) e
-    (λ h. found_sound all level (stepped level at c (cell_bits c cs)) (p + 1) cs name m h sound)
+    (λ h. found_sound all level (end_behind_cell level at c (cell_bits c cs)) (p + 1) cs name m h sound)
   where
     here : Member
-    here = record { place = p; offset = up at (alignment c) }
+    here = record { place = p; offset = next_multiple at (alignment c) }
 
     rest : Option Member
-    rest = component level (stepped level at c (cell_bits c cs)) (p + 1) name cs
+    rest = component_of_name level (end_behind_cell level at c (cell_bits c cs)) (p + 1) name cs
 
     others : List Member
-    others = members_of level (stepped level at c (cell_bits c cs)) (p + 1) cs
+    others = members_of level (end_behind_cell level at c (cell_bits c cs)) (p + 1) cs
 
     some_same : (x y : Member) → Some x ≡ Some y → x ≡ y
     some_same x y k = cc

@@ -2,12 +2,12 @@ use Rattle.std.proofs.Common.{ℕ, zero, suc, ◌≡◌, ◌+◌, List, [], ◌�
 use Rattle.std.specs.List.{slice_get}
 use Rattle.block_layout.specs.declared.cells.Cell.{Cell}
 use Rattle.block_layout.specs.declared.members.Member.{Member}
-use Rattle.block_layout.specs.Members.{component, members_of}
+use Rattle.block_layout.specs.Members.{component_of_name, members_of}
 use Rattle.block_layout.specs.declared.blocks.BlockLayout.{BlockLayout}
 use Rattle.block_layout.specs.declared.cells.Element.TheVariants.{Structure}
 use Rattle.block_layout.specs.declared.walks.ComponentAt.{ComponentAt}
 use Rattle.block_layout.specs.declared.walks.PathEnd.{PathEnd}
-use Rattle.block_layout.specs.Paths.{cells_at, found_at, named_in}
+use Rattle.block_layout.specs.Paths.{cells_at, path_end_at_member, named_in}
 use Rattle.block_layout.specs.Scopes.{IsScope}
 use Rattle.block_layout.specs.declared.members.NameList.{NameList}
 
@@ -21,11 +21,11 @@ got (x ∷ xs) zero c e = cc
 got (x ∷ xs) (suc i) c e = got xs i c e
 
 pub named_structure : (l : List BlockLayout) (spot : ComponentAt) (name : List ℕ) (c : Cell) (cells : List Cell) (found : Option Member) (r : PathEnd) → cells ≡ cells_at l spot.block spot.temporary →
-    slice_get cells spot.place ≡ Some c → ((d : Cell) → found ≡ component ((get_or cells spot.place d).level + 1) 0 0 name (drop (spot.place + 1) cells)) →
-    r ≡ found_at cells spot.block spot.temporary (spot.place + 1) spot.offset found → c.of ≡ Structure → r ≡ named_in l spot name c c.of
+    slice_get cells spot.place ≡ Some c → ((d : Cell) → found ≡ component_of_name ((get_or cells spot.place d).level + 1) 0 0 name (drop (spot.place + 1) cells)) →
+    r ≡ path_end_at_member cells spot.block spot.temporary (spot.place + 1) spot.offset found → c.of ≡ Structure → r ≡ named_in l spot name c c.of
 named_structure l spot name c cells found r are there is_found is_r is_structure =
-    let found_is : found ≡ component (c.level + 1) 0 0 name (drop (spot.place + 1) cells) =
-    is_found c ∙ ap (λ (x : Cell). component (x.level + 1) 0 0 name (drop (spot.place + 1) cells)) (got cells spot.place c there) in
+    let found_is : found ≡ component_of_name (c.level + 1) 0 0 name (drop (spot.place + 1) cells) =
+    is_found c ∙ ap (λ (x : Cell). component_of_name (x.level + 1) 0 0 name (drop (spot.place + 1) cells)) (got cells spot.place c there) in
     rw is_structure
-    (is_r ∙ ap (λ (m : Option Member). found_at cells spot.block spot.temporary (spot.place + 1) spot.offset m) found_is
-    ∙ ap (λ (l : List Cell). found_at l spot.block spot.temporary (spot.place + 1) spot.offset (component (c.level + 1) 0 0 name (drop (spot.place + 1) l))) are)
+    (is_r ∙ ap (λ (m : Option Member). path_end_at_member cells spot.block spot.temporary (spot.place + 1) spot.offset m) found_is
+    ∙ ap (λ (l : List Cell). path_end_at_member l spot.block spot.temporary (spot.place + 1) spot.offset (component_of_name (c.level + 1) 0 0 name (drop (spot.place + 1) l))) are)

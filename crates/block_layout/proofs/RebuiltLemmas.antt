@@ -8,7 +8,7 @@ use Rattle.std.proofs.lemmas.Bool.Decides.{nat_tests}
 use Rattle.std.proofs.lemmas.List.{get_or-set_same, get_or-set_other, ext_get_or, length-set, length-replicate, get_or-replicate}
 use Rattle.std.proofs.lemmas.Nat.{or_of_8, and_le_l, pow_below}
 use Rattle.std.proofs.lemmas.Nat.Bits.{bit_at-lt, bit_at_or, bit_at_and, bit_at-pow_same, bit_at-pow_other, bit_at-zero, bit_at_not}
-use Rattle.block_layout.specs.InitialBytes.{Write, bytes_of, put, with_bit, with_bytes}
+use Rattle.block_layout.specs.InitialBytes.{Write, big_endian_bytes, bytes_with_write, with_bit, with_bytes}
 use Rattle.block_layout.specs.Rebuilt.{AreRebuilt, InBit, InBytes, IsTrueOf, OfBit, OfBytes, OneReaches, Reaches, bit_in}
 
 -- ---- one bit of a byte
@@ -42,11 +42,11 @@ below_8 k v x h b = elim (cases_Bool (nat_eq (v % 2) 1)) as (λ _. with_bit k v 
 
 -- ---- whole bytes
 
-count_of : (n v : ℕ) → length (bytes_of n v) ≡ n
+count_of : (n v : ℕ) → length (big_endian_bytes n v) ≡ n
 count_of zero v = refl
 count_of (suc n) v = ap suc (count_of n v)
 
-small : (n v k : ℕ) → get_or (bytes_of n v) k 0 < 256
+small : (n v k : ℕ) → get_or (big_endian_bytes n v) k 0 < 256
 small zero v k = omega arith
 small (suc n) v zero = omega arith
 small (suc n) v (suc k) = small n v k
@@ -86,16 +86,16 @@ record IsPart (all s : List ℕ) : Type 0 where
 
 -- after a write that is true of all bytes, a bit is that of all, or it is as before and the write doesn't reach it
 Moved : (all s : List ℕ) (w : Write) (j i : ℕ) → Type 0
-Moved all s w j i = (bit_in (put s w) j i ≡ bit_in all j i) ⊎ ((bit_in (put s w) j i ≡ bit_in s j i) × (Reaches w j i → ⊥))
+Moved all s w j i = (bit_in (bytes_with_write s w) j i ≡ bit_in all j i) ⊎ ((bit_in (bytes_with_write s w) j i ≡ bit_in s j i) × (Reaches w j i → ⊥))
 
 other_width : (n : ℕ) → n ≡ 1 → nat_eq n 1 ≡ false → ⊥
 other_width n e f = false≢true (sym f ∙ ap (λ m. nat_eq m 1) e)
 
 -- bits of a byte that is set
-bit_put : (s : List ℕ) (w : Write) → w.width ≡ 1 → put s w ≡ slice_set s (w.offset / 8) (with_bit (w.offset % 8) w.value (slice_index s (w.offset / 8)))
+bit_put : (s : List ℕ) (w : Write) → w.width ≡ 1 → bytes_with_write s w ≡ slice_set s (w.offset / 8) (with_bit (w.offset % 8) w.value (slice_index s (w.offset / 8)))
 bit_put s w e = rw e refl
 
-bytes_put : (s : List ℕ) (w : Write) → nat_eq w.width 1 ≡ false → put s w ≡ with_bytes s (w.offset / 8) (bytes_of (w.width / 8) w.value)
+bytes_put : (s : List ℕ) (w : Write) → nat_eq w.width 1 ≡ false → bytes_with_write s w ≡ with_bytes s (w.offset / 8) (big_endian_bytes (w.width / 8) w.value)
 bytes_put s w e = rw e refl
 
 moved : (all s : List ℕ) (w : Write) (j i : ℕ) → i < 8 → IsPart all s → IsTrueOf all w → Moved all s w j i
@@ -128,18 +128,18 @@ moved all s w j i h part (OfBit wide there value) = elim (cases_Bool (nat_eq j (
   no_byte wide never (InBit width byte bit) = never byte
   no_byte wide never (InBytes width from to) = other_width w.width wide width
 moved all s w j i h part (OfBytes wide there value) = elim (cases_lt j (w.offset / 8)) [
-  | inl before ↦ inr (rw (bytes_put s w wide, outside s (w.offset / 8) (bytes_of (w.width / 8) w.value) j (inl before)) refl, none wide (inl before))
+  | inl before ↦ inr (rw (bytes_put s w wide, outside s (w.offset / 8) (big_endian_bytes (w.width / 8) w.value) j (inl before)) refl, none wide (inl before))
   | inr from ↦ elim (cases_lt j (w.offset / 8 + w.width / 8)) [
     | inl to ↦
         let k : ℕ = j - w.offset / 8 in
         let at : j ≡ w.offset / 8 + k = omega arith in
-        let room : w.offset / 8 + length (bytes_of (w.width / 8) w.value) ≤ length s = omega (arith, count_of (w.width / 8) w.value, there, part.long) in
-        let here : get_or (with_bytes s (w.offset / 8) (bytes_of (w.width / 8) w.value)) j 0 ≡ get_or all j 0 =
-        ap (λ n. get_or (with_bytes s (w.offset / 8) (bytes_of (w.width / 8) w.value)) n 0) at
-        ∙ within s (w.offset / 8) (bytes_of (w.width / 8) w.value) k room (omega (arith, count_of (w.width / 8) w.value))
+        let room : w.offset / 8 + length (big_endian_bytes (w.width / 8) w.value) ≤ length s = omega (arith, count_of (w.width / 8) w.value, there, part.long) in
+        let here : get_or (with_bytes s (w.offset / 8) (big_endian_bytes (w.width / 8) w.value)) j 0 ≡ get_or all j 0 =
+        ap (λ n. get_or (with_bytes s (w.offset / 8) (big_endian_bytes (w.width / 8) w.value)) n 0) at
+        ∙ within s (w.offset / 8) (big_endian_bytes (w.width / 8) w.value) k room (omega (arith, count_of (w.width / 8) w.value))
         ∙ value k (omega arith) ∙ ap (λ n. get_or all n 0) (sym at) in
         inl (rw (bytes_put s w wide, here) refl)
-    | inr behind ↦ inr (rw (bytes_put s w wide, outside s (w.offset / 8) (bytes_of (w.width / 8) w.value) j (inr (omega (arith, count_of (w.width / 8) w.value)))) refl, none wide (inr behind))
+    | inr behind ↦ inr (rw (bytes_put s w wide, outside s (w.offset / 8) (big_endian_bytes (w.width / 8) w.value) j (inr (omega (arith, count_of (w.width / 8) w.value)))) refl, none wide (inr behind))
   ]
 ] where
   none : nat_eq w.width 1 ≡ false → (j < w.offset / 8) ⊎ (w.offset / 8 + w.width / 8 ≤ j) → Reaches w j i → ⊥
@@ -160,42 +160,42 @@ bytes_small : (s : List ℕ) (at : ℕ) (bs : List ℕ) (k : ℕ) → ((n : ℕ)
 bytes_small s at [] k h all = all k
 bytes_small s at (b ∷ bs) k h all = bytes_small (slice_set s at b) (at + 1) bs k (λ n. h (suc n)) (λ n. set_small s at b n (h 0) all)
 
-part_kept : (all s : List ℕ) (w : Write) → IsPart all s → IsTrueOf all w → IsPart all (put s w)
+part_kept : (all s : List ℕ) (w : Write) → IsPart all s → IsTrueOf all w → IsPart all (bytes_with_write s w)
 part_kept all s w part (OfBit wide there value) = rw (bit_put s w wide) (record {
   long = length-set s (w.offset / 8) (with_bit (w.offset % 8) w.value (slice_index s (w.offset / 8))) ∙ part.long;
   small = λ k. set_small s (w.offset / 8) (with_bit (w.offset % 8) w.value (slice_index s (w.offset / 8))) k (below_8 (w.offset % 8) w.value (slice_index s (w.offset / 8)) (omega arith) (part.small (w.offset / 8))) part.small;
 })
 part_kept all s w part (OfBytes wide there value) = rw (bytes_put s w wide) (record {
-  long = long s (w.offset / 8) (bytes_of (w.width / 8) w.value) ∙ part.long;
-  small = λ k. bytes_small s (w.offset / 8) (bytes_of (w.width / 8) w.value) k (small (w.width / 8) w.value) part.small;
+  long = long s (w.offset / 8) (big_endian_bytes (w.width / 8) w.value) ∙ part.long;
+  small = λ k. bytes_small s (w.offset / 8) (big_endian_bytes (w.width / 8) w.value) k (small (w.width / 8) w.value) part.small;
 })
 
 -- no bit is set that isn't set in all
 Below : (all s : List ℕ) → Type 0
 Below all s = (j i : ℕ) → i < 8 → bit_in s j i ≡ 1 → bit_in all j i ≡ 1
 
-below_kept : (all s : List ℕ) (w : Write) → IsPart all s → IsTrueOf all w → Below all s → Below all (put s w)
+below_kept : (all s : List ℕ) (w : Write) → IsPart all s → IsTrueOf all w → Below all s → Below all (bytes_with_write s w)
 unfolding Below Moved
 below_kept all s w part true_ below j i h one = elim (moved all s w j i h part true_) [ inl new ↦ sym new ∙ one | inr old ↦ below j i h (sym old.0 ∙ one) ]
 
-below_all : (all s : List ℕ) (ws : List Write) → IsPart all s → AllByRecursion (IsTrueOf all) ws → Below all s → Below all (fold put s ws)
+below_all : (all s : List ℕ) (ws : List Write) → IsPart all s → AllByRecursion (IsTrueOf all) ws → Below all s → Below all (fold bytes_with_write s ws)
 below_all all s [] part true_ below = below
-below_all all s (w ∷ ws) part (true_, more) below = below_all all (put s w) ws (part_kept all s w part true_) more (below_kept all s w part true_ below)
+below_all all s (w ∷ ws) part (true_, more) below = below_all all (bytes_with_write s w) ws (part_kept all s w part true_) more (below_kept all s w part true_ below)
 
-part_all : (all s : List ℕ) (ws : List Write) → IsPart all s → AllByRecursion (IsTrueOf all) ws → IsPart all (fold put s ws)
+part_all : (all s : List ℕ) (ws : List Write) → IsPart all s → AllByRecursion (IsTrueOf all) ws → IsPart all (fold bytes_with_write s ws)
 part_all all s [] part true_ = part
-part_all all s (w ∷ ws) part (true_, more) = part_all all (put s w) ws (part_kept all s w part true_) more
+part_all all s (w ∷ ws) part (true_, more) = part_all all (bytes_with_write s w) ws (part_kept all s w part true_) more
 
-reached : (all s : List ℕ) (ws : List Write) (j i : ℕ) → i < 8 → IsPart all s → AllByRecursion (IsTrueOf all) ws → (bit_in s j i ≡ bit_in all j i) ⊎ OneReaches ws j i → bit_in (fold put s ws) j i ≡ bit_in all j i
+reached : (all s : List ℕ) (ws : List Write) (j i : ℕ) → i < 8 → IsPart all s → AllByRecursion (IsTrueOf all) ws → (bit_in s j i ≡ bit_in all j i) ⊎ OneReaches ws j i → bit_in (fold bytes_with_write s ws) j i ≡ bit_in all j i
 unfolding Moved
 reached all s [] j i h part true_ (inl e) = e
 reached all s [] j i h part true_ (inr r) = absurd r
-reached all s (w ∷ ws) j i h part (true_, more) given = reached all (put s w) ws j i h (part_kept all s w part true_) more (elim (moved all s w j i h part true_) [
+reached all s (w ∷ ws) j i h part (true_, more) given = reached all (bytes_with_write s w) ws j i h (part_kept all s w part true_) more (elim (moved all s w j i h part true_) [
   | inl new ↦ inl new
   | inr old ↦ later old.0 old.1 given
 ])
   where
-    later : bit_in (put s w) j i ≡ bit_in s j i → (Reaches w j i → ⊥) → (bit_in s j i ≡ bit_in all j i) ⊎ (Reaches w j i ⊎ OneReaches ws j i) → (bit_in (put s w) j i ≡ bit_in all j i) ⊎ OneReaches ws j i
+    later : bit_in (bytes_with_write s w) j i ≡ bit_in s j i → (Reaches w j i → ⊥) → (bit_in s j i ≡ bit_in all j i) ⊎ (Reaches w j i ⊎ OneReaches ws j i) → (bit_in (bytes_with_write s w) j i ≡ bit_in all j i) ⊎ OneReaches ws j i
     later same never (inl e) = inl (same ∙ e)
     later same never (inr (inl r)) = absurd (never r)
     later same never (inr (inr r)) = inr r
@@ -214,10 +214,10 @@ zeros_small (suc n) (suc k) = zeros_small n k
 
 -- a bit that is set is reached, and one that isn't was never set
 bit_back : (all : List ℕ) (ws : List Write) (j i : ℕ) → i < 8 → IsPart all (replicate (length all) 0) → AllByRecursion (IsTrueOf all) ws
-    → (bit_in all j i ≡ 1 → OneReaches ws j i) → (bit_in (fold put (replicate (length all) 0) ws) j i ≡ 1 → bit_in all j i ≡ 1) → bit_in (fold put (replicate (length all) 0) ws) j i ≡ bit_in all j i
+    → (bit_in all j i ≡ 1 → OneReaches ws j i) → (bit_in (fold bytes_with_write (replicate (length all) 0) ws) j i ≡ 1 → bit_in all j i ≡ 1) → bit_in (fold bytes_with_write (replicate (length all) 0) ws) j i ≡ bit_in all j i
 bit_back all ws j i h part true_ covered below = elim (cases_Bool (nat_eq (bit_in all j i) 1)) [
   | inl set ↦ reached all (replicate (length all) 0) ws j i h part true_ (inr (covered (eqb-true (bit_in all j i) 1 set)))
-  | inr clear ↦ both_zero (bit_in (fold put (replicate (length all) 0) ws) j i) (bit_in all j i) (bit_at-lt (get_or (fold put (replicate (length all) 0) ws) j 0) i) (bit_at-lt (get_or all j 0) i) (λ e. false≢true (sym clear ∙ eq-eqb (bit_in all j i) 1 e)) below
+  | inr clear ↦ both_zero (bit_in (fold bytes_with_write (replicate (length all) 0) ws) j i) (bit_in all j i) (bit_at-lt (get_or (fold bytes_with_write (replicate (length all) 0) ws) j 0) i) (bit_at-lt (get_or all j 0) i) (λ e. false≢true (sym clear ∙ eq-eqb (bit_in all j i) 1 e)) below
 ]
   where
     both_zero : (x y : ℕ) → x < 2 → y < 2 → (y ≡ 1 → ⊥) → (x ≡ 1 → y ≡ 1) → x ≡ y
@@ -240,5 +240,5 @@ unfolding Below
 rebuilt all ws bytes true_ covered =
     let whole = part_all all (replicate (length all) 0) ws (zeros_part all) true_ in
     let below = below_all all (replicate (length all) 0) ws (zeros_part all) true_ (none_set all) in
-    ext_get_or 0 (fold put (replicate (length all) 0) ws) all whole.long (λ j l. same_byte (get_or (fold put (replicate (length all) 0) ws) j 0) (get_or all j 0) (whole.small j) (bytes j)
+    ext_get_or 0 (fold bytes_with_write (replicate (length all) 0) ws) all whole.long (λ j l. same_byte (get_or (fold bytes_with_write (replicate (length all) 0) ws) j 0) (get_or all j 0) (whole.small j) (bytes j)
     (λ i h. bit_back all ws j i h (zeros_part all) true_ (covered j i h) (below j i h)))

@@ -26,12 +26,12 @@ use Rattle.block_layout.specs.declared.walks.ComponentAt.{ComponentAt}
 use Rattle.block_layout.specs.declared.walks.PathEnd.{PathEnd}
 use Rattle.block_layout.specs.declared.walks.PathEnd.TheVariants as walk
 use Rattle.block_layout.specs.Blocks.{known_block}
-use Rattle.block_layout.specs.Members.{component}
-use Rattle.block_layout.specs.Offsets.{component as data_component, offset_in, offset_of, place_at, placed, reached, variable, width_of}
-use Rattle.block_layout.specs.Paths.{cells_at, elementary_at, entered, found_at, further, goes_on, if_whole, indexed, indexed_behind, is_beyond, is_beyond_in, is_beyond_left, is_judged, leaves, leaves_from, leaves_judged, named, named_behind, named_in, outermost, step_is_beyond, step_of, structure_of, walked, walked_data, walked_from, walked_or_rests, within}
+use Rattle.block_layout.specs.Members.{component_of_name}
+use Rattle.block_layout.specs.Offsets.{component_place as data_component, place_in_section, place_of_path, place_at, elementary_place, place_at_path_end, variable_place, width_of}
+use Rattle.block_layout.specs.Paths.{cells_at, elementary_at, path_end_at_cell, path_end_at_member, holds_where_reached, path_end_and_then, if_whole, path_end_by_index, indexed_behind, is_beyond, is_beyond_in, is_beyond_left, is_judged, leaves_array, leaves_from, leaves_judged, path_end_by_name, named_behind, named_in, outermost_path_end, step_is_beyond, path_end_by_step, structure_of, path_end_behind, path_end_in_data_block, path_end_in_block, path_end_or_rests, path_end_in_bounds}
 use Rattle.block_layout.specs.Places.{IsLeastPlace}
-use Rattle.block_layout.specs.Sizes.{alignment, array_bits, capped, cell_bits, element_of, largest, stepped, up}
-use Rattle.block_layout.specs.Sums.{EndsAt, IsComponent, IsComponentOf, IsElement, IsInside, IsStep, LeadsFrom, LeadsTo, LeadsToOne, LeadsToPlace, LiesAt, OffsetsAreSums, declaring, is_temporary}
+use Rattle.block_layout.specs.Sizes.{alignment, array_bits, capped_size, cell_bits, element_of, largest_size, end_behind_cell, next_multiple}
+use Rattle.block_layout.specs.Sums.{EndsAt, NamesComponent, NamesComponentOf, IndexesElement, IsInside, StepLeadsTo, LeadsFrom, LeadsTo, LeadsToOne, LeadsToPlace, LiesAt, OffsetsAreSums, declaring_block, is_temporary}
 use Rattle.block_layout.proofs.OffsetLemmas.{here_least, same_place, step_here, step_stays}
 
 -- ---- a component among its siblings
@@ -61,21 +61,21 @@ lies_alone level end (c ∷ cs) (suc place) a b g h =
     (ends_alone (c.sound && nat_eq c.level level) end c (cell_bits c cs) g.1 h.1 g.2 h.2) g.3) h.3
 
 -- what is found lies where all before it make it lie, if it lies below the cap
-lies_found : (level at p : ℕ) (name : List ℕ) (cells : List Cell) (m : Member) → component level at p name cells ≡ Some m → m.offset < largest →
+lies_found : (level at p : ℕ) (name : List ℕ) (cells : List Cell) (m : Member) → component_of_name level at p name cells ≡ Some m → m.offset < largest_size →
     (q : ℕ) × (m.place ≡ p + q) × LiesAt level at cells q m.offset
-unfolding component
+unfolding component_of_name
 lies_found level at p name [] m e near = absurd cc
 lies_found level at p name (c ∷ cs) m e near =
     by (nat_lt c.level level) refl (nat_eq c.level level) refl (bytes_eq name c.name) e (λ h. lies_found level next (p + 1) name cs m h near)
   where
     next : ℕ
-    next = stepped level at c (cell_bits c cs)
+    next = end_behind_cell level at c (cell_bits c cs)
 
     here : Member
-    here = record { place = p; offset = up at (alignment c) }
+    here = record { place = p; offset = next_multiple at (alignment c) }
 
     rest : Option Member
-    rest = component level next (p + 1) name cs
+    rest = component_of_name level next (p + 1) name cs
 
     some_same : (x y : Member) → Some x ≡ Some y → x ≡ y
     some_same x y k = cc
@@ -96,8 +96,8 @@ lies_found level at p name (c ∷ cs) m e near =
     onward q lies true is =
         let below = lies_behind level next cs q m.offset lies in
         let step = step_here level at c (cell_bits c cs) is in
-        let whole : next ≡ up at (alignment c) + cell_bits c cs = omega (arith, below, step, near) in
-        (up at (alignment c), here_least at c, whole)
+        let whole : next ≡ next_multiple at (alignment c) + cell_bits c cs = omega (arith, below, step, near) in
+        (next_multiple at (alignment c), here_least at c, whole)
     onward q lies false is = step_stays level at c (cell_bits c cs) is
 
     behind : nat_lt c.level level ≡ false → (q : ℕ) × (m.place ≡ p + 1 + q) × LiesAt level next cs q m.offset → (q : ℕ) × (m.place ≡ p + q) × LiesAt level at (c ∷ cs) q m.offset
@@ -121,25 +121,25 @@ reaches_same x y e = cc
 
 -- a sum below the cap
 pub record IsExact (begin offset sum : ℕ) : Type 0 where
-  pub near : begin < largest
-  pub small : offset < largest
+  pub near : begin < largest_size
+  pub small : offset < largest_size
   pub same : sum ≡ begin + offset
 
-exact_sum : (begin offset sum : ℕ) → sum ≡ capped (begin + capped offset) → sum < largest → IsExact begin offset sum
+exact_sum : (begin offset sum : ℕ) → sum ≡ capped_size (begin + capped_size offset) → sum < largest_size → IsExact begin offset sum
 exact_sum begin offset sum is near = record { near = omega (arith, is, near); small = omega (arith, is, near); same = omega (arith, is, near) }
 
 module _ (l : List BlockLayout) where
-  module _ (block : ℕ) (temporary : Bool) (first level begin : ℕ) (name : List ℕ) (to : ComponentAt) (near : to.offset < largest) where
+  module _ (block : ℕ) (temporary : Bool) (first level begin : ℕ) (name : List ℕ) (to : ComponentAt) (near : to.offset < largest_size) where
     abbrev cells : List Cell
     cells = cells_at l block temporary
 
     abbrev spot : Member → ComponentAt
-    spot m = record { block = block; temporary = temporary; place = first + m.place; depth = 0; offset = capped (begin + capped m.offset) }
+    spot m = record { block = block; temporary = temporary; place = first + m.place; depth = 0; offset = capped_size (begin + capped_size m.offset) }
 
     abbrev Leads : Type 0
-    Leads = IsComponent l block temporary first level begin name to × (begin < largest)
+    Leads = NamesComponent l block temporary first level begin name to × (begin < largest_size)
 
-    leads_there : (m : Member) → component level 0 0 name (drop first cells) ≡ Some m → (c : Cell) → slice_get cells (first + m.place) ≡ Some c → c.sound ≡ true → spot m ≡ to → Leads
+    leads_there : (m : Member) → component_of_name level 0 0 name (drop first cells) ≡ Some m → (c : Cell) → slice_get cells (first + m.place) ≡ Some c → c.sound ≡ true → spot m ≡ to → Leads
     leads_there m is c there sound e =
         let sum = exact_sum begin m.offset to.offset (ap (λ (s : ComponentAt). s.offset) (sym e)) near in
         let lies = lies_found level 0 0 name (drop first cells) m is sum.small in
@@ -158,8 +158,8 @@ module _ (l : List BlockLayout) where
           sum.near,
         )
 
-    leads_entered : (m : Member) → component level 0 0 name (drop first cells) ≡ Some m → (o : Option Cell) → slice_get cells (first + m.place) ≡ o →
-        entered block temporary (first + m.place) (capped (begin + capped m.offset)) o ≡ walk.Reaches to → Leads
+    leads_entered : (m : Member) → component_of_name level 0 0 name (drop first cells) ≡ Some m → (o : Option Cell) → slice_get cells (first + m.place) ≡ o →
+        path_end_at_cell block temporary (first + m.place) (capped_size (begin + capped_size m.offset)) o ≡ walk.Reaches to → Leads
     leads_entered m is None there e = absurd cc
     leads_entered m is (Some c) there e = by c.sound refl e
       where
@@ -167,54 +167,54 @@ module _ (l : List BlockLayout) where
         by true sound k = leads_there m is c there sound (reaches_same (spot m) to k)
         by false sound k = absurd cc
 
-    leads_found : (o : Option Member) → component level 0 0 name (drop first cells) ≡ o → found_at cells block temporary first begin o ≡ walk.Reaches to → Leads
+    leads_found : (o : Option Member) → component_of_name level 0 0 name (drop first cells) ≡ o → path_end_at_member cells block temporary first begin o ≡ walk.Reaches to → Leads
     leads_found None is e = absurd cc
     leads_found (Some m) is e = leads_entered m is (slice_get cells (first + m.place)) refl e
 
-  leads_outermost : (block : ℕ) (temporary : Bool) (begin : ℕ) (name : List ℕ) (to : ComponentAt) → to.offset < largest →
-      outermost l block temporary begin name ≡ walk.Reaches to → IsComponent l block temporary 0 0 begin name to × (begin < largest)
-  unfolding outermost
+  leads_outermost : (block : ℕ) (temporary : Bool) (begin : ℕ) (name : List ℕ) (to : ComponentAt) → to.offset < largest_size →
+      outermost_path_end l block temporary begin name ≡ walk.Reaches to → NamesComponent l block temporary 0 0 begin name to × (begin < largest_size)
+  unfolding outermost_path_end
   leads_outermost block temporary begin name to near e =
-      leads_found block temporary 0 0 begin name to near (component 0 0 0 name (cells_at l block temporary)) refl e
+      leads_found block temporary 0 0 begin name to near (component_of_name 0 0 0 name (cells_at l block temporary)) refl e
 
-  leads_in : (s : ComponentAt) (name : List ℕ) (c : Cell) (of : Element) (to : ComponentAt) → to.offset < largest → named_in l s name c of ≡ walk.Reaches to →
-      IsComponentOf l s name c of to × (s.offset < largest)
+  leads_in : (s : ComponentAt) (name : List ℕ) (c : Cell) (of : Element) (to : ComponentAt) → to.offset < largest_size → named_in l s name c of ≡ walk.Reaches to →
+      NamesComponentOf l s name c of to × (s.offset < largest_size)
   leads_in s name c Structure to near e =
       leads_found s.block s.temporary (s.place + 1) (c.level + 1) s.offset name to near
-      (component (c.level + 1) 0 0 name (drop (s.place + 1) (cells_at l s.block s.temporary))) refl e
+      (component_of_name (c.level + 1) 0 0 name (drop (s.place + 1) (cells_at l s.block s.temporary))) refl e
   leads_in s name c (Udt block bits) to near e = leads_outermost block false s.offset name to near e
   leads_in s name c (Plain kind) to near e = absurd cc
   leads_in s name c DateAndTime to near e = absurd cc
   leads_in s name c Unknown to near e = absurd cc
 
-  leads_named : (s : ComponentAt) (name : List ℕ) (to : ComponentAt) → to.offset < largest → named l s name ≡ walk.Reaches to → IsInside l s name to × (s.offset < largest)
-  unfolding named
+  leads_named : (s : ComponentAt) (name : List ℕ) (to : ComponentAt) → to.offset < largest_size → path_end_by_name l s name ≡ walk.Reaches to → IsInside l s name to × (s.offset < largest_size)
+  unfolding path_end_by_name
   leads_named s name to near e = by (slice_get (cells_at l s.block s.temporary) s.place) refl e
     where
       whole : (c : Cell) → slice_get (cells_at l s.block s.temporary) s.place ≡ Some c → (t : Bool) → nat_eq s.depth (length c.bounds) ≡ t →
-          (if t then named_in l s name c c.of else walk.Unknown) ≡ walk.Reaches to → IsInside l s name to × (s.offset < largest)
+          (if t then named_in l s name c c.of else walk.Unknown) ≡ walk.Reaches to → IsInside l s name to × (s.offset < largest_size)
       whole c there true is k =
           let leads = leads_in s name c c.of to near k in
           (record { cell = c; there = there; indexed = eqb-true s.depth (length c.bounds) is; leads = leads.0 }, leads.1)
       whole c there false is k = absurd cc
 
-      by : (o : Option Cell) → slice_get (cells_at l s.block s.temporary) s.place ≡ o → named_behind l s name o ≡ walk.Reaches to → IsInside l s name to × (s.offset < largest)
+      by : (o : Option Cell) → slice_get (cells_at l s.block s.temporary) s.place ≡ o → named_behind l s name o ≡ walk.Reaches to → IsInside l s name to × (s.offset < largest_size)
       by None there k = absurd cc
       by (Some c) there k = whole c there (nat_eq s.depth (length c.bounds)) refl k
 
-  leads_indexed : (s : ComponentAt) (at : ℤ) (to : ComponentAt) → to.offset < largest → step_is_beyond l s (step.Index at) ≡ false → indexed l s at ≡ walk.Reaches to →
-      IsElement l s at to × (s.offset < largest)
-  unfolding indexed
+  leads_indexed : (s : ComponentAt) (at : ℤ) (to : ComponentAt) → to.offset < largest_size → step_is_beyond l s (step.Index at) ≡ false → path_end_by_index l s at ≡ walk.Reaches to →
+      IndexesElement l s at to × (s.offset < largest_size)
+  unfolding path_end_by_index
   leads_indexed s at to near stays e = by (slice_get (cells_at l s.block s.temporary) s.place) refl stays e
     where
       size : Cell → ℕ
       size c = array_bits (drop (s.depth + 1) c.bounds) (element_of c (drop (s.place + 1) (cells_at l s.block s.temporary)))
 
       element : Cell → Bounds → ComponentAt
-      element c b = record s { depth = s.depth + 1; offset = capped (s.offset + capped (unsigned_abs (at -ℤ b.low) * size c)) }
+      element c b = record s { depth = s.depth + 1; offset = capped_size (s.offset + capped_size (unsigned_abs (at -ℤ b.low) * size c)) }
 
       there_is : (c : Cell) → slice_get (cells_at l s.block s.temporary) s.place ≡ Some c → (b : Bounds) → slice_get c.bounds s.depth ≡ Some b → is_beyond b at ≡ false →
-          element c b ≡ to → IsElement l s at to × (s.offset < largest)
+          element c b ≡ to → IndexesElement l s at to × (s.offset < largest_size)
       there_is c there b left inside same =
           let sum = exact_sum s.offset (unsigned_abs (at -ℤ b.low) * size c) to.offset (ap (λ (x : ComponentAt). x.offset) (sym same)) near in (
             record {
@@ -229,7 +229,7 @@ module _ (l : List BlockLayout) where
           )
 
       bounded : (c : Cell) → slice_get (cells_at l s.block s.temporary) s.place ≡ Some c → (o : Option Bounds) → slice_get c.bounds s.depth ≡ o → is_beyond_left o at ≡ false →
-          within s c (drop (s.place + 1) (cells_at l s.block s.temporary)) at o ≡ walk.Reaches to → IsElement l s at to × (s.offset < largest)
+          path_end_in_bounds s c (drop (s.place + 1) (cells_at l s.block s.temporary)) at o ≡ walk.Reaches to → IndexesElement l s at to × (s.offset < largest_size)
       bounded c there None left inside k = absurd cc
       bounded c there (Some b) left inside k =
           there_is c there b left inside
@@ -237,13 +237,13 @@ module _ (l : List BlockLayout) where
           (ap (λ (t : Bool). if t then walk.Reaches (record s { depth = s.depth + 1 }) else walk.Reaches (element c b)) (sym inside) ∙ k))
 
       by : (o : Option Cell) → slice_get (cells_at l s.block s.temporary) s.place ≡ o → is_beyond_in s.depth o at ≡ false →
-          indexed_behind s (cells_at l s.block s.temporary) at o ≡ walk.Reaches to → IsElement l s at to × (s.offset < largest)
+          indexed_behind s (cells_at l s.block s.temporary) at o ≡ walk.Reaches to → IndexesElement l s at to × (s.offset < largest_size)
       by None there inside k = absurd cc
       by (Some c) there inside k = bounded c there (slice_get c.bounds s.depth) refl inside k
 
-  leads_step : (s : ComponentAt) (p : PathStep) (to : ComponentAt) → to.offset < largest → step_is_beyond l s p ≡ false → step_of l s p ≡ walk.Reaches to →
-      IsStep l s p to × (s.offset < largest)
-  unfolding step_of
+  leads_step : (s : ComponentAt) (p : PathStep) (to : ComponentAt) → to.offset < largest_size → step_is_beyond l s p ≡ false → path_end_by_step l s p ≡ walk.Reaches to →
+      StepLeadsTo l s p to × (s.offset < largest_size)
+  unfolding path_end_by_step
   leads_step s (step.Named name) to near stays e = leads_named s name to near e
   leads_step s (step.Index at) to near stays e = leads_indexed s at to near stays e
 
@@ -257,30 +257,30 @@ module _ (l : List BlockLayout) where
   or_second true b e = absurd cc
   or_second false b e = e
 
-  leads_walked : (ps : List PathStep) (s to : ComponentAt) → to.offset < largest → leaves l s ps ≡ false → walked l s ps ≡ walk.Reaches to → LeadsTo l s ps to × (s.offset < largest)
+  leads_walked : (ps : List PathStep) (s to : ComponentAt) → to.offset < largest_size → leaves_array l s ps ≡ false → path_end_behind l s ps ≡ walk.Reaches to → LeadsTo l s ps to × (s.offset < largest_size)
   leads_walked [] s to near stays e =
-      let same = reaches_same s to e in (same, subst (λ (x : ComponentAt). x.offset < largest) (sym same) near)
+      let same = reaches_same s to e in (same, subst (λ (x : ComponentAt). x.offset < largest_size) (sym same) near)
   leads_walked (p ∷ ps) s to near stays e =
-      by (step_of l s p) refl (or_second (step_is_beyond l s p) (further (step_of l s p) (λ next. leaves l next ps)) stays) e
+      by (path_end_by_step l s p) refl (or_second (step_is_beyond l s p) (holds_where_reached (path_end_by_step l s p) (λ next. leaves_array l next ps)) stays) e
       (λ next inside k. leads_walked ps next to near inside k)
     where
-      by : (w : PathEnd) → step_of l s p ≡ w → further w (λ next. leaves l next ps) ≡ false → goes_on w (λ next. walked l next ps) ≡ walk.Reaches to →
-          ((next : ComponentAt) → leaves l next ps ≡ false → walked l next ps ≡ walk.Reaches to → LeadsTo l next ps to × (next.offset < largest)) →
-          LeadsTo l s (p ∷ ps) to × (s.offset < largest)
+      by : (w : PathEnd) → path_end_by_step l s p ≡ w → holds_where_reached w (λ next. leaves_array l next ps) ≡ false → path_end_and_then w (λ next. path_end_behind l next ps) ≡ walk.Reaches to →
+          ((next : ComponentAt) → leaves_array l next ps ≡ false → path_end_behind l next ps ≡ walk.Reaches to → LeadsTo l next ps to × (next.offset < largest_size)) →
+          LeadsTo l s (p ∷ ps) to × (s.offset < largest_size)
       by (walk.Reaches next) is inside k more =
           let rest = more next inside k in
-          let one = leads_step s p next rest.1 (or_first (step_is_beyond l s p) (further (step_of l s p) (λ next. leaves l next ps)) stays) is in
+          let one = leads_step s p next rest.1 (or_first (step_is_beyond l s p) (holds_where_reached (path_end_by_step l s p) (λ next. leaves_array l next ps)) stays) is in
           ((next, one.0, rest.0), one.1)
       by walk.Unknown is inside k more = absurd cc
       by walk.Rests is inside k more = absurd cc
 
-  leads_from : (block : ℕ) (temporary : Bool) (path : List PathStep) (to : ComponentAt) → to.offset < largest → leaves_from l block temporary path ≡ false →
-      walked_from l block temporary path ≡ walk.Reaches to → LeadsFrom l block temporary path to
+  leads_from : (block : ℕ) (temporary : Bool) (path : List PathStep) (to : ComponentAt) → to.offset < largest_size → leaves_from l block temporary path ≡ false →
+      path_end_in_block l block temporary path ≡ walk.Reaches to → LeadsFrom l block temporary path to
   leads_from block temporary [] to near stays e = absurd cc
   leads_from block temporary (step.Index at ∷ ps) to near stays e = absurd cc
-  leads_from block temporary (step.Named name ∷ ps) to near stays e = by (outermost l block temporary 0 name) refl stays e
+  leads_from block temporary (step.Named name ∷ ps) to near stays e = by (outermost_path_end l block temporary 0 name) refl stays e
     where
-      by : (w : PathEnd) → outermost l block temporary 0 name ≡ w → further w (λ s. leaves l s ps) ≡ false → goes_on w (λ s. walked l s ps) ≡ walk.Reaches to →
+      by : (w : PathEnd) → outermost_path_end l block temporary 0 name ≡ w → holds_where_reached w (λ s. leaves_array l s ps) ≡ false → path_end_and_then w (λ s. path_end_behind l s ps) ≡ walk.Reaches to →
           LeadsFrom l block temporary (step.Named name ∷ ps) to
       by (walk.Reaches first) is inside k =
           let rest = leads_walked ps first to near inside k in (first, (leads_outermost block temporary 0 name first rest.1 is).0, rest.0)
@@ -293,13 +293,13 @@ module _ (l : List BlockLayout) where
   record IsSpotAt (w : PathEnd) (place : Place) (width : Width) : Type 0 where
     to : ComponentAt
     there : w ≡ walk.Reaches to
-    near : to.offset < largest
+    near : to.offset < largest_size
     sum : 8 * place.byte + place.bit ≡ to.offset
     kind : Simple
     elementary : elementary_at l to ≡ Some kind
     wide : width ≡ width_of kind
 
-  spot_at : (a : Area) (number : ℕ) (w : PathEnd) (place : Place) (width : Width) → reached l a number w ≡ Some (place, width) → IsSpotAt w place width
+  spot_at : (a : Area) (number : ℕ) (w : PathEnd) (place : Place) (width : Width) → place_at_path_end l a number w ≡ Some (place, width) → IsSpotAt w place width
   spot_at a number walk.Unknown place width e = absurd cc
   spot_at a number walk.Rests place width e = absurd cc
   spot_at a number (walk.Reaches to) place width e = by (elementary_at l to) refl e
@@ -328,13 +328,13 @@ module _ (l : List BlockLayout) where
           }
       low kind is false near k = absurd cc
 
-      by : (o : Option Simple) → elementary_at l to ≡ o → placed a number to.offset o ≡ Some (place, width) → IsSpotAt (walk.Reaches to) place width
+      by : (o : Option Simple) → elementary_at l to ≡ o → elementary_place a number to.offset o ≡ Some (place, width) → IsSpotAt (walk.Reaches to) place width
       by None is k = absurd cc
       by (Some kind) is k = low kind is (nat_le (to.offset / 8) 65535) refl k
 
   module _ (id : BlockId) (path : List PathStep) (place : Place) (width : Width) (block : ℕ) (known : option_and_then (if_whole l) (known_block id (map (λ b. b.id) l)) ≡ Some block) where
-    led : (s : Section) (inside : ℕ) → declaring l s block ≡ Some inside → leaves_from l inside (is_temporary s) path ≡ false →
-        IsSpotAt (walked_from l inside (is_temporary s) path) place width → LeadsToPlace l id s path place width
+    led : (s : Section) (inside : ℕ) → declaring_block l s block ≡ Some inside → leaves_from l inside (is_temporary s) path ≡ false →
+        IsSpotAt (path_end_in_block l inside (is_temporary s) path) place width → LeadsToPlace l id s path place width
     led s inside declared stays at = record {
       block = block;
       known = known;
@@ -356,10 +356,10 @@ module _ (l : List BlockLayout) where
     if_let true o e = absurd cc
     if_let false o e = (refl, e)
 
-    led_variable : (s : Section) (a : Area) → declaring l s block ≡ Some block → variable l a block (is_temporary s) path ≡ Some (place, width) → LeadsToPlace l id s path place width
+    led_variable : (s : Section) (a : Area) → declaring_block l s block ≡ Some block → variable_place l a block (is_temporary s) path ≡ Some (place, width) → LeadsToPlace l id s path place width
     led_variable s a declared e =
-        let r = if_let (leaves_from l block (is_temporary s) path) (reached l a 0 (walked_from l block (is_temporary s) path)) e in
-        led s block declared r.0 (spot_at a 0 (walked_from l block (is_temporary s) path) place width r.1)
+        let r = if_let (leaves_from l block (is_temporary s) path) (place_at_path_end l a 0 (path_end_in_block l block (is_temporary s) path)) e in
+        led s block declared r.0 (spot_at a 0 (path_end_in_block l block (is_temporary s) path) place width r.1)
 
     judged_stays : (w : PathEnd) (to : ComponentAt) (b : Bool) → w ≡ walk.Reaches to → (is_judged w && b) ≡ false → b ≡ false
     judged_stays (walk.Reaches s) to b is e = e
@@ -367,36 +367,36 @@ module _ (l : List BlockLayout) where
     judged_stays walk.Rests to b is e = absurd cc
 
     led_component : data_component l id.number block path ≡ Some (place, width) → LeadsToPlace l id section.Global path place width
-    unfolding walked_data
+    unfolding path_end_in_data_block
     led_component e =
-        let r = if_let (leaves_judged l (structure_of l block) path) (reached l area.Db id.number (walked_data l block path)) e in
+        let r = if_let (leaves_judged l (structure_of l block) path) (place_at_path_end l area.Db id.number (path_end_in_data_block l block path)) e in
         by (structure_of l block) refl r.0 r.1
       where
-        by : (o : Option ℕ) → structure_of l block ≡ o → leaves_judged l o path ≡ false → reached l area.Db id.number (walked_or_rests l o path) ≡ Some (place, width) →
+        by : (o : Option ℕ) → structure_of l block ≡ o → leaves_judged l o path ≡ false → place_at_path_end l area.Db id.number (path_end_or_rests l o path) ≡ Some (place, width) →
             LeadsToPlace l id section.Global path place width
         by None is stays k = absurd cc
         by (Some inside) is stays k =
-            let at = spot_at area.Db id.number (walked_from l inside false path) place width k in
-            led section.Global inside is (judged_stays (walked_from l inside false path) at.to (leaves_from l inside false path) at.there stays) at
+            let at = spot_at area.Db id.number (path_end_in_block l inside false path) place width k in
+            led section.Global inside is (judged_stays (path_end_in_block l inside false path) at.to (leaves_from l inside false path) at.there stays) at
 
-    led_in : (s : Section) → offset_in l id s path block ≡ Some (place, width) → LeadsToPlace l id s path place width
+    led_in : (s : Section) → place_in_section l id s path block ≡ Some (place, width) → LeadsToPlace l id s path place width
     led_in section.Global e = led_component (if_kept (is_data_block id.kind) (data_component l id.number block path) e)
-    led_in section.Instance e = led_variable section.Instance area.Di refl (if_kept (is_function_block id.kind) (variable l area.Di block false path) e)
-    led_in section.Temp e = led_variable section.Temp area.L refl (if_kept (is_code id.kind) (variable l area.L block true path) e)
+    led_in section.Instance e = led_variable section.Instance area.Di refl (if_kept (is_function_block id.kind) (variable_place l area.Di block false path) e)
+    led_in section.Temp e = led_variable section.Temp area.L refl (if_kept (is_code id.kind) (variable_place l area.L block true path) e)
 
 pub offsets_are_sums : OffsetsAreSums
-unfolding offset_of
+unfolding place_of_path
 offsets_are_sums l id s path place width e = by (option_and_then (if_whole l) (known_block id (map (λ b. b.id) l))) refl e
   where
-    by : (o : Option ℕ) → option_and_then (if_whole l) (known_block id (map (λ b. b.id) l)) ≡ o → option_and_then (offset_in l id s path) o ≡ Some (place, width) →
+    by : (o : Option ℕ) → option_and_then (if_whole l) (known_block id (map (λ b. b.id) l)) ≡ o → option_and_then (place_in_section l id s path) o ≡ Some (place, width) →
         LeadsToPlace l id s path place width
     by None is k = absurd cc
     by (Some block) is k = led_in l id path place width block is s k
 
 -- ---- a path leads to one component alone
 
-one_component : (l : List BlockLayout) (block : ℕ) (temporary : Bool) (first level begin : ℕ) (name : List ℕ) (a b : ComponentAt) → IsComponent l block temporary first level begin name a →
-    IsComponent l block temporary first level begin name b → a ≡ b
+one_component : (l : List BlockLayout) (block : ℕ) (temporary : Bool) (first level begin : ℕ) (name : List ℕ) (a b : ComponentAt) → NamesComponent l block temporary first level begin name a →
+    NamesComponent l block temporary first level begin name b → a ≡ b
 one_component l block temporary first level begin name a b g h =
     let place : g.place ≡ h.place = some_same g.place h.place (sym g.named ∙ h.named) in
     let offset : g.offset ≡ h.offset =
@@ -409,7 +409,7 @@ one_component l block temporary first level begin name a b g h =
     some_same x y k = cc
 
 module _ (l : List BlockLayout) where
-  one_of : (s : ComponentAt) (name : List ℕ) (c : Cell) (of : Element) (a b : ComponentAt) → IsComponentOf l s name c of a → IsComponentOf l s name c of b → a ≡ b
+  one_of : (s : ComponentAt) (name : List ℕ) (c : Cell) (of : Element) (a b : ComponentAt) → NamesComponentOf l s name c of a → NamesComponentOf l s name c of b → a ≡ b
   one_of s name c Structure a b g h = one_component l s.block s.temporary (s.place + 1) (c.level + 1) s.offset name a b g h
   one_of s name c (Udt block bits) a b g h = one_component l block false 0 0 s.offset name a b g h
   one_of s name c (Plain kind) a b g h = absurd g
@@ -418,12 +418,12 @@ module _ (l : List BlockLayout) where
 
   one_inside : (s : ComponentAt) (name : List ℕ) (a b : ComponentAt) → IsInside l s name a → IsInside l s name b → a ≡ b
   one_inside s name a b g h =
-      one_of s name h.cell h.cell.of a b (subst (λ (c : Cell). IsComponentOf l s name c c.of a) (some_same g.cell h.cell (sym g.there ∙ h.there)) g.leads) h.leads
+      one_of s name h.cell h.cell.of a b (subst (λ (c : Cell). NamesComponentOf l s name c c.of a) (some_same g.cell h.cell (sym g.there ∙ h.there)) g.leads) h.leads
     where
       some_same : (x y : Cell) → Some x ≡ Some y → x ≡ y
       some_same x y k = cc
 
-  one_element : (s : ComponentAt) (at : ℤ) (a b : ComponentAt) → IsElement l s at a → IsElement l s at b → a ≡ b
+  one_element : (s : ComponentAt) (at : ℤ) (a b : ComponentAt) → IndexesElement l s at a → IndexesElement l s at b → a ≡ b
   one_element s at a b g h =
       let cell : g.cell ≡ h.cell = cell_same g.cell h.cell (sym g.there ∙ h.there) in
       let bounds : g.bounds ≡ h.bounds = bounds_same g.bounds h.bounds (sym g.left ∙ ap (λ (c : Cell). slice_get c.bounds s.depth) cell ∙ h.left) in
@@ -441,7 +441,7 @@ module _ (l : List BlockLayout) where
       bounds_same : (x y : Bounds) → Some x ≡ Some y → x ≡ y
       bounds_same x y k = cc
 
-  one_step : (s : ComponentAt) (p : PathStep) (a b : ComponentAt) → IsStep l s p a → IsStep l s p b → a ≡ b
+  one_step : (s : ComponentAt) (p : PathStep) (a b : ComponentAt) → StepLeadsTo l s p a → StepLeadsTo l s p b → a ≡ b
   one_step s (step.Named name) a b g h = one_inside s name a b g h
   one_step s (step.Index at) a b g h = one_element s at a b g h
 

@@ -21,7 +21,7 @@ use Rattle.block_layout.specs.Rule53.{rule_53}
 use Rattle.block_layout.specs.Rule54.{rule_54}
 use Rattle.block_layout.specs.Rule55.{rule_55}
 use Rattle.block_layout.specs.Rule56.{rule_56}
-use Rattle.block_layout.specs.Table.{refusals_by}
+use Rattle.block_layout.specs.Table.{refusals_of_blocks}
 use Rattle.block_layout.specs.Types.{Types}
 use Rattle.block_layout.specs.declared.blocks.BlockLayout.{BlockLayout}
 
@@ -45,8 +45,8 @@ all_rules y l blocks =
     rule_21 blocks ∷ rule_22 y blocks ∷ rule_23 y blocks ∷ rule_41 l blocks ∷ rule_42 y l blocks ∷ rule_43 y blocks ∷ rule_44 y.symbols blocks ∷ rule_50 y blocks
     ∷ rule_51 y blocks ∷ rule_52 blocks ∷ rule_53 blocks ∷ rule_54 y blocks ∷ rule_55 blocks ∷ rule_56 y blocks ∷ []
 
-pub table_joined : (y : Types) (l : List BlockLayout) (blocks : List Block) → flat_map (λ r. r) (all_rules y l blocks) ≡ refusals_by y l blocks
-unfolding refusals_by
+pub table_joined : (y : Types) (l : List BlockLayout) (blocks : List Block) → flat_map (λ r. r) (all_rules y l blocks) ≡ refusals_of_blocks y l blocks
+unfolding refusals_of_blocks
 table_joined y l blocks = simp (append_assoc, append-nil)
 
 pub fourteen : (a b c d e f g h i j k l m n a' b' c' d' e' f' g' h' i' j' k' l' m' n' : Option Refusal) →

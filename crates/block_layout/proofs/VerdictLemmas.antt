@@ -10,20 +10,20 @@ use Rattle.stl_ast.specs.declared.declarations.Declaration.{Declaration}
 use Rattle.stl_ast.specs.Outline.{IsOutline, level_behind}
 use Rattle.block_layout.specs.declared.verdicts.Frame.{Frame}
 use Rattle.block_layout.specs.declared.verdicts.Verdict.{Verdict}
-use Rattle.block_layout.specs.Around.{Outside, around, onto}
+use Rattle.block_layout.specs.Around.{Outside, structures_around, declarations_before_next}
 use Rattle.block_layout.specs.Cells.{breaks_rule}
 use Rattle.block_layout.specs.Declarations.{is_unknown_type, has_upside_down, init_fits}
-use Rattle.block_layout.specs.Measures.{deep}
+use Rattle.block_layout.specs.Measures.{capped_depth}
 use Rattle.block_layout.specs.Rule21.{is_twice, names_before}
-use Rattle.block_layout.specs.Rule56.{own_depth, depth_around, opened_by, is_too_deep}
+use Rattle.block_layout.specs.Rule56.{own_depth, depth_around, depth_of_holders, is_too_deep}
 use Rattle.block_layout.specs.Types.{Types}
-use Rattle.block_layout.specs.Verdicts.{AreOpen, JudgedOnto, breaks_in, entered_by, frame_of, inside, is_deep_in, verdict_in, verdict_of, verdicts_of, with_name}
+use Rattle.block_layout.specs.Verdicts.{AreOpen, JudgedOnto, breaks_in, frames_behind, frame_of, inner_frame, is_deep_in, verdict_in, verdict_of, verdicts_of, with_name}
 
 -- depths beyond 8 may count as 9
-pub deep_same : (a own : ℕ) → is_deep_in (deep a) (deep own) ≡ is_deep_in a own
+pub deep_same : (a own : ℕ) → is_deep_in (capped_depth a) (capped_depth own) ≡ is_deep_in a own
 deep_same a own = grind (arith, nat_tests)
 
-pub deep_sum : (a own : ℕ) → deep (deep a + deep own) ≡ deep (a + own)
+pub deep_sum : (a own : ℕ) → capped_depth (capped_depth a + capped_depth own) ≡ capped_depth (a + own)
 deep_sum a own = omega arith
 
 or_middle : (twice unknown unfit upside ninth : Bool) →
@@ -56,10 +56,10 @@ frame_here y o before d =
     let here : nat_eq d.level d.level ≡ true = grind (arith, nat_tests) in
     rw not_lower (rw here refl)
 
-frame_inside : (y : Types) (o : Outside) (before : List Declaration) (d : Declaration) → inside y (frame_of y o before d.level) d ≡ frame_of y o (d ∷ before) (d.level + 1)
+frame_inside : (y : Types) (o : Outside) (before : List Declaration) (d : Declaration) → inner_frame y (frame_of y o before d.level) d ≡ frame_of y o (d ∷ before) (d.level + 1)
 frame_inside y o before d =
     let lower : nat_lt d.level (d.level + 1) ≡ true = grind (arith, nat_tests) in
-    let sum : deep (deep (depth_around y o d.level before) + deep (own_depth y d)) ≡ deep (o.depth + (own_depth y d + opened_by y (around d.level before))) = omega arith in
+    let sum : capped_depth (capped_depth (depth_around y o d.level before) + capped_depth (own_depth y d)) ≡ capped_depth (o.depth + (own_depth y d + depth_of_holders y (structures_around d.level before))) = omega arith in
     rw lower (rw (breaks_same y o before d) (rw sum refl))
 
 -- a list of which two elements follow the first n of another
@@ -84,10 +84,10 @@ two_behind open_ n here inner level g within below =
     )
 
 at_level : (y : Types) (o : Outside) (before : List Declaration) (d : Declaration) (open_ : List Frame) → AreOpen y o before open_ → d.level < length open_ → (f : Frame) →
-    (level : ℕ) (g : Frame) → level < length (entered_by y open_ (frame_of y o before d.level) d) → get_or (entered_by y open_ (frame_of y o before d.level) d) level g ≡ frame_of y o (d ∷ before) level
-unfolding entered_by
+    (level : ℕ) (g : Frame) → level < length (frames_behind y open_ (frame_of y o before d.level) d) → get_or (frames_behind y open_ (frame_of y o before d.level) d) level g ≡ frame_of y o (d ∷ before) level
+unfolding frames_behind
 at_level y o before d open_ are within f level g below =
-    let two = two_behind open_ d.level (with_name (frame_of y o before d.level) d) (inside y (frame_of y o before d.level) d) level g within below in
+    let two = two_behind open_ d.level (with_name (frame_of y o before d.level) d) (inner_frame y (frame_of y o before d.level) d) level g within below in
     ⊎_elim
     (λ low.
     let lower : level < d.level = grind (arith, nat_tests) in
@@ -104,16 +104,16 @@ at_level y o before d open_ are within f level g below =
     (cases_Bool (nat_lt level d.level))
 
 pub open_behind : (y : Types) (o : Outside) (before : List Declaration) (d : Declaration) (open_ now : List Frame) → AreOpen y o before open_ → d.level < length open_ →
-    ((f : Frame) → now ≡ entered_by y open_ (get_or open_ d.level f) d) → (f : Frame) → AreOpen y o (d ∷ before) now
+    ((f : Frame) → now ≡ frames_behind y open_ (get_or open_ d.level f) d) → (f : Frame) → AreOpen y o (d ∷ before) now
 open_behind y o before d open_ now are within is_now f =
-    let is : now ≡ entered_by y open_ (frame_of y o before d.level) d =
-    is_now f ∙ ap (λ (g : Frame). entered_by y open_ g d) (are.frames d.level f within) in
+    let is : now ≡ frames_behind y open_ (frame_of y o before d.level) d =
+    is_now f ∙ ap (λ (g : Frame). frames_behind y open_ g d) (are.frames d.level f within) in
     subst (λ (l : List Frame). AreOpen y o (d ∷ before) l) (sym is) (record { frames = λ level g below. at_level y o before d open_ are within f level g below })
 
-pub open_length : (y : Types) (open_ now : List Frame) (d : Declaration) (f : Frame) → d.level < length open_ → now ≡ entered_by y open_ f d → length now ≡ d.level + 2
-unfolding entered_by
+pub open_length : (y : Types) (open_ now : List Frame) (d : Declaration) (f : Frame) → d.level < length open_ → now ≡ frames_behind y open_ f d → length now ≡ d.level + 2
+unfolding frames_behind
 open_length y open_ now d f within is_now =
-    ap length is_now ∙ length-append (take d.level open_) (with_name f d ∷ inside y f d ∷ []) ∙ ap (λ (k : ℕ). k + 2) (length-take-le d.level open_ (omega arith))
+    ap length is_now ∙ length-append (take d.level open_) (with_name f d ∷ inner_frame y f d ∷ []) ∙ ap (λ (k : ℕ). k + 2) (length-take-le d.level open_ (omega arith))
 
 pub verdict_here : (y : Types) (o : Outside) (before : List Declaration) (d : Declaration) (open_ : List Frame) (v : Verdict) → AreOpen y o before open_ → d.level < length open_ →
     ((f : Frame) → v ≡ verdict_in y (get_or open_ d.level f) d) → (f : Frame) → v ≡ verdict_of y o before d
@@ -140,7 +140,7 @@ one_deeper level d = inside_type d.of.of
     inside_type DateAndTime = omega arith
 
 pub outline_next : (y : Types) (ds : List Declaration) (i : ℕ) (d : Declaration) (open_ now : List Frame) → i < length ds → d ≡ get_or ds i d →
-    (deepest : ℕ) × (IsOutline deepest (drop i ds) × (deepest < length open_)) → ((f : Frame) → now ≡ entered_by y open_ (get_or open_ d.level f) d) →
+    (deepest : ℕ) × (IsOutline deepest (drop i ds) × (deepest < length open_)) → ((f : Frame) → now ≡ frames_behind y open_ (get_or open_ d.level f) d) →
     (deepest : ℕ) × (IsOutline deepest (drop (i + 1) ds) × (deepest < length now))
 outline_next y ds i d open_ now within is_d (deepest, (outline, room)) is_now =
     let split : drop i ds ≡ d ∷ drop (i + 1) ds = drop_more ds i d within ∙ ap (λ (x : Declaration). x ∷ drop (i + 1) ds) (sym is_d) in
@@ -151,17 +151,17 @@ outline_next y ds i d open_ now within is_d (deepest, (outline, room)) is_now =
     (level_behind d.level d.of.of, (rest, omega arith))
 
 pub judged_next : (y : Types) (o : Outside) (ds : List Declaration) (i : ℕ) (d : Declaration) (open_ opened : List Frame) (vs ws whole : List Verdict) (v : Verdict) (end : List Declaration) →
-    i < length ds → d ≡ get_or ds i d → d.level < length open_ → ((f : Frame) → opened ≡ entered_by y open_ (get_or open_ d.level f) d) →
+    i < length ds → d ≡ get_or ds i d → d.level < length open_ → ((f : Frame) → opened ≡ frames_behind y open_ (get_or open_ d.level f) d) →
     ((f : Frame) → v ≡ verdict_in y (get_or open_ d.level f) d) → ws ≡ vs ++ v ∷ [] →
-    (now : List Declaration) × (AreOpen y o now open_ × (onto now (drop i ds) ≡ end) × (vs ++ verdicts_of y o now (drop i ds) ≡ whole)) →
-    (now : List Declaration) × (AreOpen y o now opened × (onto now (drop (i + 1) ds) ≡ end) × (ws ++ verdicts_of y o now (drop (i + 1) ds) ≡ whole))
+    (now : List Declaration) × (AreOpen y o now open_ × (declarations_before_next now (drop i ds) ≡ end) × (vs ++ verdicts_of y o now (drop i ds) ≡ whole)) →
+    (now : List Declaration) × (AreOpen y o now opened × (declarations_before_next now (drop (i + 1) ds) ≡ end) × (ws ++ verdicts_of y o now (drop (i + 1) ds) ≡ whole))
 judged_next y o ds i d open_ opened vs ws whole v end within is_d there is_opened is_v are_ws (now, (are, to_end, so_far)) =
     let split : drop i ds ≡ d ∷ drop (i + 1) ds = drop_more ds i d within ∙ ap (λ (x : Declaration). x ∷ drop (i + 1) ds) (sym is_d) in
     let is : v ≡ verdict_of y o now d = verdict_here y o now d open_ v are there is_v empty_frame in (
       d ∷ now,
       (
         open_behind y o now d open_ opened are there is_opened empty_frame,
-        sym (ap (λ (l : List Declaration). onto now l) split) ∙ to_end,
+        sym (ap (λ (l : List Declaration). declarations_before_next now l) split) ∙ to_end,
         (ap (λ (l : List Verdict). l ++ verdicts_of y o (d ∷ now) (drop (i + 1) ds)) (are_ws ∙ ap (λ (x : Verdict). vs ++ x ∷ []) is)
             ∙ append_assoc vs (verdict_of y o now d ∷ []) (verdicts_of y o (d ∷ now) (drop (i + 1) ds))
             ∙ ap (λ (l : List Declaration). vs ++ verdicts_of y o now l) (sym split) ∙ so_far),
@@ -169,11 +169,11 @@ judged_next y o ds i d open_ opened vs ws whole v end within is_d there is_opene
     )
 
 pub judged_done : (y : Types) (o : Outside) (before ds : List Declaration) (i : ℕ) (open_ : List Frame) (vs : List Verdict) → length ds ≤ i →
-    (now : List Declaration) × (AreOpen y o now open_ × (onto now (drop i ds) ≡ onto before ds) × (vs ++ verdicts_of y o now (drop i ds) ≡ verdicts_of y o before ds)) →
+    (now : List Declaration) × (AreOpen y o now open_ × (declarations_before_next now (drop i ds) ≡ declarations_before_next before ds) × (vs ++ verdicts_of y o now (drop i ds) ≡ verdicts_of y o before ds)) →
     JudgedOnto y o before ds vs open_
 judged_done y o before ds i open_ vs over (now, (are, to_end, so_far)) =
     let none : drop i ds ≡ [] = drop_of_length-le ds over in
     record {
       verdicts = sym (append-nil vs) ∙ ap (λ (l : List Declaration). vs ++ verdicts_of y o now l) (sym none) ∙ so_far;
-      lists = subst (λ (l : List Declaration). AreOpen y o l open_) (ap (λ (l : List Declaration). onto now l) (sym none) ∙ to_end) are;
+      lists = subst (λ (l : List Declaration). AreOpen y o l open_) (ap (λ (l : List Declaration). declarations_before_next now l) (sym none) ∙ to_end) are;
     }

@@ -14,27 +14,27 @@ use Rattle.block_layout.specs.declared.members.Member.{Member}
 use Rattle.block_layout.specs.declared.walks.ComponentAt.{ComponentAt}
 use Rattle.block_layout.specs.declared.walks.PathEnd.{PathEnd}
 use Rattle.block_layout.specs.declared.walks.PathEnd.TheVariants as walk
-use Rattle.block_layout.specs.Members.{component}
-use Rattle.block_layout.specs.Paths.{IsSoundAt, ReachesSound, cells_at, entered, found_at, goes_on, indexed, indexed_behind, is_beyond, named, named_behind, named_in, outermost, step_of, walked, within}
+use Rattle.block_layout.specs.Members.{component_of_name}
+use Rattle.block_layout.specs.Paths.{IsSoundAt, ReachesSound, cells_at, path_end_at_cell, path_end_at_member, path_end_and_then, path_end_by_index, indexed_behind, is_beyond, path_end_by_name, named_behind, named_in, outermost_path_end, path_end_by_step, path_end_behind, path_end_in_bounds}
 
 if_entered : (l : List BlockLayout) (block : ℕ) (temporary : Bool) (place offset : ℕ) (c : Cell) (sound : Bool) → c.sound ≡ sound → slice_get (cells_at l block temporary) place ≡ Some c →
     ReachesSound l (if sound then walk.Reaches (record { block = block; temporary = temporary; place = place; depth = 0; offset = offset }) else walk.Rests)
 if_entered l block temporary place offset c true is there = λ d e. (let same : c ≡ d = cc in subst (λ (x : Cell). x.sound ≡ true) same is)
 if_entered l block temporary place offset c false is there = tt
 
-at_entered : (l : List BlockLayout) (block : ℕ) (temporary : Bool) (place offset : ℕ) (o : Option Cell) → slice_get (cells_at l block temporary) place ≡ o → ReachesSound l (entered block temporary place offset o)
+at_entered : (l : List BlockLayout) (block : ℕ) (temporary : Bool) (place offset : ℕ) (o : Option Cell) → slice_get (cells_at l block temporary) place ≡ o → ReachesSound l (path_end_at_cell block temporary place offset o)
 at_entered l block temporary place offset None there = tt
 at_entered l block temporary place offset (Some c) there = if_entered l block temporary place offset c c.sound refl there
 
-found_sound : (l : List BlockLayout) (block : ℕ) (temporary : Bool) (first offset : ℕ) (o : Option Member) → ReachesSound l (found_at (cells_at l block temporary) block temporary first offset o)
+found_sound : (l : List BlockLayout) (block : ℕ) (temporary : Bool) (first offset : ℕ) (o : Option Member) → ReachesSound l (path_end_at_member (cells_at l block temporary) block temporary first offset o)
 found_sound l block temporary first offset None = tt
 found_sound l block temporary first offset (Some m) = at_entered l block temporary (first + m.place) _ (slice_get (cells_at l block temporary) (first + m.place)) refl
 
-pub outermost_sound : (l : List BlockLayout) (block : ℕ) (temporary : Bool) (offset : ℕ) (name : List ℕ) → ReachesSound l (outermost l block temporary offset name)
-unfolding outermost
-outermost_sound l block temporary offset name = found_sound l block temporary 0 offset (component 0 0 0 name (cells_at l block temporary))
+pub outermost_sound : (l : List BlockLayout) (block : ℕ) (temporary : Bool) (offset : ℕ) (name : List ℕ) → ReachesSound l (outermost_path_end l block temporary offset name)
+unfolding outermost_path_end
+outermost_sound l block temporary offset name = found_sound l block temporary 0 offset (component_of_name 0 0 0 name (cells_at l block temporary))
 
-pub outermost_reaches : (l : List BlockLayout) (block : ℕ) (temporary : Bool) (offset : ℕ) (name : List ℕ) (w : PathEnd) → w ≡ outermost l block temporary offset name → ReachesSound l w
+pub outermost_reaches : (l : List BlockLayout) (block : ℕ) (temporary : Bool) (offset : ℕ) (name : List ℕ) (w : PathEnd) → w ≡ outermost_path_end l block temporary offset name → ReachesSound l w
 outermost_reaches l block temporary offset name w is = subst (λ (x : PathEnd). ReachesSound l x) (sym is) (outermost_sound l block temporary offset name)
 
 in_sound : (l : List BlockLayout) (spot : ComponentAt) (name : List ℕ) (c : Cell) (of : Element) → ReachesSound l (named_in l spot name c of)
@@ -52,7 +52,7 @@ behind_sound : (l : List BlockLayout) (spot : ComponentAt) (name : List ℕ) (o 
 behind_sound l spot name None = tt
 behind_sound l spot name (Some c) = if_sound l (nat_eq spot.depth (length c.bounds)) (named_in l spot name c c.of) walk.Unknown (in_sound l spot name c c.of) tt
 
-within_sound : (l : List BlockLayout) (spot : ComponentAt) (c : Cell) (behind : List Cell) (at : ℤ) (o : Option Bounds) → IsSoundAt l spot → ReachesSound l (within spot c behind at o)
+within_sound : (l : List BlockLayout) (spot : ComponentAt) (c : Cell) (behind : List Cell) (at : ℤ) (o : Option Bounds) → IsSoundAt l spot → ReachesSound l (path_end_in_bounds spot c behind at o)
 within_sound l spot c behind at None sound = tt
 within_sound l spot c behind at (Some b) sound = if_sound l (is_beyond b at) _ _ sound sound
 
@@ -60,36 +60,36 @@ index_sound : (l : List BlockLayout) (spot : ComponentAt) (cells : List Cell) (a
 index_sound l spot cells at None sound = tt
 index_sound l spot cells at (Some c) sound = within_sound l spot c _ at _ sound
 
-by_step : (l : List BlockLayout) (spot : ComponentAt) (s : PathStep) → IsSoundAt l spot → ReachesSound l (step_of l spot s)
-unfolding step_of named indexed
+by_step : (l : List BlockLayout) (spot : ComponentAt) (s : PathStep) → IsSoundAt l spot → ReachesSound l (path_end_by_step l spot s)
+unfolding path_end_by_step path_end_by_name path_end_by_index
 by_step l spot (step.Named name) sound = behind_sound l spot name _
 by_step l spot (step.Index at) sound = index_sound l spot _ at _ sound
 
-pub step_sound : (l : List BlockLayout) (spot next : ComponentAt) (s : PathStep) (w : PathEnd) → IsSoundAt l spot → w ≡ step_of l spot s → w ≡ walk.Reaches next → IsSoundAt l next
+pub step_sound : (l : List BlockLayout) (spot next : ComponentAt) (s : PathStep) (w : PathEnd) → IsSoundAt l spot → w ≡ path_end_by_step l spot s → w ≡ walk.Reaches next → IsSoundAt l next
 step_sound l spot next s w sound is reaches = subst (λ (x : PathEnd). ReachesSound l x) (sym is ∙ reaches) (by_step l spot s sound)
 
-pub walk_next : (l : List BlockLayout) (spot next : ComponentAt) (path : List PathStep) (i : ℕ) (s : PathStep) (w whole : PathEnd) → i < length path → s ≡ get_or path i s → w ≡ step_of l spot s → w ≡ walk.Reaches next →
-    walked l spot (drop i path) ≡ whole → walked l next (drop (i + 1) path) ≡ whole
+pub walk_next : (l : List BlockLayout) (spot next : ComponentAt) (path : List PathStep) (i : ℕ) (s : PathStep) (w whole : PathEnd) → i < length path → s ≡ get_or path i s → w ≡ path_end_by_step l spot s → w ≡ walk.Reaches next →
+    path_end_behind l spot (drop i path) ≡ whole → path_end_behind l next (drop (i + 1) path) ≡ whole
 walk_next l spot next path i s w whole inside is_s is_w reaches so_far =
     let split : drop i path ≡ s ∷ drop (i + 1) path = drop_more path i s inside ∙ ap (λ (x : PathStep). x ∷ drop (i + 1) path) (sym is_s) in
-    ap (λ (x : PathEnd). goes_on x (λ to. walked l to (drop (i + 1) path))) (sym reaches ∙ is_w)
-    ∙ ap (λ (p : List PathStep). walked l spot p) (sym split) ∙ so_far
+    ap (λ (x : PathEnd). path_end_and_then x (λ to. path_end_behind l to (drop (i + 1) path))) (sym reaches ∙ is_w)
+    ∙ ap (λ (p : List PathStep). path_end_behind l spot p) (sym split) ∙ so_far
 
-not_on : (w : PathEnd) (next : ComponentAt → PathEnd) → ((to : ComponentAt) → w ≡ walk.Reaches to → ⊥) → goes_on w next ≡ w
+not_on : (w : PathEnd) (next : ComponentAt → PathEnd) → ((to : ComponentAt) → w ≡ walk.Reaches to → ⊥) → path_end_and_then w next ≡ w
 not_on (walk.Reaches to) next never = absurd (never to refl)
 not_on walk.Unknown next never = refl
 not_on walk.Rests next never = refl
 
-pub walk_ends : (l : List BlockLayout) (spot : ComponentAt) (path : List PathStep) (i : ℕ) (s : PathStep) (w whole : PathEnd) → i < length path → s ≡ get_or path i s → w ≡ step_of l spot s → ((to : ComponentAt) → w ≡ walk.Reaches to → ⊥) →
-    walked l spot (drop i path) ≡ whole → w ≡ whole
+pub walk_ends : (l : List BlockLayout) (spot : ComponentAt) (path : List PathStep) (i : ℕ) (s : PathStep) (w whole : PathEnd) → i < length path → s ≡ get_or path i s → w ≡ path_end_by_step l spot s → ((to : ComponentAt) → w ≡ walk.Reaches to → ⊥) →
+    path_end_behind l spot (drop i path) ≡ whole → w ≡ whole
 walk_ends l spot path i s w whole inside is_s is_w never so_far =
     let split : drop i path ≡ s ∷ drop (i + 1) path = drop_more path i s inside ∙ ap (λ (x : PathStep). x ∷ drop (i + 1) path) (sym is_s) in
-    sym (not_on w (λ to. walked l to (drop (i + 1) path)) never)
-    ∙ ap (λ (x : PathEnd). goes_on x (λ to. walked l to (drop (i + 1) path))) is_w
-    ∙ ap (λ (p : List PathStep). walked l spot p) (sym split) ∙ so_far
+    sym (not_on w (λ to. path_end_behind l to (drop (i + 1) path)) never)
+    ∙ ap (λ (x : PathEnd). path_end_and_then x (λ to. path_end_behind l to (drop (i + 1) path))) is_w
+    ∙ ap (λ (p : List PathStep). path_end_behind l spot p) (sym split) ∙ so_far
 
-pub walk_done : (l : List BlockLayout) (spot : ComponentAt) (path : List PathStep) (i : ℕ) (whole : PathEnd) → length path ≤ i → walked l spot (drop i path) ≡ whole → walk.Reaches spot ≡ whole
-walk_done l spot path i whole over so_far = ap (λ (p : List PathStep). walked l spot p) (sym (drop_of_length-le path over)) ∙ so_far
+pub walk_done : (l : List BlockLayout) (spot : ComponentAt) (path : List PathStep) (i : ℕ) (whole : PathEnd) → length path ≤ i → path_end_behind l spot (drop i path) ≡ whole → walk.Reaches spot ≡ whole
+walk_done l spot path i whole over so_far = ap (λ (p : List PathStep). path_end_behind l spot p) (sym (drop_of_length-le path over)) ∙ so_far
 
-pub goes_to : (w : PathEnd) (next : ComponentAt → PathEnd) (to : ComponentAt) → w ≡ walk.Reaches to → goes_on w next ≡ next to
-goes_to w next to is = ap (λ (x : PathEnd). goes_on x next) is
+pub goes_to : (w : PathEnd) (next : ComponentAt → PathEnd) (to : ComponentAt) → w ≡ walk.Reaches to → path_end_and_then w next ≡ next to
+goes_to w next to is = ap (λ (x : PathEnd). path_end_and_then x next) is

@@ -14,16 +14,16 @@ pub record Holder : Type 0 where
 
 -- the structures around a declaration at this level, the innermost first: of those before it the nearest at a lower
 -- level, and those around that one
-abbrev pub around : ℕ → List Declaration → List Holder
-around level [] = []
-around level (d ∷ ds) =
-    if nat_lt d.level level then record { declaration = d; before = ds } ∷ around d.level ds
-    else around level ds
+abbrev pub structures_around : ℕ → List Declaration → List Holder
+structures_around level [] = []
+structures_around level (d ∷ ds) =
+    if nat_lt d.level level then record { declaration = d; before = ds } ∷ structures_around d.level ds
+    else structures_around level ds
 
 -- those before what follows some declarations
-abbrev pub onto : (before : List Declaration) → List Declaration → List Declaration
-onto before [] = before
-onto before (d ∷ ds) = onto (d ∷ before) ds
+abbrev pub declarations_before_next : (before : List Declaration) → List Declaration → List Declaration
+declarations_before_next before [] = before
+declarations_before_next before (d ∷ ds) = declarations_before_next (d ∷ before) ds
 
 -- what the outermost declarations of a list stand in: names that the list has already, and open structures
 pub record Outside : Type 0 where
@@ -52,23 +52,23 @@ abbrev pub of_structure : Outside
 of_structure = record { names = []; depth = 1 }
 
 -- what breaks a rule of declarations, of all that follow some declarations
-abbrev pub in_rest : (List Declaration → Declaration → List Refusal) → (before : List Declaration)
+abbrev pub refusals_in_rest : (List Declaration → Declaration → List Refusal) → (before : List Declaration)
     → List Declaration → List Refusal
-in_rest broken before ds = refusals_along (λ d. false) broken (λ before d. d ∷ before) before ds
+refusals_in_rest broken before ds = refusals_along (λ d. false) broken (λ before d. d ∷ before) before ds
 
 -- and of all that stand in a list
-abbrev pub in_list : (List Declaration → Declaration → List Refusal) → List Declaration
+abbrev pub refusals_in_list : (List Declaration → Declaration → List Refusal) → List Declaration
     → List Refusal
-in_list broken ds = in_rest broken [] ds
+refusals_in_list broken ds = refusals_in_rest broken [] ds
 
 -- and of all declarations of a block
-abbrev pub in_block : (Outside → List Declaration → Declaration → List Refusal) → Block
+abbrev pub refusals_in_block : (Outside → List Declaration → Declaration → List Refusal) → Block
     → List Refusal
-in_block broken b =
-    in_list (broken (of_sections b)) (section_declarations b)
-    ++ in_list (broken of_structure) b.components
+refusals_in_block broken b =
+    refusals_in_list (broken (of_sections b)) (section_declarations b)
+    ++ refusals_in_list (broken of_structure) b.components
 
 -- and of all declarations of a source, block by block
-abbrev pub in_blocks : (Outside → List Declaration → Declaration → List Refusal) → List Block
+abbrev pub refusals_in_blocks : (Outside → List Declaration → Declaration → List Refusal) → List Block
     → List Refusal
-in_blocks broken blocks = flat_map (in_block broken) blocks
+refusals_in_blocks broken blocks = flat_map (refusals_in_block broken) blocks

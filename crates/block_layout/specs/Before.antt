@@ -2,7 +2,7 @@
 use Rattle.std.specs.Prelude.{◌≡◌, ◌-◌, ◌^◌, min, List, length}
 use Rattle.stl_ast.specs.declared.blocks.Block.{Block}
 use Rattle.block_layout.specs.Rule53.{data_blocks}
-use Rattle.block_layout.specs.Rule54.{total}
+use Rattle.block_layout.specs.Rule54.{total_data_length}
 use Rattle.block_layout.specs.Types.{Types}
 use Rattle.block_layout.specs.declared.broken.Before.{Before}
 
@@ -10,4 +10,4 @@ use Rattle.block_layout.specs.declared.broken.Before.{Before}
 pub record IsBefore (y : Types) (blocks before : List Block) (b : Before) : Type 0 where
   pub count : b.blocks ≡ length before
   pub data_count : b.data_blocks ≡ data_blocks before
-  pub bytes : b.bytes ≡ min (total y blocks before) (2 ^ 64 - 1)
+  pub bytes : b.bytes ≡ min (total_data_length y blocks before) (2 ^ 64 - 1)

@@ -70,13 +70,13 @@ is_id id None = false
 is_id id (Some other) = is_same_block id other
 
 -- the first place of a block among these, counted from 0
-abbrev pub block_place : BlockId → List (Option BlockId) → Option ℕ
-block_place id [] = None
-block_place id (i ∷ is) = if is_id id i then Some 0 else option_map (λ k. suc k) (block_place id is)
+abbrev pub place_of_block : BlockId → List (Option BlockId) → Option ℕ
+place_of_block id [] = None
+place_of_block id (i ∷ is) = if is_id id i then Some 0 else option_map (λ k. suc k) (place_of_block id is)
 
 -- the block of the source that is meant: of several with one number the first; none that has a number beyond the limits
 abbrev pub known_block : BlockId → List (Option BlockId) → Option ℕ
-known_block id ids = if is_block_number id.kind id.number then block_place id ids else None
+known_block id ids = if is_block_number id.kind id.number then place_of_block id ids else None
 
 -- the place of the block that a name means, of one of these kinds
 abbrev pub found_block : List Symbol → List (Option BlockId) → (BlockKind → Bool) → BlockName

@@ -15,12 +15,12 @@ use Rattle.block_layout.specs.declared.cells.Cell.{Cell}
 use Rattle.block_layout.specs.declared.cells.Element.{Element}
 use Rattle.block_layout.specs.declared.cells.Element.TheVariants.{Plain, Structure, DateAndTime, Udt, Unknown}
 use Rattle.block_layout.specs.declared.cells.Preset.{Preset}
-use Rattle.block_layout.specs.Around.{onto, Outside, around, ret_val, of_sections, of_structure}
-use Rattle.block_layout.specs.Declarations.{is_unknown_type, has_upside_down, init_fits, times}
+use Rattle.block_layout.specs.Around.{declarations_before_next, Outside, structures_around, ret_val, of_sections, of_structure}
+use Rattle.block_layout.specs.Declarations.{is_unknown_type, has_upside_down, init_fits, repetition_factor}
 use Rattle.block_layout.specs.Fits.{bits_of}
 use Rattle.block_layout.specs.Rule21.{is_twice}
 use Rattle.block_layout.specs.Rule56.{is_too_deep}
-use Rattle.block_layout.specs.Types.{Types, udt_of}
+use Rattle.block_layout.specs.Types.{Types, data_type_place}
 
 -- the most bits of a data block, a data type or an instance: 16,384 bytes
 abbrev pub most_bits : ℕ
@@ -39,14 +39,14 @@ is_oversized bits (Some block) = nat_lt most_bits (get_or bits block 0)
 
 -- an element type that is a data type of more than 16,384 bytes; one that the source hasn't is none
 abbrev pub uses_oversized : Types → ElementType → Bool
-uses_oversized y (element.Udt name) = is_oversized y.bits (udt_of y name)
+uses_oversized y (element.Udt name) = is_oversized y.bits (data_type_place y name)
 uses_oversized y _ = false
 
 -- a sound declaration breaks no rule, stands in none that does, and is of no data type that does
 abbrev pub is_sound : Types → Outside → List Declaration → Declaration → Bool
 is_sound y o before d =
     not (breaks_rule y o before d) && not (uses_oversized y d.of.of)
-    && list_all (λ h. not (breaks_rule y o h.before h.declaration)) (around d.level before)
+    && list_all (λ h. not (breaks_rule y o h.before h.declaration)) (structures_around d.level before)
 
 -- what a data type comes to: its place in the source with its bits, or unknown without a place
 abbrev pub udt_element : List ℕ → Option ℕ → Element
@@ -54,18 +54,18 @@ udt_element bits None = Unknown
 udt_element bits (Some block) = Udt block (get_or bits block 0)
 
 -- an element type as the layout sees it: a data type by its place and its size in bits
-abbrev pub laid : Types → ElementType → Element
-laid y (element.Plain kind) = Plain kind
-laid y element.Structure = Structure
-laid y element.DateAndTime = DateAndTime
-laid y (element.Udt name) = udt_element y.bits (udt_of y name)
+abbrev pub layout_element : Types → ElementType → Element
+layout_element y (element.Plain kind) = Plain kind
+layout_element y element.Structure = Structure
+layout_element y element.DateAndTime = DateAndTime
+layout_element y (element.Udt name) = udt_element y.bits (data_type_place y name)
 
 -- an initial value as the layout keeps it: how many elements it sets, and its bits
-abbrev pub preset : Init → Preset
-preset i = record { count = times i.count; value = bits_of i.value }
+abbrev pub preset_of : Init → Preset
+preset_of i = record { count = repetition_factor i.count; value = bits_of i.value }
 
 -- the cell of a declaration, by those before it, the nearest first; its name is in upper case.
--- None is the first of its section yet: `opened` says which is
+-- None is the first of its section yet: `with_first_cell_opening` says which is
 unfoldable pub cell_of : Types → Outside → PartKind → List Declaration → Declaration → Cell
 cell_of y o section before d = record {
   name = upper_case_name d.name;
@@ -74,8 +74,8 @@ cell_of y o section before d = record {
   opens = false;
   sound = is_sound y o before d;
   bounds = d.of.arrays;
-  of = laid y d.of.of;
-  presets = map preset d.init;
+  of = layout_element y d.of.of;
+  presets = map preset_of d.init;
 }
 
 -- the cells of declarations one behind the other
@@ -86,9 +86,9 @@ cells_of y o section before (d ∷ ds) =
     cell_of y o section before d ∷ cells_of y o section (d ∷ before) ds
 
 -- the first component of a section begins at an even byte
-abbrev pub opened : List Cell → List Cell
-opened [] = []
-opened (c ∷ cs) = if c.sound then record c { opens = true } ∷ cs else c ∷ opened cs
+abbrev pub with_first_cell_opening : List Cell → List Cell
+with_first_cell_opening [] = []
+with_first_cell_opening (c ∷ cs) = if c.sound then record c { opens = true } ∷ cs else c ∷ with_first_cell_opening cs
 
 -- VAR_TEMP: its variables lie in the local data; those of all other sections are components
 abbrev pub is_temp : PartKind → Bool
@@ -100,8 +100,8 @@ abbrev pub section_cells : Types → Outside → (wanted : PartKind → Bool)
     → (before : List Declaration) → List Part → List Cell
 section_cells y o wanted before [] = []
 section_cells y o wanted before (p ∷ ps) =
-    (if wanted p.kind then opened (cells_of y o p.kind before p.items) else [])
-    ++ section_cells y o wanted (onto before p.items) ps
+    (if wanted p.kind then with_first_cell_opening (cells_of y o p.kind before p.items) else [])
+    ++ section_cells y o wanted (declarations_before_next before p.items) ps
 
 -- the return value of a function is an output parameter named RET_VAL
 abbrev pub returned_cells : Option Simple → List Cell

@@ -28,7 +28,7 @@ with_marks marks [] = marks
 with_marks marks (block ∷ blocks) = with_marks (with_mark marks block) blocks
 
 -- with all that some blocks use
-abbrev pub spread : (uses : List (List ℕ)) → Marks → (blocks : List ℕ) → Marks
-spread uses marks [] = marks
-spread uses marks (block ∷ blocks) =
-    spread uses (with_marks marks (get_or uses block [])) blocks
+abbrev pub with_uses_marked : (uses : List (List ℕ)) → Marks → (blocks : List ℕ) → Marks
+with_uses_marked uses marks [] = marks
+with_uses_marked uses marks (block ∷ blocks) =
+    with_uses_marked uses (with_marks marks (get_or uses block [])) blocks

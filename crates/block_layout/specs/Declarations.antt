@@ -7,12 +7,12 @@ use Rattle.stl_ast.specs.declared.declarations.Declaration.{Declaration}
 use Rattle.stl_ast.specs.declared.declarations.ElementType.{ElementType}
 use Rattle.stl_ast.specs.declared.declarations.ElementType.TheVariants as element
 use Rattle.stl_ast.specs.declared.declarations.Init.{Init}
-use Rattle.block_layout.specs.Fits.{fits}
-use Rattle.block_layout.specs.Types.{Types, udt_of}
+use Rattle.block_layout.specs.Fits.{fits_elementary_type}
+use Rattle.block_layout.specs.Types.{Types, data_type_place}
 
 -- rule 23: the source has no such data type
 abbrev pub is_unknown_type : Types → ElementType → Bool
-is_unknown_type y (element.Udt name) = is_none (udt_of y name)
+is_unknown_type y (element.Udt name) = is_none (data_type_place y name)
 is_unknown_type y _ = false
 
 -- rule 42: the upper bound is below the lower one
@@ -24,23 +24,23 @@ abbrev pub has_upside_down : Declaration → Bool
 has_upside_down d = list_any is_upside_down d.of.arrays
 
 -- the number of elements of an array; none where its bounds are upside down
-abbrev pub count : Bounds → ℕ
-count b = if is_upside_down b then 0 else unsigned_abs (b.high -ℤ b.low) + 1
+abbrev pub element_count : Bounds → ℕ
+element_count b = if is_upside_down b then 0 else unsigned_abs (b.high -ℤ b.low) + 1
 
 -- how many elements an initial value of an elementary type or of an array of one can set
-abbrev pub room : List Bounds → Option ℕ
-room [] = Some 1
-room (b ∷ []) = Some (count b)
-room _ = None
+abbrev pub settable_count : List Bounds → Option ℕ
+settable_count [] = Some 1
+settable_count (b ∷ []) = Some (element_count b)
+settable_count _ = None
 
 -- n (value) sets n elements
-abbrev pub times : Option ℕ → ℕ
-times None = 1
-times (Some n) = n
+abbrev pub repetition_factor : Option ℕ → ℕ
+repetition_factor None = 1
+repetition_factor (Some n) = n
 
 -- how many elements the initial values of a declaration set together
-abbrev pub set_by : List Init → ℕ
-set_by init = sum_by (λ i. times i.count) init
+abbrev pub elements_set_by : List Init → ℕ
+elements_set_by init = sum_by (λ i. repetition_factor i.count) init
 
 -- so many values aren't more than there is room for; in an array of arrays there is no room
 abbrev pub are_within : ℕ → Option ℕ → Bool
@@ -50,7 +50,7 @@ are_within n (Some most) = nat_le n most
 -- rule 41: each value fits the type, and there are no more values than elements; another type takes none
 abbrev pub fit_type : List Bounds → ElementType → List Init → Bool
 fit_type arrays (element.Plain kind) init =
-    list_all (λ i. fits i.value kind) init && are_within (set_by init) (room arrays)
+    list_all (λ i. fits_elementary_type i.value kind) init && are_within (elements_set_by init) (settable_count arrays)
 fit_type arrays _ init = nat_eq (length init) 0
 
 -- without initial values there is nothing to fit, whatever the type

@@ -4,8 +4,8 @@ use Rattle.stl_ast.specs.declared.blocks.Block.{Block}
 use Rattle.block_layout.specs.declared.building.Facts.{Facts}
 use Rattle.block_layout.specs.declared.outlines.Outline.{Outline}
 use Rattle.block_layout.specs.Cells.{components_of, temps_of}
-use Rattle.block_layout.specs.Heads.{flagged}
-use Rattle.block_layout.specs.Lengths.{length_of, local_len}
+use Rattle.block_layout.specs.Heads.{breach_flags}
+use Rattle.block_layout.specs.Lengths.{length_of_block, local_len}
 use Rattle.block_layout.specs.Rule43.{contains_itself}
 use Rattle.block_layout.specs.Types.{Types}
 
@@ -15,12 +15,12 @@ outline_of y b = record { components = components_of y b; temps = temps_of y b }
 
 -- of each block whether it is a data type that contains itself, how long its local data are, and how long its structure
 pub record AreFacts (y : Types) (blocks : List Block) (f : Facts) : Type 0 where
-  pub in_itself : f.in_itself.items ≡ flagged (contains_itself y blocks) [] blocks
+  pub in_itself : f.in_itself.items ≡ breach_flags (contains_itself y blocks) [] blocks
   pub local_lens : f.local_lens.items ≡ map (local_len y) blocks
-  pub lengths : f.lengths.items ≡ map (length_of y blocks) blocks
+  pub lengths : f.lengths.items ≡ map (length_of_block y blocks) blocks
 
 -- the same of one block, before which some of the blocks stand
 pub record AreFactsOf (y : Types) (blocks some : List Block) (b : Block) (in_itself : Bool) (local len : ℕ) : Type 0 where
   pub itself : in_itself ≡ contains_itself y blocks some b
   pub locals : local ≡ local_len y b
-  pub bytes : len ≡ length_of y blocks b
+  pub bytes : len ≡ length_of_block y blocks b

@@ -36,60 +36,60 @@ fits_characters n simple.Dword = nat_eq n 4
 fits_characters _ _ = false
 
 -- BOOL, which TRUE and FALSE alone fit
-abbrev pub is_bool : Simple → Bool
-is_bool simple.Bool = true
-is_bool _ = false
+abbrev pub is_bool_type : Simple → Bool
+is_bool_type simple.Bool = true
+is_bool_type _ = false
 
 -- BYTE, the only type that B#16# fits
-abbrev pub is_byte : Simple → Bool
-is_byte simple.Byte = true
-is_byte _ = false
+abbrev pub is_byte_type : Simple → Bool
+is_byte_type simple.Byte = true
+is_byte_type _ = false
 
 -- WORD, the only type that C# fits; S5T# fits it too
-abbrev pub is_word : Simple → Bool
-is_word simple.Word = true
-is_word _ = false
+abbrev pub is_word_type : Simple → Bool
+is_word_type simple.Word = true
+is_word_type _ = false
 
 -- DINT, the only type that L# fits; DW#16# fits it too
-abbrev pub is_dint : Simple → Bool
-is_dint simple.Dint = true
-is_dint _ = false
+abbrev pub is_dint_type : Simple → Bool
+is_dint_type simple.Dint = true
+is_dint_type _ = false
 
 -- DWORD, which DW#16# fits, as it does DINT
-abbrev pub is_dword : Simple → Bool
-is_dword simple.Dword = true
-is_dword _ = false
+abbrev pub is_dword_type : Simple → Bool
+is_dword_type simple.Dword = true
+is_dword_type _ = false
 
 -- TIME, the only type that T# fits
-abbrev pub is_time : Simple → Bool
-is_time simple.Time = true
-is_time _ = false
+abbrev pub is_time_type : Simple → Bool
+is_time_type simple.Time = true
+is_time_type _ = false
 
 -- S5TIME, which S5T# fits, as it does WORD
-abbrev pub is_s5time : Simple → Bool
-is_s5time simple.S5time = true
-is_s5time _ = false
+abbrev pub is_s5time_type : Simple → Bool
+is_s5time_type simple.S5time = true
+is_s5time_type _ = false
 
 -- a constant fits a type. TRUE, FALSE: BOOL. B#16#: BYTE. DW#16#: DWORD, DINT. L#: DINT. T#: TIME. S5T#: S5TIME, WORD.
 -- C#: WORD. B#(..) fits none
-unfoldable pub fits : Literal → Simple → Bool
-fits (literal.Truth value) k = is_bool k
-fits (literal.Number value) k = fits_decimal value k
-fits (literal.Binary value) k = fits_binary value k
-fits (literal.Byte value) k = is_byte k
-fits (literal.Word value) k = fits_word value k
-fits (literal.Dword value) k = is_dword k || is_dint k
-fits (literal.Long value) k = is_dint k
-fits (literal.Count value) k = is_word k
-fits (literal.Time ms) k = is_time k
-fits (literal.S5time ms) k = is_s5time k || is_word k
-fits (literal.Characters bytes) k = fits_characters (length bytes) k
-fits (literal.Bytes bytes) k = false
+unfoldable pub fits_elementary_type : Literal → Simple → Bool
+fits_elementary_type (literal.Truth value) k = is_bool_type k
+fits_elementary_type (literal.Number value) k = fits_decimal value k
+fits_elementary_type (literal.Binary value) k = fits_binary value k
+fits_elementary_type (literal.Byte value) k = is_byte_type k
+fits_elementary_type (literal.Word value) k = fits_word value k
+fits_elementary_type (literal.Dword value) k = is_dword_type k || is_dint_type k
+fits_elementary_type (literal.Long value) k = is_dint_type k
+fits_elementary_type (literal.Count value) k = is_word_type k
+fits_elementary_type (literal.Time ms) k = is_time_type k
+fits_elementary_type (literal.S5time ms) k = is_s5time_type k || is_word_type k
+fits_elementary_type (literal.Characters bytes) k = fits_characters (length bytes) k
+fits_elementary_type (literal.Bytes bytes) k = false
 
 -- two's complement
-abbrev pub twos : (width : ℕ) → ℤ → ℕ
-twos width (pos n) = n
-twos width (negsuc n) = 2 ^ width - (n + 1)
+abbrev pub twos_complement_bits : (width : ℕ) → ℤ → ℕ
+twos_complement_bits width (pos n) = n
+twos_complement_bits width (negsuc n) = 2 ^ width - (n + 1)
 
 -- the first byte is the highest
 abbrev pub number_from : ℕ → List ℕ → ℕ
@@ -104,14 +104,14 @@ or_0 (Some n) = n
 -- the bits of a constant that fits: a count is three BCD digits, an S5TIME its word
 unfoldable pub bits_of : Literal → ℕ
 bits_of (literal.Truth value) = if value then 1 else 0
-bits_of (literal.Number value) = twos 16 value
+bits_of (literal.Number value) = twos_complement_bits 16 value
 bits_of (literal.Binary value) = value
 bits_of (literal.Byte value) = value
 bits_of (literal.Word value) = value
 bits_of (literal.Dword value) = value
-bits_of (literal.Long value) = twos 32 value
+bits_of (literal.Long value) = twos_complement_bits 32 value
 bits_of (literal.Count value) = bcd_digits 3 value
-bits_of (literal.Time ms) = twos 32 ms
+bits_of (literal.Time ms) = twos_complement_bits 32 ms
 bits_of (literal.S5time ms) = or_0 (s5time_of_ms ms)
 bits_of (literal.Characters bytes) = number_from 0 bytes
 bits_of (literal.Bytes bytes) = number_from 0 bytes

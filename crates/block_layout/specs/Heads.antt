@@ -13,7 +13,7 @@ on_heads breaks rule blocks =
     (λ before b. b ∷ before) [] blocks
 
 -- of each block whether it breaks such a rule
-abbrev pub flagged : (breaks : List Block → Block → Bool) → (before : List Block) → List Block
+abbrev pub breach_flags : (breaks : List Block → Block → Bool) → (before : List Block) → List Block
     → List Bool
-flagged breaks before [] = []
-flagged breaks before (b ∷ bs) = breaks before b ∷ flagged breaks (b ∷ before) bs
+breach_flags breaks before [] = []
+breach_flags breaks before (b ∷ bs) = breaks before b ∷ breach_flags breaks (b ∷ before) bs

@@ -14,11 +14,11 @@ use Rattle.block_layout.specs.declared.cells.Element.TheVariants.{Plain, Structu
 use Rattle.block_layout.specs.declared.cells.Preset.{Preset}
 use Rattle.block_layout.specs.declared.walks.PathEnd.{PathEnd}
 use Rattle.block_layout.specs.declared.walks.PathEnd.TheVariants as walk
-use Rattle.block_layout.specs.Declarations.{count}
+use Rattle.block_layout.specs.Declarations.{element_count}
 use Rattle.block_layout.specs.Fits.{bits_of}
-use Rattle.block_layout.specs.Measures.{rounds}
-use Rattle.block_layout.specs.Paths.{folded_path, cells_at, structure_of, walked_data, elementary_at}
-use Rattle.block_layout.specs.Sizes.{plain_bits, capped, up, alignment, array_bits, element_of, stepped, cell_bits}
+use Rattle.block_layout.specs.Measures.{measuring_rounds}
+use Rattle.block_layout.specs.Paths.{folded_path, cells_at, structure_of, path_end_in_data_block, elementary_at}
+use Rattle.block_layout.specs.Sizes.{plain_bits, capped_size, next_multiple, alignment, array_bits, element_of, end_behind_cell, cell_bits}
 
 -- a value of so many bits, so many bits from the start
 pub record Write : Type 0 where
@@ -28,14 +28,14 @@ pub record Write : Type 0 where
 
 -- so many places, of which each is a step behind the one before it
 abbrev pub in_steps : (step count start : ℕ) → List ℕ
-in_steps step count start = map (λ k. capped (start + capped (k * step))) (range_with_len 0 count)
+in_steps step count start = map (λ k. capped_size (start + capped_size (k * step))) (range_with_len 0 count)
 
 -- where the elements of arrays begin that themselves begin at these places, in their order; of no array the places
 -- themselves
 abbrev pub element_starts : List Bounds → (element : ℕ) → (starts : List ℕ) → List ℕ
 element_starts [] element starts = starts
 element_starts (b ∷ bs) element starts =
-    element_starts bs element (flat_map (in_steps (array_bits bs element) (count b)) starts)
+    element_starts bs element (flat_map (in_steps (array_bits bs element) (element_count b)) starts)
 
 -- elements of no bits hold no values
 abbrev pub filled_starts : List Bounds → (element : ℕ) → (starts : List ℕ) → List ℕ
@@ -65,15 +65,15 @@ component_writes inside of_type c element starts (Udt block bits) =
 component_writes inside of_type c element starts _ = []
 
 -- where a component begins in structures that begin at these places; the first component may begin at `at` in them
-abbrev pub begun : (at : ℕ) → Cell → (starts : List ℕ) → List ℕ
-begun at c starts = map (λ s. capped (s + up at (alignment c))) starts
+abbrev pub component_starts : (at : ℕ) → Cell → (starts : List ℕ) → List ℕ
+component_starts at c starts = map (λ s. capped_size (s + next_multiple at (alignment c))) starts
 
 -- a cell, if it is a sound component at this level
 abbrev pub cell_writes : (inside : List ℕ → List Write) → (of_type : ℕ → List ℕ → List Write)
     → (level at : ℕ) → (starts : List ℕ) → Cell → (element : ℕ) → List Write
 cell_writes inside of_type level at starts c element =
     if c.sound && nat_eq c.level level
-    then component_writes inside of_type c element (begun at c starts) c.of
+    then component_writes inside of_type c element (component_starts at c starts) c.of
     else []
 
 -- the components at a level, of structures that begin at these places: one component after the other, each in all of them
@@ -83,7 +83,7 @@ writes_from of_type level starts at [] = []
 writes_from of_type level starts at (c ∷ cs) =
     if nat_lt c.level level then []
     else cell_writes (λ inner. writes_from of_type (c.level + 1) inner 0 cs) of_type level at
-    starts c (element_of c cs) ++ writes_from of_type level starts (stepped level at c (cell_bits c cs)) cs
+    starts c (element_of c cs) ++ writes_from of_type level starts (end_behind_cell level at c (cell_bits c cs)) cs
 
 -- structures of a block that begin at these places; data types in it are nested at most eight deep
 unfoldable pub type_writes : List BlockLayout → (depth : ℕ) → (block : ℕ) → (starts : List ℕ)
@@ -96,7 +96,7 @@ type_writes l (suc depth) block starts =
 -- nothing where no block declares it
 abbrev pub structure_writes : List BlockLayout → Option ℕ → List Write
 structure_writes l None = []
-structure_writes l (Some block) = type_writes l rounds block (0 ∷ [])
+structure_writes l (Some block) = type_writes l measuring_rounds block (0 ∷ [])
 
 -- a value in the bits of an elementary type, so many bits from the start; nothing of another type
 abbrev pub write_of : ℕ → ℕ → Option Simple → List Write
@@ -113,7 +113,7 @@ setting_write l value _ = []
 -- the settings of the data block at this place, in the order of the text
 abbrev pub setting_writes : List BlockLayout → (block : ℕ) → List Setting → List Write
 setting_writes l block settings =
-    flat_map (λ s. setting_write l s.value (walked_data l block (folded_path s.path))) settings
+    flat_map (λ s. setting_write l s.value (path_end_in_data_block l block (folded_path s.path))) settings
 
 -- a byte with its bit at a place set to the lowest bit of a value
 abbrev pub with_bit : (bit value byte : ℕ) → ℕ
@@ -121,9 +121,9 @@ with_bit bit value byte =
     if nat_eq (value % 2) 1 then bit_or byte (2 ^ bit) else bit_and byte (255 - 2 ^ bit)
 
 -- a number in so many bytes, the highest one first
-abbrev pub bytes_of : (count value : ℕ) → List ℕ
-bytes_of zero value = []
-bytes_of (suc n) value = value / 256 ^ n % 256 ∷ bytes_of n value
+abbrev pub big_endian_bytes : (count value : ℕ) → List ℕ
+big_endian_bytes zero value = []
+big_endian_bytes (suc n) value = value / 256 ^ n % 256 ∷ big_endian_bytes n value
 
 -- bytes from a place on, as far as there are so many
 abbrev pub with_bytes : List ℕ → (at : ℕ) → List ℕ → List ℕ
@@ -131,12 +131,12 @@ with_bytes bytes at [] = bytes
 with_bytes bytes at (b ∷ bs) = with_bytes (slice_set bytes at b) (at + 1) bs
 
 -- bytes with a value written: a single bit, or whole bytes. What lies past their end is cut off
-abbrev pub put : List ℕ → Write → List ℕ
-put bytes w =
+abbrev pub bytes_with_write : List ℕ → Write → List ℕ
+bytes_with_write bytes w =
     if nat_eq w.width 1
     then slice_set bytes (w.offset / 8)
     (with_bit (w.offset % 8) w.value (slice_index bytes (w.offset / 8)))
-    else with_bytes bytes (w.offset / 8) (bytes_of (w.width / 8) w.value)
+    else with_bytes bytes (w.offset / 8) (big_endian_bytes (w.width / 8) w.value)
 
 -- the settings of a block, or none where the source has no such block
 abbrev pub settings_at : Option Block → List Setting
@@ -151,6 +151,6 @@ length_at (Some b) = b.length
 -- the bytes of the data block at this place in the source
 unfoldable pub initial_bytes : List BlockLayout → List Block → (block : ℕ) → List ℕ
 initial_bytes l blocks block =
-    fold put (replicate (length_at (slice_get l block)) 0)
+    fold bytes_with_write (replicate (length_at (slice_get l block)) 0)
     (structure_writes l (structure_of l block)
     ++ setting_writes l block (settings_at (slice_get blocks block)))

@@ -12,8 +12,8 @@ use Rattle.stl_symbols.specs.Symbol.{Symbol}
 use Rattle.block_layout.specs.declared.blocks.BlockLayout.{BlockLayout}
 use Rattle.block_layout.specs.Blocks.{id_of, known_block}
 use Rattle.block_layout.specs.Cells.{components_of, temps_of}
-use Rattle.block_layout.specs.Lengths.{shape_of, local_len, length_of}
-use Rattle.block_layout.specs.Measures.{types_of}
+use Rattle.block_layout.specs.Lengths.{shape_of, local_len, length_of_block}
+use Rattle.block_layout.specs.Measures.{types_of_source}
 use Rattle.block_layout.specs.Rule22.{is_block_twice}
 use Rattle.block_layout.specs.Rule23.{has_unknown_head}
 use Rattle.block_layout.specs.Rule43.{contains_itself}
@@ -43,7 +43,7 @@ block_layout y blocks before b = record {
   components = components_of y b;
   temps = temps_of y b;
   local_len = local_len y b;
-  length = length_of y blocks b;
+  length = length_of_block y blocks b;
 }
 
 -- the layouts of the blocks that follow those in `before`
@@ -58,7 +58,7 @@ layouts_by y blocks = layouts_from y blocks [] blocks
 
 -- the layouts of a source with its symbols; what breaks a rule is marked in them
 unfoldable pub layouts_of : Tree → List Symbol → List BlockLayout
-layouts_of t symbols = layouts_by (types_of symbols t.blocks) t.blocks
+layouts_of t symbols = layouts_by (types_of_source symbols t.blocks) t.blocks
 
 -- the layout of the block that is meant
 abbrev pub layout_of : BlockId → List BlockLayout → Option BlockLayout

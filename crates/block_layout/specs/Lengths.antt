@@ -21,7 +21,7 @@ use Rattle.block_layout.specs.declared.blocks.Shape.{Shape}
 use Rattle.block_layout.specs.declared.blocks.Shape.TheVariants as shape
 use Rattle.block_layout.specs.Blocks.{found_block, has_structure}
 use Rattle.block_layout.specs.Cells.{components_of, temps_of}
-use Rattle.block_layout.specs.Sizes.{structure_bits, up}
+use Rattle.block_layout.specs.Sizes.{structure_bits, next_multiple}
 use Rattle.block_layout.specs.Types.{Types}
 
 -- the data type that the type of a data block names; a structure names none
@@ -33,9 +33,9 @@ named_type (Some t) = named_element t.of where
   named_element _ = None
 
 -- the function block or data type that a data block is of; one with its own structure is of none
-abbrev pub referred : Option BlockName → Option TypeTree → Option BlockName
-referred (Some name) t = Some name
-referred None t = named_type t
+abbrev pub structure_block_name : Option BlockName → Option TypeTree → Option BlockName
+structure_block_name (Some name) t = Some name
+structure_block_name None t = named_type t
 
 -- the structure of the block at this place in the source; without a place it is unknown
 abbrev pub shape_at : Option ℕ → Shape
@@ -49,7 +49,7 @@ shape_named y (Some name) = shape_at (found_block y.symbols y.ids has_structure 
 
 -- where the structure of a block stands: in itself, or in the block that its head names
 abbrev pub shape_of : Types → Block → Shape
-shape_of y b = shape_named y (referred b.instance_of b.shape)
+shape_of y b = shape_named y (structure_block_name b.instance_of b.shape)
 
 -- the bits of a structure of these cells, up to an even byte; 0 without a block
 abbrev pub bits_of_cells : Option (List Cell) → ℕ
@@ -71,29 +71,29 @@ abbrev pub is_structured : BlockKind → Bool
 is_structured k = is_data_block k || is_function_block k || is_data_type k
 
 -- the length of a data block, of a data type, and of the instance of a function block
-unfoldable pub length_of : Types → List Block → Block → ℕ
-length_of y blocks b = if is_structured b.kind then shape_bits y blocks b (shape_of y b) / 8 else 0
+unfoldable pub length_of_block : Types → List Block → Block → ℕ
+length_of_block y blocks b = if is_structured b.kind then shape_bits y blocks b (shape_of y b) / 8 else 0
 
 -- an address with the letter L lies in the local data, one with another letter doesn't
-abbrev pub is_local : Letters → Bool
-is_local letters.L = true
-is_local _ = false
+abbrev pub is_local_data_letter : Letters → Bool
+is_local_data_letter letters.L = true
+is_local_data_letter _ = false
 
 -- the end of a direct operand in the local data
 abbrev pub local_end : Operand → ℕ
 local_end (operand.Direct name area width byte bit) =
-    if is_local area then byte + byte_count width else 0
+    if is_local_data_letter area then byte + byte_count width else 0
 local_end _ = 0
 
 -- the farthest end of such operands among actual parameters, in bytes; 0 where there is none
-abbrev pub actuals_end : List Actual → ℕ
-actuals_end [] = 0
-actuals_end (a ∷ behind) = max (local_end a.value) (actuals_end behind)
+abbrev pub farthest_actual_end : List Actual → ℕ
+farthest_actual_end [] = 0
+farthest_actual_end (a ∷ behind) = max (local_end a.value) (farthest_actual_end behind)
 
 -- of the operands of a body the farthest end, actual parameters included
-abbrev pub farthest : List Statement → ℕ
-farthest [] = 0
-farthest (s ∷ ss) = max (max (local_end s.operand) (actuals_end s.actuals)) (farthest ss)
+abbrev pub farthest_operand_end : List Statement → ℕ
+farthest_operand_end [] = 0
+farthest_operand_end (s ∷ ss) = max (max (local_end s.operand) (farthest_actual_end s.actuals)) (farthest_operand_end ss)
 
 -- the start information of an organization block takes 20 bytes
 abbrev pub least_local : BlockKind → ℕ
@@ -104,4 +104,4 @@ unfoldable pub local_len : Types → Block → ℕ
 local_len y b =
     if is_code b.kind
     then max (least_local b.kind)
-    (up (max (structure_bits (temps_of y b) / 8) (farthest b.body)) 2) else 0
+    (next_multiple (max (structure_bits (temps_of y b) / 8) (farthest_operand_end b.body)) 2) else 0

@@ -23,18 +23,18 @@ abbrev pub with_bits : Types → List ℕ → Types
 with_bits y bits = record y { bits = bits }
 
 -- the most structures and arrays that are open at a place in these declarations
-abbrev pub deepest : Types → Outside → (before : List Declaration) → List Declaration → ℕ
-deepest y o before [] = o.depth
-deepest y o before (d ∷ ds) =
-    max (depth_around y o d.level before + own_depth y d) (deepest y o (d ∷ before) ds)
+abbrev pub deepest_nesting : Types → Outside → (before : List Declaration) → List Declaration → ℕ
+deepest_nesting y o before [] = o.depth
+deepest_nesting y o before (d ∷ ds) =
+    max (depth_around y o d.level before + own_depth y d) (deepest_nesting y o (d ∷ before) ds)
 
 -- all depths beyond 8 count as 9
-abbrev pub deep : ℕ → ℕ
-deep n = min n 9
+abbrev pub capped_depth : ℕ → ℕ
+capped_depth n = min n 9
 
 -- the depth of a user-defined data type; that of another block is 0
 unfoldable pub type_depth : Types → Block → ℕ
-type_depth y b = if is_data_type b.kind then deep (deepest y of_structure [] b.components) else 0
+type_depth y b = if is_data_type b.kind then capped_depth (deepest_nesting y of_structure [] b.components) else 0
 
 -- the size in bits of a user-defined data type; that of another block is 0
 unfoldable pub type_bits : Types → Block → ℕ
@@ -43,8 +43,8 @@ type_bits y b =
     (cells_of y of_structure part.Static [] b.components) else 0
 
 -- the rounds that settle sound types
-abbrev pub rounds : ℕ
-rounds = 9
+abbrev pub measuring_rounds : ℕ
+measuring_rounds = 9
 
 -- the depths of all blocks after so many rounds
 abbrev pub depths_after : ℕ → Types → List Block → List ℕ
@@ -57,8 +57,8 @@ bits_after zero y blocks = map (λ b. 0) blocks
 bits_after (suc k) y blocks = map (type_bits (with_bits y (bits_after k y blocks))) blocks
 
 -- what is known before the types are measured
-abbrev pub unmeasured : List Symbol → List Block → Types
-unmeasured symbols blocks = record {
+abbrev pub unmeasured_types : List Symbol → List Block → Types
+unmeasured_types symbols blocks = record {
   symbols = symbols;
   ids = ids_of symbols blocks;
   depths = [];
@@ -67,12 +67,12 @@ unmeasured symbols blocks = record {
 
 -- the types with their depths after the last round
 unfoldable pub with_all_depths : Types → List Block → Types
-with_all_depths y blocks = with_depths y (depths_after rounds y blocks)
+with_all_depths y blocks = with_depths y (depths_after measuring_rounds y blocks)
 
 -- the types with their sizes in bits after the last round
 unfoldable pub with_all_bits : Types → List Block → Types
-with_all_bits y blocks = with_bits y (bits_after rounds y blocks)
+with_all_bits y blocks = with_bits y (bits_after measuring_rounds y blocks)
 
 -- what is known of the types of a source, depths and sizes in bits measured
-unfoldable pub types_of : List Symbol → List Block → Types
-types_of symbols blocks = with_all_bits (with_all_depths (unmeasured symbols blocks) blocks) blocks
+unfoldable pub types_of_source : List Symbol → List Block → Types
+types_of_source symbols blocks = with_all_bits (with_all_depths (unmeasured_types symbols blocks) blocks) blocks

@@ -6,20 +6,20 @@ use Rattle.plc_base.specs.declared.blocks.BlockId.{BlockId}
 use Rattle.plc_base.specs.declared.blocks.BlockKind.{BlockKind}
 
 -- a block has this number; one that isn't of the kind has none
-abbrev pub is_number : ℕ → Option ℕ → Bool
-is_number n None = false
-is_number n (Some m) = nat_eq n m
+abbrev pub block_has_number : ℕ → Option ℕ → Bool
+block_has_number n None = false
+block_has_number n (Some m) = nat_eq n m
 
 -- the first place of a number, counted from 0
 abbrev pub numbered_place : ℕ → List (Option ℕ) → Option ℕ
 numbered_place n [] = None
-numbered_place n (m ∷ ms) = if is_number n m then Some 0 else option_map (λ k. suc k) (numbered_place n ms)
+numbered_place n (m ∷ ms) = if block_has_number n m then Some 0 else option_map (λ k. suc k) (numbered_place n ms)
 
 -- the number of a block, if it is of this kind
-abbrev pub number_of : BlockKind → Option BlockId → Option ℕ
-number_of kind None = None
-number_of kind (Some id) = if is_same_kind kind id.kind then Some id.number else None
+abbrev pub number_of_kind : BlockKind → Option BlockId → Option ℕ
+number_of_kind kind None = None
+number_of_kind kind (Some id) = if is_same_kind kind id.kind then Some id.number else None
 
 -- of each block its number, or none where it isn't of this kind
-abbrev pub numbers_of : BlockKind → List (Option BlockId) → List (Option ℕ)
-numbers_of kind ids = map (number_of kind) ids
+abbrev pub numbers_of_kind : BlockKind → List (Option BlockId) → List (Option ℕ)
+numbers_of_kind kind ids = map (number_of_kind kind) ids

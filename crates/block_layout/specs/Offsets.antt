@@ -17,7 +17,7 @@ use Rattle.block_layout.specs.declared.blocks.Section.TheVariants as section
 use Rattle.block_layout.specs.declared.walks.PathEnd.{PathEnd}
 use Rattle.block_layout.specs.declared.walks.PathEnd.TheVariants as walk
 use Rattle.block_layout.specs.Blocks.{known_block}
-use Rattle.block_layout.specs.Paths.{walked_data, walked_from, leaves_from, leaves_judged, structure_of, elementary_at, if_whole}
+use Rattle.block_layout.specs.Paths.{path_end_in_data_block, path_end_in_block, leaves_from, leaves_judged, structure_of, elementary_at, if_whole}
 
 -- the width of an elementary data type
 abbrev pub width_of : Simple → Width
@@ -36,43 +36,43 @@ abbrev pub place_at : Area → (number bits : ℕ) → Place
 place_at a number bits = record { area = a; number = number; byte = bits / 8; bit = bits % 8 }
 
 -- place and width of an elementary component so many bits from the start; none past byte 65,535
-abbrev pub placed : Area → (number : ℕ) → (bits : ℕ) → Option Simple → Option (Place × Width)
-placed a number bits None = None
-placed a number bits (Some kind) =
+abbrev pub elementary_place : Area → (number : ℕ) → (bits : ℕ) → Option Simple → Option (Place × Width)
+elementary_place a number bits None = None
+elementary_place a number bits (Some kind) =
     if nat_le (bits / 8) 65535 then Some (place_at a number bits, width_of kind) else None
 
 -- the same where a path leads; none where it reaches no component, or no elementary one
-abbrev pub reached : List BlockLayout → Area → (number : ℕ) → PathEnd → Option (Place × Width)
-reached l a number (walk.Reaches spot) = placed a number spot.offset (elementary_at l spot)
-reached l a number _ = None
+abbrev pub place_at_path_end : List BlockLayout → Area → (number : ℕ) → PathEnd → Option (Place × Width)
+place_at_path_end l a number (walk.Reaches spot) = elementary_place a number spot.offset (elementary_at l spot)
+place_at_path_end l a number _ = None
 
 -- a component of a data block, in that block
-abbrev pub component : List BlockLayout → (number block : ℕ) → List PathStep
+abbrev pub component_place : List BlockLayout → (number block : ℕ) → List PathStep
     → Option (Place × Width)
-component l number block path =
+component_place l number block path =
     if leaves_judged l (structure_of l block) path then None
-    else reached l area.Db number (walked_data l block path)
+    else place_at_path_end l area.Db number (path_end_in_data_block l block path)
 
 -- a variable of a code block, in an area
-abbrev pub variable : List BlockLayout → Area → (block : ℕ) → (temporary : Bool) → List PathStep
+abbrev pub variable_place : List BlockLayout → Area → (block : ℕ) → (temporary : Bool) → List PathStep
     → Option (Place × Width)
-variable l a block temporary path =
+variable_place l a block temporary path =
     if leaves_from l block temporary path then None
-    else reached l a 0 (walked_from l block temporary path)
+    else place_at_path_end l a 0 (path_end_in_block l block temporary path)
 
 -- the variables of a function block lie in the block of the DI register, and temporary ones in the local data
-abbrev pub offset_in : List BlockLayout → BlockId → Section → List PathStep → ℕ
+abbrev pub place_in_section : List BlockLayout → BlockId → Section → List PathStep → ℕ
     → Option (Place × Width)
-offset_in l id section.Global path block =
-    if is_data_block id.kind then component l id.number block path else None
-offset_in l id section.Instance path block =
-    if is_function_block id.kind then variable l area.Di block false path else None
-offset_in l id section.Temp path block =
-    if is_code id.kind then variable l area.L block true path else None
+place_in_section l id section.Global path block =
+    if is_data_block id.kind then component_place l id.number block path else None
+place_in_section l id section.Instance path block =
+    if is_function_block id.kind then variable_place l area.Di block false path else None
+place_in_section l id section.Temp path block =
+    if is_code id.kind then variable_place l area.L block true path else None
 
 -- none where the block isn't there or is broken, or the path leads to no elementary component
-unfoldable pub offset_of : List BlockLayout → BlockId → Section → List PathStep
+unfoldable pub place_of_path : List BlockLayout → BlockId → Section → List PathStep
     → Option (Place × Width)
-offset_of l id s path =
-    option_and_then (offset_in l id s path)
+place_of_path l id s path =
+    option_and_then (place_in_section l id s path)
     (option_and_then (if_whole l) (known_block id (map (λ b. b.id) l)))

@@ -6,16 +6,16 @@ use Rattle.stl_ast.specs.declared.operands.Operand.{Operand}
 use Rattle.stl_ast.specs.declared.statements.Statement.{Statement}
 
 -- an operand, or the value of an actual parameter, with its line
-pub record Judged : Type 0 where
+pub record OperandAtLine : Type 0 where
   pub line : ℕ
   pub operand : Operand
 
 -- of a statement its operand, and the values of its actual parameters, each in its own line
-abbrev pub operands_of : Statement → List Judged
+abbrev pub operands_of : Statement → List OperandAtLine
 operands_of s =
     record { line = s.line; operand = s.operand } ∷ map
     (λ a. record { line = a.line; operand = a.value }) s.actuals
 
 -- what breaks a rule of operands, of all operands and actual parameters of a body
-abbrev pub in_body : (Judged → List Refusal) → List Statement → List Refusal
+abbrev pub in_body : (OperandAtLine → List Refusal) → List Statement → List Refusal
 in_body broken body = flat_map (λ s. flat_map broken (operands_of s)) body

@@ -13,13 +13,13 @@ use Rattle.block_layout.specs.declared.blocks.Shape.TheVariants as shape
 use Rattle.block_layout.specs.declared.cells.Cell.{Cell}
 use Rattle.block_layout.specs.declared.cells.Element.{Element}
 use Rattle.block_layout.specs.declared.cells.Element.TheVariants.{Plain, Structure, Udt}
-use Rattle.block_layout.specs.Sizes.{largest}
+use Rattle.block_layout.specs.Sizes.{largest_size}
 use Rattle.block_layout.specs.declared.members.Member.{Member}
 use Rattle.block_layout.specs.declared.walks.ComponentAt.{ComponentAt}
 use Rattle.block_layout.specs.declared.walks.PathEnd.{PathEnd}
 use Rattle.block_layout.specs.declared.walks.PathEnd.TheVariants as walk
-use Rattle.block_layout.specs.Members.{component}
-use Rattle.block_layout.specs.Sizes.{capped, array_bits, element_of}
+use Rattle.block_layout.specs.Members.{component_of_name}
+use Rattle.block_layout.specs.Sizes.{capped_size, array_bits, element_of}
 
 -- the steps of a path of the source, with their names in upper case
 abbrev pub folded_step : PathStep → PathStep
@@ -40,9 +40,9 @@ abbrev pub cells_at : List BlockLayout → (block : ℕ) → (temporary : Bool) 
 cells_at l block temporary = cells_in temporary (slice_get l block)
 
 -- a declaration that breaks a rule itself isn't gone through
-abbrev pub entered : (block : ℕ) → (temporary : Bool) → (place offset : ℕ) → Option Cell → PathEnd
-entered block temporary place offset None = walk.Unknown
-entered block temporary place offset (Some c) =
+abbrev pub path_end_at_cell : (block : ℕ) → (temporary : Bool) → (place offset : ℕ) → Option Cell → PathEnd
+path_end_at_cell block temporary place offset None = walk.Unknown
+path_end_at_cell block temporary place offset (Some c) =
     if c.sound
     then walk.Reaches (record {
       block = block;
@@ -53,28 +53,28 @@ entered block temporary place offset (Some c) =
     }) else walk.Rests
 
 -- a component, whose place counts from `first` on and whose offset from that of the structure
-abbrev pub found_at : List Cell → (block : ℕ) → (temporary : Bool) → (first offset : ℕ)
+abbrev pub path_end_at_member : List Cell → (block : ℕ) → (temporary : Bool) → (first offset : ℕ)
     → Option Member → PathEnd
-found_at cells block temporary first offset None = walk.Unknown
-found_at cells block temporary first offset (Some m) =
-    entered block temporary (first + m.place) (capped (offset + capped m.offset))
+path_end_at_member cells block temporary first offset None = walk.Unknown
+path_end_at_member cells block temporary first offset (Some m) =
+    path_end_at_cell block temporary (first + m.place) (capped_size (offset + capped_size m.offset))
     (slice_get cells (first + m.place))
 
 -- a name in the outermost declarations of a block
-unfoldable pub outermost : List BlockLayout → (block : ℕ) → (temporary : Bool) → (offset : ℕ)
+unfoldable pub outermost_path_end : List BlockLayout → (block : ℕ) → (temporary : Bool) → (offset : ℕ)
     → List ℕ → PathEnd
-outermost l block temporary offset name =
-    found_at (cells_at l block temporary) block temporary 0 offset
-    (component 0 0 0 name (cells_at l block temporary))
+outermost_path_end l block temporary offset name =
+    path_end_at_member (cells_at l block temporary) block temporary 0 offset
+    (component_of_name 0 0 0 name (cells_at l block temporary))
 
 -- a name behind a component: of a structure its own components, of a data type those of the block that declares it
 abbrev pub named_in : List BlockLayout → ComponentAt → List ℕ → Cell → Element → PathEnd
 named_in l spot name c Structure =
-    found_at (cells_at l spot.block spot.temporary) spot.block spot.temporary
+    path_end_at_member (cells_at l spot.block spot.temporary) spot.block spot.temporary
     (spot.place + 1) spot.offset
-    (component (c.level + 1) 0 0 name
+    (component_of_name (c.level + 1) 0 0 name
     (drop (spot.place + 1) (cells_at l spot.block spot.temporary)))
-named_in l spot name c (Udt block bits) = outermost l block false spot.offset name
+named_in l spot name c (Udt block bits) = outermost_path_end l block false spot.offset name
 named_in l spot name c _ = walk.Unknown
 
 -- once all its indices are there
@@ -84,8 +84,8 @@ named_behind l spot name (Some c) =
     if nat_eq spot.depth (length c.bounds) then named_in l spot name c c.of else walk.Unknown
 
 -- a name behind a spot; where an index is lacking, or what is there has no components, it's unknown
-unfoldable pub named : List BlockLayout → ComponentAt → List ℕ → PathEnd
-named l spot name =
+unfoldable pub path_end_by_name : List BlockLayout → ComponentAt → List ℕ → PathEnd
+path_end_by_name l spot name =
     named_behind l spot name (slice_get (cells_at l spot.block spot.temporary) spot.place)
 
 -- an index outside these bounds
@@ -94,13 +94,13 @@ is_beyond b at = int_lt at b.low || int_lt b.high at
 
 -- an index behind a component with these bounds left. One outside them leads on as the first element does, so that a
 -- declaration further on that breaks a rule is seen
-abbrev pub within : ComponentAt → Cell → (behind : List Cell) → ℤ → Option Bounds → PathEnd
-within spot c behind at None = walk.Unknown
-within spot c behind at (Some b) =
+abbrev pub path_end_in_bounds : ComponentAt → Cell → (behind : List Cell) → ℤ → Option Bounds → PathEnd
+path_end_in_bounds spot c behind at None = walk.Unknown
+path_end_in_bounds spot c behind at (Some b) =
     if is_beyond b at then walk.Reaches (record spot { depth = spot.depth + 1 })
     else walk.Reaches (record spot {
       depth = spot.depth + 1;
-      offset = capped (spot.offset + capped
+      offset = capped_size (spot.offset + capped_size
           (unsigned_abs (at -ℤ b.low) * array_bits (drop (spot.depth + 1) c.bounds)
           (element_of c behind)));
     })
@@ -109,35 +109,35 @@ within spot c behind at (Some b) =
 abbrev pub indexed_behind : ComponentAt → (cells : List Cell) → ℤ → Option Cell → PathEnd
 indexed_behind spot cells at None = walk.Unknown
 indexed_behind spot cells at (Some c) =
-    within spot c (drop (spot.place + 1) cells) at (slice_get c.bounds spot.depth)
+    path_end_in_bounds spot c (drop (spot.place + 1) cells) at (slice_get c.bounds spot.depth)
 
 -- an index behind a spot; behind what is no array, or has all its indices, it is unknown
-unfoldable pub indexed : List BlockLayout → ComponentAt → ℤ → PathEnd
-indexed l spot at =
+unfoldable pub path_end_by_index : List BlockLayout → ComponentAt → ℤ → PathEnd
+path_end_by_index l spot at =
     indexed_behind spot (cells_at l spot.block spot.temporary) at
     (slice_get (cells_at l spot.block spot.temporary) spot.place)
 
 -- one step of a path behind a spot
-unfoldable pub step_of : List BlockLayout → ComponentAt → PathStep → PathEnd
-step_of l spot (step.Named name) = named l spot name
-step_of l spot (step.Index at) = indexed l spot at
+unfoldable pub path_end_by_step : List BlockLayout → ComponentAt → PathStep → PathEnd
+path_end_by_step l spot (step.Named name) = path_end_by_name l spot name
+path_end_by_step l spot (step.Index at) = path_end_by_index l spot at
 
 -- a path goes on behind a component that it reaches; what is unknown or rests stays so
-abbrev pub goes_on : PathEnd → (ComponentAt → PathEnd) → PathEnd
-goes_on (walk.Reaches spot) next = next spot
-goes_on walk.Unknown next = walk.Unknown
-goes_on walk.Rests next = walk.Rests
+abbrev pub path_end_and_then : PathEnd → (ComponentAt → PathEnd) → PathEnd
+path_end_and_then (walk.Reaches spot) next = next spot
+path_end_and_then walk.Unknown next = walk.Unknown
+path_end_and_then walk.Rests next = walk.Rests
 
 -- the steps behind a component
-abbrev pub walked : List BlockLayout → ComponentAt → List PathStep → PathEnd
-walked l spot [] = walk.Reaches spot
-walked l spot (s ∷ ss) = goes_on (step_of l spot s) (λ next. walked l next ss)
+abbrev pub path_end_behind : List BlockLayout → ComponentAt → List PathStep → PathEnd
+path_end_behind l spot [] = walk.Reaches spot
+path_end_behind l spot (s ∷ ss) = path_end_and_then (path_end_by_step l spot s) (λ next. path_end_behind l next ss)
 
 -- a whole path in the outermost declarations of a block begins with a name
-abbrev pub walked_from : List BlockLayout → (block : ℕ) → (temporary : Bool) → List PathStep → PathEnd
-walked_from l block temporary (step.Named name ∷ ss) =
-    goes_on (outermost l block temporary 0 name) (λ spot. walked l spot ss)
-walked_from l block temporary _ = walk.Unknown
+abbrev pub path_end_in_block : List BlockLayout → (block : ℕ) → (temporary : Bool) → List PathStep → PathEnd
+path_end_in_block l block temporary (step.Named name ∷ ss) =
+    path_end_and_then (outermost_path_end l block temporary 0 name) (λ spot. path_end_behind l spot ss)
+path_end_in_block l block temporary _ = walk.Unknown
 
 -- an index is outside the bounds that are left; where none are left it isn't
 abbrev pub is_beyond_left : Option Bounds → ℤ → Bool
@@ -156,20 +156,20 @@ step_is_beyond l spot (step.Index at) =
     is_beyond_in spot.depth (slice_get (cells_at l spot.block spot.temporary) spot.place) at
 
 -- whether this holds of the spot that a path reaches; where it reaches none it doesn't
-abbrev pub further : PathEnd → (ComponentAt → Bool) → Bool
-further (walk.Reaches spot) next = next spot
-further _ next = false
+abbrev pub holds_where_reached : PathEnd → (ComponentAt → Bool) → Bool
+holds_where_reached (walk.Reaches spot) next = next spot
+holds_where_reached _ next = false
 
 -- whether one of these steps is an index outside its array, up to the first that reaches nothing
-abbrev pub leaves : List BlockLayout → ComponentAt → List PathStep → Bool
-leaves l spot [] = false
-leaves l spot (s ∷ ss) =
-    step_is_beyond l spot s || further (step_of l spot s) (λ next. leaves l next ss)
+abbrev pub leaves_array : List BlockLayout → ComponentAt → List PathStep → Bool
+leaves_array l spot [] = false
+leaves_array l spot (s ∷ ss) =
+    step_is_beyond l spot s || holds_where_reached (path_end_by_step l spot s) (λ next. leaves_array l next ss)
 
 -- the same of a whole path in the outermost declarations of a block, which begins with a name
 abbrev pub leaves_from : List BlockLayout → (block : ℕ) → (temporary : Bool) → List PathStep → Bool
 leaves_from l block temporary (step.Named name ∷ ss) =
-    further (outermost l block temporary 0 name) (λ spot. leaves l spot ss)
+    holds_where_reached (outermost_path_end l block temporary 0 name) (λ spot. leaves_array l spot ss)
 leaves_from l block temporary _ = false
 
 -- a path that goes through what breaks a rule itself isn't checked
@@ -201,9 +201,9 @@ abbrev pub structure_of : List BlockLayout → ℕ → Option ℕ
 structure_of l block = option_and_then (λ b. shape_block l block b.shape) (whole_at l block)
 
 -- a path in the components that this block declares; where none declares them it rests
-abbrev pub walked_or_rests : List BlockLayout → Option ℕ → List PathStep → PathEnd
-walked_or_rests l None path = walk.Rests
-walked_or_rests l (Some block) path = walked_from l block false path
+abbrev pub path_end_or_rests : List BlockLayout → Option ℕ → List PathStep → PathEnd
+path_end_or_rests l None path = walk.Rests
+path_end_or_rests l (Some block) path = path_end_in_block l block false path
 
 -- the block that declares the components of a data block, which may itself be broken: its settings
 -- are checked all the same
@@ -212,36 +212,36 @@ setting_structure l block =
     option_and_then (λ b. shape_block l block b.shape) (slice_get l block)
 
 -- the target of a setting
-unfoldable pub walked_setting : List BlockLayout → (block : ℕ) → List PathStep → PathEnd
-walked_setting l block path = walked_or_rests l (setting_structure l block) path
+unfoldable pub path_end_of_setting : List BlockLayout → (block : ℕ) → List PathStep → PathEnd
+path_end_of_setting l block path = path_end_or_rests l (setting_structure l block) path
 
 -- whether a path leaves an array, where it is checked
 abbrev pub leaves_judged : List BlockLayout → Option ℕ → List PathStep → Bool
 leaves_judged l None path = false
 leaves_judged l (Some block) path =
-    is_judged (walked_from l block false path) && leaves_from l block false path
+    is_judged (path_end_in_block l block false path) && leaves_from l block false path
 
 -- a path into a data block
-unfoldable pub walked_data : List BlockLayout → (block : ℕ) → List PathStep → PathEnd
-walked_data l block path = walked_or_rests l (structure_of l block) path
+unfoldable pub path_end_in_data_block : List BlockLayout → (block : ℕ) → List PathStep → PathEnd
+path_end_in_data_block l block path = path_end_or_rests l (structure_of l block) path
 
 -- a name in the sections of a block: of two that are the same the first one is meant, and VAR_TEMP is the last section
 abbrev pub in_sections : List BlockLayout → (block : ℕ) → List ℕ → PathEnd
 in_sections l block name =
-    if is_some (component 0 0 0 name (cells_at l block false))
-    then outermost l block false 0 name
-    else outermost l block true 0 name
+    if is_some (component_of_name 0 0 0 name (cells_at l block false))
+    then outermost_path_end l block false 0 name
+    else outermost_path_end l block true 0 name
 
 -- a path in the body of a block, into its own variables
 unfoldable pub walked_local : List BlockLayout → (block : ℕ) → List ℕ → List PathStep → PathEnd
 walked_local l block name path =
     if is_some (whole_at l block)
-    then goes_on (in_sections l block name) (λ spot. walked l spot path) else walk.Rests
+    then path_end_and_then (in_sections l block name) (λ spot. path_end_behind l spot path) else walk.Rests
 
 -- whether it leaves an array: in the sections in which the name is
 abbrev pub leaves_sections : List BlockLayout → (block : ℕ) → List ℕ → List PathStep → Bool
 leaves_sections l block name path =
-    further (in_sections l block name) (λ spot. leaves l spot path)
+    holds_where_reached (in_sections l block name) (λ spot. leaves_array l spot path)
 
 -- the same, unless the path rests on what breaks a rule itself
 abbrev pub leaves_local : List BlockLayout → (block : ℕ) → List ℕ → List PathStep → Bool
@@ -264,7 +264,7 @@ elementary_at l spot = kind_of spot (slice_get (cells_at l spot.block spot.tempo
 
 -- an offset isn't above the cap
 abbrev pub OffsetIsNear : PathEnd → Type 0
-OffsetIsNear (walk.Reaches spot) = spot.offset ≤ largest
+OffsetIsNear (walk.Reaches spot) = spot.offset ≤ largest_size
 OffsetIsNear _ = Unit {0}
 
 -- the component at a spot is sound

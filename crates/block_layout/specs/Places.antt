@@ -4,7 +4,7 @@ use Rattle.std.specs.Prelude.{◌≡◌, ℕ, ◌+◌, ◌%◌, ◌≤◌, nat_l
 use Rattle.std.specs.List.{filter, slice_get}
 use Rattle.block_layout.specs.declared.cells.Cell.{Cell}
 use Rattle.block_layout.specs.declared.members.Member.{Member}
-use Rattle.block_layout.specs.Members.{component, members_of}
+use Rattle.block_layout.specs.Members.{component_of_name, members_of}
 use Rattle.block_layout.specs.Sizes.{alignment, cell_bits}
 
 -- the least place at or past `end` that meets the alignment
@@ -57,5 +57,5 @@ IsOneOf m (n ∷ ns) = (m ≡ n) ⊎ IsOneOf m ns
 abbrev pub FindsSound : Type 0
 FindsSound =
     (level : ℕ) (name : List ℕ) (cells : List Cell) (m : Member)
-    → component level 0 0 name cells ≡ Some m → is_sound_cell (slice_get cells m.place) ≡ true
+    → component_of_name level 0 0 name cells ≡ Some m → is_sound_cell (slice_get cells m.place) ≡ true
     → IsOneOf m (sound_members level cells)

@@ -2,7 +2,7 @@
 use Rattle.std.specs.Prelude.{◌≡◌, ◌≤◌, ◌<◌, ◌⊎◌, ℕ, ◌+◌, ◌/◌, ◌%◌, nat_eq, List, [], ◌∷◌, get_or, length, replicate, false}
 use Rattle.std.specs.List.{fold, AllByRecursion}
 use Rattle.std.specs.Int.{bit_at}
-use Rattle.block_layout.specs.InitialBytes.{Write, bytes_of, put}
+use Rattle.block_layout.specs.InitialBytes.{Write, big_endian_bytes, bytes_with_write}
 
 -- a bit of a byte of some bytes
 abbrev pub bit_in : List ℕ → (byte bit : ℕ) → ℕ
@@ -12,7 +12,7 @@ bit_in bytes byte bit = bit_at (get_or bytes byte 0) bit
 pub data IsTrueOf (bytes : List ℕ) (w : Write) : Type 0 where
   OfBit : (w.width ≡ 1) → (w.offset / 8 < length bytes) → (w.value % 2 ≡ bit_in bytes (w.offset / 8) (w.offset % 8)) → IsTrueOf bytes w
   OfBytes : (nat_eq w.width 1 ≡ false) → (w.offset / 8 + w.width / 8 ≤ length bytes)
-      → ((k : ℕ) → k < w.width / 8 → get_or (bytes_of (w.width / 8) w.value) k 0 ≡ get_or bytes (w.offset / 8 + k) 0) → IsTrueOf bytes w
+      → ((k : ℕ) → k < w.width / 8 → get_or (big_endian_bytes (w.width / 8) w.value) k 0 ≡ get_or bytes (w.offset / 8 + k) 0) → IsTrueOf bytes w
 
 -- a write reaches a bit
 pub data Reaches (w : Write) (byte bit : ℕ) : Type 0 where
@@ -29,4 +29,4 @@ abbrev pub AreRebuilt : Type 0
 AreRebuilt =
     (bytes : List ℕ) (ws : List Write) → ((k : ℕ) → get_or bytes k 0 < 256) → AllByRecursion (IsTrueOf bytes) ws
     → ((byte bit : ℕ) → bit < 8 → bit_in bytes byte bit ≡ 1 → OneReaches ws byte bit)
-    → fold put (replicate (length bytes) 0) ws ≡ bytes
+    → fold bytes_with_write (replicate (length bytes) 0) ws ≡ bytes

@@ -6,23 +6,23 @@ use Rattle.stl_ast.specs.declared.blocks.Block.{Block}
 use Rattle.stl_ast.specs.declared.declarations.Declaration.{Declaration}
 use Rattle.plc_base.specs.Folding.{upper_case_name}
 use Rattle.plc_base.specs.Least.{broken_if}
-use Rattle.stl_symbols.specs.Names.{place_of}
-use Rattle.block_layout.specs.Around.{Outside, in_blocks}
+use Rattle.stl_symbols.specs.Names.{name_place}
+use Rattle.block_layout.specs.Around.{Outside, refusals_in_blocks}
 
 -- the name of a declaration at this level, without case; of one at another level none
-abbrev pub name_here : ℕ → Declaration → List (List ℕ)
-name_here level d = if nat_eq d.level level then upper_case_name d.name ∷ [] else []
+abbrev pub declaration_name_here : ℕ → Declaration → List (List ℕ)
+declaration_name_here level d = if nat_eq d.level level then upper_case_name d.name ∷ [] else []
 
 -- the names of the list that a declaration at this level goes on: of those before it the ones at this level, back to the
 -- structure that holds it
 abbrev pub names_before : (outer : List (List ℕ)) → ℕ → List Declaration → List (List ℕ)
 names_before outer level [] = outer
 names_before outer level (d ∷ ds) =
-    if nat_lt d.level level then [] else names_before outer level ds ++ name_here level d
+    if nat_lt d.level level then [] else names_before outer level ds ++ declaration_name_here level d
 
 -- its name stands before it in its list
 abbrev pub is_twice : Outside → List Declaration → Declaration → Bool
-is_twice o before d = is_some (place_of (upper_case_name d.name) (names_before o.names d.level before))
+is_twice o before d = is_some (name_place (upper_case_name d.name) (names_before o.names d.level before))
 
 -- the refusal of a declaration, at its line
 abbrev pub broken_21 : Outside → List Declaration → Declaration → List Refusal
@@ -30,4 +30,4 @@ broken_21 o before d = broken_if (is_twice o before d) d.line 21
 
 -- rule 21: a name declared twice in one list
 unfoldable pub rule_21 : List Block → List Refusal
-rule_21 blocks = in_blocks broken_21 blocks
+rule_21 blocks = refusals_in_blocks broken_21 blocks

@@ -14,12 +14,12 @@ use Rattle.stl_ast.specs.declared.operands.Operand.TheVariants as operand
 use Rattle.stl_ast.specs.declared.operands.PathHead.{PathHead}
 use Rattle.stl_ast.specs.declared.operands.PathHead.TheVariants as head
 use Rattle.plc_base.specs.Least.{broken_if}
-use Rattle.block_layout.specs.Around.{Outside, in_blocks}
+use Rattle.block_layout.specs.Around.{Outside, refusals_in_blocks}
 use Rattle.block_layout.specs.Blocks.{id_of, named_block, known_block, found_block}
 use Rattle.block_layout.specs.Declarations.{is_unknown_type}
 use Rattle.block_layout.specs.Heads.{on_heads}
 use Rattle.block_layout.specs.Lengths.{shape_of}
-use Rattle.block_layout.specs.Operands.{Judged, in_body}
+use Rattle.block_layout.specs.Operands.{OperandAtLine, in_body}
 use Rattle.block_layout.specs.Types.{Types}
 use Rattle.block_layout.specs.declared.blocks.Shape.{Shape}
 use Rattle.block_layout.specs.declared.blocks.Shape.TheVariants as shape
@@ -71,11 +71,11 @@ names_unknown y (operand.Called name instance) =
 names_unknown y _ = false
 
 -- the refusal of an operand, at its line
-abbrev pub operand_23 : Types → Judged → List Refusal
+abbrev pub operand_23 : Types → OperandAtLine → List Refusal
 operand_23 y o = broken_if (names_unknown y o.operand) o.line 23
 
 -- rule 23: an unknown block or user-defined data type
 unfoldable pub rule_23 : Types → List Block → List Refusal
 rule_23 y blocks =
-    on_heads (λ before b. has_unknown_head y b) 23 blocks ++ in_blocks (broken_23 y) blocks
+    on_heads (λ before b. has_unknown_head y b) 23 blocks ++ refusals_in_blocks (broken_23 y) blocks
     ++ flat_map (λ b. in_body (operand_23 y) b.body) blocks

@@ -8,10 +8,10 @@ use Rattle.stl_ast.specs.declared.declarations.Declaration.{Declaration}
 use Rattle.stl_ast.specs.declared.declarations.Simple.{Simple}
 use Rattle.stl_ast.specs.declared.literals.Literal.{Literal}
 use Rattle.plc_base.specs.Least.{broken_if}
-use Rattle.block_layout.specs.Around.{Outside, in_blocks}
+use Rattle.block_layout.specs.Around.{Outside, refusals_in_blocks}
 use Rattle.block_layout.specs.Declarations.{init_fits}
-use Rattle.block_layout.specs.Fits.{fits}
-use Rattle.block_layout.specs.Paths.{folded_path, walked_setting, elementary_at}
+use Rattle.block_layout.specs.Fits.{fits_elementary_type}
+use Rattle.block_layout.specs.Paths.{folded_path, path_end_of_setting, elementary_at}
 use Rattle.block_layout.specs.Settings.{on_settings}
 use Rattle.block_layout.specs.declared.blocks.BlockLayout.{BlockLayout}
 use Rattle.block_layout.specs.declared.walks.PathEnd.{PathEnd}
@@ -24,17 +24,17 @@ broken_41 o before d = broken_if (not (init_fits d)) d.line 41
 -- a value fits an elementary data type; what is of another type fits none
 abbrev pub fits_kind : Literal → Option Simple → Bool
 fits_kind value None = false
-fits_kind value (Some kind) = fits value kind
+fits_kind value (Some kind) = fits_elementary_type value kind
 
 -- only a path that leads to a component is checked by its value
-abbrev pub misfits : List BlockLayout → Literal → PathEnd → Bool
-misfits l value (walk.Reaches spot) = not (fits_kind value (elementary_at l spot))
-misfits l value _ = false
+abbrev pub misfits_component : List BlockLayout → Literal → PathEnd → Bool
+misfits_component l value (walk.Reaches spot) = not (fits_kind value (elementary_at l spot))
+misfits_component l value _ = false
 
 -- the value of a setting doesn't fit the component that its path leads to
 abbrev pub setting_misfits : List BlockLayout → ℕ → Setting → Bool
-setting_misfits l block s = misfits l s.value (walked_setting l block (folded_path s.path))
+setting_misfits l block s = misfits_component l s.value (path_end_of_setting l block (folded_path s.path))
 
 -- rule 41: an initial value that doesn't fit
 unfoldable pub rule_41 : List BlockLayout → List Block → List Refusal
-rule_41 l blocks = in_blocks broken_41 blocks ++ on_settings (setting_misfits l) 41 0 blocks
+rule_41 l blocks = refusals_in_blocks broken_41 blocks ++ on_settings (setting_misfits l) 41 0 blocks

@@ -13,11 +13,11 @@ use Rattle.stl_ast.specs.declared.operands.PathHead.{PathHead}
 use Rattle.stl_ast.specs.declared.operands.PathHead.TheVariants as head
 use Rattle.plc_base.specs.Folding.{upper_case_name}
 use Rattle.plc_base.specs.Least.{broken_if}
-use Rattle.block_layout.specs.Around.{Outside, in_blocks}
+use Rattle.block_layout.specs.Around.{Outside, refusals_in_blocks}
 use Rattle.block_layout.specs.Blocks.{found_block}
 use Rattle.block_layout.specs.ByPlace.{by_place}
 use Rattle.block_layout.specs.Declarations.{has_upside_down}
-use Rattle.block_layout.specs.Operands.{Judged, in_body}
+use Rattle.block_layout.specs.Operands.{OperandAtLine, in_body}
 use Rattle.block_layout.specs.Paths.{folded_path, leaves_judged, leaves_local, setting_structure, structure_of}
 use Rattle.block_layout.specs.Settings.{on_settings}
 use Rattle.block_layout.specs.Types.{Types}
@@ -51,7 +51,7 @@ operand_is_outside y l block (operand.Named path steps) = leaves_path y l block 
 operand_is_outside y l block _ = false
 
 -- the refusal of an operand, at its line
-abbrev pub operand_42 : Types → List BlockLayout → ℕ → Judged → List Refusal
+abbrev pub operand_42 : Types → List BlockLayout → ℕ → OperandAtLine → List Refusal
 operand_42 y l block o = broken_if (operand_is_outside y l block o.operand) o.line 42
 
 -- the bodies of the blocks from this place on
@@ -61,5 +61,5 @@ bodies_42 y l block blocks = by_place (λ k b. in_body (operand_42 y l k) b.body
 -- rule 42: the upper below the lower bound, or an index outside its array
 unfoldable pub rule_42 : Types → List BlockLayout → List Block → List Refusal
 rule_42 y l blocks =
-    in_blocks broken_42 blocks ++ on_settings (setting_is_outside l) 42 0 blocks
+    refusals_in_blocks broken_42 blocks ++ on_settings (setting_is_outside l) 42 0 blocks
     ++ bodies_42 y l 0 blocks

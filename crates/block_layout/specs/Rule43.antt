@@ -8,7 +8,7 @@ use Rattle.stl_ast.specs.declared.blocks.Block.{Block}
 use Rattle.stl_ast.specs.declared.declarations.ElementType.{ElementType}
 use Rattle.stl_ast.specs.declared.declarations.ElementType.TheVariants as element
 use Rattle.block_layout.specs.Heads.{on_heads}
-use Rattle.block_layout.specs.Types.{Types, udt_of}
+use Rattle.block_layout.specs.Types.{Types, data_type_place}
 
 -- the one place in a list, or none
 abbrev pub if_some : Option ℕ → List ℕ
@@ -16,14 +16,14 @@ if_some None = []
 if_some (Some n) = n ∷ []
 
 -- the data types that an element type uses, by their places in the source
-abbrev pub used_by : Types → ElementType → List ℕ
-used_by y (element.Udt name) = if_some (udt_of y name)
-used_by y _ = []
+abbrev pub types_used_by : Types → ElementType → List ℕ
+types_used_by y (element.Udt name) = if_some (data_type_place y name)
+types_used_by y _ = []
 
 -- the data types that a block uses
 abbrev pub uses_of : Types → Option Block → List ℕ
 uses_of y None = []
-uses_of y (Some b) = flat_map (λ d. used_by y d.of.of) b.components
+uses_of y (Some b) = flat_map (λ d. types_used_by y d.of.of) b.components
 
 -- from one data type uses lead to another one, in so many steps at most
 abbrev pub leads_to : Types → List Block → (steps from to : ℕ) → Bool

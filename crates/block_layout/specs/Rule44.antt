@@ -9,13 +9,13 @@ use Rattle.block_layout.specs.Blocks.{id_of, is_block_number}
 use Rattle.block_layout.specs.Heads.{on_heads}
 
 -- a block number beyond the limits of its kind
-abbrev pub is_beyond : Option BlockId → Bool
-is_beyond None = false
-is_beyond (Some id) = not (is_block_number id.kind id.number)
+abbrev pub is_number_beyond_limits : Option BlockId → Bool
+is_number_beyond_limits None = false
+is_number_beyond_limits (Some id) = not (is_block_number id.kind id.number)
 
 -- a block whose head has such a number
 abbrev pub has_wrong_number : List Symbol → Block → Bool
-has_wrong_number symbols b = is_beyond (id_of symbols b)
+has_wrong_number symbols b = is_number_beyond_limits (id_of symbols b)
 
 -- rule 44: a block number beyond the limits, or an OB that the profile hasn't
 unfoldable pub rule_44 : List Symbol → List Block → List Refusal

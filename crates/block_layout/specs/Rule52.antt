@@ -9,17 +9,17 @@ use Rattle.stl_ast.specs.declared.declarations.Simple.{Simple}
 use Rattle.block_layout.specs.Heads.{on_heads}
 
 -- the return value of a function counts 1
-abbrev pub returned : Option Simple → ℕ
-returned None = 0
-returned (Some kind) = 1
+abbrev pub return_value_count : Option Simple → ℕ
+return_value_count None = 0
+return_value_count (Some kind) = 1
 
 -- the parameters that a section declares: those of VAR_INPUT, VAR_OUTPUT and VAR_IN_OUT
-abbrev pub declared_in : Part → ℕ
-declared_in p = if is_parameter p.kind then count_by (λ d. nat_eq d.level 0) p.items else 0
+abbrev pub parameters_in_section : Part → ℕ
+parameters_in_section p = if is_parameter p.kind then count_by (λ d. nat_eq d.level 0) p.items else 0
 
 -- the parameters of a block, the return value counted
 abbrev pub parameter_count : Block → ℕ
-parameter_count b = sum_by declared_in b.parts + returned b.result
+parameter_count b = sum_by parameters_in_section b.parts + return_value_count b.result
 
 -- a block has more than 60 of them
 abbrev pub has_too_many_parameters : Block → Bool

@@ -7,8 +7,8 @@ use Rattle.stl_ast.specs.declared.declarations.Declaration.{Declaration}
 use Rattle.stl_ast.specs.declared.declarations.ElementType.{ElementType}
 use Rattle.stl_ast.specs.declared.declarations.ElementType.TheVariants as element
 use Rattle.plc_base.specs.Least.{broken_if}
-use Rattle.block_layout.specs.Around.{Holder, Outside, around, in_blocks}
-use Rattle.block_layout.specs.Types.{Types, udt_of}
+use Rattle.block_layout.specs.Around.{Holder, Outside, structures_around, refusals_in_blocks}
+use Rattle.block_layout.specs.Types.{Types, data_type_place}
 
 -- how deep a user-defined data type is; one that the source hasn't counts 0
 abbrev pub udt_depth : List ℕ → Option ℕ → ℕ
@@ -18,7 +18,7 @@ udt_depth depths (Some block) = get_or depths block 0
 -- how deep an element type is: a structure 1, an elementary type 0
 abbrev pub element_depth : Types → ElementType → ℕ
 element_depth y element.Structure = 1
-element_depth y (element.Udt name) = udt_depth y.depths (udt_of y name)
+element_depth y (element.Udt name) = udt_depth y.depths (data_type_place y name)
 element_depth y _ = 0
 
 -- the structures and arrays that a declaration opens
@@ -26,13 +26,13 @@ abbrev pub own_depth : Types → Declaration → ℕ
 own_depth y d = length d.of.arrays + element_depth y d.of.of
 
 -- and those that are open around it
-abbrev pub opened_by : Types → List Holder → ℕ
-opened_by y [] = 0
-opened_by y (h ∷ hs) = own_depth y h.declaration + opened_by y hs
+abbrev pub depth_of_holders : Types → List Holder → ℕ
+depth_of_holders y [] = 0
+depth_of_holders y (h ∷ hs) = own_depth y h.declaration + depth_of_holders y hs
 
 -- how deep a declaration stands
 abbrev pub depth_around : Types → Outside → ℕ → List Declaration → ℕ
-depth_around y o level before = o.depth + opened_by y (around level before)
+depth_around y o level before = o.depth + depth_of_holders y (structures_around level before)
 
 -- a declaration opens the ninth structure or array
 abbrev pub is_too_deep : Types → Outside → List Declaration → Declaration → Bool
@@ -46,4 +46,4 @@ broken_56 y o before d = broken_if (is_too_deep y o before d) d.line 56
 
 -- rule 56: types nested deeper than 8
 unfoldable pub rule_56 : Types → List Block → List Refusal
-rule_56 y blocks = in_blocks (broken_56 y) blocks
+rule_56 y blocks = refusals_in_blocks (broken_56 y) blocks

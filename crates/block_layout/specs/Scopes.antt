@@ -4,13 +4,13 @@ use Rattle.std.specs.List.{AllByRecursion}
 use Rattle.stl_ast.specs.Blocks.{is_parameter}
 use Rattle.block_layout.specs.declared.cells.Cell.{Cell}
 use Rattle.block_layout.specs.declared.members.NameList.{NameList}
-use Rattle.block_layout.specs.Members.{members_of, names_of}
-use Rattle.block_layout.specs.Sizes.{largest}
+use Rattle.block_layout.specs.Members.{members_of, component_names}
+use Rattle.block_layout.specs.Sizes.{largest_size}
 use Rattle.block_layout.specs.Sizes.{elements_of, structure_bits}
 
 -- the components at a level, of which these cells are the first
 pub record HasComponents (level : ℕ) (cells : List Cell) (s : NameList) : Type 0 where
-  pub names : s.names ≡ names_of level cells
+  pub names : s.names ≡ component_names level cells
   pub members : s.members.items ≡ members_of level 0 0 cells
 
 -- the components of the cell c, of which those behind it are
@@ -39,12 +39,12 @@ pub record HaveParameters (cells first : List Cell) : Type 0 where
   pub others : AreOthers rest
 
 -- sizes and components of cells, and how many of them have all parameters
-pub record AreKept (cells : List Cell) (elements : List ℕ) (outer : NameList) (scopes : List NameList)
+pub record AreCellTables (cells : List Cell) (elements : List ℕ) (outer : NameList) (scopes : List NameList)
     (bits parameters : ℕ) : Type 0 where
   pub sized : elements ≡ elements_of cells
   pub outermost : HasComponents 0 cells outer
   pub counted : length scopes ≡ length cells
   pub inner : AreScopes cells scopes
   pub whole : bits ≡ structure_bits cells
-  pub near : bits ≤ largest
+  pub near : bits ≤ largest_size
   pub ended : EndParameters cells parameters

@@ -13,6 +13,6 @@ setting_breaks l fault.UnfitValue = setting_misfits l
 setting_breaks l fault.OutsideIndex = setting_is_outside l
 
 -- the number of the rule
-abbrev pub rule_of : SettingFault → ℕ
-rule_of fault.UnfitValue = 41
-rule_of fault.OutsideIndex = 42
+abbrev pub rule_of_setting_fault : SettingFault → ℕ
+rule_of_setting_fault fault.UnfitValue = 41
+rule_of_setting_fault fault.OutsideIndex = 42

@@ -6,19 +6,19 @@ use Rattle.stl_ast.specs.declared.declarations.Simple.TheVariants as simple
 use Rattle.block_layout.specs.declared.cells.Cell.{Cell}
 use Rattle.block_layout.specs.declared.cells.Element.{Element}
 use Rattle.block_layout.specs.declared.cells.Element.TheVariants.{Plain, Structure, DateAndTime, Udt, Unknown}
-use Rattle.block_layout.specs.Declarations.{count}
+use Rattle.block_layout.specs.Declarations.{element_count}
 
 -- the number of bits at which all sizes and offsets stop, above every size that a rule allows
-abbrev pub largest : ℕ
-largest = 2147483648
+abbrev pub largest_size : ℕ
+largest_size = 2147483648
 
 -- sizes and offsets beyond every limit count as one
-abbrev pub capped : ℕ → ℕ
-capped n = min n largest
+abbrev pub capped_size : ℕ → ℕ
+capped_size n = min n largest_size
 
 -- the least multiple of the alignment at or past a number
-unfoldable pub up : ℕ → (alignment : ℕ) → ℕ
-up n alignment = (n + (alignment - 1)) / alignment * alignment
+unfoldable pub next_multiple : ℕ → (alignment : ℕ) → ℕ
+next_multiple n alignment = (n + (alignment - 1)) / alignment * alignment
 
 -- the bits of an elementary type: a BOOL is a single one, all others are whole bytes
 abbrev pub plain_bits : Simple → ℕ
@@ -46,38 +46,38 @@ alignment c =
 -- even byte
 abbrev pub array_bits : List Bounds → ℕ → ℕ
 array_bits [] element = element
-array_bits (b ∷ bs) element = capped (up (capped (count b * array_bits bs element)) 16)
+array_bits (b ∷ bs) element = capped_size (next_multiple (capped_size (element_count b * array_bits bs element)) 16)
 
 -- the bits of an element; of a structure, those up to the end of its components
 abbrev pub element_bits : Element → (components : ℕ) → ℕ
 element_bits (Plain kind) components = plain_bits kind
 element_bits Structure components = components
 element_bits DateAndTime components = 64
-element_bits (Udt block bits) components = capped bits
+element_bits (Udt block bits) components = capped_size bits
 element_bits Unknown components = 0
 
 -- the end of a component that begins at the least place at or past `at` that meets its alignment; an unsound one takes
 -- no place
-abbrev pub past : (at : ℕ) → Cell → (bits : ℕ) → ℕ
-past at c bits = if c.sound then capped (up at (alignment c) + bits) else at
+abbrev pub component_end : (at : ℕ) → Cell → (bits : ℕ) → ℕ
+component_end at c bits = if c.sound then capped_size (next_multiple at (alignment c) + bits) else at
 
 -- and the end of those at this level, behind a cell at this or a higher level, which is a component of a component
-abbrev pub stepped : (level at : ℕ) → Cell → (bits : ℕ) → ℕ
-stepped level at c bits = if nat_eq c.level level then past at c bits else at
+abbrev pub end_behind_cell : (level at : ℕ) → Cell → (bits : ℕ) → ℕ
+end_behind_cell level at c bits = if nat_eq c.level level then component_end at c bits else at
 
 -- where the components at this level end, of which the first may begin at `at`: they stand before the first cell at a
 -- lower level
-unfoldable pub end_of : (level at : ℕ) → List Cell → ℕ
-end_of level at [] = at
-end_of level at (c ∷ cs) =
+unfoldable pub components_end : (level at : ℕ) → List Cell → ℕ
+components_end level at [] = at
+components_end level at (c ∷ cs) =
     if nat_lt c.level level then at
-    else end_of level (stepped level at c (array_bits c.bounds (element_bits c.of
-    (if c.sound then capped (up (end_of (c.level + 1) 0 cs) 16) else 0)))) cs
+    else components_end level (end_behind_cell level at c (array_bits c.bounds (element_bits c.of
+    (if c.sound then capped_size (next_multiple (components_end (c.level + 1) 0 cs) 16) else 0)))) cs
 
 -- the bits of an element of a cell, with the cells behind it
 unfoldable pub element_of : Cell → List Cell → ℕ
 element_of c cs =
-    element_bits c.of (if c.sound then capped (up (end_of (c.level + 1) 0 cs) 16) else 0)
+    element_bits c.of (if c.sound then capped_size (next_multiple (components_end (c.level + 1) 0 cs) 16) else 0)
 
 -- the bits of a cell
 abbrev pub cell_bits : Cell → List Cell → ℕ
@@ -90,4 +90,4 @@ elements_of (c ∷ cs) = element_of c cs ∷ elements_of cs
 
 -- a structure of these cells ends at an even byte
 unfoldable pub structure_bits : List Cell → ℕ
-structure_bits cells = capped (up (end_of 0 0 cells) 16)
+structure_bits cells = capped_size (next_multiple (components_end 0 0 cells) 16)

@@ -18,8 +18,8 @@ use Rattle.block_layout.specs.declared.cells.Element.{Element}
 use Rattle.block_layout.specs.declared.cells.Element.TheVariants.{Structure, Udt}
 use Rattle.block_layout.specs.declared.walks.ComponentAt.{ComponentAt}
 use Rattle.block_layout.specs.Blocks.{known_block}
-use Rattle.block_layout.specs.Members.{component}
-use Rattle.block_layout.specs.Offsets.{offset_of, width_of}
+use Rattle.block_layout.specs.Members.{component_of_name}
+use Rattle.block_layout.specs.Offsets.{place_of_path, width_of}
 use Rattle.block_layout.specs.Paths.{cells_at, elementary_at, if_whole, is_beyond, structure_of}
 use Rattle.block_layout.specs.Places.{IsLeastPlace}
 use Rattle.block_layout.specs.Sizes.{alignment, array_bits, cell_bits, element_of}
@@ -43,11 +43,11 @@ LiesAt level end (c ∷ cs) (suc place) offset =
 
 -- a name leads to a sound component of a structure that begins so many bits from the start of the whole: its cells are
 -- those of a block from the place `first` on, of which the outermost are at this level
-pub record IsComponent (l : List BlockLayout) (block : ℕ) (temporary : Bool)
+pub record NamesComponent (l : List BlockLayout) (block : ℕ) (temporary : Bool)
     (first level begin : ℕ) (name : List ℕ) (to : ComponentAt) : Type 0 where
   pub place : ℕ
   pub named : option_map (λ m. m.place)
-      (component level 0 0 name (drop first (cells_at l block temporary))) ≡ Some place
+      (component_of_name level 0 0 name (drop first (cells_at l block temporary))) ≡ Some place
   pub cell : Cell
   pub there : slice_get (cells_at l block temporary) (first + place) ≡ Some cell
   pub sound : cell.sound ≡ true
@@ -63,12 +63,12 @@ pub record IsComponent (l : List BlockLayout) (block : ℕ) (temporary : Bool)
 
 -- a name behind a component: of a structure one of its own components, of a data type one of those of the block that
 -- declares it
-abbrev pub IsComponentOf : List BlockLayout → ComponentAt → List ℕ → Cell → Element → ComponentAt
+abbrev pub NamesComponentOf : List BlockLayout → ComponentAt → List ℕ → Cell → Element → ComponentAt
     → Type 0
-IsComponentOf l from name c Structure to =
-    IsComponent l from.block from.temporary (from.place + 1) (c.level + 1) from.offset name to
-IsComponentOf l from name c (Udt block bits) to = IsComponent l block false 0 0 from.offset name to
-IsComponentOf l from name c _ to = ⊥
+NamesComponentOf l from name c Structure to =
+    NamesComponent l from.block from.temporary (from.place + 1) (c.level + 1) from.offset name to
+NamesComponentOf l from name c (Udt block bits) to = NamesComponent l block false 0 0 from.offset name to
+NamesComponentOf l from name c _ to = ⊥
 
 -- a name leads from a component with all its indices to one inside it
 pub record IsInside (l : List BlockLayout) (from : ComponentAt) (name : List ℕ)
@@ -76,10 +76,10 @@ pub record IsInside (l : List BlockLayout) (from : ComponentAt) (name : List ℕ
   pub cell : Cell
   pub there : slice_get (cells_at l from.block from.temporary) from.place ≡ Some cell
   pub indexed : from.depth ≡ length cell.bounds
-  pub leads : IsComponentOf l from name cell cell.of to
+  pub leads : NamesComponentOf l from name cell cell.of to
 
 -- an index leads from an array to an element of it, before which all elements with lower indices stand without gap
-pub record IsElement (l : List BlockLayout) (from : ComponentAt) (at : ℤ)
+pub record IndexesElement (l : List BlockLayout) (from : ComponentAt) (at : ℤ)
     (to : ComponentAt) : Type 0 where
   pub cell : Cell
   pub there : slice_get (cells_at l from.block from.temporary) from.place ≡ Some cell
@@ -94,27 +94,27 @@ pub record IsElement (l : List BlockLayout) (from : ComponentAt) (at : ℤ)
   }
 
 -- one step of a path
-abbrev pub IsStep : List BlockLayout → ComponentAt → PathStep → ComponentAt → Type 0
-IsStep l from (step.Named name) to = IsInside l from name to
-IsStep l from (step.Index at) to = IsElement l from at to
+abbrev pub StepLeadsTo : List BlockLayout → ComponentAt → PathStep → ComponentAt → Type 0
+StepLeadsTo l from (step.Named name) to = IsInside l from name to
+StepLeadsTo l from (step.Index at) to = IndexesElement l from at to
 
 -- several steps one behind the other
 abbrev pub LeadsTo : List BlockLayout → ComponentAt → List PathStep → ComponentAt → Type 0
 LeadsTo l from [] to = from ≡ to
-LeadsTo l from (s ∷ ss) to = (next : ComponentAt) × IsStep l from s next × LeadsTo l next ss to
+LeadsTo l from (s ∷ ss) to = (next : ComponentAt) × StepLeadsTo l from s next × LeadsTo l next ss to
 
 -- a whole path in the outermost declarations of a block, which begins with a name
 abbrev pub LeadsFrom : List BlockLayout → (block : ℕ) → (temporary : Bool) → List PathStep
     → ComponentAt → Type 0
 LeadsFrom l block temporary (step.Named name ∷ ss) to =
-    (first : ComponentAt) × IsComponent l block temporary 0 0 0 name first × LeadsTo l first ss to
+    (first : ComponentAt) × NamesComponent l block temporary 0 0 0 name first × LeadsTo l first ss to
 LeadsFrom l block temporary _ to = ⊥
 
 -- the block that declares what a section of a block has: the components of a data block may stand in another one
-abbrev pub declaring : List BlockLayout → Section → (block : ℕ) → Option ℕ
-declaring l section.Global block = structure_of l block
-declaring l section.Instance block = Some block
-declaring l section.Temp block = Some block
+abbrev pub declaring_block : List BlockLayout → Section → (block : ℕ) → Option ℕ
+declaring_block l section.Global block = structure_of l block
+declaring_block l section.Instance block = Some block
+declaring_block l section.Temp block = Some block
 
 -- temporary variables stand apart from the others
 abbrev pub is_temporary : Section → Bool
@@ -127,7 +127,7 @@ pub record LeadsToPlace (l : List BlockLayout) (id : BlockId) (s : Section) (pat
   pub block : ℕ
   pub known : option_and_then (if_whole l) (known_block id (map (λ b. b.id) l)) ≡ Some block
   pub inside : ℕ
-  pub declared : declaring l s block ≡ Some inside
+  pub declared : declaring_block l s block ≡ Some inside
   pub to : ComponentAt
   pub leads : LeadsFrom l inside (is_temporary s) path to
   pub sum : 8 * place.byte + place.bit ≡ to.offset
@@ -135,11 +135,11 @@ pub record LeadsToPlace (l : List BlockLayout) (id : BlockId) (s : Section) (pat
   pub elementary : elementary_at l to ≡ Some kind
   pub wide : width ≡ width_of kind
 
--- each place that `offset_of` gives is the sum of the least places along the path
+-- each place that `place_of_path` gives is the sum of the least places along the path
 abbrev pub OffsetsAreSums : Type 0
 OffsetsAreSums =
     (l : List BlockLayout) (id : BlockId) (s : Section) (path : List PathStep) (place : Place)
-    (width : Width) → offset_of l id s path ≡ Some (place, width)
+    (width : Width) → place_of_path l id s path ≡ Some (place, width)
     → LeadsToPlace l id s path place width
 
 -- and no path leads to two places

@@ -6,7 +6,7 @@ use Rattle.stl_ast.specs.declared.blocks.Tree.{Tree}
 use Rattle.stl_symbols.specs.Symbol.{Symbol}
 use Rattle.block_layout.specs.declared.blocks.BlockLayout.{BlockLayout}
 use Rattle.block_layout.specs.Layouts.{layouts_of}
-use Rattle.block_layout.specs.Measures.{types_of}
+use Rattle.block_layout.specs.Measures.{types_of_source}
 use Rattle.block_layout.specs.Rule21.{rule_21}
 use Rattle.block_layout.specs.Rule22.{rule_22}
 use Rattle.block_layout.specs.Rule23.{rule_23}
@@ -24,8 +24,8 @@ use Rattle.block_layout.specs.Rule56.{rule_56}
 use Rattle.block_layout.specs.Types.{Types}
 
 -- all refusals of the blocks of a source, by the rules in order
-unfoldable pub refusals_by : Types → List BlockLayout → List Block → List Refusal
-refusals_by y l blocks =
+unfoldable pub refusals_of_blocks : Types → List BlockLayout → List Block → List Refusal
+refusals_of_blocks y l blocks =
     rule_21 blocks  -- a name declared twice in one list
     ++ rule_22 y blocks  -- a block twice
     ++ rule_23 y blocks  -- an unknown block or user-defined data type
@@ -43,4 +43,4 @@ refusals_by y l blocks =
 
 -- all refusals of a source by these rules, with its symbols
 unfoldable pub layout_refusals : Tree → List Symbol → List Refusal
-layout_refusals t symbols = refusals_by (types_of symbols t.blocks) (layouts_of t symbols) t.blocks
+layout_refusals t symbols = refusals_of_blocks (types_of_source symbols t.blocks) (layouts_of t symbols) t.blocks

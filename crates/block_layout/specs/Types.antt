@@ -15,5 +15,5 @@ pub record Types : Type 0 where
   pub bits : List ℕ
 
 -- the place of the user-defined data type that a name means
-abbrev pub udt_of : Types → BlockName → Option ℕ
-udt_of y name = found_block y.symbols y.ids is_data_type name
+abbrev pub data_type_place : Types → BlockName → Option ℕ
+data_type_place y name = found_block y.symbols y.ids is_data_type name

@@ -5,11 +5,11 @@ use Rattle.std.specs.List.{list_all}
 use Rattle.stl_ast.specs.declared.blocks.PartKind.{PartKind}
 use Rattle.stl_ast.specs.declared.declarations.Declaration.{Declaration}
 use Rattle.plc_base.specs.Folding.{upper_case_name}
-use Rattle.stl_symbols.specs.Names.{place_of}
-use Rattle.block_layout.specs.Around.{Outside, around, onto, in_rest, in_list, in_block, of_sections, section_declarations}
-use Rattle.block_layout.specs.Cells.{cells_of, opened, is_temp, section_cells, returned_cells, components_of, temps_of, breaks_rule, is_sound, laid, preset, uses_oversized}
+use Rattle.stl_symbols.specs.Names.{name_place}
+use Rattle.block_layout.specs.Around.{Outside, structures_around, declarations_before_next, refusals_in_rest, refusals_in_list, refusals_in_block, of_sections, section_declarations}
+use Rattle.block_layout.specs.Cells.{cells_of, with_first_cell_opening, is_temp, section_cells, returned_cells, components_of, temps_of, breaks_rule, is_sound, layout_element, preset_of, uses_oversized}
 use Rattle.block_layout.specs.Declarations.{is_unknown_type, has_upside_down, init_fits}
-use Rattle.block_layout.specs.Measures.{deep}
+use Rattle.block_layout.specs.Measures.{capped_depth}
 use Rattle.block_layout.specs.Rule21.{broken_21, is_twice, names_before}
 use Rattle.block_layout.specs.Rule56.{broken_56, own_depth, depth_around, is_too_deep}
 use Rattle.block_layout.specs.Types.{Types}
@@ -33,7 +33,7 @@ verdict_of y o before d = record {
   deep = is_too_deep y o before d;
   breaks = breaks_rule y o before d;
   sound = is_sound y o before d;
-  reach = deep (depth_around y o d.level before + own_depth y d);
+  reach = capped_depth (depth_around y o d.level before + own_depth y d);
 }
 
 -- and of declarations one behind the other, of which `before` stand before the first
@@ -45,8 +45,8 @@ verdicts_of y o before (d ∷ ds) = verdict_of y o before d ∷ verdicts_of y o 
 abbrev pub frame_of : Types → Outside → List Declaration → (level : ℕ) → Frame
 frame_of y o before level = record {
   names = names_before o.names level before;
-  depth = deep (depth_around y o level before);
-  sound = list_all (λ h. not (breaks_rule y o h.before h.declaration)) (around level before);
+  depth = capped_depth (depth_around y o level before);
+  sound = list_all (λ h. not (breaks_rule y o h.before h.declaration)) (structures_around level before);
 }
 
 -- a declaration opens the ninth structure or array: by how many are around it and are its own
@@ -56,16 +56,16 @@ is_deep_in around_it own = nat_le around_it 8 && nat_lt 8 (around_it + own)
 -- a declaration breaks rule 21, 23, 41, 42 or 56, by the list that it goes on
 abbrev pub breaks_in : Types → Frame → Declaration → Bool
 breaks_in y f d =
-    is_some (place_of (upper_case_name d.name) f.names) || breaks_alone y d || is_deep_in f.depth (deep (own_depth y d))
+    is_some (name_place (upper_case_name d.name) f.names) || breaks_alone y d || is_deep_in f.depth (capped_depth (own_depth y d))
 
 -- what the rules find of a declaration by its list alone, without those before it
 unfoldable pub verdict_in : Types → Frame → Declaration → Verdict
 verdict_in y f d = record {
-  twice = is_some (place_of (upper_case_name d.name) f.names);
-  deep = is_deep_in f.depth (deep (own_depth y d));
+  twice = is_some (name_place (upper_case_name d.name) f.names);
+  deep = is_deep_in f.depth (capped_depth (own_depth y d));
   breaks = breaks_in y f d;
   sound = not (breaks_in y f d) && not (uses_oversized y d.of.of) && f.sound;
-  reach = deep (f.depth + deep (own_depth y d));
+  reach = capped_depth (f.depth + capped_depth (own_depth y d));
 }
 
 -- the list with the name of a declaration, in upper case, behind the others
@@ -73,16 +73,16 @@ abbrev pub with_name : Frame → Declaration → Frame
 with_name f d = record f { names = f.names ++ upper_case_name d.name ∷ [] }
 
 -- the list inside a declaration
-abbrev pub inside : Types → Frame → Declaration → Frame
-inside y f d = record {
+abbrev pub inner_frame : Types → Frame → Declaration → Frame
+inner_frame y f d = record {
   names = [];
-  depth = deep (f.depth + deep (own_depth y d));
+  depth = capped_depth (f.depth + capped_depth (own_depth y d));
   sound = not (breaks_in y f d) && f.sound;
 }
 
 -- the lists that are open behind a declaration
-unfoldable pub entered_by : Types → List Frame → Frame → Declaration → List Frame
-entered_by y open_ f d = take d.level open_ ++ with_name f d ∷ inside y f d ∷ []
+unfoldable pub frames_behind : Types → List Frame → Frame → Declaration → List Frame
+frames_behind y open_ f d = take d.level open_ ++ with_name f d ∷ inner_frame y f d ∷ []
 
 -- these lists are open behind some declarations
 pub record AreOpen (y : Types) (o : Outside) (before : List Declaration) (open_ : List Frame) : Type 0 where
@@ -92,7 +92,7 @@ pub record AreOpen (y : Types) (o : Outside) (before : List Declaration) (open_ 
 pub record JudgedOnto (y : Types) (o : Outside) (before ds : List Declaration) (vs : List Verdict)
     (open_ : List Frame) : Type 0 where
   pub verdicts : vs ≡ verdicts_of y o before ds
-  pub lists : AreOpen y o (onto before ds) open_
+  pub lists : AreOpen y o (declarations_before_next before ds) open_
 
 -- refusals of declarations by their verdicts
 abbrev pub by_verdicts : (Verdict → Declaration → List Refusal) → List Verdict → List Declaration → List Refusal
@@ -117,8 +117,8 @@ cell_with y section sound opens d = record {
   opens = opens;
   sound = sound;
   bounds = d.of.arrays;
-  of = laid y d.of.of;
-  presets = map preset d.init;
+  of = layout_element y d.of.of;
+  presets = map preset_of d.init;
 }
 
 -- cells by verdicts; `begun` says that a sound one of the section stands before them
@@ -131,30 +131,30 @@ cells_by y section begun (v ∷ vs) (d ∷ ds) =
 -- a section comes to cells, and to the least refusals by rules 21 and 56, behind those before it
 pub record SectionAdded (y : Types) (o : Outside) (before : List Declaration) (p : Part) (old new : Declared)
     (open_ : List Frame) : Type 0 where
-  pub lists : AreOpen y o (onto before p.items) open_
+  pub lists : AreOpen y o (declarations_before_next before p.items) open_
   pub components : new.components.items ≡ old.components.items
-      ++ (if is_temp p.kind then [] else opened (cells_of y o p.kind before p.items))
+      ++ (if is_temp p.kind then [] else with_first_cell_opening (cells_of y o p.kind before p.items))
   pub temps : new.temps.items ≡ old.temps.items
-      ++ (if is_temp p.kind then opened (cells_of y o p.kind before p.items) else [])
-  pub twice : new.twice ≡ lesser old.twice (least (in_rest (broken_21 o) before p.items))
-  pub deep : new.deep ≡ lesser old.deep (least (in_rest (broken_56 y o) before p.items))
+      ++ (if is_temp p.kind then with_first_cell_opening (cells_of y o p.kind before p.items) else [])
+  pub twice : new.twice ≡ lesser old.twice (least (refusals_in_rest (broken_21 o) before p.items))
+  pub deep : new.deep ≡ lesser old.deep (least (refusals_in_rest (broken_56 y o) before p.items))
 
 -- what the sections of a block come to
-pub record AreSections (y : Types) (b : Block) (made : Declared) : Type 0 where
+pub record IsDeclaredBySections (y : Types) (b : Block) (made : Declared) : Type 0 where
   pub components : made.components.items ≡ returned_cells b.result
       ++ section_cells y (of_sections b) (λ k. not (is_temp k)) [] b.parts
   pub temps : made.temps.items ≡ temps_of y b
-  pub twice : made.twice ≡ least (in_list (broken_21 (of_sections b)) (section_declarations b))
-  pub deep : made.deep ≡ least (in_list (broken_56 y (of_sections b)) (section_declarations b))
+  pub twice : made.twice ≡ least (refusals_in_list (broken_21 (of_sections b)) (section_declarations b))
+  pub deep : made.deep ≡ least (refusals_in_list (broken_56 y (of_sections b)) (section_declarations b))
 
 -- what the declarations of a block come to
-pub record AreDeclared (y : Types) (b : Block) (made : Declared) : Type 0 where
+pub record IsDeclaredByBlock (y : Types) (b : Block) (made : Declared) : Type 0 where
   pub components : made.components.items ≡ components_of y b
   pub temps : made.temps.items ≡ temps_of y b
-  pub twice : made.twice ≡ least (in_block broken_21 b)
-  pub deep : made.deep ≡ least (in_block (broken_56 y) b)
+  pub twice : made.twice ≡ least (refusals_in_block broken_21 b)
+  pub deep : made.deep ≡ least (refusals_in_block (broken_56 y) b)
 
 -- the deepest place of a structure, by the verdicts on its components
-abbrev pub reaches : List Verdict → ℕ
-reaches [] = 1
-reaches (v ∷ vs) = max v.reach (reaches vs)
+abbrev pub greatest_reach : List Verdict → ℕ
+greatest_reach [] = 1
+greatest_reach (v ∷ vs) = max v.reach (greatest_reach vs)

@@ -2,7 +2,7 @@ ghost use Rattle.std.specs.Prelude.{◌≡◌};
 ghost use Rattle.std.specs.List.{flat_map};
 ghost use Rattle.plc_base.specs.Least.{least};
 ghost use Rattle.block_layout.specs.Alone.{breaks_by, broken_by, rule_by};
-ghost use Rattle.block_layout.specs.Around.{in_block, in_blocks};
+ghost use Rattle.block_layout.specs.Around.{refusals_in_block, refusals_in_blocks};
 
 use crate::declarations::{has_upside_down, init_fits, is_unknown_type};
 use crate::types::Types;
@@ -68,7 +68,7 @@ fn least_in_parts(types: &Types, which: Alone, parts: &[Part]) -> Option<Refusal
 #[tactic(auto, using(crate::proofs::AloneLemmas::least_of_block))]
 fn least_in_block(types: &Types, which: Alone, block: &Block) -> Option<Refusal>
     ensures { result
-        ≡ least (in_block (λ o before d. broken_by types.now which d) block.now) }
+        ≡ least (refusals_in_block (λ o before d. broken_by types.now which d) block.now) }
 {
     lesser(
         least_in_parts(types, which, block.parts.as_slice()),
@@ -79,7 +79,7 @@ fn least_in_block(types: &Types, which: Alone, block: &Block) -> Option<Refusal>
 /// The least refusal of declarations by what they break by themselves.
 pub(crate) fn least_alone(types: &Types, which: Alone, blocks: &[Block]) -> Option<Refusal>
     ensures { result
-        ≡ least (in_blocks (λ o before d. broken_by types.now which d) blocks.now) }
+        ≡ least (refusals_in_blocks (λ o before d. broken_by types.now which d) blocks.now) }
 {
     least_of(blocks, |block: &Block| least_in_block(types, which, block))
 }

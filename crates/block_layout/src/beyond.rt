@@ -1,4 +1,4 @@
-ghost use Rattle.block_layout.specs.Sizes.{largest};
+ghost use Rattle.block_layout.specs.Sizes.{largest_size};
 ghost use Rattle.std.specs.Prelude.{◌≡◌, ◌≤◌, Some};
 ghost use Rattle.std.specs.List.{slice_get};
 ghost use Rattle.block_layout.specs.Paths.{
@@ -6,11 +6,11 @@ ghost use Rattle.block_layout.specs.Paths.{
   OffsetIsNear,
   ReachesSound,
   cells_at,
-  further,
+  holds_where_reached,
   is_beyond,
   is_beyond_in,
   is_judged,
-  leaves,
+  leaves_array,
   leaves_from,
   leaves_judged,
   leaves_local,
@@ -65,9 +65,9 @@ fn step_is_beyond(layouts: &[BlockLayout], spot: ComponentAt, step: &PathStep) -
 /// Whether an index of a path is outside its array, from a sound component on.
 #[tactic(auto, using(crate::proofs::WalkLemmas::step_sound))]
 fn leaves(layouts: &[BlockLayout], start: ComponentAt, path: &[PathStep]) -> bool
-    requires offset { start.offset ≤ largest }
+    requires offset { start.offset ≤ largest_size }
     requires sound { IsSoundAt layouts.now start }
-    ensures { result ≡ leaves layouts.now start path.now }
+    ensures { result ≡ leaves_array layouts.now start path.now }
 {
     let mut spot = start;
     for next in path {
@@ -86,7 +86,7 @@ fn leaves(layouts: &[BlockLayout], start: ComponentAt, path: &[PathStep]) -> boo
 fn leaves_behind(layouts: &[BlockLayout], found: PathEnd, path: &[PathStep]) -> bool
     requires near { OffsetIsNear found }
     requires sound { ReachesSound layouts.now found }
-    ensures { result ≡ further found (λ spot. leaves layouts.now spot path.now) }
+    ensures { result ≡ holds_where_reached found (λ spot. leaves_array layouts.now spot path.now) }
 {
     match found {
         PathEnd::Reaches { spot } => leaves(layouts, spot, path),

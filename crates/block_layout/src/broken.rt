@@ -3,7 +3,7 @@ ghost use Rattle.stl_ast.specs.declared.blocks.Block.{Block};
 ghost use Rattle.block_layout.specs.Before.{IsBefore};
 ghost use Rattle.block_layout.specs.Facts.{AreFactsOf};
 ghost use Rattle.block_layout.specs.Layouts.{is_broken};
-ghost use Rattle.block_layout.specs.Lengths.{length_of};
+ghost use Rattle.block_layout.specs.Lengths.{length_of_block};
 ghost use Rattle.block_layout.specs.Types.{Types};
 
 use crate::rules::rule_22::is_block_twice;
@@ -41,7 +41,7 @@ pub(crate) fn nothing_before() -> Before
 pub(crate) fn with_block(before: Before, block: &Block, len: u64) -> Before
     requires blocks { before.blocks < 2 ^ 64 - 1 }
     requires data { before.data_blocks < 2 ^ 64 - 1 }
-    ensures { (y : Types) (blocks some : List Block) → len ≡ length_of y blocks block.now
+    ensures { (y : Types) (blocks some : List Block) → len ≡ length_of_block y blocks block.now
         → IsBefore y blocks some before → IsBefore y blocks (block.now ∷ some) result }
 {
     Before {

@@ -10,8 +10,8 @@ ghost use Rattle.std.specs.Prelude.{
 };
 ghost use Rattle.std.specs.List.{fold};
 ghost use Rattle.block_layout.specs.InitialBytes.{
-  bytes_of,
-  put,
+  big_endian_bytes,
+  bytes_with_write,
   with_bit,
   with_bytes,
   writes_at,
@@ -52,7 +52,7 @@ fn put_bit(bytes: &mut [u8], at: usize, bit: u8, value: u32)
 
 fn put_word(bytes: &mut [u8], at: usize, value: u32)
     requires { at + 1 < 2 ^ 64 }
-    ensures { bytes.new ≡ with_bytes bytes.old at (bytes_of 2 value) }
+    ensures { bytes.new ≡ with_bytes bytes.old at (big_endian_bytes 2 value) }
 {
     put_byte(bytes, at, (value / 256 % 256) as u8);
     put_byte(bytes, at + 1, (value % 256) as u8);
@@ -60,7 +60,7 @@ fn put_word(bytes: &mut [u8], at: usize, value: u32)
 
 fn put_dword(bytes: &mut [u8], at: usize, value: u32)
     requires { at + 3 < 2 ^ 64 }
-    ensures { bytes.new ≡ with_bytes bytes.old at (bytes_of 4 value) }
+    ensures { bytes.new ≡ with_bytes bytes.old at (big_endian_bytes 4 value) }
 {
     put_byte(bytes, at, (value / 16_777_216 % 256) as u8);
     put_byte(bytes, at + 1, (value / 65_536 % 256) as u8);
@@ -70,7 +70,7 @@ fn put_dword(bytes: &mut [u8], at: usize, value: u32)
 
 /// Writes a value of an elementary type so many bits from the start, as far as the bytes go.
 pub(crate) fn put(bytes: &mut [u8], kind: Simple, offset: u64, value: u32)
-    ensures { bytes.new ≡ put bytes.old
+    ensures { bytes.new ≡ bytes_with_write bytes.old
         (record { offset = offset; width = plain_bits kind; value = value }) }
 {
     let at = (offset / 8) as usize;
@@ -85,7 +85,7 @@ pub(crate) fn put(bytes: &mut [u8], kind: Simple, offset: u64, value: u32)
 /// Writes one value after the other to one element after the other.
 pub(crate) fn put_values(bytes: &mut [u8], kind: Simple, offsets: &[u64], values: &[u32])
     ensures { bytes.new
-        ≡ fold put bytes.old (writes_at (plain_bits kind) offsets.now values.now) }
+        ≡ fold bytes_with_write bytes.old (writes_at (plain_bits kind) offsets.now values.now) }
 {
     for i in 0..offsets.len().min(values.len()) {
         put(bytes, kind, offsets[i], values[i]);

@@ -2,21 +2,21 @@ ghost use Rattle.std.specs.Prelude.{◌≡◌, ◌≤◌, length};
 ghost use Rattle.plc_base.specs.S5Time.{s5time_of_ms};
 ghost use Rattle.block_layout.specs.Fits.{
   bits_of,
-  fits,
+  fits_elementary_type,
   fits_binary,
   fits_characters,
   fits_decimal,
   fits_word,
-  is_bool,
-  is_byte,
-  is_dint,
-  is_dword,
-  is_s5time,
-  is_time,
-  is_word,
+  is_bool_type,
+  is_byte_type,
+  is_dint_type,
+  is_dword_type,
+  is_s5time_type,
+  is_time_type,
+  is_word_type,
   number_from,
   or_0,
-  twos,
+  twos_complement_bits,
 };
 
 use plc_base::{s5time_of_ms, unsigned_to_bcd};
@@ -67,9 +67,9 @@ fn fits_characters(count: usize, kind: Simple) -> bool
 
 /// Whether a constant fits an elementary type: as the initial value of a component, as an actual
 /// parameter, and as the constant of AW, OW, XOW, AD, OD and XOD.
-#[tactic(auto, unfolding(crate::specs::Fits::fits))]
+#[tactic(auto, unfolding(crate::specs::Fits::fits_elementary_type))]
 pub fn fits(value: &Literal, kind: Simple) -> bool
-    ensures { result ≡ fits value.now kind }
+    ensures { result ≡ fits_elementary_type value.now kind }
 {
     match value {
         Literal::Truth { .. } => matches!(kind, Simple::Bool),
@@ -89,7 +89,7 @@ pub fn fits(value: &Literal, kind: Simple) -> bool
 
 /// Two's complement of 16 bits.
 fn word_of(value: i32) -> u32
-    ensures { result ≡ twos 16 value }
+    ensures { result ≡ twos_complement_bits 16 value }
 {
     if value >= 0 {
         value as u32
@@ -100,7 +100,7 @@ fn word_of(value: i32) -> u32
 
 /// Two's complement of 32 bits.
 fn dword_of(value: i32) -> u32
-    ensures { result ≡ twos 32 value }
+    ensures { result ≡ twos_complement_bits 32 value }
 {
     if value >= 0 {
         value as u32

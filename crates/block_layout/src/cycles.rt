@@ -1,10 +1,10 @@
 ghost use Rattle.std.specs.Prelude.{◌≡◌, IfOk, map, length, List, get_or, false, []};
-ghost use Rattle.block_layout.specs.Heads.{flagged};
+ghost use Rattle.block_layout.specs.Heads.{breach_flags};
 ghost use Rattle.block_layout.specs.Types.{Types};
 ghost use Rattle.std.specs.List.{flat_map};
 ghost use Rattle.stl_ast.specs.declared.blocks.Block.{Block};
-ghost use Rattle.block_layout.specs.Rule43.{contains_itself, if_some, leads_to, used_by};
-ghost use Rattle.block_layout.specs.Cycles.{spread, uses_of_all, with_mark, with_marks};
+ghost use Rattle.block_layout.specs.Rule43.{contains_itself, if_some, leads_to, types_used_by};
+ghost use Rattle.block_layout.specs.Cycles.{with_uses_marked, uses_of_all, with_mark, with_marks};
 
 use crate::types::Types;
 use plc_base::BlockKind;
@@ -13,7 +13,7 @@ use stl_ast::{Block, Declaration, ElementType};
 
 /// The data type that an element type uses.
 fn used_by(types: &Types, of: &ElementType) -> Option<usize>
-    ensures { if_some result ≡ used_by types.now of.now }
+    ensures { if_some result ≡ types_used_by types.now of.now }
 {
     match of {
         ElementType::Udt { name } => types.data_type(name),
@@ -28,7 +28,7 @@ fn uses_of(
     declarations: &[Declaration],
 ) -> Result<Vec<usize>, AllocError>
     ensures { IfOk result (λ v. v.items
-        ≡ flat_map (λ d. used_by types.now d.of.of) declarations.now) }
+        ≡ flat_map (λ d. types_used_by types.now d.of.of) declarations.now) }
 {
     let mut uses = Vec::new(alloc);
     for declaration in declarations {
@@ -99,7 +99,7 @@ fn used_next(
     reached: &mut [bool],
 ) -> Result<Vec<usize>, AllocError>
     ensures { IfOk result (λ found. (reached.new, found.items)
-        ≡ spread (map (λ u. u.items) uses.now) (reached.old, []) blocks.now) }
+        ≡ with_uses_marked (map (λ u. u.items) uses.now) (reached.old, []) blocks.now) }
 {
     let mut found = Vec::new(alloc);
     for block in blocks {
@@ -155,7 +155,7 @@ pub(crate) fn cycles(
     blocks: &[Block],
 ) -> Result<Vec<bool>, AllocError>
     ensures { IfOk result (λ v. v.items
-        ≡ flagged (contains_itself types.now blocks.now) [] blocks.now) }
+        ≡ breach_flags (contains_itself types.now blocks.now) [] blocks.now) }
 {
     let uses = all_uses(alloc, types, blocks)?;
     let mut flags = Vec::with_capacity(alloc, blocks.len())?;

@@ -1,6 +1,6 @@
 ghost use Rattle.std.specs.Prelude.{◌≡◌, ◌≤◌, ◌^◌, get_or, nat_le, IfSome};
 ghost use Rattle.std.specs.List.{list_all};
-ghost use Rattle.block_layout.specs.Fits.{fits};
+ghost use Rattle.block_layout.specs.Fits.{fits_elementary_type};
 ghost use Rattle.block_layout.specs.Cells.{is_oversized, uses_oversized};
 ghost use Rattle.block_layout.specs.Declarations.{
   are_within,
@@ -10,11 +10,11 @@ ghost use Rattle.block_layout.specs.Declarations.{
   init_fits,
   is_unknown_type,
   is_upside_down,
-  room,
-  set_by,
-  times,
+  settable_count,
+  elements_set_by,
+  repetition_factor,
 };
-ghost use Rattle.block_layout.specs.Measures.{deep};
+ghost use Rattle.block_layout.specs.Measures.{capped_depth};
 ghost use Rattle.block_layout.specs.Rule56.{element_depth, own_depth, udt_depth};
 ghost use Rattle.block_layout.specs.Verdicts.{breaks_alone};
 
@@ -46,7 +46,7 @@ pub(crate) fn is_unknown_type(types: &Types, of: &ElementType) -> bool
 
 /// How many elements an initial value can set.
 fn room(arrays: &[Bounds]) -> Option<u64>
-    ensures value { result ≡ room arrays.now }
+    ensures value { result ≡ settable_count arrays.now }
     ensures near { IfSome result (λ most. most ≤ 2 ^ 32) }
 {
     match arrays {
@@ -59,7 +59,7 @@ fn room(arrays: &[Bounds]) -> Option<u64>
 /// How many elements initial values set, where they are no more than so many.
 fn are_set_within(init: &[Init], most: u64) -> bool
     requires { most ≤ 2 ^ 32 }
-    ensures { result ≡ nat_le (set_by init.now) most }
+    ensures { result ≡ nat_le (elements_set_by init.now) most }
 {
     let mut set = 0u64;
     for i in init {
@@ -69,13 +69,13 @@ fn are_set_within(init: &[Init], most: u64) -> bool
 }
 
 fn fit_kind(init: &[Init], kind: Simple) -> bool
-    ensures { result ≡ list_all (λ i. fits i.value kind) init.now }
+    ensures { result ≡ list_all (λ i. fits_elementary_type i.value kind) init.now }
 {
     init.iter().all(|i| fits(&i.value, kind))
 }
 
 fn fits_within(init: &[Init], arrays: &[Bounds]) -> bool
-    ensures { result ≡ are_within (set_by init.now) (room arrays.now) }
+    ensures { result ≡ are_within (elements_set_by init.now) (settable_count arrays.now) }
 {
     match room(arrays) {
         None => false,
@@ -148,14 +148,14 @@ fn element_depth(types: &Types, of: &ElementType) -> u64
 
 /// At most 9.
 pub(crate) fn deep(n: u64) -> u64
-    ensures { result ≡ deep n }
+    ensures { result ≡ capped_depth n }
 {
     if n < 9 { n } else { 9 }
 }
 
 /// The structures and arrays that a declaration opens, at most 9.
 pub(crate) fn own_depth(types: &Types, declaration: &Declaration) -> u64
-    ensures { result ≡ deep (own_depth types.now declaration.now) }
+    ensures { result ≡ capped_depth (own_depth types.now declaration.now) }
 {
     let arrays = deep(declaration.of.arrays.len() as u64);
     deep(arrays + deep(element_depth(types, &declaration.of.of)))

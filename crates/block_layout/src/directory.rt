@@ -1,6 +1,6 @@
 ghost use Rattle.std.specs.Prelude.{◌≡◌, List, [], ◌∷◌, ◌++◌, IfOk};
-ghost use Rattle.block_layout.specs.Blocks.{block_place, is_block_number, is_ob_number, known_block};
-ghost use Rattle.block_layout.specs.Numbered.{number_of, numbered_place, numbers_of};
+ghost use Rattle.block_layout.specs.Blocks.{place_of_block, is_block_number, is_ob_number, known_block};
+ghost use Rattle.block_layout.specs.Numbered.{number_of_kind, numbered_place, numbers_of_kind};
 
 use plc_base::{BlockId, BlockKind};
 use std::alloc::{AllocError, Global};
@@ -70,7 +70,7 @@ impl Numbered {
 
 /// The number of a block, if it is of this kind.
 fn number_of(kind: BlockKind, id: Option<BlockId>) -> Option<u16>
-    ensures { result ≡ number_of kind id }
+    ensures { result ≡ number_of_kind kind id }
 {
     match id {
         Some(id) if kind.is_same(id.kind) => Some(id.number),
@@ -84,7 +84,7 @@ fn numbers_of(
     kind: BlockKind,
     ids: &[Option<BlockId>],
 ) -> Result<Numbered, AllocError>
-    ensures { IfOk result (λ n. n ≡ numbers_of kind ids.now) }
+    ensures { IfOk result (λ n. n ≡ numbers_of_kind kind ids.now) }
 {
     let mut numbers = Numbered::new(alloc);
     for id in ids {
@@ -112,18 +112,18 @@ impl Model for Directory {
     ghost use Rattle.std.specs.Prelude.{◌≡◌, List, Option};
     ghost use Rattle.plc_base.specs.declared.blocks.BlockId.{BlockId};
     ghost use Rattle.plc_base.specs.declared.blocks.BlockKind.TheVariants as kind;
-    ghost use Rattle.block_layout.specs.Numbered.{numbers_of};
+    ghost use Rattle.block_layout.specs.Numbered.{numbers_of_kind};
 
     ghost Value = { List (Option BlockId) };
 
     ghost view = { λ d. d.ids.items };
 
-    ghost invariant = { λ d. (d.organization_blocks ≡ numbers_of kind.Ob d.ids.items)
-        × (d.functions ≡ numbers_of kind.Fc d.ids.items)
-        × (d.function_blocks ≡ numbers_of kind.Fb d.ids.items)
-        × (d.data_blocks ≡ numbers_of kind.Db d.ids.items)
-        × (d.data_types ≡ numbers_of kind.Udt d.ids.items)
-        × (d.system_functions ≡ numbers_of kind.Sfc d.ids.items) };
+    ghost invariant = { λ d. (d.organization_blocks ≡ numbers_of_kind kind.Ob d.ids.items)
+        × (d.functions ≡ numbers_of_kind kind.Fc d.ids.items)
+        × (d.function_blocks ≡ numbers_of_kind kind.Fb d.ids.items)
+        × (d.data_blocks ≡ numbers_of_kind kind.Db d.ids.items)
+        × (d.data_types ≡ numbers_of_kind kind.Udt d.ids.items)
+        × (d.system_functions ≡ numbers_of_kind kind.Sfc d.ids.items) };
 }
 
 impl Directory {
@@ -156,7 +156,7 @@ impl Directory {
     }
 
     fn numbers(&self, kind: BlockKind) -> &Numbered
-        ensures { result.now ≡ numbers_of kind self.now }
+        ensures { result.now ≡ numbers_of_kind kind self.now }
     {
         match kind {
             BlockKind::Ob => &self.organization_blocks,
@@ -171,7 +171,7 @@ impl Directory {
     /// The first place of a block.
     #[tactic(auto, using(crate::proofs::DirectoryLemmas::place_by_kind))]
     pub(crate) fn place(&self, id: BlockId) -> Option<usize>
-        ensures { result ≡ block_place id self.now }
+        ensures { result ≡ place_of_block id self.now }
     {
         self.numbers(id.kind).place(id.number)
     }

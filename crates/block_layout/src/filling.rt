@@ -6,7 +6,7 @@ ghost use Rattle.block_layout.specs.InitialBytes.{
   initial_bytes,
   length_at,
   preset_values,
-  put,
+  bytes_with_write,
   setting_write,
   setting_writes,
   settings_at,
@@ -15,8 +15,8 @@ ghost use Rattle.block_layout.specs.InitialBytes.{
   writes_at,
   writes_from,
 };
-ghost use Rattle.block_layout.specs.Paths.{folded_path, structure_of, walked_data};
-ghost use Rattle.block_layout.specs.Sizes.{elements_of, plain_bits, largest};
+ghost use Rattle.block_layout.specs.Paths.{folded_path, structure_of, path_end_in_data_block};
+ghost use Rattle.block_layout.specs.Sizes.{elements_of, plain_bits, largest_size};
 
 use crate::blocks::BlockLayout;
 use crate::bytes::{put, put_values};
@@ -49,8 +49,8 @@ fn put_plain(
     element: u64,
     starts: &[u64],
 ) -> Result<(), AllocError>
-    requires { element ≤ largest }
-    ensures { IfOk result (λ _. bytes.new ≡ fold put bytes.old (flat_map
+    requires { element ≤ largest_size }
+    ensures { IfOk result (λ _. bytes.new ≡ fold bytes_with_write bytes.old (flat_map
         (λ s. writes_at (plain_bits kind) (element_starts cell.now.bounds element (s ∷ []))
         (preset_values cell.now.presets)) starts.now)) }
 {
@@ -79,10 +79,10 @@ fn put_cell(
     at: u64,
     starts: &[u64],
 ) -> Result<(), AllocError>
-    requires element { element ≤ largest }
+    requires element { element ≤ largest_size }
     requires elements { elements.now ≡ elements_of behind.now }
-    requires near { at ≤ largest }
-    ensures { IfOk result (λ _. bytes.new ≡ fold put bytes.old (cell_writes
+    requires near { at ≤ largest_size }
+    ensures { IfOk result (λ _. bytes.new ≡ fold bytes_with_write bytes.old (cell_writes
         (λ inner. writes_from (type_writes layouts.now depth) (cell.now.level + 1) inner 0
         behind.now) (type_writes layouts.now depth) level at starts.now cell.now element)) }
 {
@@ -129,7 +129,7 @@ fn put_from(
     starts: &[u64],
 ) -> Result<(), AllocError>
     requires { elements.now ≡ elements_of cells.now }
-    ensures { IfOk result (λ _. bytes.new ≡ fold put bytes.old
+    ensures { IfOk result (λ _. bytes.new ≡ fold bytes_with_write bytes.old
         (writes_from (type_writes layouts.now depth) level starts.now 0 cells.now)) }
 {
     let mut at = 0;
@@ -168,7 +168,7 @@ fn put_type(
     starts: &[u64],
 ) -> Result<(), AllocError>
     ensures { IfOk result (λ _. bytes.new
-        ≡ fold put bytes.old (type_writes layouts.now depth block starts.now)) }
+        ≡ fold bytes_with_write bytes.old (type_writes layouts.now depth block starts.now)) }
 {
     if depth == 0 {
         return Ok(());
@@ -197,7 +197,7 @@ fn put_structure(
     bytes: &mut [u8],
 ) -> Result<(), AllocError>
     ensures { IfOk result (λ _. bytes.new
-        ≡ fold put bytes.old (structure_writes layouts.now (structure_of layouts.now block))) }
+        ≡ fold bytes_with_write bytes.old (structure_writes layouts.now (structure_of layouts.now block))) }
 {
     match structure_of(layouts, block) {
         None => Ok(()),
@@ -212,8 +212,8 @@ fn put_setting(
     setting: &Setting,
     bytes: &mut [u8],
 ) -> Result<(), AllocError>
-    ensures { IfOk result (λ _. bytes.new ≡ fold put bytes.old (setting_write layouts.now
-        setting.now.value (walked_data layouts.now block (folded_path setting.now.path)))) }
+    ensures { IfOk result (λ _. bytes.new ≡ fold bytes_with_write bytes.old (setting_write layouts.now
+        setting.now.value (path_end_in_data_block layouts.now block (folded_path setting.now.path)))) }
 {
     let path = Path::new(alloc, setting.path.as_slice())?;
     match walk_data(layouts, block, path.steps()) {
@@ -236,7 +236,7 @@ fn put_settings(
     bytes: &mut [u8],
 ) -> Result<(), AllocError>
     ensures { IfOk result (λ _. bytes.new
-        ≡ fold put bytes.old (setting_writes layouts.now block settings.now)) }
+        ≡ fold bytes_with_write bytes.old (setting_writes layouts.now block settings.now)) }
 {
     for setting in settings {
         put_setting(alloc, layouts, block, setting, bytes)?;
@@ -270,7 +270,7 @@ fn put_all(
     block: usize,
     bytes: &mut [u8],
 ) -> Result<(), AllocError>
-    ensures { IfOk result (λ _. bytes.new ≡ fold put bytes.old
+    ensures { IfOk result (λ _. bytes.new ≡ fold bytes_with_write bytes.old
         (structure_writes layouts.now (structure_of layouts.now block)
         ++ setting_writes layouts.now block (settings_at (slice_get blocks.now block)))) }
 {

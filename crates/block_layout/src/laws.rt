@@ -4,7 +4,7 @@ ghost use Rattle.std.specs.Prelude.{◌≡◌, ◌<◌, ℕ, List};
 ghost use Rattle.block_layout.specs.Listed.{LengthStays, OffsetsStay};
 ghost use Rattle.block_layout.specs.Places.{AreOffsets, FindsSound, siblings, sound_offsets};
 ghost use Rattle.block_layout.specs.Rebuilt.{AreRebuilt};
-ghost use Rattle.block_layout.specs.Sizes.{end_of, largest};
+ghost use Rattle.block_layout.specs.Sizes.{components_end, largest_size};
 ghost use Rattle.block_layout.specs.Sums.{LeadsToOne, OffsetsAreSums};
 ghost use Rattle.block_layout.specs.declared.cells.Cell.{Cell};
 
@@ -14,10 +14,10 @@ ghost use Rattle.block_layout.specs.declared.cells.Cell.{Cell};
 /// beyond which no place counts. A sound component that is found by its name, at whatever depth of a
 /// path, is one of these with its offset.
 pub fn law_of_offsets()
-    ensures are { (level : ℕ) (cells : List Cell) → end_of level 0 cells < largest
+    ensures are { (level : ℕ) (cells : List Cell) → components_end level 0 cells < largest_size
         → AreOffsets 0 (siblings level cells) (sound_offsets level cells) }
     ensures alone { (level : ℕ) (cells : List Cell) (places : List ℕ)
-        → end_of level 0 cells < largest → AreOffsets 0 (siblings level cells) places
+        → components_end level 0 cells < largest_size → AreOffsets 0 (siblings level cells) places
         → places ≡ sound_offsets level cells }
     ensures found { FindsSound }
 {}

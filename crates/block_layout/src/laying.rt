@@ -5,8 +5,8 @@ ghost use Rattle.plc_base.specs.Least.{least};
 ghost use Rattle.block_layout.specs.Blocks.{known_block};
 ghost use Rattle.block_layout.specs.InitialBytes.{initial_bytes, length_at};
 ghost use Rattle.block_layout.specs.Layouts.{LaysOut, layout_of, layouts_by, layouts_of};
-ghost use Rattle.block_layout.specs.Offsets.{offset_of};
-ghost use Rattle.block_layout.specs.Table.{layout_refusals, refusals_by};
+ghost use Rattle.block_layout.specs.Offsets.{place_of_path};
+ghost use Rattle.block_layout.specs.Table.{layout_refusals, refusals_of_blocks};
 
 use crate::blocks::{BlockLayout, Section};
 use crate::building::{facts_of, layouts_by};
@@ -82,9 +82,9 @@ impl Layouts {
     }
 
     /// The place and the width of the elementary component that a path in a block names.
-    #[tactic(auto, unfolding(crate::specs::Offsets::offset_of))]
+    #[tactic(auto, unfolding(crate::specs::Offsets::place_of_path))]
     pub fn offset(&self, id: BlockId, section: Section, path: &Path) -> Option<(Place, Width)>
-        ensures { result ≡ offset_of self.now id section path.now }
+        ensures { result ≡ place_of_path self.now id section path.now }
     {
         offset(
             self.list.as_slice(),
@@ -122,7 +122,7 @@ struct Judged {
 fn judge(alloc: Global, types: &Types, blocks: &[Block]) -> Result<Judged, AllocError>
     ensures layouts { IfOk result (λ j. j.layouts.items ≡ layouts_by types.now blocks.now) }
     ensures refusal { IfOk result (λ j. j.refusal
-        ≡ least (refusals_by types.now (layouts_by types.now blocks.now) blocks.now)) }
+        ≡ least (refusals_of_blocks types.now (layouts_by types.now blocks.now) blocks.now)) }
 {
     let Outlines { list, twice, deep } = outline_all(alloc, types, blocks)?;
     let facts = facts_of(alloc, types, blocks, list.as_slice())?;

@@ -13,8 +13,8 @@ ghost use Rattle.std.specs.Prelude.{
 };
 ghost use Rattle.std.specs.List.{slice_get};
 ghost use Rattle.std.specs.Option.{option_copied};
-ghost use Rattle.block_layout.specs.Members.{component};
-ghost use Rattle.block_layout.specs.Sizes.{element_of, elements_of, structure_bits, largest};
+ghost use Rattle.block_layout.specs.Members.{component_of_name};
+ghost use Rattle.block_layout.specs.Sizes.{element_of, elements_of, structure_bits, largest_size};
 ghost use Rattle.block_layout.specs.Scopes.{AreScopes, EndParameters, HaveParameters, IsScope};
 ghost use Rattle.block_layout.specs.declared.cells.Cell.{Cell};
 
@@ -40,13 +40,13 @@ impl Model for Layout {
     ghost use Rattle.std.specs.Prelude.{List, ◌≡◌, length};
     ghost use Rattle.block_layout.specs.declared.cells.Cell.{Cell};
     ghost use Rattle.block_layout.specs.Sizes.{elements_of, structure_bits};
-    ghost use Rattle.block_layout.specs.Scopes.{AreScopes, AreKept};
+    ghost use Rattle.block_layout.specs.Scopes.{AreScopes, AreCellTables};
 
     ghost Value = { List Cell };
 
     ghost view = { λ l. l.cells.items };
 
-    ghost invariant = { λ l. AreKept l.cells.items l.elements.items l.outer l.scopes.items l.bits
+    ghost invariant = { λ l. AreCellTables l.cells.items l.elements.items l.outer l.scopes.items l.bits
         l.parameters };
 }
 
@@ -157,7 +157,7 @@ impl Layout {
     /// The bits of a structure of these cells.
     pub fn bits(&self) -> u64
         ensures value { result ≡ structure_bits self.now }
-        ensures near { result ≤ largest }
+        ensures near { result ≤ largest_size }
     {
         self.bits
     }
@@ -177,7 +177,7 @@ impl Layout {
 
     /// The outermost component of this name.
     pub fn outermost(&self, name: &[u8]) -> Option<Member>
-        ensures value { result ≡ component 0 0 0 name.now self.now }
+        ensures value { result ≡ component_of_name 0 0 0 name.now self.now }
         ensures within { IfSome result (λ m. m.place < length self.now) }
     {
         find(&self.outer, name, self.cells.as_slice(), 0)
@@ -189,7 +189,7 @@ impl Layout {
         requires within { place < length self.now }
         requires sound { (c : Cell) → (get_or self.now place c).sound ≡ true }
         ensures value { (c : Cell) → result
-            ≡ component ((get_or self.now place c).level + 1) 0 0 name.now
+            ≡ component_of_name ((get_or self.now place c).level + 1) 0 0 name.now
             (drop (place + 1) self.now) }
         ensures within { IfSome result (λ m. place + 1 + m.place < 2 ^ 64) }
     {
@@ -207,7 +207,7 @@ impl Layout {
         requires { place < length self.now }
         ensures value { (c : Cell) → result
             ≡ element_of (get_or self.now place c) (drop (place + 1) self.now) }
-        ensures near { result ≤ largest }
+        ensures near { result ≤ largest_size }
     {
         self.elements[place]
     }

@@ -5,29 +5,29 @@ ghost use Rattle.stl_ast.specs.declared.blocks.Block.{Block};
 ghost use Rattle.block_layout.specs.Types.{Types};
 ghost use Rattle.std.specs.Option.{option_copied, option_map};
 ghost use Rattle.stl_ast.specs.Blocks.{is_parameter};
-ghost use Rattle.stl_ast.specs.Statements.{is_empty};
+ghost use Rattle.stl_ast.specs.Statements.{is_empty_statement};
 ghost use Rattle.block_layout.specs.Blocks.{
   has_structure,
 };
 ghost use Rattle.block_layout.specs.Cells.{temps_of};
 ghost use Rattle.block_layout.specs.Facts.{outline_of};
 ghost use Rattle.block_layout.specs.Lengths.{
-  actuals_end,
-  farthest,
+  farthest_actual_end,
+  farthest_operand_end,
   bits_of_cells,
-  is_local,
+  is_local_data_letter,
   is_structured,
   least_local,
-  length_of,
+  length_of_block,
   local_end,
   local_len,
   named_type,
-  referred,
+  structure_block_name,
   shape_at,
   shape_named,
   shape_of,
 };
-ghost use Rattle.block_layout.specs.Sizes.{structure_bits, largest};
+ghost use Rattle.block_layout.specs.Sizes.{structure_bits, largest_size};
 
 use crate::blocks::Shape;
 use crate::layouts::Layout;
@@ -39,7 +39,7 @@ use stl_ast::{Actual, Block, BlockName, ElementType, Letters, Operand, Statement
 
 /// The function block or data type that a data block is of, or none.
 fn referred(block: &Block) -> Option<&BlockName>
-    ensures { option_copied result ≡ referred block.now.instance_of block.now.shape }
+    ensures { option_copied result ≡ structure_block_name block.now.instance_of block.now.shape }
 {
     if let Some(name) = &block.instance_of {
         return Some(name);
@@ -67,7 +67,7 @@ pub(crate) fn shape_of(types: &Types, block: &Block) -> Shape
 }
 
 fn is_local(area: Letters) -> bool
-    ensures { result ≡ is_local area }
+    ensures { result ≡ is_local_data_letter area }
 {
     matches!(area, Letters::L)
 }
@@ -101,7 +101,7 @@ fn greater(a: u64, b: u64) -> u64
 }
 
 fn actuals_end(actuals: &[Actual]) -> u64
-    ensures value { result ≡ actuals_end actuals.now }
+    ensures value { result ≡ farthest_actual_end actuals.now }
     ensures near { result < 2 ^ 17 }
 {
     let mut end = 0;
@@ -113,7 +113,7 @@ fn actuals_end(actuals: &[Actual]) -> u64
 
 /// The farthest end of a direct operand in the local data.
 fn farthest(body: &[Statement]) -> u64
-    ensures value { result ≡ farthest body.now }
+    ensures value { result ≡ farthest_operand_end body.now }
     ensures near { result < 2 ^ 17 }
 {
     let mut end = 0;
@@ -135,7 +135,7 @@ fn least_local(kind: BlockKind) -> u64
 }
 
 /// The length of the local data of a block, with these temporary variables.
-#[tactic(auto, unfolding(crate::specs::Lengths::local_len, crate::specs::Sizes::up))]
+#[tactic(auto, unfolding(crate::specs::Lengths::local_len, crate::specs::Sizes::next_multiple))]
 pub(crate) fn local_len(block: &Block, temps: &Layout) -> u64
     ensures value { (y : Types)
         → temps.now ≡ temps_of y block.now → result ≡ local_len y block.now }
@@ -159,7 +159,7 @@ fn is_structured(kind: BlockKind) -> bool
 fn bits_at(outlines: &[Outline], place: usize) -> u64
     ensures value { result
         ≡ bits_of_cells (option_map (λ o. o.components) (slice_get outlines.now place)) }
-    ensures near { result ≤ largest }
+    ensures near { result ≤ largest_size }
 {
     match outlines.get(place) {
         Some(outline) => outline.components.bits(),
@@ -168,11 +168,11 @@ fn bits_at(outlines: &[Outline], place: usize) -> u64
 }
 
 /// The length of the structure of the block at a place, by the declarations of all blocks.
-#[tactic(auto, unfolding(crate::specs::Lengths::length_of), using(crate::proofs::LengthLemmas::bits_there))]
+#[tactic(auto, unfolding(crate::specs::Lengths::length_of_block), using(crate::proofs::LengthLemmas::bits_there))]
 pub(crate) fn length_of(block: &Block, place: usize, shape: Shape, outlines: &[Outline]) -> u64
     ensures value { (y : Types) (blocks : List Block)
         → outlines.now ≡ map (outline_of y) blocks → slice_get blocks place ≡ Some block.now
-        → shape ≡ shape_of y block.now → result ≡ length_of y blocks block.now }
+        → shape ≡ shape_of y block.now → result ≡ length_of_block y blocks block.now }
     ensures near { result < 2 ^ 32 }
 {
     if !is_structured(block.kind) {
@@ -210,7 +210,7 @@ pub(crate) fn all_lengths(
     outlines: &[Outline],
 ) -> Result<Vec<u64>, AllocError>
     requires { outlines.now ≡ map (outline_of types.now) blocks.now }
-    ensures { IfOk result (λ v. v.items ≡ map (length_of types.now blocks.now) blocks.now) }
+    ensures { IfOk result (λ v. v.items ≡ map (length_of_block types.now blocks.now) blocks.now) }
 {
     let mut lens = Vec::with_capacity(alloc, blocks.len())?;
     for i in 0..blocks.len() {

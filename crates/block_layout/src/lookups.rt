@@ -3,13 +3,13 @@ ghost use Rattle.std.specs.List.{slice_get};
 ghost use Rattle.std.specs.Option.{option_copied};
 ghost use Rattle.plc_base.specs.Kinds.{is_data_block};
 ghost use Rattle.block_layout.specs.Blocks.{found_block};
-ghost use Rattle.block_layout.specs.Members.{component};
+ghost use Rattle.block_layout.specs.Members.{component_of_name};
 ghost use Rattle.block_layout.specs.Scopes.{HaveParameters};
 ghost use Rattle.block_layout.specs.Paths.{
   cells_at,
   elementary_at,
   if_whole,
-  walked_data,
+  path_end_in_data_block,
   walked_local,
   whole_at,
 };
@@ -92,7 +92,7 @@ impl Layouts {
 
     /// Whether a block has a variable of this name, in upper case, outside VAR_TEMP.
     pub fn has_component(&self, block: usize, name: &[u8]) -> bool
-        ensures { result ≡ is_some (component 0 0 0 name.now (cells_at self.now block false)) }
+        ensures { result ≡ is_some (component_of_name 0 0 0 name.now (cells_at self.now block false)) }
     {
         has_component(self.list(), block, name)
     }
@@ -107,7 +107,7 @@ impl Layouts {
 
     /// Where a path into a data block leads.
     pub fn walk_data(&self, block: usize, path: &Path) -> PathEnd
-        ensures { result ≡ walked_data self.now block path.now }
+        ensures { result ≡ path_end_in_data_block self.now block path.now }
     {
         walk_data(self.list(), block, path.steps())
     }

@@ -1,5 +1,5 @@
 ghost use Rattle.std.specs.Prelude.{◌≡◌, length, IfOk, map, ◌++◌};
-ghost use Rattle.block_layout.specs.Cells.{laid, preset, udt_element};
+ghost use Rattle.block_layout.specs.Cells.{layout_element, preset_of, udt_element};
 ghost use Rattle.block_layout.specs.Verdicts.{cell_with, cells_by};
 
 use crate::cells::{Cell, Element, Preset};
@@ -12,7 +12,7 @@ use stl_ast::{Declaration, ElementType, Init, Name, PartKind, Sequence};
 
 /// What an element type comes to.
 fn laid(types: &Types, of: &ElementType) -> Element
-    ensures { result ≡ laid types.now of.now }
+    ensures { result ≡ layout_element types.now of.now }
 {
     match of {
         ElementType::Plain { kind } => Element::Plain { kind: *kind },
@@ -30,7 +30,7 @@ fn laid(types: &Types, of: &ElementType) -> Element
 
 /// The initial values of a declaration.
 fn presets(alloc: Global, init: &[Init]) -> Result<Vec<Preset>, AllocError>
-    ensures { IfOk result (λ v. v.items ≡ map preset init.now) }
+    ensures { IfOk result (λ v. v.items ≡ map preset_of init.now) }
 {
     let mut presets = Vec::new(alloc);
     for i in init {

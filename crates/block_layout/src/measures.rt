@@ -6,20 +6,20 @@ ghost use Rattle.block_layout.specs.Blocks.{ids_of};
 ghost use Rattle.block_layout.specs.Cells.{cells_of};
 ghost use Rattle.block_layout.specs.Measures.{
   bits_after,
-  deep,
-  deepest,
+  capped_depth,
+  deepest_nesting,
   depths_after,
   type_bits,
   type_depth,
-  types_of,
-  unmeasured,
+  types_of_source,
+  unmeasured_types,
   with_all_bits,
   with_all_depths,
   with_bits,
   with_depths,
 };
 ghost use Rattle.block_layout.specs.Sizes.{structure_bits};
-ghost use Rattle.block_layout.specs.Verdicts.{reaches};
+ghost use Rattle.block_layout.specs.Verdicts.{greatest_reach};
 
 use crate::directory::Directory;
 use crate::making::add_cells;
@@ -38,7 +38,7 @@ pub(crate) const ROUNDS: u32 = 9;
 /// The deepest place of a structure with these components.
 #[tactic(auto, using(crate::proofs::MeasureLemmas::reaches_floor))]
 fn deepest(verdicts: &[Verdict]) -> u64
-    ensures { result ≡ reaches verdicts.now }
+    ensures { result ≡ greatest_reach verdicts.now }
 {
     let mut deepest = 1;
     for verdict in verdicts {
@@ -212,13 +212,13 @@ fn with_all_bits<'a>(
 }
 
 /// What the declarations of a source are checked by.
-#[tactic(auto, unfolding(crate::specs::Measures::types_of))]
+#[tactic(auto, unfolding(crate::specs::Measures::types_of_source))]
 pub(crate) fn types_of<'a>(
     alloc: Global,
     symbols: &'a Symbols,
     blocks: &[Block],
 ) -> Result<Types<'a>, AllocError>
-    ensures { IfOk result (λ y. y ≡ types_of symbols.now blocks.now) }
+    ensures { IfOk result (λ y. y ≡ types_of_source symbols.now blocks.now) }
 {
     let ids = ids_of(alloc, symbols, blocks)?;
     let types = Types {

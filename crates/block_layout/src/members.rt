@@ -12,7 +12,7 @@ ghost use Rattle.std.specs.Prelude.{
 };
 ghost use Rattle.std.specs.List.{slice_get};
 ghost use Rattle.block_layout.specs.Sizes.{elements_of};
-ghost use Rattle.block_layout.specs.Members.{component, members_of, name_here, names_of};
+ghost use Rattle.block_layout.specs.Members.{component_of_name, members_of, name_here, component_names};
 
 use crate::cells::Cell;
 use crate::sizes::{alignment, array_bits, stepped, up};
@@ -75,7 +75,7 @@ pub(crate) fn members(
     level: u64,
 ) -> Result<NameList, AllocError>
     requires { elements.now ≡ elements_of cells.now }
-    ensures names { IfOk result (λ s. s.names ≡ names_of level cells.now) }
+    ensures names { IfOk result (λ s. s.names ≡ component_names level cells.now) }
     ensures members { IfOk result (λ s. s.members.items ≡ members_of level 0 0 cells.now) }
 {
     let mut scope = NameList::new(alloc);
@@ -112,9 +112,9 @@ fn member_at(members: &[Member], place: usize) -> Option<Member>
 
 /// The component of this name.
 pub(crate) fn find(scope: &NameList, name: &[u8], cells: &[Cell], level: u64) -> Option<Member>
-    requires names { scope.now.names ≡ names_of level cells.now }
+    requires names { scope.now.names ≡ component_names level cells.now }
     requires members { scope.now.members.items ≡ members_of level 0 0 cells.now }
-    ensures value { result ≡ component level 0 0 name.now cells.now }
+    ensures value { result ≡ component_of_name level 0 0 name.now cells.now }
     ensures within { IfSome result (λ m. m.place < length cells.now) }
 {
     let place = scope.names.place(name)?;

@@ -1,7 +1,7 @@
 ghost use Rattle.std.specs.Prelude.{◌≡◌, Some};
 ghost use Rattle.std.specs.Option.{option_and_then};
 ghost use Rattle.plc_base.specs.Kinds.{is_code, is_function_block};
-ghost use Rattle.block_layout.specs.Offsets.{component, offset_in, placed, reached, variable, width_of};
+ghost use Rattle.block_layout.specs.Offsets.{component_place, place_in_section, elementary_place, place_at_path_end, variable_place, width_of};
 ghost use Rattle.block_layout.specs.Paths.{if_whole};
 
 use crate::beyond::{leaves_from, leaves_judged};
@@ -26,7 +26,7 @@ pub fn width_of(kind: Simple) -> Width
 /// The place so many bits from the start of an area or a data block, and the width of a type there;
 /// none that is past the 65,536th byte.
 pub fn placed(area: Area, number: u16, bits: u64, kind: Simple) -> Option<(Place, Width)>
-    ensures { result ≡ placed area number bits (Some kind) }
+    ensures { result ≡ elementary_place area number bits (Some kind) }
 {
     let byte = bits / 8;
     if byte <= 65_535 {
@@ -48,7 +48,7 @@ fn reached(
     number: u16,
     walk: PathEnd,
 ) -> Option<(Place, Width)>
-    ensures { result ≡ reached layouts.now area number walk }
+    ensures { result ≡ place_at_path_end layouts.now area number walk }
 {
     match walk {
         PathEnd::Reaches { spot } => {
@@ -66,7 +66,7 @@ fn component(
     block: usize,
     path: &[PathStep],
 ) -> Option<(Place, Width)>
-    ensures { result ≡ component layouts.now number block path.now }
+    ensures { result ≡ component_place layouts.now number block path.now }
 {
     if leaves_judged(layouts, structure_of(layouts, block), path) {
         None
@@ -84,7 +84,7 @@ fn variable(
     temporary: bool,
     path: &[PathStep],
 ) -> Option<(Place, Width)>
-    ensures { result ≡ variable layouts.now area block temporary path.now }
+    ensures { result ≡ variable_place layouts.now area block temporary path.now }
 {
     if leaves_from(layouts, block, temporary, path) {
         None
@@ -101,7 +101,7 @@ fn offset_in(
     path: &[PathStep],
     block: usize,
 ) -> Option<(Place, Width)>
-    ensures { result ≡ offset_in layouts.now id section path.now block }
+    ensures { result ≡ place_in_section layouts.now id section path.now block }
 {
     match section {
         Section::Global if id.kind.is_data_block() => component(layouts, id.number, block, path),
@@ -122,7 +122,7 @@ pub(crate) fn offset(
     section: Section,
     path: &[PathStep],
 ) -> Option<(Place, Width)>
-    ensures { result ≡ option_and_then (offset_in layouts.now id section path.now)
+    ensures { result ≡ option_and_then (place_in_section layouts.now id section path.now)
         (option_and_then (if_whole layouts.now) known) }
 {
     let block = if_whole(layouts, known?)?;

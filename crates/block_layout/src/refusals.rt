@@ -5,7 +5,7 @@ ghost use Rattle.plc_base.specs.Least.{least};
 ghost use Rattle.block_layout.specs.Facts.{AreFacts};
 ghost use Rattle.block_layout.specs.Rule21.{rule_21};
 ghost use Rattle.block_layout.specs.Rule56.{rule_56};
-ghost use Rattle.block_layout.specs.Table.{refusals_by};
+ghost use Rattle.block_layout.specs.Table.{refusals_of_blocks};
 
 use crate::blocks::BlockLayout;
 use crate::building::Facts;
@@ -48,7 +48,7 @@ pub(crate) fn least_refusal(
     requires facts { AreFacts types.now blocks.now facts.now }
     requires twice { twice ≡ least (rule_21 blocks.now) }
     requires deep { deep ≡ least (rule_56 types.now blocks.now) }
-    ensures { IfOk result (λ r. r ≡ least (refusals_by types.now layouts.now blocks.now)) }
+    ensures { IfOk result (λ r. r ≡ least (refusals_of_blocks types.now layouts.now blocks.now)) }
 {
     let unfit = least_unfit(alloc, types, layouts, blocks)?;
     let outside = least_outside(alloc, types, layouts, blocks)?;

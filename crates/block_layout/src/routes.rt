@@ -1,7 +1,7 @@
 ghost use Rattle.std.specs.Prelude.{◌≡◌, Some, false, is_some};
 ghost use Rattle.std.specs.List.{slice_get};
 ghost use Rattle.std.specs.Option.{option_copied};
-ghost use Rattle.block_layout.specs.Members.{component};
+ghost use Rattle.block_layout.specs.Members.{component_of_name};
 ghost use Rattle.block_layout.specs.Paths.{
   OffsetIsNear,
   ReachesSound,
@@ -14,10 +14,10 @@ ghost use Rattle.block_layout.specs.Paths.{
   setting_structure,
   shape_block,
   structure_of,
-  walked_data,
+  path_end_in_data_block,
   walked_local,
-  walked_or_rests,
-  walked_setting,
+  path_end_or_rests,
+  path_end_of_setting,
   whole_at,
 };
 
@@ -72,7 +72,7 @@ pub(crate) fn setting_structure(layouts: &[BlockLayout], block: usize) -> Option
 }
 
 fn walk_or_rest(layouts: &[BlockLayout], structure: Option<usize>, path: &[PathStep]) -> PathEnd
-    ensures value { result ≡ walked_or_rests layouts.now structure path.now }
+    ensures value { result ≡ path_end_or_rests layouts.now structure path.now }
     ensures near { OffsetIsNear result }
 {
     match structure {
@@ -82,26 +82,26 @@ fn walk_or_rest(layouts: &[BlockLayout], structure: Option<usize>, path: &[PathS
 }
 
 /// Where the target of a setting leads.
-#[tactic(auto, unfolding(crate::specs::Paths::walked_setting))]
+#[tactic(auto, unfolding(crate::specs::Paths::path_end_of_setting))]
 pub(crate) fn walk_setting(layouts: &[BlockLayout], block: usize, path: &[PathStep]) -> PathEnd
-    ensures value { result ≡ walked_setting layouts.now block path.now }
+    ensures value { result ≡ path_end_of_setting layouts.now block path.now }
     ensures near { OffsetIsNear result }
 {
     walk_or_rest(layouts, setting_structure(layouts, block), path)
 }
 
 /// Where a path into a data block leads.
-#[tactic(auto, unfolding(crate::specs::Paths::walked_data))]
+#[tactic(auto, unfolding(crate::specs::Paths::path_end_in_data_block))]
 pub(crate) fn walk_data(layouts: &[BlockLayout], block: usize, path: &[PathStep]) -> PathEnd
-    ensures value { result ≡ walked_data layouts.now block path.now }
+    ensures value { result ≡ path_end_in_data_block layouts.now block path.now }
     ensures near { OffsetIsNear result }
 {
     walk_or_rest(layouts, structure_of(layouts, block), path)
 }
 
-#[tactic(auto, unfolding(crate::specs::Members::component))]
+#[tactic(auto, unfolding(crate::specs::Members::component_of_name))]
 pub(crate) fn has_component(layouts: &[BlockLayout], block: usize, name: &[u8]) -> bool
-    ensures { result ≡ is_some (component 0 0 0 name.now (cells_at layouts.now block false)) }
+    ensures { result ≡ is_some (component_of_name 0 0 0 name.now (cells_at layouts.now block false)) }
 {
     match layout_at(layouts, block, false) {
         None => false,

@@ -4,15 +4,15 @@ ghost use Rattle.block_layout.specs.Around.{
   Outside,
   of_sections,
   of_structure,
-  onto,
+  declarations_before_next,
   ret_val,
   returned_names,
 };
 ghost use Rattle.block_layout.specs.Cells.{is_temp, returned_cells};
 ghost use Rattle.block_layout.specs.Verdicts.{
-  AreDeclared,
+  IsDeclaredByBlock,
   AreOpen,
-  AreSections,
+  IsDeclaredBySections,
   SectionAdded,
   cells_by,
   frame_of,
@@ -129,7 +129,7 @@ fn first_frame(alloc: Global, returned: Option<Simple>) -> Result<Frame, AllocEr
 
 /// What the sections of a block come to.
 fn sections(alloc: Global, types: &Types, block: &Block) -> Result<Declared, AllocError>
-    ensures { IfOk result (λ made. AreSections types.now block.now made) }
+    ensures { IfOk result (λ made. IsDeclaredBySections types.now block.now made) }
 {
     let mut open_ = Vec::new(alloc);
     open_.push(first_frame(alloc, block.result)?)?;
@@ -199,7 +199,7 @@ pub(crate) fn declarations_of(
     types: &Types,
     block: &Block,
 ) -> Result<Declared, AllocError>
-    ensures { IfOk result (λ made. AreDeclared types.now block.now made) }
+    ensures { IfOk result (λ made. IsDeclaredByBlock types.now block.now made) }
 {
     let mut made = sections(alloc, types, block)?;
     let declarations = block.components.as_slice();

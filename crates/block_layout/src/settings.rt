@@ -1,6 +1,6 @@
 ghost use Rattle.std.specs.Prelude.{◌≡◌, IfOk};
 ghost use Rattle.plc_base.specs.Least.{broken_if, least};
-ghost use Rattle.block_layout.specs.SettingFaults.{rule_of, setting_breaks};
+ghost use Rattle.block_layout.specs.SettingFaults.{rule_of_setting_fault, setting_breaks};
 ghost use Rattle.block_layout.specs.Paths.{folded_path};
 ghost use Rattle.block_layout.specs.Settings.{in_settings, on_settings};
 
@@ -42,7 +42,7 @@ fn breaks(
 }
 
 fn rule_of(which: SettingFault) -> u16
-    ensures { result ≡ rule_of which }
+    ensures { result ≡ rule_of_setting_fault which }
 {
     match which {
         SettingFault::UnfitValue => 41,
@@ -59,7 +59,7 @@ fn refused(
 ) -> Result<Option<Refusal>, AllocError>
     ensures { IfOk result (λ r. r
         ≡ least (broken_if (setting_breaks layouts.now which block setting.now)
-        setting.now.line (rule_of which))) }
+        setting.now.line (rule_of_setting_fault which))) }
 {
     let path = Path::new(alloc, setting.path.as_slice())?;
     let breaks = breaks(layouts, which, block, setting, &path);
@@ -74,7 +74,7 @@ fn least_in_settings(
     settings: &[Setting],
 ) -> Result<Option<Refusal>, AllocError>
     ensures { IfOk result (λ r. r
-        ≡ least (in_settings (setting_breaks layouts.now which block) (rule_of which)
+        ≡ least (in_settings (setting_breaks layouts.now which block) (rule_of_setting_fault which)
         settings.now)) }
 {
     try_least_of(settings, |setting: &Setting| {
@@ -90,7 +90,7 @@ pub(crate) fn least_of_settings(
     blocks: &[Block],
 ) -> Result<Option<Refusal>, AllocError>
     ensures { IfOk result (λ r. r
-        ≡ least (on_settings (setting_breaks layouts.now which) (rule_of which) 0 blocks.now)) }
+        ≡ least (on_settings (setting_breaks layouts.now which) (rule_of_setting_fault which) 0 blocks.now)) }
 {
     let mut found = None;
     for i in 0..blocks.len() {

@@ -1,19 +1,19 @@
 ghost use Rattle.std.specs.Prelude.{◌≡◌, ◌≤◌, ◌<◌, ◌^◌, ◌+◌, IfOk, if◌then◌else◌};
-ghost use Rattle.block_layout.specs.Declarations.{count};
+ghost use Rattle.block_layout.specs.Declarations.{element_count};
 ghost use Rattle.block_layout.specs.Sizes.{
   alignment,
   array_bits,
-  capped,
+  capped_size,
   element_alignment,
   element_bits,
   elements_of,
-  end_of,
-  past,
+  components_end,
+  component_end,
   plain_bits,
-  stepped,
+  end_behind_cell,
   structure_bits,
-  up,
-  largest,
+  next_multiple,
+  largest_size,
 };
 
 use crate::cells::{Cell, Element, LARGEST};
@@ -21,18 +21,18 @@ use std::alloc::{AllocError, Global};
 use stl_ast::{Bounds, Simple};
 
 pub(crate) fn capped(n: u64) -> u64
-    ensures { result ≡ capped n }
+    ensures { result ≡ capped_size n }
 {
     if n < LARGEST { n } else { LARGEST }
 }
 
 /// The least multiple of the alignment at or past a number.
-#[tactic(auto, unfolding(crate::specs::Sizes::up))]
+#[tactic(auto, unfolding(crate::specs::Sizes::next_multiple))]
 pub(crate) fn up(n: u64, alignment: u64) -> u64
     requires positive { 0 < alignment }
     requires small { alignment ≤ 16 }
-    requires near { n ≤ largest }
-    ensures value { result ≡ up n alignment }
+    requires near { n ≤ largest_size }
+    ensures value { result ≡ next_multiple n alignment }
     ensures near { result < n + alignment }
 {
     (n + (alignment - 1)) / alignment * alignment
@@ -78,7 +78,7 @@ pub(crate) fn alignment(cell: &Cell) -> u64
 
 /// The number of elements of an array; none where its bounds are upside down.
 pub(crate) fn count(bounds: &Bounds) -> u64
-    ensures value { result ≡ count bounds.now }
+    ensures value { result ≡ element_count bounds.now }
     ensures near { result ≤ 2 ^ 32 }
 {
     if bounds.high < bounds.low {
@@ -90,9 +90,9 @@ pub(crate) fn count(bounds: &Bounds) -> u64
 
 /// The bits of arrays, the outermost first, of elements of so many bits.
 pub(crate) fn array_bits(bounds: &[Bounds], element: u64) -> u64
-    requires { element ≤ largest }
+    requires { element ≤ largest_size }
     ensures value { result ≡ array_bits bounds.now element }
-    ensures near { result ≤ largest }
+    ensures near { result ≤ largest_size }
 {
     let mut bits = element;
     for i in (0..bounds.len()).rev() {
@@ -103,9 +103,9 @@ pub(crate) fn array_bits(bounds: &[Bounds], element: u64) -> u64
 }
 
 fn element_bits(of: Element, components: u64) -> u64
-    requires { components ≤ largest }
+    requires { components ≤ largest_size }
     ensures value { result ≡ element_bits of components }
-    ensures near { result ≤ largest }
+    ensures near { result ≤ largest_size }
 {
     match of {
         Element::Plain { kind } => plain_bits(kind),
@@ -117,10 +117,10 @@ fn element_bits(of: Element, components: u64) -> u64
 }
 
 fn past(at: u64, cell: &Cell, bits: u64) -> u64
-    requires near { at ≤ largest }
-    requires small { bits ≤ largest }
-    ensures value { result ≡ past at cell.now bits }
-    ensures near { result ≤ largest }
+    requires near { at ≤ largest_size }
+    requires small { bits ≤ largest_size }
+    ensures value { result ≡ component_end at cell.now bits }
+    ensures near { result ≤ largest_size }
 {
     if cell.sound {
         capped(up(at, alignment(cell)) + bits)
@@ -130,10 +130,10 @@ fn past(at: u64, cell: &Cell, bits: u64) -> u64
 }
 
 pub(crate) fn stepped(at: u64, cell: &Cell, bits: u64, level: u64) -> u64
-    requires near { at ≤ largest }
-    requires small { bits ≤ largest }
-    ensures value { result ≡ stepped level at cell.now bits }
-    ensures near { result ≤ largest }
+    requires near { at ≤ largest_size }
+    requires small { bits ≤ largest_size }
+    ensures value { result ≡ end_behind_cell level at cell.now bits }
+    ensures near { result ≤ largest_size }
 {
     if cell.level as u64 == level {
         past(at, cell, bits)
@@ -146,8 +146,8 @@ pub(crate) fn stepped(at: u64, cell: &Cell, bits: u64, level: u64) -> u64
 #[tactic(auto, using(crate::proofs::SizeLemmas::end_lower, crate::proofs::SizeLemmas::size_small, crate::proofs::SizeLemmas::size_within))]
 fn end_of(cells: &[Cell], elements: &[u64], level: u64) -> u64
     requires { elements.now ≡ elements_of cells.now }
-    ensures value { result ≡ end_of level 0 cells.now }
-    ensures near { result ≤ largest }
+    ensures value { result ≡ components_end level 0 cells.now }
+    ensures near { result ≤ largest_size }
 {
     let mut at = 0;
     for i in 0..cells.len() {
@@ -165,8 +165,8 @@ fn end_of(cells: &[Cell], elements: &[u64], level: u64) -> u64
 fn components(cell: &Cell, behind: &[Cell], elements: &[u64]) -> u64
     requires { elements.now ≡ elements_of behind.now }
     ensures value { result ≡ (if cell.now.sound
-        then capped (up (end_of (cell.now.level + 1) 0 behind.now) 16) else 0) }
-    ensures near { result ≤ largest }
+        then capped_size (next_multiple (components_end (cell.now.level + 1) 0 behind.now) 16) else 0) }
+    ensures near { result ≤ largest_size }
 {
     if cell.sound {
         capped(up(end_of(behind, elements, cell.level as u64 + 1), 16))
@@ -194,7 +194,7 @@ pub(crate) fn elements(alloc: Global, cells: &[Cell]) -> Result<Vec<u64>, AllocE
 pub(crate) fn structure_bits(cells: &[Cell], elements: &[u64]) -> u64
     requires { elements.now ≡ elements_of cells.now }
     ensures value { result ≡ structure_bits cells.now }
-    ensures near { result ≤ largest }
+    ensures near { result ≤ largest_size }
 {
     capped(up(end_of(cells, elements, 0), 16))
 }

@@ -1,8 +1,8 @@
-ghost use Rattle.block_layout.specs.Sizes.{largest};
+ghost use Rattle.block_layout.specs.Sizes.{largest_size};
 ghost use Rattle.std.specs.Prelude.{◌≡◌, ◌≤◌, ◌++◌, IfOk, replicate};
 ghost use Rattle.std.specs.List.{flat_map};
 ghost use Rattle.block_layout.specs.InitialBytes.{
-  begun,
+  component_starts,
   element_starts,
   filled_starts,
   in_steps,
@@ -44,7 +44,7 @@ pub(crate) fn element_starts(
     element: u64,
     starts: &[u64],
 ) -> Result<Vec<u64>, AllocError>
-    requires { element ≤ largest }
+    requires { element ≤ largest_size }
     ensures { IfOk result (λ v. v.items ≡ element_starts bounds.now element starts.now) }
 {
     let mut places = starts.to_vec(alloc)?;
@@ -62,7 +62,7 @@ pub(crate) fn filled_starts(
     element: u64,
     starts: &[u64],
 ) -> Result<Vec<u64>, AllocError>
-    requires { element ≤ largest }
+    requires { element ≤ largest_size }
     ensures { IfOk result (λ v. v.items ≡ filled_starts bounds.now element starts.now) }
 {
     if element == 0 {
@@ -79,8 +79,8 @@ pub(crate) fn begun(
     cell: &Cell,
     starts: &[u64],
 ) -> Result<Vec<u64>, AllocError>
-    requires { at ≤ largest }
-    ensures { IfOk result (λ v. v.items ≡ begun at cell.now starts.now) }
+    requires { at ≤ largest_size }
+    ensures { IfOk result (λ v. v.items ≡ component_starts at cell.now starts.now) }
 {
     let first = up(at, alignment(cell));
     let mut places = Vec::with_capacity(alloc, starts.len())?;

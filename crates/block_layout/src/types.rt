@@ -1,7 +1,7 @@
 ghost use Rattle.std.specs.Prelude.{◌≡◌, IfOk};
 ghost use Rattle.plc_base.specs.Kinds.{is_data_block};
 ghost use Rattle.block_layout.specs.Blocks.{found_block, has_structure, id_of, ids_of, named_block};
-ghost use Rattle.block_layout.specs.Types.{udt_of};
+ghost use Rattle.block_layout.specs.Types.{data_type_place};
 
 use crate::directory::Directory;
 use plc_base::{BlockId, BlockKind};
@@ -76,7 +76,7 @@ impl<'a> Model for Types<'a> {
 impl<'a> Types<'a> {
     /// The block of the source that a name means, where it is of one of the kinds.
     pub(crate) fn data_type(&self, name: &BlockName) -> Option<usize>
-        ensures { result ≡ udt_of self.now name.now }
+        ensures { result ≡ data_type_place self.now name.now }
     {
         let id = named_block(self.symbols, name)?;
         match id.kind {

@@ -4,7 +4,7 @@ ghost use Rattle.stl_ast.specs.declared.declarations.Declaration.{Declaration};
 ghost use Rattle.plc_base.specs.Folding.{upper_case_name};
 ghost use Rattle.block_layout.specs.Around.{Outside};
 ghost use Rattle.block_layout.specs.declared.verdicts.Frame.{Frame};
-ghost use Rattle.block_layout.specs.Verdicts.{AreOpen, JudgedOnto, entered_by, verdict_in};
+ghost use Rattle.block_layout.specs.Verdicts.{AreOpen, JudgedOnto, frames_behind, verdict_in};
 
 use crate::declarations::{breaks_alone, deep, own_depth, uses_oversized};
 use crate::types::Types;
@@ -61,7 +61,7 @@ fn stays_sound(verdict: Verdict, frame: &Frame) -> bool
 }
 
 /// Enters a declaration into the list that it goes on, and opens the list inside it.
-#[tactic(auto, unfolding(crate::specs::Verdicts::verdict_in, crate::specs::Verdicts::entered_by))]
+#[tactic(auto, unfolding(crate::specs::Verdicts::verdict_in, crate::specs::Verdicts::frames_behind))]
 fn enter(
     alloc: Global,
     types: &Types,
@@ -73,7 +73,7 @@ fn enter(
         → v ≡ verdict_in types.now (get_or open_.old.items declaration.now.level f)
         declaration.now) }
     ensures lists { IfOk result (λ _. (f : Frame) → open_.new.items
-        ≡ entered_by types.now open_.old.items
+        ≡ frames_behind types.now open_.old.items
         (get_or open_.old.items declaration.now.level f) declaration.now) }
 {
     let name = declaration.name.as_bytes().to_ascii_uppercase(alloc)?;

@@ -1,4 +1,4 @@
-ghost use Rattle.block_layout.specs.Sizes.{largest};
+ghost use Rattle.block_layout.specs.Sizes.{largest_size};
 ghost use Rattle.std.specs.Prelude.{
   ◌≡◌,
   ◌≤◌,
@@ -17,25 +17,25 @@ ghost use Rattle.std.specs.Prelude.{
 };
 ghost use Rattle.std.specs.List.{slice_get};
 ghost use Rattle.std.specs.Option.{IfNone, option_copied};
-ghost use Rattle.block_layout.specs.Members.{component};
+ghost use Rattle.block_layout.specs.Members.{component_of_name};
 ghost use Rattle.block_layout.specs.Paths.{
   OffsetIsNear,
   IsSoundAt,
   ReachesSound,
   cells_at,
-  entered,
-  found_at,
-  goes_on,
-  indexed,
+  path_end_at_cell,
+  path_end_at_member,
+  path_end_and_then,
+  path_end_by_index,
   indexed_behind,
-  named,
+  path_end_by_name,
   named_behind,
   named_in,
-  outermost,
-  step_of,
-  walked,
-  walked_from,
-  within,
+  outermost_path_end,
+  path_end_by_step,
+  path_end_behind,
+  path_end_in_block,
+  path_end_in_bounds,
 };
 ghost use Rattle.block_layout.specs.declared.cells.Cell.{Cell};
 
@@ -83,8 +83,8 @@ pub(crate) fn layout_at(layouts: &[BlockLayout], block: usize, temporary: bool) 
 
 /// The component at a place of a block.
 fn entered(layout: &Layout, block: usize, temporary: bool, place: usize, offset: u64) -> PathEnd
-    requires { offset ≤ largest }
-    ensures value { result ≡ entered block temporary place offset (slice_get layout.now place) }
+    requires { offset ≤ largest_size }
+    ensures value { result ≡ path_end_at_cell block temporary place offset (slice_get layout.now place) }
     ensures near { OffsetIsNear result }
 {
     match layout.cell_at(place) {
@@ -115,9 +115,9 @@ fn found_at(
     offset: u64,
     found: Option<Member>,
 ) -> PathEnd
-    requires near { offset ≤ largest }
+    requires near { offset ≤ largest_size }
     requires within { IfSome found (λ m. first + m.place < 2 ^ 64) }
-    ensures value { result ≡ found_at layout.now block temporary first offset found }
+    ensures value { result ≡ path_end_at_member layout.now block temporary first offset found }
     ensures near { OffsetIsNear result }
 {
     match found {
@@ -133,7 +133,7 @@ fn found_at(
 }
 
 /// A name in the outermost declarations of a block.
-#[tactic(auto, unfolding(crate::specs::Paths::outermost, crate::specs::Members::component))]
+#[tactic(auto, unfolding(crate::specs::Paths::outermost_path_end, crate::specs::Members::component_of_name))]
 pub(crate) fn outermost(
     layouts: &[BlockLayout],
     block: usize,
@@ -141,8 +141,8 @@ pub(crate) fn outermost(
     offset: u64,
     name: &[u8],
 ) -> PathEnd
-    requires { offset ≤ largest }
-    ensures value { result ≡ outermost layouts.now block temporary offset name.now }
+    requires { offset ≤ largest_size }
+    ensures value { result ≡ outermost_path_end layouts.now block temporary offset name.now }
     ensures near { OffsetIsNear result }
 {
     match layout_at(layouts, block, temporary) {
@@ -168,7 +168,7 @@ fn named_in(
     name: &[u8],
     cell: &Cell,
 ) -> PathEnd
-    requires offset { spot.offset ≤ largest }
+    requires offset { spot.offset ≤ largest_size }
     requires layout { layout.now ≡ cells_at layouts.now spot.block spot.temporary }
     requires cell { slice_get layout.now spot.place ≡ Some cell.now }
     requires within { spot.place + 1 < 2 ^ 64 }
@@ -194,11 +194,11 @@ fn named_in(
 }
 
 /// A step by name.
-#[tactic(auto, unfolding(crate::specs::Paths::named))]
+#[tactic(auto, unfolding(crate::specs::Paths::path_end_by_name))]
 fn named(layouts: &[BlockLayout], spot: ComponentAt, name: &[u8]) -> PathEnd
-    requires offset { spot.offset ≤ largest }
+    requires offset { spot.offset ≤ largest_size }
     requires sound { IsSoundAt layouts.now spot }
-    ensures value { result ≡ named layouts.now spot name.now }
+    ensures value { result ≡ path_end_by_name layouts.now spot name.now }
     ensures near { OffsetIsNear result }
 {
     let Some(layout) = layout_at(layouts, spot.block, spot.temporary) else {
@@ -233,7 +233,7 @@ pub(crate) fn bounds_behind(bounds: &[Bounds], depth: usize) -> &[Bounds]
 
 /// An index behind a component of a block.
 fn indexed_in(layout: &Layout, spot: ComponentAt, at: i32) -> PathEnd
-    requires { spot.offset ≤ largest }
+    requires { spot.offset ≤ largest_size }
     ensures value { result
         ≡ indexed_behind spot layout.now at (slice_get layout.now spot.place) }
     ensures near { OffsetIsNear result }
@@ -267,10 +267,10 @@ fn indexed_in(layout: &Layout, spot: ComponentAt, at: i32) -> PathEnd
 }
 
 /// A step by index.
-#[tactic(auto, unfolding(crate::specs::Paths::indexed))]
+#[tactic(auto, unfolding(crate::specs::Paths::path_end_by_index))]
 fn indexed(layouts: &[BlockLayout], spot: ComponentAt, at: i32) -> PathEnd
-    requires { spot.offset ≤ largest }
-    ensures value { result ≡ indexed layouts.now spot at }
+    requires { spot.offset ≤ largest_size }
+    ensures value { result ≡ path_end_by_index layouts.now spot at }
     ensures near { OffsetIsNear result }
 {
     match layout_at(layouts, spot.block, spot.temporary) {
@@ -280,11 +280,11 @@ fn indexed(layouts: &[BlockLayout], spot: ComponentAt, at: i32) -> PathEnd
 }
 
 /// A step.
-#[tactic(auto, unfolding(crate::specs::Paths::step_of))]
+#[tactic(auto, unfolding(crate::specs::Paths::path_end_by_step))]
 pub(crate) fn step(layouts: &[BlockLayout], spot: ComponentAt, step: &PathStep) -> PathEnd
-    requires offset { spot.offset ≤ largest }
+    requires offset { spot.offset ≤ largest_size }
     requires sound { IsSoundAt layouts.now spot }
-    ensures value { result ≡ step_of layouts.now spot step.now }
+    ensures value { result ≡ path_end_by_step layouts.now spot step.now }
     ensures near { OffsetIsNear result }
 {
     match step {
@@ -296,9 +296,9 @@ pub(crate) fn step(layouts: &[BlockLayout], spot: ComponentAt, step: &PathStep) 
 /// Where a path leads from a sound component.
 #[tactic(auto, using(crate::proofs::WalkLemmas::step_sound))]
 fn walk_behind(layouts: &[BlockLayout], start: ComponentAt, path: &[PathStep]) -> PathEnd
-    requires offset { start.offset ≤ largest }
+    requires offset { start.offset ≤ largest_size }
     requires sound { IsSoundAt layouts.now start }
-    ensures value { result ≡ walked layouts.now start path.now }
+    ensures value { result ≡ path_end_behind layouts.now start path.now }
     ensures near { OffsetIsNear result }
 {
     let mut spot = start;
@@ -316,7 +316,7 @@ fn walk_behind(layouts: &[BlockLayout], start: ComponentAt, path: &[PathStep]) -
 pub(crate) fn walk_on(layouts: &[BlockLayout], found: PathEnd, path: &[PathStep]) -> PathEnd
     requires near { OffsetIsNear found }
     requires sound { ReachesSound layouts.now found }
-    ensures value { result ≡ goes_on found (λ spot. walked layouts.now spot path.now) }
+    ensures value { result ≡ path_end_and_then found (λ spot. path_end_behind layouts.now spot path.now) }
     ensures near { OffsetIsNear result }
 {
     match found {
@@ -333,7 +333,7 @@ pub(crate) fn walk_from(
     temporary: bool,
     path: &[PathStep],
 ) -> PathEnd
-    ensures value { result ≡ walked_from layouts.now block temporary path.now }
+    ensures value { result ≡ path_end_in_block layouts.now block temporary path.now }
     ensures near { OffsetIsNear result }
 {
     match path {

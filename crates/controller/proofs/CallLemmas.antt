@@ -13,20 +13,20 @@ use Rattle.frames.specs.declared.Activation.{Activation}
 use Rattle.frames.specs.declared.bindings.Binding.{Binding}
 use Rattle.frames.specs.declared.bindings.Binding.TheVariants as binding
 use Rattle.machine.specs.Code.{Code}
-use Rattle.machine.specs.Copies.{scene_or}
+use Rattle.machine.specs.Copies.{local_memory_or}
 use Rattle.machine.specs.ExecState.{LocalMemory, local_memory_of}
 use Rattle.machine.specs.Places.{is_area_l}
 use Rattle.machine.specs.Results.{with_ret_val}
 use Rattle.machine.specs.Statement.{with_memory}
-use Rattle.machine.specs.Values.{with_locals, write}
+use Rattle.machine.specs.Values.{with_locals, number_written_at}
 use Rattle.ob_sched.specs.OrganizationBlock.{is_delay}
 use Rattle.ob_sched.specs.Scheduler.{Scheduler, delay_of, delay_started, delay_cancelled, cycle_retriggered}
-use Rattle.sys_funcs.specs.Disabling.{refusal}
-use Rattle.sys_funcs.specs.Functions.{dis_airt, en_airt, set_unless, dis_irt, en_irt, srt_dint, can_dint, time_tck, with_delay}
-use Rattle.sys_funcs.specs.Returned.{Returned, returned, passed}
+use Rattle.sys_funcs.specs.Disabling.{selection_error_code}
+use Rattle.sys_funcs.specs.Functions.{dis_airt, en_airt, disabled_or_error, dis_irt, en_irt, srt_dint, can_dint, time_tck, with_delay}
+use Rattle.sys_funcs.specs.Returned.{SystemFunctionResult, int_result, with_br_set}
 use Rattle.controller.specs.Leaves.{call_left, regs_called, running_of, ServesTo, ServesRunning}
 use Rattle.controller.specs.Monitoring.{regs_served}
-use Rattle.controller.specs.Serving.{Served, Returns, Passes, Stops, result_given, after_service, system_function_served, in_parameter}
+use Rattle.controller.specs.Serving.{ServiceResult, Returns, Passes, Stops, result_given, after_service, system_function_served, in_parameter}
 use Rattle.controller.specs.Stack.{IsActivationStack}
 use Rattle.controller.specs.State.{State}
 use Rattle.controller.specs.Stopping.{stop_entered_at, statement_spot}
@@ -35,7 +35,7 @@ use Rattle.controller.proofs.SameLemmas.{Same}
 use Rattle.controller.proofs.StepLemmas.{same_stack}
 
 -- a system function changes neither the class nor the number of the running organization block
-if_returned : (test : Bool) (a : Activation) (x y : Returned) → Same a x.activation
+if_returned : (test : Bool) (a : Activation) (x y : SystemFunctionResult) → Same a x.activation
     → Same a y.activation → Same a (if test then x else y).activation
 if_returned true a x y one other = one
 if_returned false a x y one other = other
@@ -47,54 +47,54 @@ dis_airt_same s a = (refl, refl)
 en_airt_same : (s : Scheduler) (a : Activation) → Same a (en_airt s a).activation
 unfolding en_airt
 en_airt_same s a =
-    if_returned (a.delay == 0) a (returned s a 0x8080)
-    (returned s (with_delay (a.delay - 1) a) (a.delay - 1)) (refl, refl) (refl, refl)
+    if_returned (a.delay == 0) a (int_result s a 0x8080)
+    (int_result s (with_delay (a.delay - 1) a) (a.delay - 1)) (refl, refl) (refl, refl)
 
 set_same : (code : Option ℕ) (disabled : Bool) (mode ob_nr : ℕ) (s : Scheduler) (a : Activation)
-    → Same a (set_unless code disabled mode ob_nr s a).activation
+    → Same a (disabled_or_error code disabled mode ob_nr s a).activation
 set_same (Some code) disabled mode ob_nr s a = (refl, refl)
 set_same None disabled mode ob_nr s a = (refl, refl)
 
 dis_irt_same : (s : Scheduler) (a : Activation) (mode ob_nr : ℕ)
     → Same a (dis_irt s a mode ob_nr).activation
 unfolding dis_irt
-dis_irt_same s a mode ob_nr = set_same (refusal mode ob_nr) true mode ob_nr s a
+dis_irt_same s a mode ob_nr = set_same (selection_error_code mode ob_nr) true mode ob_nr s a
 
 en_irt_same : (s : Scheduler) (a : Activation) (mode ob_nr : ℕ)
     → Same a (en_irt s a mode ob_nr).activation
 unfolding en_irt
-en_irt_same s a mode ob_nr = set_same (refusal mode ob_nr) false mode ob_nr s a
+en_irt_same s a mode ob_nr = set_same (selection_error_code mode ob_nr) false mode ob_nr s a
 
 srt_dint_same : (s : Scheduler) (a : Activation) (ob_nr dtime sign : ℕ)
     → Same a (srt_dint s a ob_nr dtime sign).activation
 unfolding srt_dint
 srt_dint_same s a ob_nr dtime sign =
-    if_returned (not (is_delay ob_nr)) a (returned s a 0x8090)
-    (if not (nat_le 1 dtime && nat_le dtime 60000) then returned s a 0x8091
-    else returned (delay_started ob_nr dtime s) a 0) (refl, refl)
-    (if_returned (not (nat_le 1 dtime && nat_le dtime 60000)) a (returned s a 0x8091)
-    (returned (delay_started ob_nr dtime s) a 0) (refl, refl) (refl, refl))
+    if_returned (not (is_delay ob_nr)) a (int_result s a 0x8090)
+    (if not (nat_le 1 dtime && nat_le dtime 60000) then int_result s a 0x8091
+    else int_result (delay_started ob_nr dtime s) a 0) (refl, refl)
+    (if_returned (not (nat_le 1 dtime && nat_le dtime 60000)) a (int_result s a 0x8091)
+    (int_result (delay_started ob_nr dtime s) a 0) (refl, refl) (refl, refl))
 
 can_dint_same : (s : Scheduler) (a : Activation) (ob_nr : ℕ)
     → Same a (can_dint s a ob_nr).activation
 unfolding can_dint
 can_dint_same s a ob_nr =
-    if_returned (not (is_delay ob_nr)) a (returned s a 0x8090)
-    (if is_some (delay_of s.countdowns ob_nr) then returned (delay_cancelled ob_nr s) a 0
-    else returned s a 0x80A0) (refl, refl)
-    (if_returned (is_some (delay_of s.countdowns ob_nr)) a (returned (delay_cancelled ob_nr s) a 0)
-    (returned s a 0x80A0) (refl, refl) (refl, refl))
+    if_returned (not (is_delay ob_nr)) a (int_result s a 0x8090)
+    (if is_some (delay_of s.countdowns ob_nr) then int_result (delay_cancelled ob_nr s) a 0
+    else int_result s a 0x80A0) (refl, refl)
+    (if_returned (is_some (delay_of s.countdowns ob_nr)) a (int_result (delay_cancelled ob_nr s) a 0)
+    (int_result s a 0x80A0) (refl, refl) (refl, refl))
 
 time_tck_same : (s : Scheduler) (a : Activation) → Same a (time_tck s a).activation
 unfolding time_tck
 time_tck_same s a = (refl, refl)
 
-unfoldable pub SameServed : Activation → Served → Type 0
+unfoldable pub SameServed : Activation → ServiceResult → Type 0
 SameServed a (Returns r) = Same a r.activation
 SameServed a (Passes sched b) = Same a b
 SameServed a (Stops cause b) = Same a b
 
-if_served : (test : Bool) (a : Activation) (x y : Served) → SameServed a x → SameServed a y
+if_served : (test : Bool) (a : Activation) (x y : ServiceResult) → SameServed a x → SameServed a y
     → SameServed a (if test then x else y)
 if_served true a x y one other = one
 if_served false a x y one other = other
@@ -110,8 +110,8 @@ served_same number inputs s a =
     (if_served (number == 40) a _ _ (en_irt_same s a (in_parameter 0 inputs) (in_parameter 1 inputs))
     (if_served (number == 41) a _ _ (dis_airt_same s a)
     (if_served (number == 42) a _ _ (en_airt_same s a)
-    (if_served (number == 43) a (Passes (cycle_retriggered s) (passed a)) _ (refl, refl)
-    (if_served (number == 46) a (Stops 1 (passed a)) _ (refl, refl) (time_tck_same s a))))))))
+    (if_served (number == 43) a (Passes (cycle_retriggered s) (with_br_set a)) _ (refl, refl)
+    (if_served (number == 46) a (Stops 1 (with_br_set a)) _ (refl, refl) (time_tck_same s a))))))))
 
 -- nor does its result
 pub given_same : (to : Option Binding) (value : ℕ) (a b : Activation) (m : Areas) → Same a b
@@ -119,7 +119,7 @@ pub given_same : (to : Option Binding) (value : ℕ) (a b : Activation) (m : Are
 given_same None value a b m same = same
 given_same (Some to) value a b m same = same
 
-serves_to_stands : (mode : Mode) (sv : Served) (to : Option Binding) (a : Activation)
+serves_to_stands : (mode : Mode) (sv : ServiceResult) (to : Option Binding) (a : Activation)
     (below new : List Activation) (m m' : Areas) (s s' : Scheduler) → SameServed a sv
     → ServesTo sv to below new m m' s s' None → IsActivationStack mode (a ∷ below) → IsActivationStack mode new
 unfolding SameServed
@@ -142,7 +142,7 @@ call_stands mode number inputs to (a ∷ below) new m m' s s' serves standing =
     (served_same number inputs s a) serves standing
 
 -- what a call comes to
-goes_to : (at : Option Spot) (sv : Served) (to : Option Binding) (below new : List Activation)
+goes_to : (at : Option Spot) (sv : ServiceResult) (to : Option Binding) (below new : List Activation)
     (s : State) (m' : Areas) (sched : Scheduler)
     → ServesTo sv to below new s.world.memory m' s.sched sched None
     → after_service at sv to below s
@@ -172,7 +172,7 @@ pub call_goes : (code : Code) (number : ℕ) (inputs : List ℕ) (to : Option Bi
 call_goes code number inputs to stand new s m' sched serves =
     goes_from code number inputs to stand s.activations new s m' sched refl serves
 
-halts_to : (at : Option Spot) (sv : Served) (to : Option Binding) (below new : List Activation)
+halts_to : (at : Option Spot) (sv : ServiceResult) (to : Option Binding) (below new : List Activation)
     (s : State) (m' : Areas) (sched : Scheduler) (cause : ℕ)
     → ServesTo sv to below new s.world.memory m' s.sched sched (Some cause)
     → after_service at sv to below s
@@ -210,7 +210,7 @@ regs_of activations regs =
 -- a write changes none of them
 put_regs : (is_in_locals : Bool) (locals : Option LocalData) (memory : Option Areas) (error : ℕ)
     (c : LocalMemory)
-    → (scene_or c
+    → (local_memory_or c
     (ok_or
     (if is_in_locals
     then option_map (λ (l : LocalData). record { local = with_locals c.local l; memory = c.memory }) locals
@@ -223,7 +223,7 @@ put_regs false locals None error c = refl
 put_regs false locals (Some m) error c = refl
 
 bound_regs : (to : Binding) (value : ℕ) (c : LocalMemory) → (with_ret_val to value c).local.regs ≡ c.local.regs
-unfolding write
+unfolding number_written_at
 bound_regs (binding.Bound place width frame) value c =
     put_regs (is_area_l place.area)
     (local_written c.local.locals frame place.byte place.bit width (value % 2 ^ bit_count width))
@@ -236,7 +236,7 @@ given_regs : (to : Option Binding) (value : ℕ) (a : Activation) (m : Areas)
 given_regs None value a m = refl
 given_regs (Some to) value a m = bound_regs to value (local_memory_of a.running m)
 
-regs_to : (sv : Served) (to : Option Binding) (below new : List Activation) (m m' : Areas)
+regs_to : (sv : ServiceResult) (to : Option Binding) (below new : List Activation) (m m' : Areas)
     (s s' : Scheduler) (answer : Option ℕ) (regs : Regs) → ServesTo sv to below new m m' s s' answer
     → regs_of new regs ≡ regs_served sv
 regs_to (Returns r) to below new m m' s s' None regs serves =

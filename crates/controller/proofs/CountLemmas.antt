@@ -7,7 +7,7 @@ use Rattle.plc_base.specs.declared.Spot.{Spot}
 use Rattle.frames.specs.declared.Activation.{Activation}
 use Rattle.frames.specs.declared.bindings.Binding.{Binding}
 use Rattle.machine.specs.Code.{Code}
-use Rattle.machine.specs.Statement.{Step, Went, Ended, SyncError, SysCall, Stop, Stuck, statement}
+use Rattle.machine.specs.Statement.{StatementStep, Went, Ended, SyncError, SysCall, Stop, Stuck, statement_step}
 use Rattle.ob_sched.specs.TickState.{TickState, ob_requested}
 use Rattle.ob_sched.specs.Millisecond.{tick_begun, after_tick}
 use Rattle.ob_sched.specs.OrganizationBlock.{priority_class_in}
@@ -20,18 +20,18 @@ use Rattle.var_access.specs.declared.Request.TheVariants as ask
 use Rattle.var_access.specs.declared.What.{What}
 use Rattle.var_access.specs.declared.What.TheVariants as what
 use Rattle.controller.specs.Asking.{request_effect}
-use Rattle.controller.specs.Beginning.{ob_in, begun_above}
+use Rattle.controller.specs.Beginning.{ob_activation, with_ob_begun}
 use Rattle.controller.specs.CyclePoint.{cycle_point, cycle_info, cycle_finished}
 use Rattle.controller.specs.Errors.{error_raised, error_ob_started, error_in, is_synchronous}
 use Rattle.controller.specs.Event.{entry_counted, entry_effect, state_after}
-use Rattle.controller.specs.Replay.{happens, run_from, replay, CountsEntries, CountsHistory}
+use Rattle.controller.specs.Replay.{entry_result, state_after_entries, replay, CountsEntries, CountsHistory}
 use Rattle.controller.specs.Requests.{stopped_if, tick_state_taken, arrival_served}
-use Rattle.controller.specs.Serving.{Served, Returns, Passes, Stops, after_service, system_function_served}
+use Rattle.controller.specs.Serving.{ServiceResult, Returns, Passes, Stops, after_service, system_function_served}
 use Rattle.controller.specs.Settling.{after_settling, best_started, request_started, request_taken, may_start}
-use Rattle.controller.specs.Start.{before_start, restart_cleared, warm_restarted, start, started_up, startup_ob}
+use Rattle.controller.specs.Start.{before_start, restart_cleared, warm_restarted, initial_state, state_in_startup, startup_ob}
 use Rattle.controller.specs.State.{State, is_stop, diagnosis_recorded, each_diagnosed}
 use Rattle.controller.specs.Stepping.{after_step, step_of_first, after_statement, run_starts, with_activations}
-use Rattle.controller.specs.Stopping.{stop_entered, stop_entered_at, spot_of}
+use Rattle.controller.specs.Stopping.{stop_entered, stop_entered_at, spot_of_frame}
 use Rattle.controller.specs.Ticking.{time_passed, tick_taken, active_obs, timers_moved}
 
 if_counts : (test : Bool) (s t : State) (n : ℕ) → s.entries ≡ n → t.entries ≡ n
@@ -45,7 +45,7 @@ diagnosed_counts [] s = refl
 diagnosed_counts (one ∷ rest) s = diagnosed_counts rest (diagnosis_recorded one.0 one.1 s)
 
 begun_counts : (begun : Option Activation) (s : State)
-    → (begun_above begun s).entries ≡ s.entries
+    → (with_ob_begun begun s).entries ≡ s.entries
 begun_counts None s = refl
 begun_counts (Some a) s = refl
 
@@ -58,7 +58,7 @@ best_counts : (code : Code) (best : Option Pending) (s : State)
 best_counts code None s = refl
 best_counts code (Some best) s =
     if_counts (may_start best.class s.activations) (request_started code best s) s s.entries
-    (begun_counts (ob_in s.profile code best.class best.ob best.info) (request_taken s)) refl
+    (begun_counts (ob_activation s.profile code best.class best.ob best.info) (request_taken s)) refl
 
 settled_counts : (code : Code) (s : State) → (after_settling code s).entries ≡ s.entries
 unfolding after_settling
@@ -69,7 +69,7 @@ settled_counts code s =
 cycle_counts : (code : Code) (s : State) → (cycle_point code s).entries ≡ s.entries
 unfolding cycle_point
 cycle_counts code s =
-    begun_counts (ob_in s.profile code (priority_class_in s.mode 1) 1 (cycle_info s)) (cycle_finished s)
+    begun_counts (ob_activation s.profile code (priority_class_in s.mode 1) 1 (cycle_info s)) (cycle_finished s)
 
 answered_counts : (fresh : Option Activation) (error : ℕ) (at : Option Spot) (a : Activation)
     (below : List Activation) (s : State) → (error_ob_started fresh error at a below s).entries ≡ s.entries
@@ -85,13 +85,13 @@ failed_counts code error at a below s =
     s.entries refl
     (answered_counts (error_in code error at a) error at a below (diagnosis_recorded 4 error s))
 
-service_counts : (call : Option Spot) (served : Served) (to : Option Binding)
+service_counts : (call : Option Spot) (served : ServiceResult) (to : Option Binding)
     (below : List Activation) (s : State) → (after_service call served to below s).entries ≡ s.entries
 service_counts call (Returns r) to below s = refl
 service_counts call (Passes sched a) to below s = refl
 service_counts call (Stops cause a) to below s = refl
 
-statement_counts : (code : Code) (step : Step) (ob : ℕ) (at : Option Spot)
+statement_counts : (code : Code) (step : StatementStep) (ob : ℕ) (at : Option Spot)
     (below : List Activation) (s : State)
     → (after_statement code step ob at below s).entries ≡ s.entries
 statement_counts code (Went a w) ob at below s = refl
@@ -108,7 +108,7 @@ stepped_on_counts : (code : Code) (activations : List Activation) (s : State)
     → (step_of_first code activations s).entries ≡ s.entries
 stepped_on_counts code [] s = cycle_counts code s
 stepped_on_counts code (a ∷ below) s =
-    statement_counts code (statement code a s.world) a.ob (spot_of code a.running.frame) below s
+    statement_counts code (statement_step code a s.world) a.ob (spot_of_frame code a.running.frame) below s
 
 stepped_counts : (code : Code) (s : State) → (after_step code s).entries ≡ s.entries
 unfolding after_step
@@ -146,7 +146,7 @@ unfolding time_passed
 passed_counts code ms s =
     tick_counts code (after_tick s.mode (active_obs s.activations) ms s.sched) s
 
-started_counts : (begun : Option Activation) (s : State) → (started_up begun s).entries ≡ s.entries
+started_counts : (begun : Option Activation) (s : State) → (state_in_startup begun s).entries ≡ s.entries
 started_counts None s = refl
 started_counts (Some a) s = refl
 
@@ -186,20 +186,20 @@ after_counts code e s =
     settled_counts code (entry_effect code e (entry_counted s)) ∙ effect_counts code e (entry_counted s)
 
 pub counts_entries : CountsEntries
-unfolding happens
+unfolding entry_result
 counts_entries code s e = after_counts code e s
 
 run_counts : (code : Code) (s : State) (history : List What)
-    → (run_from code s history).entries ≡ s.entries + length history
+    → (state_after_entries code s history).entries ≡ s.entries + length history
 run_counts code s [] = omega arith
 run_counts code s (e ∷ rest) =
-    omega (arith, run_counts code (happens code s e).state rest, counts_entries code s e)
+    omega (arith, run_counts code (entry_result code s e).state rest, counts_entries code s e)
 
-start_counts : (profile : Profile) (code : Code) → (start profile code).entries ≡ 0
-unfolding start
+start_counts : (profile : Profile) (code : Code) → (initial_state profile code).entries ≡ 0
+unfolding initial_state
 start_counts profile code = started_counts (startup_ob profile code) (before_start profile code)
 
 pub counts_history : CountsHistory
 unfolding replay
 counts_history profile code history =
-    omega (arith, run_counts code (start profile code) history, start_counts profile code)
+    omega (arith, run_counts code (initial_state profile code) history, start_counts profile code)

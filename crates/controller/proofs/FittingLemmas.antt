@@ -25,8 +25,8 @@ use Rattle.machine.specs.Code.{BlockHead}
 use Rattle.machine.specs.Entering.{at_block}
 use Rattle.machine.specs.Fitting.{IsMemoryOf, SameSizes}
 use Rattle.machine.specs.Flat.{code_of}
-use Rattle.machine.specs.Lasting.{FitsProgram, GoesOnFitting, IsStatementReady as IsReadyIn, Lasts, first_frame}
-use Rattle.machine.specs.Statement.{World, Step, Went, Ended, SyncError, SysCall, Stop as Stops, Stuck, statement}
+use Rattle.machine.specs.Lasting.{FitsProgram, GoesOnFitting, IsStatementReady as IsReadyIn, StepFitsAgain, first_frame}
+use Rattle.machine.specs.Statement.{GlobalStore, StatementStep, Went, Ended, SyncError, SysCall, Stop as Stops, Stuck, statement_step}
 use Rattle.machine.proofs.Sizes.{same_sizes, sizes_then, same_parts}
 use Rattle.ob_sched.specs.TickState.{TickState, ob_requested}
 use Rattle.ob_sched.specs.Millisecond.{tick_begun as course_begun, after_tick}
@@ -37,9 +37,9 @@ use Rattle.ob_sched.specs.StartInformation.{ob_of_error, start_info}
 use Rattle.ob_sched.specs.declared.requests.Pending.{Pending}
 use Rattle.ob_sched.specs.declared.start_infos.StartEvent.TheVariants.{Arrival}
 use Rattle.ob_sched.specs.declared.start_infos.StartInfo.{StartInfo}
-use Rattle.sys_funcs.specs.Disabling.{refusal, all_set}
-use Rattle.sys_funcs.specs.Functions.{dis_airt, en_airt, set_unless, dis_irt, en_irt, srt_dint, can_dint, time_tck, with_delay}
-use Rattle.sys_funcs.specs.Returned.{Returned, returned, passed}
+use Rattle.sys_funcs.specs.Disabling.{selection_error_code, selected_disabled}
+use Rattle.sys_funcs.specs.Functions.{dis_airt, en_airt, disabled_or_error, dis_irt, en_irt, srt_dint, can_dint, time_tck, with_delay}
+use Rattle.sys_funcs.specs.Returned.{SystemFunctionResult, int_result, with_br_set}
 use Rattle.var_access.specs.declared.Request.{Request}
 use Rattle.var_access.specs.declared.Request.TheVariants as ask
 use Rattle.var_access.specs.declared.Var.{Var}
@@ -47,22 +47,22 @@ use Rattle.var_access.specs.declared.What.{What}
 use Rattle.var_access.specs.declared.What.TheVariants as what
 use Rattle.var_access.specs.Entry.{IsInRange}
 use Rattle.controller.specs.Asking.{request_effect}
-use Rattle.controller.specs.Beginning.{ob_block, ob_frame, with_start_bytes, ob_begun, ob_in, begun_above}
+use Rattle.controller.specs.Beginning.{ob_block_id, ob_frame, with_start_bytes, ob_begun, ob_activation, with_ob_begun}
 use Rattle.controller.specs.CyclePoint.{cycle_point, cycle_finished, cycle_info}
-use Rattle.controller.specs.Errors.{is_synchronous, cause_without, error_event, copied_from, error_in, error_ob_started, error_raised}
+use Rattle.controller.specs.Errors.{is_synchronous, cause_without, error_event, with_caller_registers, error_in, error_ob_started, error_raised}
 use Rattle.controller.specs.Event.{entry_counted, entry_effect, state_after}
 use Rattle.controller.specs.Fitting.{AllFit, AreInRange, EntriesKeepFit, FitIsReady, HistoriesAreFit, IsFit, IsSchedule, StartIsFit}
 use Rattle.controller.specs.MachineLaws.{MachineLaws}
 use Rattle.controller.specs.Ready.{IsReady}
-use Rattle.controller.specs.Replay.{happens, run_from, replay}
+use Rattle.controller.specs.Replay.{entry_result, state_after_entries, replay}
 use Rattle.controller.specs.Requests.{stopped_if, tick_state_taken, arrival_served}
-use Rattle.controller.specs.Serving.{Served, Returns, Passes, Stops as Halts, in_parameter, system_function_served, result_given, after_service}
+use Rattle.controller.specs.Serving.{ServiceResult, Returns, Passes, Stops as Halts, in_parameter, system_function_served, result_given, after_service}
 use Rattle.controller.specs.Settling.{may_start, request_taken, request_started, best_started, after_settling}
 use Rattle.controller.specs.Stack.{IsActivationStack, MayBegin}
-use Rattle.controller.specs.Start.{before_start, restart_cleared, loaded_obs, warm_restarted, start, started_up, startup_info, startup_ob}
+use Rattle.controller.specs.Start.{before_start, restart_cleared, loaded_obs, warm_restarted, initial_state, state_in_startup, startup_info, startup_ob}
 use Rattle.controller.specs.State.{State, is_stop, diagnosis_recorded, each_diagnosed}
 use Rattle.controller.specs.Stepping.{after_step, step_of_first, after_statement, run_starts, ob_ended, with_activations}
-use Rattle.controller.specs.Stopping.{stop_entered, stop_entered_at, running_spot, spot_of}
+use Rattle.controller.specs.Stopping.{stop_entered, stop_entered_at, running_spot, spot_of_frame}
 use Rattle.controller.specs.Ticking.{active_obs, tick_taken, time_passed, timers_moved}
 use Rattle.controller.proofs.CallLemmas.{SameServed, served_same, given_same}
 use Rattle.controller.proofs.SameLemmas.{SameStep, statement_same}
@@ -86,7 +86,7 @@ all_stay l p m n (a ∷ below) same fit =
     (l.stays p m n a same fit.0, all_stay l p m n below same fit.1)
 
 -- another memory of the same sizes, with the same activations
-moved_memory : (l : MachineLaws) (p : Program) (s : State) (w : World)
+moved_memory : (l : MachineLaws) (p : Program) (s : State) (w : GlobalStore)
     → SameSizes s.world.memory w.memory → IsFit p s → IsFit p (record s { world = w })
 moved_memory l p s w same fit = record {
   memory = memory_stays p s.world.memory w.memory same fit.memory;
@@ -127,7 +127,7 @@ uncut : (n : ℕ) → n ≤ 1024 → min n 1024 ≡ n
 uncut n few = omega arith
 
 begun_fits : (profile : Profile) (l : MachineLaws) (p : Program) (m : Areas) (class ob : ℕ) (info : StartInfo) (h : BlockHead)
-    → Verifies p → IsMemoryOf (code_of p) m → (code_of p).head (ob_block ob) ≡ Some h
+    → Verifies p → IsMemoryOf (code_of p) m → (code_of p).head (ob_block_id ob) ≡ Some h
     → FitsProgram p m (ob_begun profile class ob info h)
 unfolding ob_begun
 begun_fits profile l p m class ob info h verifies memory found =
@@ -138,7 +138,7 @@ begun_fits profile l p m class ob info h verifies memory found =
 
 ob_fits_by : (profile : Profile) (l : MachineLaws) (p : Program) (m : Areas) (class ob : ℕ) (info : StartInfo)
     (found : Option BlockHead) → Verifies p → IsMemoryOf (code_of p) m
-    → (code_of p).head (ob_block ob) ≡ found
+    → (code_of p).head (ob_block_id ob) ≡ found
     → FitsIf p m (option_map (ob_begun profile class ob info) found)
 unfolding FitsIf
 ob_fits_by profile l p m class ob info None verifies memory is = tt
@@ -146,13 +146,13 @@ ob_fits_by profile l p m class ob info (Some h) verifies memory is =
     begun_fits profile l p m class ob info h verifies memory is
 
 ob_fits : (profile : Profile) (l : MachineLaws) (p : Program) (m : Areas) (class ob : ℕ) (info : StartInfo) → Verifies p
-    → IsMemoryOf (code_of p) m → FitsIf p m (ob_in profile (code_of p) class ob info)
+    → IsMemoryOf (code_of p) m → FitsIf p m (ob_activation profile (code_of p) class ob info)
 ob_fits profile l p m class ob info verifies memory =
-    ob_fits_by profile l p m class ob info ((code_of p).head (ob_block ob)) verifies memory refl
+    ob_fits_by profile l p m class ob info ((code_of p).head (ob_block_id ob)) verifies memory refl
 
 begins_above : (p : Program) (class ob : ℕ) (one : Option Activation) (s : State)
     → FitsIf p s.world.memory one → IsOf class ob one → MayBegin s.mode class ob s.activations
-    → IsFit p s → IsFit p (begun_above one s)
+    → IsFit p s → IsFit p (with_ob_begun one s)
 unfolding FitsIf IsOf
 begins_above p class ob None s one is may fit = fit
 begins_above p class ob (Some a) s one is may fit = record {
@@ -198,7 +198,7 @@ halted_fits l p cause s fit = halts l p (running_spot (code_of p) s.activations)
 -- ---- synchronous errors
 
 copied_fits : (l : MachineLaws) (p : Program) (m : Areas) (a : Activation) (one : Option Activation)
-    → FitsIf p m one → FitsIf p m (option_map (copied_from a) one)
+    → FitsIf p m one → FitsIf p m (option_map (with_caller_registers a) one)
 unfolding FitsIf
 copied_fits l p m a None fit = tt
 copied_fits l p m a (Some fresh) fit =
@@ -206,7 +206,7 @@ copied_fits l p m a (Some fresh) fit =
     a.delay (l.registers p m fresh (at_block a.running.regs) fit)
 
 copied_is : (class ob : ℕ) (a : Activation) (one : Option Activation) → IsOf class ob one
-    → IsOf class ob (option_map (copied_from a) one)
+    → IsOf class ob (option_map (with_caller_registers a) one)
 unfolding IsOf
 copied_is class ob a None is = tt
 copied_is class ob a (Some fresh) is = is
@@ -256,11 +256,11 @@ record Kept (p : Program) (m : Areas) (s : Scheduler) (a : Activation) : Type 0 
   pub fits : FitsProgram p m a
   pub sched : IsSchedule s
 
-KeepsReturned : Program → Areas → Returned → Type 0
+KeepsReturned : Program → Areas → SystemFunctionResult → Type 0
 KeepsReturned p m r = Kept p m r.sched r.activation
 
 returns : (l : MachineLaws) (p : Program) (m : Areas) (s : Scheduler) (a : Activation) (value : ℕ)
-    → FitsProgram p m a → IsSchedule s → KeepsReturned p m (returned s a value)
+    → FitsProgram p m a → IsSchedule s → KeepsReturned p m (int_result s a value)
 unfolding KeepsReturned
 returns l p m s a value fit is = record {
   fits = l.registers p m a _ fit;
@@ -278,41 +278,41 @@ en_airt_fits : (l : MachineLaws) (p : Program) (m : Areas) (s : Scheduler) (a : 
     → FitsProgram p m a → IsSchedule s → KeepsReturned p m (en_airt s a)
 unfolding en_airt
 en_airt_fits l p m s a fit is =
-    of_either (KeepsReturned p m) (a.delay == 0) (returned s a 0x8080)
-    (returned s (with_delay (a.delay - 1) a) (a.delay - 1))
+    of_either (KeepsReturned p m) (a.delay == 0) (int_result s a 0x8080)
+    (int_result s (with_delay (a.delay - 1) a) (a.delay - 1))
     (returns l p m s a 0x8080 fit is)
     (returns l p m s (with_delay (a.delay - 1) a) (a.delay - 1) (l.delay p m a (a.delay - 1) fit) is)
 
 set_fits : (l : MachineLaws) (p : Program) (m : Areas) (code : Option ℕ) (disabled : Bool)
     (mode ob_nr : ℕ) (s : Scheduler) (a : Activation) → FitsProgram p m a → IsSchedule s
-    → KeepsReturned p m (set_unless code disabled mode ob_nr s a)
+    → KeepsReturned p m (disabled_or_error code disabled mode ob_nr s a)
 set_fits l p m (Some code) disabled mode ob_nr s a fit is = returns l p m s a code fit is
 set_fits l p m None disabled mode ob_nr s a fit is =
-    returns l p m (all_set disabled mode ob_nr s) a 0 fit (all_schedule disabled mode ob_nr s is)
+    returns l p m (selected_disabled disabled mode ob_nr s) a 0 fit (all_schedule disabled mode ob_nr s is)
 
 dis_irt_fits : (l : MachineLaws) (p : Program) (m : Areas) (s : Scheduler) (a : Activation)
     (mode ob_nr : ℕ) → FitsProgram p m a → IsSchedule s
     → KeepsReturned p m (dis_irt s a mode ob_nr)
 unfolding dis_irt
 dis_irt_fits l p m s a mode ob_nr fit is =
-    set_fits l p m (refusal mode ob_nr) true mode ob_nr s a fit is
+    set_fits l p m (selection_error_code mode ob_nr) true mode ob_nr s a fit is
 
 en_irt_fits : (l : MachineLaws) (p : Program) (m : Areas) (s : Scheduler) (a : Activation)
     (mode ob_nr : ℕ) → FitsProgram p m a → IsSchedule s
     → KeepsReturned p m (en_irt s a mode ob_nr)
 unfolding en_irt
 en_irt_fits l p m s a mode ob_nr fit is =
-    set_fits l p m (refusal mode ob_nr) false mode ob_nr s a fit is
+    set_fits l p m (selection_error_code mode ob_nr) false mode ob_nr s a fit is
 
 srt_dint_fits : (l : MachineLaws) (p : Program) (m : Areas) (s : Scheduler) (a : Activation)
     (ob_nr dtime sign : ℕ) → FitsProgram p m a → IsSchedule s
     → KeepsReturned p m (srt_dint s a ob_nr dtime sign)
 unfolding srt_dint
 srt_dint_fits l p m s a ob_nr dtime sign fit is =
-    of_either (KeepsReturned p m) (not (is_delay ob_nr)) (returned s a 0x8090) _
+    of_either (KeepsReturned p m) (not (is_delay ob_nr)) (int_result s a 0x8090) _
     (returns l p m s a 0x8090 fit is)
     (of_either (KeepsReturned p m) (not (nat_le 1 dtime && nat_le dtime 60000))
-    (returned s a 0x8091) (returned (delay_started ob_nr dtime s) a 0)
+    (int_result s a 0x8091) (int_result (delay_started ob_nr dtime s) a 0)
     (returns l p m s a 0x8091 fit is)
     (returns l p m (delay_started ob_nr dtime s) a 0 fit (delay_schedule ob_nr dtime s is)))
 
@@ -320,10 +320,10 @@ can_dint_fits : (l : MachineLaws) (p : Program) (m : Areas) (s : Scheduler) (a :
     → FitsProgram p m a → IsSchedule s → KeepsReturned p m (can_dint s a ob_nr)
 unfolding can_dint
 can_dint_fits l p m s a ob_nr fit is =
-    of_either (KeepsReturned p m) (not (is_delay ob_nr)) (returned s a 0x8090) _
+    of_either (KeepsReturned p m) (not (is_delay ob_nr)) (int_result s a 0x8090) _
     (returns l p m s a 0x8090 fit is)
     (of_either (KeepsReturned p m) (is_some (delay_of s.countdowns ob_nr))
-    (returned (delay_cancelled ob_nr s) a 0) (returned s a 0x80A0)
+    (int_result (delay_cancelled ob_nr s) a 0) (int_result s a 0x80A0)
     (returns l p m (delay_cancelled ob_nr s) a 0 fit (cancelled_schedule ob_nr s is))
     (returns l p m s a 0x80A0 fit is))
 
@@ -332,7 +332,7 @@ time_tck_fits : (l : MachineLaws) (p : Program) (m : Areas) (s : Scheduler) (a :
 unfolding time_tck KeepsReturned
 time_tck_fits l p m s a fit is = record { fits = l.registers p m a _ fit; sched = is }
 
-KeepsServed : Program → Areas → Served → Type 0
+KeepsServed : Program → Areas → ServiceResult → Type 0
 KeepsServed p m (Returns r) = KeepsReturned p m r
 KeepsServed p m (Passes sched a) = Kept p m sched a
 KeepsServed p m (Halts cause a) = Unit {0}
@@ -352,9 +352,9 @@ served_fits l p m number inputs s a fit is =
     (en_irt_fits l p m s a (in_parameter 0 inputs) (in_parameter 1 inputs) fit is)
     (of_either (KeepsServed p m) (number == 41) _ _ (dis_airt_fits l p m s a fit is)
     (of_either (KeepsServed p m) (number == 42) _ _ (en_airt_fits l p m s a fit is)
-    (of_either (KeepsServed p m) (number == 43) (Passes (cycle_retriggered s) (passed a)) _
+    (of_either (KeepsServed p m) (number == 43) (Passes (cycle_retriggered s) (with_br_set a)) _
     (record { fits = l.registers p m a _ fit; sched = retriggered_schedule s is })
-    (of_either (KeepsServed p m) (number == 46) (Halts 1 (passed a)) _ tt (time_tck_fits l p m s a fit is))))))))
+    (of_either (KeepsServed p m) (number == 46) (Halts 1 (with_br_set a)) _ tt (time_tck_fits l p m s a fit is))))))))
 
 given_fits : (l : MachineLaws) (p : Program) (m : Areas) (to : Option Binding) (value : ℕ)
     (a : Activation) → Verifies p → FitsProgram p m a
@@ -363,7 +363,7 @@ given_fits l p m None value a verifies fit = record { sizes = same_sizes m; fits
 given_fits l p m (Some to) value a verifies fit =
     l.result p m _ a _ to value verifies fit (refl, refl)
 
-service_fits : (l : MachineLaws) (p : Program) (call : Option Spot) (sv : Served) (to : Option Binding)
+service_fits : (l : MachineLaws) (p : Program) (call : Option Spot) (sv : ServiceResult) (to : Option Binding)
     (a : Activation) (below : List Activation) (s : State) → Verifies p
     → KeepsServed p s.world.memory sv → SameServed a sv → AllFit p s.world.memory below
     → IsActivationStack s.mode (a ∷ below) → IsFit p s → IsFit p (after_service call sv to below s)
@@ -398,7 +398,7 @@ run_starts_fits p s standing fit = record {
   sched = run_schedule s.sched fit.sched;
 }
 
-ended_fits : (l : MachineLaws) (p : Program) (w : World) (a : Activation) (below : List Activation)
+ended_fits : (l : MachineLaws) (p : Program) (w : GlobalStore) (a : Activation) (below : List Activation)
     (s : State) → SameSizes s.world.memory w.memory → AllFit p s.world.memory below
     → IsActivationStack s.mode (a ∷ below) → IsFit p s
     → IsFit p (ob_ended a.ob (with_activations w below s))
@@ -426,8 +426,8 @@ ended_fits l p w a below s same rest standing fit = by (a.ob == 100) refl
       sched = fit.sched;
     }
 
-statement_fits : (l : MachineLaws) (p : Program) (step : Step) (a : Activation) (at : Option Spot)
-    (below : List Activation) (s : State) → Verifies p → Lasts p s.world step → SameStep a step
+statement_fits : (l : MachineLaws) (p : Program) (step : StatementStep) (a : Activation) (at : Option Spot)
+    (below : List Activation) (s : State) → Verifies p → StepFitsAgain p s.world step → SameStep a step
     → AllFit p s.world.memory below → IsActivationStack s.mode (a ∷ below) → IsFit p s
     → IsFit p (after_statement (code_of p) step a.ob at below s)
 statement_fits l p (Went b w) a at below s verifies lasts same rest standing fit = record {
@@ -470,7 +470,7 @@ unfolding cycle_point
 cycle_fits l p s verifies idle running fit =
     let next : IsFit p (cycle_finished s) = passed_fits l p s fit in
     begins_above p (priority_class_in s.mode 1) 1
-    (ob_in s.profile (code_of p) (priority_class_in s.mode 1) 1 (cycle_info s)) (cycle_finished s)
+    (ob_activation s.profile (code_of p) (priority_class_in s.mode 1) 1 (cycle_info s)) (cycle_finished s)
     (ob_fits s.profile l p (memory_refreshed s.world.memory) (priority_class_in s.mode 1) 1 (cycle_info s) verifies next.memory)
     (ob_is s.profile (code_of p) (priority_class_in s.mode 1) 1 (cycle_info s))
     (cycle_may_begin s.mode s.activations idle running fit.standing) next
@@ -482,7 +482,7 @@ stepped_on_fits l p [] s verifies is running fit = cycle_fits l p s verifies is 
 stepped_on_fits l p (a ∷ below) s verifies is running fit =
     let all : AllFit p s.world.memory (a ∷ below) =
     subst (λ (acts : List Activation). AllFit p s.world.memory acts) is fit.activations in
-    statement_fits l p (statement (code_of p) a s.world) a (spot_of (code_of p) a.running.frame)
+    statement_fits l p (statement_step (code_of p) a s.world) a (spot_of_frame (code_of p) a.running.frame)
     below s verifies (l.lasts p a s.world verifies all.0) (statement_same (code_of p) a s.world) all.1
     (subst (λ (acts : List Activation). IsActivationStack s.mode acts) is fit.standing) fit
 
@@ -551,7 +551,7 @@ input_fits l m byte value (Some n) is = l.inputs m n byte value is
 
 started_up_fits : (p : Program) (one : Option Activation) (s : State)
     → FitsIf p s.world.memory one → IsOf 27 100 one → s.activations ≡ [] → IsFit p s
-    → IsFit p (started_up one s)
+    → IsFit p (state_in_startup one s)
 unfolding FitsIf IsOf
 started_up_fits p None s one is idle fit =
     run_starts_fits p s
@@ -683,7 +683,7 @@ request_fits : (l : MachineLaws) (p : Program) (best : Pending) (s : State) → 
     → MayBegin s.mode best.class best.ob s.activations → IsFit p s
     → IsFit p (request_started (code_of p) best s)
 request_fits l p best s verifies may fit =
-    begins_above p best.class best.ob (ob_in s.profile (code_of p) best.class best.ob best.info)
+    begins_above p best.class best.ob (ob_activation s.profile (code_of p) best.class best.ob best.info)
     (request_taken s)
     (ob_fits s.profile l p s.world.memory best.class best.ob best.info verifies fit.memory)
     (ob_is s.profile (code_of p) best.class best.ob best.info) may
@@ -742,7 +742,7 @@ ready l p s verifies fit = by s.activations fit.activations
         record { stands = r.stands; depth = r.depth; there = r.there }
 
 pub start_fits : MachineLaws → StartIsFit
-unfolding start
+unfolding initial_state
 start_fits l profile p verifies =
     let fit : IsFit p (before_start profile (code_of p)) = before_fits profile l p in
     started_up_fits p (startup_ob profile (code_of p)) (before_start profile (code_of p))
@@ -750,17 +750,17 @@ start_fits l profile p verifies =
     (ob_is profile (code_of p) 27 100 startup_info) refl fit
 
 pub entries_keep : MachineLaws → EntriesKeepFit
-unfolding happens
+unfolding entry_result
 entries_keep l p s e verifies range fit = after_fits l p s e verifies range fit
 
 run_fits : (l : MachineLaws) (p : Program) (s : State) (history : List What) → Verifies p
-    → AreInRange history → IsFit p s → IsFit p (run_from (code_of p) s history)
+    → AreInRange history → IsFit p s → IsFit p (state_after_entries (code_of p) s history)
 run_fits l p s [] verifies range fit = fit
 run_fits l p s (e ∷ rest) verifies range fit =
-    run_fits l p (happens (code_of p) s e).state rest verifies range.1
+    run_fits l p (entry_result (code_of p) s e).state rest verifies range.1
     (entries_keep l p s e verifies range.0 fit)
 
 pub histories_fit : MachineLaws → HistoriesAreFit
 unfolding replay
 histories_fit l profile p history verifies range =
-    run_fits l p (start profile (code_of p)) history verifies range (start_fits l profile p verifies)
+    run_fits l p (initial_state profile (code_of p)) history verifies range (start_fits l profile p verifies)

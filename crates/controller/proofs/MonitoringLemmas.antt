@@ -3,18 +3,18 @@ use Rattle.std.proofs.Common.{◌≡◌, List, [], ◌∷◌, Some, None, refl, 
 use Rattle.status_word.specs.declared.Regs.{Regs}
 use Rattle.frames.specs.declared.Activation.{Activation}
 use Rattle.machine.specs.Code.{Code}
-use Rattle.machine.specs.Statement.{World, Step, Went, Ended, SyncError, SysCall, Stop, statement}
+use Rattle.machine.specs.Statement.{GlobalStore, StatementStep, Went, Ended, SyncError, SysCall, Stop, statement_step}
 use Rattle.machine.specs.declared.outcomes.Outcome.{Outcome}
 use Rattle.machine.specs.declared.outcomes.Outcome.TheVariants as outcome
 use Rattle.ob_sched.specs.Scheduler.{Scheduler}
-use Rattle.controller.specs.Leaves.{Steps, StepsTo, regs_finished, stand_of, record_of_statement}
+use Rattle.controller.specs.Leaves.{LeavesStatementStep, LeavesStepOf, regs_finished, statement_stand, record_of_statement}
 use Rattle.controller.specs.Monitoring.{regs_after, regs_left, step_record}
 use Rattle.controller.specs.State.{State}
 use Rattle.controller.specs.declared.activations.At.{At}
 
 -- the registers after a statement, from those before a system function did its work
-regs_done : (s : Scheduler) (step : Step) (a : Activation) (below new : List Activation) (w w' : World)
-    (done : Outcome) → StepsTo step a below new w w' done
+regs_done : (s : Scheduler) (step : StatementStep) (a : Activation) (below new : List Activation) (w w' : GlobalStore)
+    (done : Outcome) → LeavesStepOf step a below new w w' done
     → regs_finished done s new (regs_left step a) ≡ regs_after s step a
 regs_done s (Went b then) a below new w w' outcome.Went steps = refl
 regs_done s (Ended regs then) a below new w w' outcome.Ended steps = refl
@@ -24,8 +24,8 @@ regs_done s (SysCall number given b) a below new w w' (outcome.SysCall n inputs 
 regs_done s (Stop cause) a below new w w' (outcome.Stop why) steps = refl
 regs_done s step a below new w w' done steps = absurd steps
 
-recorded_on : (code : Code) (s : State) (old new : List Activation) (w' : World)
-    (done : At × Outcome) → Steps code old new s.world w' (Some done)
+recorded_on : (code : Code) (s : State) (old new : List Activation) (w' : GlobalStore)
+    (done : At × Outcome) → LeavesStatementStep code old new s.world w' (Some done)
     → record_of_statement code s.monitored done.0 (regs_finished done.1 s.sched new done.0.regs)
     ≡ step_record code s old
 recorded_on code s [] new w' done steps = absurd steps
@@ -35,21 +35,21 @@ recorded_on code s (a ∷ below) new w' done steps =
     steps.0
     ∙ ap
     (λ (r : Regs). record_of_statement code s.monitored
-    (stand_of a (regs_left (statement code a s.world) a)) r)
-    (regs_done s.sched (statement code a s.world) a below new s.world w' done.1 steps.1)
+    (statement_stand a (regs_left (statement_step code a s.world) a)) r)
+    (regs_done s.sched (statement_step code a s.world) a below new s.world w' done.1 steps.1)
 
-pub step_recorded : (code : Code) (s : State) (new : List Activation) (w' : World)
-    (done : At × Outcome) → Steps code s.activations new s.world w' (Some done)
+pub step_recorded : (code : Code) (s : State) (new : List Activation) (w' : GlobalStore)
+    (done : At × Outcome) → LeavesStatementStep code s.activations new s.world w' (Some done)
     → record_of_statement code s.monitored done.0 (regs_finished done.1 s.sched new done.0.regs)
     ≡ step_record code s s.activations
 step_recorded code s new w' done steps = recorded_on code s s.activations new w' done steps
 
 -- a cycle point has none
-idle_on : (code : Code) (s : State) (old new : List Activation) (w' : World)
-    → Steps code old new s.world w' None → step_record code s old ≡ None
+idle_on : (code : Code) (s : State) (old new : List Activation) (w' : GlobalStore)
+    → LeavesStatementStep code old new s.world w' None → step_record code s old ≡ None
 idle_on code s [] new w' steps = refl
 idle_on code s (a ∷ below) new w' steps = absurd steps
 
-pub idle_recorded : (code : Code) (s : State) (new : List Activation) (w' : World)
-    → Steps code s.activations new s.world w' None → step_record code s s.activations ≡ None
+pub idle_recorded : (code : Code) (s : State) (new : List Activation) (w' : GlobalStore)
+    → LeavesStatementStep code s.activations new s.world w' None → step_record code s s.activations ≡ None
 idle_recorded code s new w' steps = idle_on code s s.activations new w' steps

@@ -12,9 +12,9 @@ use Rattle.frames.specs.declared.Activation.{Activation}
 use Rattle.frames.specs.declared.bindings.Binding.{Binding}
 use Rattle.frames.specs.declared.frame.Frame.{Frame}
 use Rattle.machine.specs.Code.{Code, Fetched, BlockHead}
-use Rattle.machine.specs.Moved.{Follows, moved_activation, moved_fetched, moved_frame, moved_step, StatementsMove}
-use Rattle.machine.specs.Statement.{Step, Went, Ended, SyncError, SysCall, Stop, Stuck, statement}
-use Rattle.machine.specs.SystemCalls.{Given}
+use Rattle.machine.specs.Moved.{FollowsCode, moved_activation, moved_fetched, moved_frame, moved_step, StatementsMove}
+use Rattle.machine.specs.Statement.{StatementStep, Went, Ended, SyncError, SysCall, Stop, Stuck, statement_step}
+use Rattle.machine.specs.SystemCalls.{SystemCallArguments}
 use Rattle.monitor.specs.declared.MonRecord.{MonRecord}
 use Rattle.ob_sched.specs.TickState.{TickState, ob_requested}
 use Rattle.ob_sched.specs.Scheduler.{Scheduler, cycle_retriggered, delay_of, delay_started, delay_cancelled}
@@ -25,30 +25,30 @@ use Rattle.ob_sched.specs.Request.{best_of}
 use Rattle.ob_sched.specs.declared.requests.Pending.{Pending}
 use Rattle.ob_sched.specs.declared.start_infos.StartEvent.TheVariants.{Arrival}
 use Rattle.ob_sched.specs.declared.start_infos.StartInfo.{StartInfo}
-use Rattle.sys_funcs.specs.Disabling.{refusal}
-use Rattle.sys_funcs.specs.Functions.{dis_airt, en_airt, dis_irt, en_irt, srt_dint, can_dint, time_tck, set_unless, with_delay}
-use Rattle.sys_funcs.specs.Returned.{Returned, returned, passed}
+use Rattle.sys_funcs.specs.Disabling.{selection_error_code}
+use Rattle.sys_funcs.specs.Functions.{dis_airt, en_airt, dis_irt, en_irt, srt_dint, can_dint, time_tck, disabled_or_error, with_delay}
+use Rattle.sys_funcs.specs.Returned.{SystemFunctionResult, int_result, with_br_set}
 use Rattle.var_access.specs.declared.Reply.{Reply}
 use Rattle.var_access.specs.declared.Request.{Request}
 use Rattle.var_access.specs.declared.Request.TheVariants as ask
 use Rattle.var_access.specs.declared.What.{What}
 use Rattle.var_access.specs.declared.What.TheVariants as what
-use Rattle.controller.specs.Asking.{request_reply, request_effect, done_if}
-use Rattle.controller.specs.Beginning.{ob_block, ob_frame, with_start_bytes, ob_begun, ob_in, begun_above}
+use Rattle.controller.specs.Asking.{request_reply, request_effect, done_or_no_such}
+use Rattle.controller.specs.Beginning.{ob_block_id, ob_frame, with_start_bytes, ob_begun, ob_activation, with_ob_begun}
 use Rattle.controller.specs.CyclePoint.{cycle_point, cycle_info, cycle_finished}
-use Rattle.controller.specs.Errors.{copied_from, error_in, error_ob_started, error_raised, error_event, is_synchronous}
+use Rattle.controller.specs.Errors.{with_caller_registers, error_in, error_ob_started, error_raised, error_event, is_synchronous}
 use Rattle.controller.specs.Event.{entry_counted, entry_effect, state_after}
 use Rattle.controller.specs.Monitoring.{is_monitored, monitoring_record, mon_record_at, regs_after, regs_served, step_record}
 use Rattle.controller.specs.Moved.{moved_state, EntriesMove, HistoriesMove}
-use Rattle.controller.specs.Replay.{Happened, happened_to, happens, replay, reply_to, run_from}
+use Rattle.controller.specs.Replay.{EntryResult, entry_result_between, entry_result, replay, reply_to, state_after_entries}
 use Rattle.controller.specs.Requests.{stopped_if, tick_state_taken, arrival_served}
-use Rattle.controller.specs.Serving.{Served, Returns, Passes, Stops, system_function_served, after_service, system_call_served, in_parameter}
+use Rattle.controller.specs.Serving.{ServiceResult, Returns, Passes, Stops, system_function_served, after_service, system_call_served, in_parameter}
 use Rattle.controller.specs.Settling.{may_start, request_taken, request_started, best_started, after_settling}
 use Rattle.controller.specs.Shown.{observed_changes, entry_shown}
-use Rattle.controller.specs.Start.{all_obs, before_start, restart_cleared, warm_restarted, start, started_up, startup_info, startup_ob}
+use Rattle.controller.specs.Start.{all_obs, before_start, restart_cleared, warm_restarted, initial_state, state_in_startup, startup_info, startup_ob}
 use Rattle.controller.specs.State.{State, is_stop, diagnosis_recorded, each_diagnosed}
 use Rattle.controller.specs.Stepping.{run_starts, ob_ended, after_statement, step_of_first, after_step}
-use Rattle.controller.specs.Stopping.{spot_of, running_spot, stop_entered_at, stop_entered}
+use Rattle.controller.specs.Stopping.{spot_of_frame, running_spot, stop_entered_at, stop_entered}
 use Rattle.controller.specs.Ticking.{active_obs, time_passed, tick_taken, timers_moved}
 
 abbrev Positions : Type 0
@@ -72,13 +72,13 @@ told_moves f byte (value ∷ rest) a =
     ∙ told_moves f (byte + 1) rest (unwrap_or (with_local_byte 0 byte value a) a)
 
 begun_moves :
-    (profile : Profile) (f : Positions) (class ob : ℕ) (head : BlockHead) → f (ob_block ob) 0 ≡ 0
+    (profile : Profile) (f : Positions) (class ob : ℕ) (head : BlockHead) → f (ob_block_id ob) 0 ≡ 0
     → activation_begun profile class ob (ob_frame ob head) ≡ moved_activation f (activation_begun profile class ob (ob_frame ob head))
 begun_moves profile f class ob head start =
     ap (λ (at : ℕ). activation_begun profile class ob (record (ob_frame ob head) { at = at })) (sym start)
 
 ob_moves :
-    (profile : Profile) (f : Positions) (class ob : ℕ) (info : StartInfo) (head : BlockHead) → f (ob_block ob) 0 ≡ 0
+    (profile : Profile) (f : Positions) (class ob : ℕ) (info : StartInfo) (head : BlockHead) → f (ob_block_id ob) 0 ≡ 0
     → ob_begun profile class ob info head ≡ moved_activation f (ob_begun profile class ob info head)
 unfolding ob_begun
 ob_moves profile f class ob info head start =
@@ -86,21 +86,21 @@ ob_moves profile f class ob info head start =
     ∙ told_moves f 0 info.bytes (activation_begun profile class ob (ob_frame ob head))
 
 head_moves :
-    (profile : Profile) (f : Positions) (class ob : ℕ) (info : StartInfo) (o : Option BlockHead) → f (ob_block ob) 0 ≡ 0
+    (profile : Profile) (f : Positions) (class ob : ℕ) (info : StartInfo) (o : Option BlockHead) → f (ob_block_id ob) 0 ≡ 0
     → option_map (ob_begun profile class ob info) o ≡ option_map (moved_activation f) (option_map (ob_begun profile class ob info) o)
 head_moves profile f class ob info None start = refl
 head_moves profile f class ob info (Some head) start = ap (λ (a : Activation). Some a) (ob_moves profile f class ob info head start)
 
 ob_in_moves :
-    (profile : Profile) (f : Positions) (c d : Code) (class ob : ℕ) (info : StartInfo) → Follows f c d
-    → ob_in profile d class ob info ≡ option_map (moved_activation f) (ob_in profile c class ob info)
+    (profile : Profile) (f : Positions) (c d : Code) (class ob : ℕ) (info : StartInfo) → FollowsCode f c d
+    → ob_activation profile d class ob info ≡ option_map (moved_activation f) (ob_activation profile c class ob info)
 ob_in_moves profile f c d class ob info follows =
-    ap (option_map (ob_begun profile class ob info)) (follows.head (ob_block ob))
-    ∙ head_moves profile f class ob info (c.head (ob_block ob)) (follows.start (ob_block ob))
+    ap (option_map (ob_begun profile class ob info)) (follows.head (ob_block_id ob))
+    ∙ head_moves profile f class ob info (c.head (ob_block_id ob)) (follows.start (ob_block_id ob))
 
 above_moves :
     (f : Positions) (o : Option Activation) (s : State)
-    → begun_above (option_map (moved_activation f) o) (moved_state f s) ≡ moved_state f (begun_above o s)
+    → with_ob_begun (option_map (moved_activation f) o) (moved_state f s) ≡ moved_state f (with_ob_begun o s)
 above_moves f None s = refl
 above_moves f (Some a) s = refl
 
@@ -115,12 +115,12 @@ fetched_spot :
 fetched_spot g block None = refl
 fetched_spot g block (Some i) = refl
 
-spot_moves : (f : Positions) (c d : Code) (frame : Frame) → Follows f c d → spot_of d (moved_frame f frame) ≡ spot_of c frame
+spot_moves : (f : Positions) (c d : Code) (frame : Frame) → FollowsCode f c d → spot_of_frame d (moved_frame f frame) ≡ spot_of_frame c frame
 spot_moves f c d frame follows =
     ap (option_map (line_in frame.block)) (follows.fetch frame.block frame.at)
     ∙ fetched_spot (f frame.block) frame.block (c.fetch frame.block frame.at)
 
-spots_move : (f : Positions) (c d : Code) (activations : List Activation) → Follows f c d → running_spot d (map (moved_activation f) activations) ≡ running_spot c activations
+spots_move : (f : Positions) (c d : Code) (activations : List Activation) → FollowsCode f c d → running_spot d (map (moved_activation f) activations) ≡ running_spot c activations
 spots_move f c d [] follows = refl
 spots_move f c d (a ∷ below) follows = spot_moves f c d a.running.frame follows
 
@@ -129,20 +129,20 @@ diagnosed_moves f [] s = refl
 diagnosed_moves f (one ∷ rest) s = diagnosed_moves f rest (diagnosis_recorded one.0 one.1 s)
 
 halted_moves :
-    (f : Positions) (c d : Code) (cause : ℕ) (s : State) → Follows f c d
+    (f : Positions) (c d : Code) (cause : ℕ) (s : State) → FollowsCode f c d
     → stop_entered d cause (moved_state f s) ≡ moved_state f (stop_entered c cause s)
 unfolding stop_entered
 halted_moves f c d cause s follows =
     ap (λ (at : Option Spot). stop_entered_at at cause (moved_state f s)) (spots_move f c d s.activations follows)
 
 stopped_moves :
-    (f : Positions) (c d : Code) (cause : Option ℕ) (s : State) → Follows f c d
+    (f : Positions) (c d : Code) (cause : Option ℕ) (s : State) → FollowsCode f c d
     → stopped_if d cause (moved_state f s) ≡ moved_state f (stopped_if c cause s)
 stopped_moves f c d None s follows = refl
 stopped_moves f c d (Some cause) s follows = halted_moves f c d cause s follows
 
 course_moves :
-    (f : Positions) (c d : Code) (course : TickState) (s : State) → Follows f c d
+    (f : Positions) (c d : Code) (course : TickState) (s : State) → FollowsCode f c d
     → tick_state_taken d course (moved_state f s) ≡ moved_state f (tick_state_taken c course s)
 course_moves f c d course s follows =
     ap (stopped_if d course.passed.stop) (diagnosed_moves f course.passed.records.items (record s { sched = course.sched }))
@@ -150,12 +150,12 @@ course_moves f c d course s follows =
 
 -- ---- system functions
 
-abbrev moved_served : Positions → Served → Served
+abbrev moved_served : Positions → ServiceResult → ServiceResult
 moved_served f (Returns r) = Returns (record r { activation = moved_activation f r.activation })
 moved_served f (Passes sched a) = Passes sched (moved_activation f a)
 moved_served f (Stops cause a) = Stops cause (moved_activation f a)
 
-abbrev moved_returned : Positions → Returned → Returned
+abbrev moved_returned : Positions → SystemFunctionResult → SystemFunctionResult
 moved_returned f r = record r { activation = moved_activation f r.activation }
 
 either :
@@ -169,8 +169,8 @@ unfolding srt_dint
 srt_moves f s a n t g = by (not (is_delay n)) (not (nat_le 1 t && nat_le t 60000))
   where
     by : (other late : Bool)
-        → (if other then returned s (moved_activation f a) 0x8090 else if late then returned s (moved_activation f a) 0x8091 else returned (delay_started n t s) (moved_activation f a) 0)
-        ≡ moved_returned f (if other then returned s a 0x8090 else if late then returned s a 0x8091 else returned (delay_started n t s) a 0)
+        → (if other then int_result s (moved_activation f a) 0x8090 else if late then int_result s (moved_activation f a) 0x8091 else int_result (delay_started n t s) (moved_activation f a) 0)
+        ≡ moved_returned f (if other then int_result s a 0x8090 else if late then int_result s a 0x8091 else int_result (delay_started n t s) a 0)
     by true late = refl
     by false true = refl
     by false false = refl
@@ -180,25 +180,25 @@ unfolding can_dint
 can_moves f s a n = by (not (is_delay n)) (is_some (delay_of s.countdowns n))
   where
     by : (other started : Bool)
-        → (if other then returned s (moved_activation f a) 0x8090 else if started then returned (delay_cancelled n s) (moved_activation f a) 0 else returned s (moved_activation f a) 0x80A0)
-        ≡ moved_returned f (if other then returned s a 0x8090 else if started then returned (delay_cancelled n s) a 0 else returned s a 0x80A0)
+        → (if other then int_result s (moved_activation f a) 0x8090 else if started then int_result (delay_cancelled n s) (moved_activation f a) 0 else int_result s (moved_activation f a) 0x80A0)
+        ≡ moved_returned f (if other then int_result s a 0x8090 else if started then int_result (delay_cancelled n s) a 0 else int_result s a 0x80A0)
     by true started = refl
     by false true = refl
     by false false = refl
 
 set_moves :
     (f : Positions) (refused : Option ℕ) (disabled : Bool) (mode n : ℕ) (s : Scheduler) (a : Activation)
-    → set_unless refused disabled mode n s (moved_activation f a) ≡ moved_returned f (set_unless refused disabled mode n s a)
+    → disabled_or_error refused disabled mode n s (moved_activation f a) ≡ moved_returned f (disabled_or_error refused disabled mode n s a)
 set_moves f (Some code) disabled mode n s a = refl
 set_moves f None disabled mode n s a = refl
 
 dis_moves : (f : Positions) (s : Scheduler) (a : Activation) (mode n : ℕ) → dis_irt s (moved_activation f a) mode n ≡ moved_returned f (dis_irt s a mode n)
 unfolding dis_irt
-dis_moves f s a mode n = set_moves f (refusal mode n) true mode n s a
+dis_moves f s a mode n = set_moves f (selection_error_code mode n) true mode n s a
 
 en_moves : (f : Positions) (s : Scheduler) (a : Activation) (mode n : ℕ) → en_irt s (moved_activation f a) mode n ≡ moved_returned f (en_irt s a mode n)
 unfolding en_irt
-en_moves f s a mode n = set_moves f (refusal mode n) false mode n s a
+en_moves f s a mode n = set_moves f (selection_error_code mode n) false mode n s a
 
 delays_move : (f : Positions) (s : Scheduler) (a : Activation) → dis_airt s (moved_activation f a) ≡ moved_returned f (dis_airt s a)
 unfolding dis_airt
@@ -209,8 +209,8 @@ unfolding en_airt
 delays_end f s a = by (a.delay == 0)
   where
     by : (none : Bool)
-        → (if none then returned s (moved_activation f a) 0x8080 else returned s (with_delay (a.delay - 1) (moved_activation f a)) (a.delay - 1))
-        ≡ moved_returned f (if none then returned s a 0x8080 else returned s (with_delay (a.delay - 1) a) (a.delay - 1))
+        → (if none then int_result s (moved_activation f a) 0x8080 else int_result s (with_delay (a.delay - 1) (moved_activation f a)) (a.delay - 1))
+        ≡ moved_returned f (if none then int_result s a 0x8080 else int_result s (with_delay (a.delay - 1) a) (a.delay - 1))
     by true = refl
     by false = refl
 
@@ -218,10 +218,10 @@ time_moves : (f : Positions) (s : Scheduler) (a : Activation) → time_tck s (mo
 unfolding time_tck
 time_moves f s a = refl
 
-returns_move : (f : Positions) (r r' : Returned) → r' ≡ moved_returned f r → Returns r' ≡ moved_served f (Returns r)
-returns_move f r r' h = ap (λ (z : Returned). Returns z) h
+returns_move : (f : Positions) (r r' : SystemFunctionResult) → r' ≡ moved_returned f r → Returns r' ≡ moved_served f (Returns r)
+returns_move f r r' h = ap (λ (z : SystemFunctionResult). Returns z) h
 
-abbrev chosen : (b32 b33 b39 b40 b41 b42 b43 b46 : Bool) → (inputs : List ℕ) → Scheduler → Activation → Served
+abbrev chosen : (b32 b33 b39 b40 b41 b42 b43 b46 : Bool) → (inputs : List ℕ) → Scheduler → Activation → ServiceResult
 chosen b32 b33 b39 b40 b41 b42 b43 b46 inputs s a =
     if b32 then Returns (srt_dint s a (in_parameter 0 inputs) (in_parameter 1 inputs) (in_parameter 2 inputs))
     else if b33 then Returns (can_dint s a (in_parameter 0 inputs))
@@ -229,8 +229,8 @@ chosen b32 b33 b39 b40 b41 b42 b43 b46 inputs s a =
     else if b40 then Returns (en_irt s a (in_parameter 0 inputs) (in_parameter 1 inputs))
     else if b41 then Returns (dis_airt s a)
     else if b42 then Returns (en_airt s a)
-    else if b43 then Passes (cycle_retriggered s) (passed a)
-    else if b46 then Stops causes.by_program (passed a)
+    else if b43 then Passes (cycle_retriggered s) (with_br_set a)
+    else if b46 then Stops causes.by_program (with_br_set a)
     else Returns (time_tck s a)
 
 chosen_moves :
@@ -254,7 +254,7 @@ served_moves f number inputs s a =
     chosen_moves f (number == 32) (number == 33) (number == 39) (number == 40) (number == 41) (number == 42) (number == 43) (number == 46) inputs s a
 
 service_moves :
-    (f : Positions) (call : Option Spot) (r : Served) (to : Option Binding) (below : List Activation) (s : State)
+    (f : Positions) (call : Option Spot) (r : ServiceResult) (to : Option Binding) (below : List Activation) (s : State)
     → after_service call (moved_served f r) to (map (moved_activation f) below) (moved_state f s) ≡ moved_state f (after_service call r to below s)
 service_moves f call (Returns r) None below s = refl
 service_moves f call (Returns r) (Some to) below s = refl
@@ -262,26 +262,26 @@ service_moves f call (Passes sched a) to below s = refl
 service_moves f call (Stops cause a) to below s = refl
 
 system_moves :
-    (f : Positions) (call : Option Spot) (number : ℕ) (given : Given) (a : Activation) (below : List Activation) (s : State)
+    (f : Positions) (call : Option Spot) (number : ℕ) (given : SystemCallArguments) (a : Activation) (below : List Activation) (s : State)
     → system_call_served call number given (moved_activation f a) (map (moved_activation f) below) (moved_state f s) ≡ moved_state f (system_call_served call number given a below s)
 system_moves f call number given a below s =
-    ap (λ (r : Served). after_service call r given.result (map (moved_activation f) below) (moved_state f s)) (served_moves f number given.inputs s.sched a)
+    ap (λ (r : ServiceResult). after_service call r given.result (map (moved_activation f) below) (moved_state f s)) (served_moves f number given.inputs s.sched a)
     ∙ service_moves f call (system_function_served number given.inputs s.sched a) given.result below s
 
 -- ---- synchronous errors
 
 copied_moves :
     (f : Positions) (a : Activation) (o : Option Activation)
-    → option_map (copied_from (moved_activation f a)) (option_map (moved_activation f) o) ≡ option_map (moved_activation f) (option_map (copied_from a) o)
+    → option_map (with_caller_registers (moved_activation f a)) (option_map (moved_activation f) o) ≡ option_map (moved_activation f) (option_map (with_caller_registers a) o)
 copied_moves f a None = refl
 copied_moves f a (Some fresh) = refl
 
 error_moves :
-    (f : Positions) (c d : Code) (error : ℕ) (at : Option Spot) (a : Activation) → Follows f c d
+    (f : Positions) (c d : Code) (error : ℕ) (at : Option Spot) (a : Activation) → FollowsCode f c d
     → error_in d error at (moved_activation f a) ≡ option_map (moved_activation f) (error_in c error at a)
 error_moves f c d error at a follows =
-    ap (option_map (copied_from (moved_activation f a))) (ob_in_moves a.profile f c d a.class (ob_of_error error) (start_info (error_event error at) a.class) follows)
-    ∙ copied_moves f a (ob_in a.profile c a.class (ob_of_error error) (start_info (error_event error at) a.class))
+    ap (option_map (with_caller_registers (moved_activation f a))) (ob_in_moves a.profile f c d a.class (ob_of_error error) (start_info (error_event error at) a.class) follows)
+    ∙ copied_moves f a (ob_activation a.profile c a.class (ob_of_error error) (start_info (error_event error at) a.class))
 
 answered_moves :
     (f : Positions) (o : Option Activation) (error : ℕ) (at : Option Spot) (a : Activation) (below : List Activation) (s : State)
@@ -290,7 +290,7 @@ answered_moves f None error at a below s = refl
 answered_moves f (Some fresh) error at a below s = refl
 
 failed_moves :
-    (f : Positions) (c d : Code) (error : ℕ) (at : Option Spot) (a : Activation) (below : List Activation) (s : State) → Follows f c d
+    (f : Positions) (c d : Code) (error : ℕ) (at : Option Spot) (a : Activation) (below : List Activation) (s : State) → FollowsCode f c d
     → error_raised d error at (moved_activation f a) (map (moved_activation f) below) (moved_state f s) ≡ moved_state f (error_raised c error at a below s)
 unfolding error_raised
 failed_moves f c d error at a below s follows =
@@ -306,7 +306,7 @@ ended_moves : (f : Positions) (ob : ℕ) (s : State) → ob_ended ob (moved_stat
 ended_moves f ob s = either (moved_state f) (ob == 100) (run_starts s) _ s _ refl refl
 
 after_moves :
-    (f : Positions) (c d : Code) (step : Step) (ob : ℕ) (at : Option Spot) (below : List Activation) (s : State) → Follows f c d
+    (f : Positions) (c d : Code) (step : StatementStep) (ob : ℕ) (at : Option Spot) (below : List Activation) (s : State) → FollowsCode f c d
     → after_statement d (moved_step f step) ob at (map (moved_activation f) below) (moved_state f s) ≡ moved_state f (after_statement c step ob at below s)
 after_moves f c d (Went a w) ob at below s follows = refl
 after_moves f c d (Ended regs w) ob at below s follows = ended_moves f ob (record s { world = w; activations = below })
@@ -316,32 +316,32 @@ after_moves f c d (Stop cause) ob at below s follows = refl
 after_moves f c d Stuck ob at below s follows = refl
 
 cycle_moves :
-    (f : Positions) (c d : Code) (s : State) → Follows f c d → cycle_point d (moved_state f s) ≡ moved_state f (cycle_point c s)
+    (f : Positions) (c d : Code) (s : State) → FollowsCode f c d → cycle_point d (moved_state f s) ≡ moved_state f (cycle_point c s)
 unfolding cycle_point
 cycle_moves f c d s follows =
-    ap (λ (o : Option Activation). begun_above o (moved_state f (cycle_finished s))) (ob_in_moves s.profile f c d _ 1 (cycle_info s) follows)
-    ∙ above_moves f (ob_in s.profile c _ 1 (cycle_info s)) (cycle_finished s)
+    ap (λ (o : Option Activation). with_ob_begun o (moved_state f (cycle_finished s))) (ob_in_moves s.profile f c d _ 1 (cycle_info s) follows)
+    ∙ above_moves f (ob_activation s.profile c _ 1 (cycle_info s)) (cycle_finished s)
 
 stepped_on_moves :
-    (f : Positions) (c d : Code) (activations : List Activation) (s : State) → StatementsMove → Follows f c d
+    (f : Positions) (c d : Code) (activations : List Activation) (s : State) → StatementsMove → FollowsCode f c d
     → step_of_first d (map (moved_activation f) activations) (moved_state f s) ≡ moved_state f (step_of_first c activations s)
 stepped_on_moves f c d [] s statements follows = cycle_moves f c d s follows
 stepped_on_moves f c d (a ∷ below) s statements follows =
-    ap (λ (step : Step). after_statement d step a.ob (spot_of d (moved_frame f a.running.frame)) (map (moved_activation f) below) (moved_state f s))
+    ap (λ (step : StatementStep). after_statement d step a.ob (spot_of_frame d (moved_frame f a.running.frame)) (map (moved_activation f) below) (moved_state f s))
     (statements f c d a s.world follows)
-    ∙ ap (λ (at : Option Spot). after_statement d (moved_step f (statement c a s.world)) a.ob at (map (moved_activation f) below) (moved_state f s))
+    ∙ ap (λ (at : Option Spot). after_statement d (moved_step f (statement_step c a s.world)) a.ob at (map (moved_activation f) below) (moved_state f s))
     (spot_moves f c d a.running.frame follows)
-    ∙ after_moves f c d (statement c a s.world) a.ob (spot_of c a.running.frame) below s follows
+    ∙ after_moves f c d (statement_step c a s.world) a.ob (spot_of_frame c a.running.frame) below s follows
 
 stepped_moves :
-    (f : Positions) (c d : Code) (s : State) → StatementsMove → Follows f c d → after_step d (moved_state f s) ≡ moved_state f (after_step c s)
+    (f : Positions) (c d : Code) (s : State) → StatementsMove → FollowsCode f c d → after_step d (moved_state f s) ≡ moved_state f (after_step c s)
 unfolding after_step
 stepped_moves f c d s statements follows = stepped_on_moves f c d s.activations s statements follows
 
 -- ---- arrivals, time, settling
 
 arrived_moves :
-    (f : Positions) (c d : Code) (ob value : ℕ) (s : State) → Follows f c d → arrival_served d ob value (moved_state f s) ≡ moved_state f (arrival_served c ob value s)
+    (f : Positions) (c d : Code) (ob value : ℕ) (s : State) → FollowsCode f c d → arrival_served d ob value (moved_state f s) ≡ moved_state f (arrival_served c ob value s)
 unfolding arrival_served
 arrived_moves f c d ob value s follows = either (moved_state f) (is_stop s.mode) s _ (tick_state_taken c (arrival_of s ob value) s) _ refl (course_moves f c d (arrival_of s ob value) s follows)
   where
@@ -367,7 +367,7 @@ active_same f activations =
     obs (x ∷ xs) = ap (λ (z : List ℕ). x.ob ∷ z) (obs xs)
 
 time_passes_moves :
-    (f : Positions) (c d : Code) (ms : ℕ) (s : State) → Follows f c d → time_passed d ms (moved_state f s) ≡ moved_state f (time_passed c ms s)
+    (f : Positions) (c d : Code) (ms : ℕ) (s : State) → FollowsCode f c d → time_passed d ms (moved_state f s) ≡ moved_state f (time_passed c ms s)
 unfolding time_passed
 time_passes_moves f c d ms s follows =
     ap (λ (obs : List ℕ). tick_taken d (after_tick s.mode obs ms s.sched) (moved_state f s)) (active_same f s.activations)
@@ -379,36 +379,36 @@ may_start_same f class [] = refl
 may_start_same f class (a ∷ below) = refl
 
 best_moves :
-    (f : Positions) (c d : Code) (best : Option Pending) (s : State) → Follows f c d
+    (f : Positions) (c d : Code) (best : Option Pending) (s : State) → FollowsCode f c d
     → best_started d best (moved_state f s) ≡ moved_state f (best_started c best s)
 best_moves f c d None s follows = refl
 best_moves f c d (Some best) s follows =
     ap (λ (b : Bool). if b then request_started d best (moved_state f s) else moved_state f s) (may_start_same f best.class s.activations)
     ∙ either (moved_state f) (may_start best.class s.activations) (request_started c best s) _ s _
-    (ap (λ (o : Option Activation). begun_above o (moved_state f (request_taken s))) (ob_in_moves s.profile f c d best.class best.ob best.info follows)
-    ∙ above_moves f (ob_in s.profile c best.class best.ob best.info) (request_taken s)) refl
+    (ap (λ (o : Option Activation). with_ob_begun o (moved_state f (request_taken s))) (ob_in_moves s.profile f c d best.class best.ob best.info follows)
+    ∙ above_moves f (ob_activation s.profile c best.class best.ob best.info) (request_taken s)) refl
 
 settled_moves :
-    (f : Positions) (c d : Code) (s : State) → Follows f c d → after_settling d (moved_state f s) ≡ moved_state f (after_settling c s)
+    (f : Positions) (c d : Code) (s : State) → FollowsCode f c d → after_settling d (moved_state f s) ≡ moved_state f (after_settling c s)
 unfolding after_settling
 settled_moves f c d s follows =
     either (moved_state f) (is_stop s.mode) s _ (best_started c (best_of s.mode s.sched.pending) s) _ refl (best_moves f c d (best_of s.mode s.sched.pending) s follows)
 
 -- ---- requests of operators
 
-started_moves : (f : Positions) (o : Option Activation) (s : State) → started_up (option_map (moved_activation f) o) (moved_state f s) ≡ moved_state f (started_up o s)
+started_moves : (f : Positions) (o : Option Activation) (s : State) → state_in_startup (option_map (moved_activation f) o) (moved_state f s) ≡ moved_state f (state_in_startup o s)
 started_moves f None s = refl
 started_moves f (Some a) s = refl
 
 restarted_moves :
-    (f : Positions) (c d : Code) (s : State) → Follows f c d → warm_restarted d (moved_state f s) ≡ moved_state f (warm_restarted c s)
+    (f : Positions) (c d : Code) (s : State) → FollowsCode f c d → warm_restarted d (moved_state f s) ≡ moved_state f (warm_restarted c s)
 unfolding warm_restarted
 restarted_moves f c d s follows =
-    ap (λ (o : Option Activation). started_up o (moved_state f (restart_cleared (diagnosis_recorded 6 0 s)))) (ob_in_moves s.profile f c d 27 100 startup_info follows)
+    ap (λ (o : Option Activation). state_in_startup o (moved_state f (restart_cleared (diagnosis_recorded 6 0 s)))) (ob_in_moves s.profile f c d 27 100 startup_info follows)
     ∙ started_moves f (startup_ob s.profile c) (restart_cleared (diagnosis_recorded 6 0 s))
 
 asked_moves :
-    (f : Positions) (c d : Code) (request : Request) (s : State) → Follows f c d
+    (f : Positions) (c d : Code) (request : Request) (s : State) → FollowsCode f c d
     → request_effect d request (moved_state f s) ≡ moved_state f (request_effect c request s)
 unfolding request_effect
 asked_moves f c d (ask.ReadVars vars) s follows = refl
@@ -424,19 +424,19 @@ asked_moves f c d ask.MonitorOff s follows = refl
 asked_moves f c d ask.Diag s follows = refl
 
 answer_moves :
-    (f : Positions) (c d : Code) (request : Request) (s : State) → Follows f c d
+    (f : Positions) (c d : Code) (request : Request) (s : State) → FollowsCode f c d
     → request_reply d request (moved_state f s) ≡ request_reply c request s
 unfolding request_reply
 answer_moves f c d (ask.ReadVars vars) s follows = refl
 answer_moves f c d (ask.WriteVar var value) s follows = refl
 answer_moves f c d ask.Stop s follows = refl
 answer_moves f c d ask.Restart s follows = refl
-answer_moves f c d (ask.MonitorOn block) s follows = ap (λ (o : Option BlockHead). done_if (is_some o)) (follows.head block)
+answer_moves f c d (ask.MonitorOn block) s follows = ap (λ (o : Option BlockHead). done_or_no_such (is_some o)) (follows.head block)
 answer_moves f c d ask.MonitorOff s follows = refl
 answer_moves f c d ask.Diag s follows = refl
 
 reply_moves :
-    (f : Positions) (c d : Code) (entry : What) (s : State) → Follows f c d
+    (f : Positions) (c d : Code) (entry : What) (s : State) → FollowsCode f c d
     → reply_to d (moved_state f s) entry ≡ reply_to c s entry
 reply_moves f c d what.Step s follows = refl
 reply_moves f c d (what.Input byte value) s follows = refl
@@ -446,12 +446,12 @@ reply_moves f c d (what.Ask request) s follows = answer_moves f c d request s fo
 
 -- ---- monitoring
 
-served_regs : (f : Positions) (r : Served) → regs_served (moved_served f r) ≡ regs_served r
+served_regs : (f : Positions) (r : ServiceResult) → regs_served (moved_served f r) ≡ regs_served r
 served_regs f (Returns r) = refl
 served_regs f (Passes sched a) = refl
 served_regs f (Stops cause a) = refl
 
-regs_same : (f : Positions) (s : Scheduler) (step : Step) (a : Activation) → regs_after s (moved_step f step) (moved_activation f a) ≡ regs_after s step a
+regs_same : (f : Positions) (s : Scheduler) (step : StatementStep) (a : Activation) → regs_after s (moved_step f step) (moved_activation f a) ≡ regs_after s step a
 regs_same f s (Went b w) a = refl
 regs_same f s (Ended regs w) a = refl
 regs_same f s (SyncError code b) a = refl
@@ -461,20 +461,20 @@ regs_same f s (Stop cause) a = refl
 regs_same f s Stuck a = refl
 
 step_record_same :
-    (f : Positions) (c d : Code) (activations : List Activation) (s : State) → StatementsMove → Follows f c d
+    (f : Positions) (c d : Code) (activations : List Activation) (s : State) → StatementsMove → FollowsCode f c d
     → step_record d (moved_state f s) (map (moved_activation f) activations) ≡ step_record c s activations
 step_record_same f c d [] s statements follows = refl
 step_record_same f c d (a ∷ below) s statements follows =
-    ap (λ (step : Step). recorded (regs_after s.sched step (moved_activation f a)) (spot_of d (moved_frame f a.running.frame)))
+    ap (λ (step : StatementStep). recorded (regs_after s.sched step (moved_activation f a)) (spot_of_frame d (moved_frame f a.running.frame)))
     (statements f c d a s.world follows)
-    ∙ ap (λ (r : Regs). recorded r (spot_of d (moved_frame f a.running.frame))) (regs_same f s.sched (statement c a s.world) a)
-    ∙ ap (λ (at : Option Spot). recorded (regs_after s.sched (statement c a s.world) a) at) (spot_moves f c d a.running.frame follows)
+    ∙ ap (λ (r : Regs). recorded r (spot_of_frame d (moved_frame f a.running.frame))) (regs_same f s.sched (statement_step c a s.world) a)
+    ∙ ap (λ (at : Option Spot). recorded (regs_after s.sched (statement_step c a s.world) a) at) (spot_moves f c d a.running.frame follows)
   where
     recorded : Regs → Option Spot → Option MonRecord
     recorded regs at = if is_monitored s.monitored a.running.frame.block then option_map (mon_record_at regs) at else None
 
 record_same :
-    (f : Positions) (c d : Code) (entry : What) (s : State) → StatementsMove → Follows f c d
+    (f : Positions) (c d : Code) (entry : What) (s : State) → StatementsMove → FollowsCode f c d
     → monitoring_record d (moved_state f s) entry ≡ monitoring_record c s entry
 unfolding monitoring_record
 record_same f c d what.Step s statements follows =
@@ -487,7 +487,7 @@ record_same f c d (what.Ask request) s statements follows = refl
 -- ---- entries
 
 effect_moves :
-    (f : Positions) (c d : Code) (entry : What) (s : State) → StatementsMove → Follows f c d
+    (f : Positions) (c d : Code) (entry : What) (s : State) → StatementsMove → FollowsCode f c d
     → entry_effect d entry (moved_state f s) ≡ moved_state f (entry_effect c entry s)
 effect_moves f c d what.Step s statements follows = either (moved_state f) (is_stop s.mode) s _ (after_step c s) _ refl (stepped_moves f c d s statements follows)
 effect_moves f c d (what.Input byte value) s statements follows = refl
@@ -496,14 +496,14 @@ effect_moves f c d (what.Tick ms) s statements follows = time_passes_moves f c d
 effect_moves f c d (what.Ask request) s statements follows = asked_moves f c d request s follows
 
 after_entry_moves :
-    (f : Positions) (c d : Code) (s : State) (entry : What) → StatementsMove → Follows f c d
+    (f : Positions) (c d : Code) (s : State) (entry : What) → StatementsMove → FollowsCode f c d
     → state_after d entry (moved_state f s) ≡ moved_state f (state_after c entry s)
 unfolding state_after
 after_entry_moves f c d s entry statements follows =
     ap (after_settling d) (effect_moves f c d entry (entry_counted s) statements follows) ∙ settled_moves f c d (entry_effect c entry (entry_counted s)) follows
 
 -- what happened, by the states and by what was answered and recorded
-abbrev happened_with : (before after : State) → Reply → Option MonRecord → Happened
+abbrev happened_with : (before after : State) → Reply → Option MonRecord → EntryResult
 happened_with before after reply mon = record {
   state = after;
   reply = reply;
@@ -511,9 +511,9 @@ happened_with before after reply mon = record {
 }
 
 pub entries_move : StatementsMove → EntriesMove
-unfolding happens entry_shown
+unfolding entry_result entry_shown
 entries_move statements f c d s entry follows =
-    ap (λ (after : State). happened_to d (moved_state f s) entry after) (after_entry_moves f c d s entry statements follows)
+    ap (λ (after : State). entry_result_between d (moved_state f s) entry after) (after_entry_moves f c d s entry statements follows)
     ∙ ap
     (λ (reply : Reply). happened_with s (moved_state f (state_after c entry s)) reply (monitoring_record d (moved_state f s) entry))
     (reply_moves f c d entry s follows)
@@ -524,29 +524,29 @@ entries_move statements f c d s entry follows =
 -- ---- histories
 
 run_moves :
-    (f : Positions) (c d : Code) (s : State) (history : List What) → StatementsMove → Follows f c d
-    → run_from d (moved_state f s) history ≡ moved_state f (run_from c s history)
-unfolding happens
+    (f : Positions) (c d : Code) (s : State) (history : List What) → StatementsMove → FollowsCode f c d
+    → state_after_entries d (moved_state f s) history ≡ moved_state f (state_after_entries c s history)
+unfolding entry_result
 run_moves f c d s [] statements follows = refl
 run_moves f c d s (entry ∷ rest) statements follows =
-    ap (λ (z : State). run_from d z rest) (after_entry_moves f c d s entry statements follows)
+    ap (λ (z : State). state_after_entries d z rest) (after_entry_moves f c d s entry statements follows)
     ∙ run_moves f c d (state_after c entry s) rest statements follows
 
-obs_same : (f : Positions) (c d : Code) (obs : List ℕ) → Follows f c d → filter (λ ob. is_some (d.head (ob_block ob))) obs ≡ filter (λ ob. is_some (c.head (ob_block ob))) obs
+obs_same : (f : Positions) (c d : Code) (obs : List ℕ) → FollowsCode f c d → filter (λ ob. is_some (d.head (ob_block_id ob))) obs ≡ filter (λ ob. is_some (c.head (ob_block_id ob))) obs
 obs_same f c d [] follows = refl
-obs_same f c d (ob ∷ obs) follows = rw (follows.head (ob_block ob)) (rw (obs_same f c d obs follows) refl)
+obs_same f c d (ob ∷ obs) follows = rw (follows.head (ob_block_id ob)) (rw (obs_same f c d obs follows) refl)
 
-before_moves : (profile : Profile) (f : Positions) (c d : Code) → Follows f c d → before_start profile d ≡ moved_state f (before_start profile c)
+before_moves : (profile : Profile) (f : Positions) (c d : Code) → FollowsCode f c d → before_start profile d ≡ moved_state f (before_start profile c)
 before_moves profile f c d follows = rw (follows.blocks) (rw (obs_same f c d all_obs follows) refl)
 
-start_moves : (profile : Profile) (f : Positions) (c d : Code) → Follows f c d → start profile d ≡ moved_state f (start profile c)
-unfolding start
+start_moves : (profile : Profile) (f : Positions) (c d : Code) → FollowsCode f c d → initial_state profile d ≡ moved_state f (initial_state profile c)
+unfolding initial_state
 start_moves profile f c d follows =
-    ap (started_up (startup_ob profile d)) (before_moves profile f c d follows)
-    ∙ ap (λ (o : Option Activation). started_up o (moved_state f (before_start profile c))) (ob_in_moves profile f c d 27 100 startup_info follows)
+    ap (state_in_startup (startup_ob profile d)) (before_moves profile f c d follows)
+    ∙ ap (λ (o : Option Activation). state_in_startup o (moved_state f (before_start profile c))) (ob_in_moves profile f c d 27 100 startup_info follows)
     ∙ started_moves f (startup_ob profile c) (before_start profile c)
 
 pub histories_move : StatementsMove → HistoriesMove
 unfolding replay
 histories_move statements profile f c d history follows =
-    ap (λ (s : State). run_from d s history) (start_moves profile f c d follows) ∙ run_moves f c d (start profile c) history statements follows
+    ap (λ (s : State). state_after_entries d s history) (start_moves profile f c d follows) ∙ run_moves f c d (initial_state profile c) history statements follows

@@ -7,7 +7,7 @@ use Rattle.plc_base.specs.declared.Spot.{Spot}
 use Rattle.frames.specs.declared.Activation.{Activation}
 use Rattle.frames.specs.declared.bindings.Binding.{Binding}
 use Rattle.machine.specs.Code.{Code}
-use Rattle.machine.specs.Statement.{Step, Went, Ended, SyncError, SysCall, Stop, Stuck, statement}
+use Rattle.machine.specs.Statement.{StatementStep, Went, Ended, SyncError, SysCall, Stop, Stuck, statement_step}
 use Rattle.ob_sched.specs.TickState.{TickState, ob_requested}
 use Rattle.ob_sched.specs.Millisecond.{tick_begun, after_tick}
 use Rattle.ob_sched.specs.OrganizationBlock.{priority_class_in}
@@ -20,18 +20,18 @@ use Rattle.var_access.specs.declared.Request.TheVariants as ask
 use Rattle.var_access.specs.declared.What.{What}
 use Rattle.var_access.specs.declared.What.TheVariants as what
 use Rattle.controller.specs.Asking.{request_effect}
-use Rattle.controller.specs.Beginning.{ob_in, begun_above}
+use Rattle.controller.specs.Beginning.{ob_activation, with_ob_begun}
 use Rattle.controller.specs.CyclePoint.{cycle_point, cycle_info, cycle_finished}
 use Rattle.controller.specs.Errors.{error_raised, error_ob_started, error_in, is_synchronous}
 use Rattle.controller.specs.Event.{entry_counted, entry_effect, state_after}
-use Rattle.controller.specs.Replay.{happens, run_from, replay, EntriesKeepProfile, HistoriesKeepProfile}
+use Rattle.controller.specs.Replay.{entry_result, state_after_entries, replay, EntriesKeepProfile, HistoriesKeepProfile}
 use Rattle.controller.specs.Requests.{stopped_if, tick_state_taken, arrival_served}
-use Rattle.controller.specs.Serving.{Served, Returns, Passes, Stops, after_service, system_function_served}
+use Rattle.controller.specs.Serving.{ServiceResult, Returns, Passes, Stops, after_service, system_function_served}
 use Rattle.controller.specs.Settling.{after_settling, best_started, request_started, request_taken, may_start}
-use Rattle.controller.specs.Start.{before_start, restart_cleared, warm_restarted, start, started_up, startup_ob}
+use Rattle.controller.specs.Start.{before_start, restart_cleared, warm_restarted, initial_state, state_in_startup, startup_ob}
 use Rattle.controller.specs.State.{State, is_stop, diagnosis_recorded, each_diagnosed}
 use Rattle.controller.specs.Stepping.{after_step, step_of_first, after_statement, run_starts, with_activations}
-use Rattle.controller.specs.Stopping.{stop_entered, stop_entered_at, spot_of}
+use Rattle.controller.specs.Stopping.{stop_entered, stop_entered_at, spot_of_frame}
 use Rattle.controller.specs.Ticking.{time_passed, tick_taken, active_obs, timers_moved}
 
 if_stays : (test : Bool) (s t : State) (profile : Profile) → s.profile ≡ profile → t.profile ≡ profile
@@ -45,7 +45,7 @@ diagnosed_stays [] s = refl
 diagnosed_stays (one ∷ rest) s = diagnosed_stays rest (diagnosis_recorded one.0 one.1 s)
 
 begun_stays : (begun : Option Activation) (s : State)
-    → (begun_above begun s).profile ≡ s.profile
+    → (with_ob_begun begun s).profile ≡ s.profile
 begun_stays None s = refl
 begun_stays (Some a) s = refl
 
@@ -58,7 +58,7 @@ best_stays : (code : Code) (best : Option Pending) (s : State)
 best_stays code None s = refl
 best_stays code (Some best) s =
     if_stays (may_start best.class s.activations) (request_started code best s) s s.profile
-    (begun_stays (ob_in s.profile code best.class best.ob best.info) (request_taken s)) refl
+    (begun_stays (ob_activation s.profile code best.class best.ob best.info) (request_taken s)) refl
 
 settled_stays : (code : Code) (s : State) → (after_settling code s).profile ≡ s.profile
 unfolding after_settling
@@ -69,7 +69,7 @@ settled_stays code s =
 cycle_stays : (code : Code) (s : State) → (cycle_point code s).profile ≡ s.profile
 unfolding cycle_point
 cycle_stays code s =
-    begun_stays (ob_in s.profile code (priority_class_in s.mode 1) 1 (cycle_info s)) (cycle_finished s)
+    begun_stays (ob_activation s.profile code (priority_class_in s.mode 1) 1 (cycle_info s)) (cycle_finished s)
 
 answered_stays : (fresh : Option Activation) (error : ℕ) (at : Option Spot) (a : Activation)
     (below : List Activation) (s : State) → (error_ob_started fresh error at a below s).profile ≡ s.profile
@@ -85,13 +85,13 @@ failed_stays code error at a below s =
     s.profile refl
     (answered_stays (error_in code error at a) error at a below (diagnosis_recorded 4 error s))
 
-service_stays : (call : Option Spot) (served : Served) (to : Option Binding)
+service_stays : (call : Option Spot) (served : ServiceResult) (to : Option Binding)
     (below : List Activation) (s : State) → (after_service call served to below s).profile ≡ s.profile
 service_stays call (Returns r) to below s = refl
 service_stays call (Passes sched a) to below s = refl
 service_stays call (Stops cause a) to below s = refl
 
-statement_stays : (code : Code) (step : Step) (ob : ℕ) (at : Option Spot)
+statement_stays : (code : Code) (step : StatementStep) (ob : ℕ) (at : Option Spot)
     (below : List Activation) (s : State)
     → (after_statement code step ob at below s).profile ≡ s.profile
 statement_stays code (Went a w) ob at below s = refl
@@ -108,7 +108,7 @@ stepped_on_stays : (code : Code) (activations : List Activation) (s : State)
     → (step_of_first code activations s).profile ≡ s.profile
 stepped_on_stays code [] s = cycle_stays code s
 stepped_on_stays code (a ∷ below) s =
-    statement_stays code (statement code a s.world) a.ob (spot_of code a.running.frame) below s
+    statement_stays code (statement_step code a s.world) a.ob (spot_of_frame code a.running.frame) below s
 
 stepped_stays : (code : Code) (s : State) → (after_step code s).profile ≡ s.profile
 unfolding after_step
@@ -146,7 +146,7 @@ unfolding time_passed
 passed_stays code ms s =
     tick_stays code (after_tick s.mode (active_obs s.activations) ms s.sched) s
 
-started_stays : (begun : Option Activation) (s : State) → (started_up begun s).profile ≡ s.profile
+started_stays : (begun : Option Activation) (s : State) → (state_in_startup begun s).profile ≡ s.profile
 started_stays None s = refl
 started_stays (Some a) s = refl
 
@@ -186,19 +186,19 @@ after_stays code e s =
     settled_stays code (entry_effect code e (entry_counted s)) ∙ effect_stays code e (entry_counted s)
 
 pub entries_keep : EntriesKeepProfile
-unfolding happens
+unfolding entry_result
 entries_keep code s e = after_stays code e s
 
-run_stays : (code : Code) (s : State) (history : List What) → (run_from code s history).profile ≡ s.profile
+run_stays : (code : Code) (s : State) (history : List What) → (state_after_entries code s history).profile ≡ s.profile
 run_stays code s [] = refl
 run_stays code s (e ∷ rest) =
-    run_stays code (happens code s e).state rest ∙ entries_keep code s e
+    run_stays code (entry_result code s e).state rest ∙ entries_keep code s e
 
-start_stays : (profile : Profile) (code : Code) → (start profile code).profile ≡ profile
-unfolding start
+start_stays : (profile : Profile) (code : Code) → (initial_state profile code).profile ≡ profile
+unfolding initial_state
 start_stays profile code = started_stays (startup_ob profile code) (before_start profile code)
 
 pub histories_keep : HistoriesKeepProfile
 unfolding replay
 histories_keep profile code history =
-    run_stays code (start profile code) history ∙ start_stays profile code
+    run_stays code (initial_state profile code) history ∙ start_stays profile code

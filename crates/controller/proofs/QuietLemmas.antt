@@ -9,16 +9,16 @@ use Rattle.flat_code.specs.Loading.{Verifies}
 use Rattle.flat_code.specs.Programs.{Program}
 use Rattle.machine.specs.Code.{Code}
 use Rattle.machine.specs.Flat.{code_of}
-use Rattle.machine.specs.Lasting.{FitsProgram, IsStatementReady, Lasts}
+use Rattle.machine.specs.Lasting.{FitsProgram, IsStatementReady, StepFitsAgain}
 use Rattle.machine.specs.Silent.{GoesSilently, RunsSilently, StaysReady}
-use Rattle.machine.specs.Statement.{World, Step, Went, statement}
+use Rattle.machine.specs.Statement.{GlobalStore, StatementStep, Went, statement_step}
 use Rattle.ob_sched.specs.Request.{best_of}
 use Rattle.var_access.specs.declared.What.TheVariants as what
 use Rattle.controller.specs.Event.{state_after}
 use Rattle.controller.specs.Fitting.{AllFit, IsFit}
 use Rattle.controller.specs.Monitoring.{monitoring_record}
 use Rattle.controller.specs.Quiet.{GoesOnQuietly, GoesOnReady, ShowNothing}
-use Rattle.controller.specs.Replay.{happens, run_from}
+use Rattle.controller.specs.Replay.{entry_result, state_after_entries}
 use Rattle.controller.specs.Settling.{after_settling}
 use Rattle.controller.specs.Shown.{changed_mode, changed_outputs, is_same_mode, nothing_shown, entry_shown}
 use Rattle.controller.specs.State.{State, is_stop}
@@ -31,31 +31,31 @@ abbrev pub GoesLaw : Type 0
 GoesLaw = (p : Program) (m : Areas) (a : Activation) → Verifies p → FitsProgram p m a → IsStatementReady p a
 
 abbrev pub LastsLaw : Type 0
-LastsLaw = (p : Program) (a : Activation) (w : World)
-    → Verifies p → FitsProgram p w.memory a → Lasts p w (statement (code_of p) a w)
+LastsLaw = (p : Program) (a : Activation) (w : GlobalStore)
+    → Verifies p → FitsProgram p w.memory a → StepFitsAgain p w (statement_step (code_of p) a w)
 
-went_fits : (p : Program) (w then : World) (step : Step) (next : Activation) → step ≡ Went next then
-    → Lasts p w step → FitsProgram p then.memory next
+went_fits : (p : Program) (w then : GlobalStore) (step : StatementStep) (next : Activation) → step ≡ Went next then
+    → StepFitsAgain p w step → FitsProgram p then.memory next
 went_fits p w then step next goes lasts =
-    let on : Lasts p w (Went next then) = subst (λ (s : Step). Lasts p w s) goes lasts in
+    let on : StepFitsAgain p w (Went next then) = subst (λ (s : StatementStep). StepFitsAgain p w s) goes lasts in
     on.fits
 
-still_fits : LastsLaw → (p : Program) → Verifies p → (count : ℕ) (a b : Activation) (w after : World)
+still_fits : LastsLaw → (p : Program) → Verifies p → (count : ℕ) (a b : Activation) (w after : GlobalStore)
     → FitsProgram p w.memory a → RunsSilently (code_of p) count a b w after
     → FitsProgram p after.memory b
 still_fits lasts p verifies zero a b w after fit runs =
-    subst (λ (v : World). FitsProgram p v.memory b) (sym runs.1)
+    subst (λ (v : GlobalStore). FitsProgram p v.memory b) (sym runs.1)
     (subst (λ (c : Activation). FitsProgram p w.memory c) (sym runs.0) fit)
 still_fits lasts p verifies (suc count) a b w after fit (next, then, quiet, rest) =
     still_fits lasts p verifies count next b then after
-    (went_fits p w then (statement (code_of p) a w) next quiet.goes (lasts p a w verifies fit)) rest
+    (went_fits p w then (statement_step (code_of p) a w) next quiet.goes (lasts p a w verifies fit)) rest
 
-stays_ready : GoesLaw → LastsLaw → (p : Program) → Verifies p → (a : Activation) (w : World)
+stays_ready : GoesLaw → LastsLaw → (p : Program) → Verifies p → (a : Activation) (w : GlobalStore)
     → FitsProgram p w.memory a → StaysReady p a w
 stays_ready goes lasts p verifies a w fit = λ count b after runs.
     goes p after.memory b verifies (still_fits lasts p verifies count a b w after fit runs)
 
-all_ready : GoesLaw → LastsLaw → (p : Program) → Verifies p → (activations : List Activation) (w : World)
+all_ready : GoesLaw → LastsLaw → (p : Program) → Verifies p → (activations : List Activation) (w : GlobalStore)
     → AllFit p w.memory activations → GoesOnReady p activations w
 all_ready goes lasts p verifies [] w fit = tt
 all_ready goes lasts p verifies (a ∷ below) w fit = stays_ready goes lasts p verifies a w fit.0
@@ -79,7 +79,7 @@ outputs_kept : (p : PeripheralBytes) → changed_outputs p p ≡ []
 outputs_kept p = none_changed p p (λ n h. refl)
 
 -- the state with another world and another running activation, so many entries later
-abbrev gone_on : State → World → List Activation → (count : ℕ) → State
+abbrev gone_on : State → GlobalStore → List Activation → (count : ℕ) → State
 gone_on s w activations count =
     record s { world = w; activations = activations; entries = s.entries + count }
 
@@ -93,8 +93,8 @@ pub none_there : {X : Type 0} (found : Option X) → is_some found ≡ false →
 none_there None h = refl
 none_there (Some x) h = absurd cc
 
-step_after : (code : Code) (s : State) (a next : Activation) (below : List Activation) (then : World)
-    → IsQuiet s → s.activations ≡ a ∷ below → statement code a s.world ≡ Went next then
+step_after : (code : Code) (s : State) (a next : Activation) (below : List Activation) (then : GlobalStore)
+    → IsQuiet s → s.activations ≡ a ∷ below → statement_step code a s.world ≡ Went next then
     → state_after code what.Step s ≡ gone_on s then (next ∷ below) 1
 unfolding state_after after_step after_settling
 step_after code s a next below then quiet were goes =
@@ -115,17 +115,17 @@ shown_nothing code s after unwatched outputs mode =
     rw (unwatched, outputs, mode, outputs_kept s.world.memory.peripheral_outputs, mode_kept s.mode) refl
 
 -- the entry of a step
-step_state : (code : Code) (s : State) (a next : Activation) (below : List Activation) (then : World)
-    → IsQuiet s → s.activations ≡ a ∷ below → GoesSilently (statement code a s.world) s.world next then
-    → (happens code s what.Step).state ≡ gone_on s then (next ∷ below) 1
-unfolding happens
+step_state : (code : Code) (s : State) (a next : Activation) (below : List Activation) (then : GlobalStore)
+    → IsQuiet s → s.activations ≡ a ∷ below → GoesSilently (statement_step code a s.world) s.world next then
+    → (entry_result code s what.Step).state ≡ gone_on s then (next ∷ below) 1
+unfolding entry_result
 step_state code s a next below then quiet were goes =
     step_after code s a next below then quiet were goes.goes
 
-step_seen : (code : Code) (s : State) (a next : Activation) (below : List Activation) (then : World)
-    → IsQuiet s → s.activations ≡ a ∷ below → GoesSilently (statement code a s.world) s.world next then
-    → (happens code s what.Step).seen ≡ nothing_shown
-unfolding happens
+step_seen : (code : Code) (s : State) (a next : Activation) (below : List Activation) (then : GlobalStore)
+    → IsQuiet s → s.activations ≡ a ∷ below → GoesSilently (statement_step code a s.world) s.world next then
+    → (entry_result code s what.Step).seen ≡ nothing_shown
+unfolding entry_result
 step_seen code s a next below then quiet were goes =
     ap (entry_shown code s what.Step) (step_after code s a next below then quiet were goes.goes)
     ∙ shown_nothing code s (gone_on s then (next ∷ below) 1) (no_record code s a below quiet were)
@@ -134,14 +134,14 @@ step_seen code s a next below then quiet were goes =
 -- ---- quiet statements one after another
 
 -- what so many steps come to
-pub record StepQuietly (code : Code) (s : State) (w : World) (activations : List Activation)
+pub record StepQuietly (code : Code) (s : State) (w : GlobalStore) (activations : List Activation)
     (count : ℕ) : Type 0 where
   pub nothing : ShowNothing code s (replicate count what.Step)
-  pub state : run_from code s (replicate count what.Step)
+  pub state : state_after_entries code s (replicate count what.Step)
       ≡ record s { world = w; activations = activations; entries = s.entries + count }
   pub outputs : w.memory.peripheral_outputs ≡ s.world.memory.peripheral_outputs
 
-nothing_done : (code : Code) (s : State) (w : World) (activations : List Activation)
+nothing_done : (code : Code) (s : State) (w : GlobalStore) (activations : List Activation)
     → activations ≡ s.activations → w ≡ s.world → StepQuietly code s w activations zero
 nothing_done code s w activations are is =
     let same : s.entries ≡ s.entries + 0 = omega arith in
@@ -149,18 +149,18 @@ nothing_done code s w activations are is =
       nothing = tt;
       state =
           ap (λ (n : ℕ). let t : State = record s { entries = n } in t) same
-          ∙ ap (λ (v : World). gone_on s v s.activations 0) (sym is)
+          ∙ ap (λ (v : GlobalStore). gone_on s v s.activations 0) (sym is)
           ∙ ap (λ (acts : List Activation). gone_on s w acts 0) (sym are);
-      outputs = ap (λ (v : World). v.memory.peripheral_outputs) is;
+      outputs = ap (λ (v : GlobalStore). v.memory.peripheral_outputs) is;
     }
 
 one_more_step : (code : Code) (s : State) (a next : Activation) (below activations : List Activation)
-    (then w : World) (count : ℕ) → IsQuiet s → s.activations ≡ a ∷ below
-    → GoesSilently (statement code a s.world) s.world next then
+    (then w : GlobalStore) (count : ℕ) → IsQuiet s → s.activations ≡ a ∷ below
+    → GoesSilently (statement_step code a s.world) s.world next then
     → StepQuietly code (gone_on s then (next ∷ below) 1) w activations count
     → StepQuietly code s w activations (suc count)
 one_more_step code s a next below activations then w count quiet were goes rest =
-    let on : (happens code s what.Step).state ≡ gone_on s then (next ∷ below) 1 =
+    let on : (entry_result code s what.Step).state ≡ gone_on s then (next ∷ below) 1 =
     step_state code s a next below then quiet were goes in
     let all : s.entries + 1 + count ≡ s.entries + suc count = omega arith in
     record {
@@ -169,7 +169,7 @@ one_more_step code s a next below activations then w count quiet were goes rest 
         subst (λ (t : State). ShowNothing code t (replicate count what.Step)) (sym on) rest.nothing,
       );
       state =
-          ap (λ (t : State). run_from code t (replicate count what.Step)) on ∙ rest.state
+          ap (λ (t : State). state_after_entries code t (replicate count what.Step)) on ∙ rest.state
           ∙ ap
           (λ (n : ℕ). let t : State = record s { world = w; activations = activations; entries = n } in t)
           all;
@@ -177,7 +177,7 @@ one_more_step code s a next below activations then w count quiet were goes rest 
     }
 
 runs_on : (code : Code) (count : ℕ) (s : State) (a b : Activation) (below activations : List Activation)
-    (w : World) → IsQuiet s → s.activations ≡ a ∷ below → activations ≡ b ∷ below
+    (w : GlobalStore) → IsQuiet s → s.activations ≡ a ∷ below → activations ≡ b ∷ below
     → RunsSilently code count a b s.world w → StepQuietly code s w activations count
 runs_on code zero s a b below activations w quiet were are runs =
     nothing_done code s w activations
@@ -187,7 +187,7 @@ runs_on code (suc count) s a b below activations w quiet were are (next, then, g
     (runs_on code count (gone_on s then (next ∷ below) 1) next b below activations w
     (record { running = quiet.running; unwatched = quiet.unwatched; none = quiet.none }) refl are rest)
 
-goes_on : (code : Code) (count : ℕ) (s : State) (old new : List Activation) (w : World) → IsQuiet s
+goes_on : (code : Code) (count : ℕ) (s : State) (old new : List Activation) (w : GlobalStore) → IsQuiet s
     → s.activations ≡ old → GoesOnQuietly code count old new s.world w
     → StepQuietly code s w new count
 goes_on code count s [] new w quiet were runs =
@@ -196,7 +196,7 @@ goes_on code count s [] new w quiet were runs =
 goes_on code count s (a ∷ below) new w quiet were (b, are, runs) =
     runs_on code count s a b below new w quiet were are runs
 
-pub steps_quietly : (code : Code) (count : ℕ) (s : State) (new : List Activation) (w : World)
+pub steps_quietly : (code : Code) (count : ℕ) (s : State) (new : List Activation) (w : GlobalStore)
     → IsQuiet s → GoesOnQuietly code count s.activations new s.world w
     → StepQuietly code s w new count
 steps_quietly code count s new w quiet runs =

@@ -9,20 +9,20 @@ use Rattle.flat_code.specs.Placed.{line_placed}
 use Rattle.flat_code.specs.Programs.{CodeBlock, Program}
 use Rattle.image_file.specs.Readers.{block_by_id, line_at_offset}
 use Rattle.machine.specs.Code.{Code, Fetched}
-use Rattle.machine.specs.Flat.{code_of, statement_fetched, op_run_at, most_ops, OpRun, fetched_of}
-use Rattle.machine.specs.Statement.{World, IsNotStuck, step_found, statement}
+use Rattle.machine.specs.Flat.{code_of, statement_fetched, op_run_at, most_ops_of_statement, OpRun, fetched_of}
+use Rattle.machine.specs.Statement.{GlobalStore, IsNotStuck, step_found, statement_step}
 use Rattle.controller.specs.Ready.{HasStatement, CanGo}
-use Rattle.controller.specs.Start.{world_at_rest}
+use Rattle.controller.specs.Start.{global_store_at_rest}
 use Rattle.controller.specs.Stopping.{statement_spot}
 
-fetched_there : (code : Code) (f : Option Fetched) (a : Activation) (w : World)
+fetched_there : (code : Code) (f : Option Fetched) (a : Activation) (w : GlobalStore)
     → IsNotStuck (step_found code f a w) → IsSome f
 fetched_there code None a w goes = absurd goes
 fetched_there code (Some f) a w goes = refl
 
-pub statement_there : (code : Code) (a : Activation) (w : World) → IsNotStuck (statement code a w)
+pub statement_there : (code : Code) (a : Activation) (w : GlobalStore) → IsNotStuck (statement_step code a w)
     → HasStatement code a.running.frame.block a.running.frame.at
-unfolding statement HasStatement
+unfolding statement_step HasStatement
 statement_there code a w goes =
     fetched_there code (code.fetch a.running.frame.block a.running.frame.at) a w goes
 
@@ -38,12 +38,12 @@ run_spot b block line None there = absurd cc
 run_spot b block line (Some run) there = refl
 
 line_spot : (b : CodeBlock) (block : BlockId) (at : ℕ) (line : Option ℕ)
-    → IsSome (option_and_then (λ n. option_map (fetched_of b.code n) (op_run_at most_ops b.code at)) line)
+    → IsSome (option_and_then (λ n. option_map (fetched_of b.code n) (op_run_at most_ops_of_statement b.code at)) line)
     → spot_by block line
     ≡ option_map (λ (f : Fetched). record { block = block; line = f.line })
-    (option_and_then (λ n. option_map (fetched_of b.code n) (op_run_at most_ops b.code at)) line)
+    (option_and_then (λ n. option_map (fetched_of b.code n) (op_run_at most_ops_of_statement b.code at)) line)
 line_spot b block at None there = absurd cc
-line_spot b block at (Some line) there = run_spot b block line (op_run_at most_ops b.code at) there
+line_spot b block at (Some line) there = run_spot b block line (op_run_at most_ops_of_statement b.code at) there
 
 block_spot : (block : BlockId) (at : ℕ) (b : Option CodeBlock)
     → IsSome (option_and_then (λ b. statement_fetched b at) b)
@@ -65,4 +65,4 @@ spot_read p block at there = block_spot block at (block_by_id block p.code_block
 pub can_go_there : (code : Code) (a : Activation) → CanGo code a
     → HasStatement code a.running.frame.block a.running.frame.at
 can_go_there code a can =
-    statement_there code a (world_at_rest Small code) (can.there (world_at_rest Small code))
+    statement_there code a (global_store_at_rest Small code) (can.there (global_store_at_rest Small code))

@@ -21,7 +21,7 @@ use Rattle.ob_sched.specs.declared.start_infos.StartInfo.{StartInfo}
 use Rattle.ob_sched.specs.declared.start_infos.StartEvent.{StartEvent}
 use Rattle.ob_sched.specs.declared.start_infos.StartEvent.TheVariants.{CycleTime, Missed, Delay, Period, NotLoaded as OfNotLoaded}
 use Rattle.ob_sched.proofs.CountdownLemmas.{ending_known, due_known, delay_number, cyclic_number}
-use Rattle.sys_funcs.specs.Disabling.{is_meant, set_if, each_set, all_set}
+use Rattle.sys_funcs.specs.Disabling.{is_interrupt_selected, disabled_if_selected, selected_disabled_from, selected_disabled}
 use Rattle.controller.specs.Fitting.{IsSchedule}
 
 -- what holds of both branches holds of a choice
@@ -113,16 +113,16 @@ disabled_schedule disabled ob s h =
     record { pending = h.pending; delays = h.delays; periods = h.periods }
 
 each_schedule : (disabled : Bool) (mode ob_nr ob count : ℕ) (s : Scheduler) → IsSchedule s
-    → IsSchedule (each_set disabled mode ob_nr ob count s)
+    → IsSchedule (selected_disabled_from disabled mode ob_nr ob count s)
 each_schedule disabled mode ob_nr ob zero s h = h
 each_schedule disabled mode ob_nr ob (suc n) s h =
-    each_schedule disabled mode ob_nr (ob + 1) n (set_if (is_meant mode ob_nr ob) disabled ob s)
-    (of_either IsSchedule (is_meant mode ob_nr ob) (disabled_as disabled ob s) s
+    each_schedule disabled mode ob_nr (ob + 1) n (disabled_if_selected (is_interrupt_selected mode ob_nr ob) disabled ob s)
+    (of_either IsSchedule (is_interrupt_selected mode ob_nr ob) (disabled_as disabled ob s) s
     (disabled_schedule disabled ob s h) h)
 
 pub all_schedule : (disabled : Bool) (mode ob_nr : ℕ) (s : Scheduler) → IsSchedule s
-    → IsSchedule (all_set disabled mode ob_nr s)
-unfolding all_set
+    → IsSchedule (selected_disabled disabled mode ob_nr s)
+unfolding selected_disabled
 all_schedule disabled mode ob_nr s h = each_schedule disabled mode ob_nr 10 38 s h
 
 -- ---- requests and what they lead to

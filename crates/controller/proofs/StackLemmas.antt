@@ -8,7 +8,7 @@ use Rattle.plc_base.specs.declared.Spot.{Spot}
 use Rattle.frames.specs.declared.Activation.{Activation}
 use Rattle.ob_sched.specs.OrganizationBlock.{priority_class_in}
 use Rattle.controller.specs.Errors.{is_synchronous}
-use Rattle.controller.specs.Stack.{may_stand, IsStarted, StandsOn, IsStack, AtMost48}
+use Rattle.controller.specs.Stack.{may_ob_be_started, IsStarted, StandsOn, IsStack, AtMost48}
 
 -- the classes of an operating mode, numbered without a gap
 pub IsClass : Mode → ℕ → Type 0
@@ -20,7 +20,7 @@ abbrev pub level : ℕ → ℕ
 level class = if nat_le class 23 then class else if class == 26 then 24 else class - 26
 
 class_known : (mode : Mode) (ob : ℕ) (below : List Activation)
-    → IsTrue (may_stand mode ob below) → IsClass mode (priority_class_in mode ob)
+    → IsTrue (may_ob_be_started mode ob below) → IsClass mode (priority_class_in mode ob)
 unfolding IsClass
 class_known Run ob below h = grind (arith, nat_tests)
 class_known Startup ob [] h = grind (arith, nat_tests)

@@ -15,11 +15,11 @@ use Rattle.ob_sched.specs.Request.{Request, best_of}
 use Rattle.ob_sched.specs.StartInformation.{ob_of_error}
 use Rattle.ob_sched.specs.declared.requests.Pending.{Pending}
 use Rattle.ob_sched.specs.declared.start_infos.StartInfo.{StartInfo}
-use Rattle.controller.specs.Beginning.{ob_begun, ob_block, ob_frame, ob_in}
+use Rattle.controller.specs.Beginning.{ob_begun, ob_block_id, ob_frame, ob_activation}
 use Rattle.controller.specs.Errors.{is_synchronous}
 use Rattle.controller.specs.Settling.{may_start}
 use Rattle.controller.specs.Stack.{IsAbove, IsStarted, StandsOn, IsStack, RunsInStartup, IsActivationStack, MayBegin}
-use Rattle.controller.specs.Start.{started_up, startup_info, startup_ob}
+use Rattle.controller.specs.Start.{state_in_startup, startup_info, startup_ob}
 use Rattle.controller.specs.State.{State, is_stop}
 use Rattle.controller.proofs.SameLemmas.{told_class, told_ob}
 use Rattle.controller.proofs.StackLemmas.{at_most_48, no_stack, startup_class}
@@ -168,8 +168,8 @@ ob_is_by profile class ob info (Some h) = (
 )
 
 pub ob_is : (profile : Profile) (code : Code) (class ob : ℕ) (info : StartInfo)
-    → IsOf class ob (ob_in profile code class ob info)
-ob_is profile code class ob info = ob_is_by profile class ob info (code.head (ob_block ob))
+    → IsOf class ob (ob_activation profile code class ob info)
+ob_is profile code class ob info = ob_is_by profile class ob info (code.head (ob_block_id ob))
 
 -- in STOP none stands
 pub stop_idle : (mode : Mode) (activations : List Activation) → is_stop mode ≡ true
@@ -190,7 +190,7 @@ first_stands a class_is ob_is = record {
 
 -- so after a start of which none stood before OB 100 stands, or none
 started_stands : (one : Option Activation) (s : State) → IsOf 27 100 one → s.activations ≡ []
-    → IsActivationStack (started_up one s).mode (started_up one s).activations
+    → IsActivationStack (state_in_startup one s).mode (state_in_startup one s).activations
 unfolding IsOf
 started_stands None s is idle =
     subst (λ (acts : List Activation). IsActivationStack Run acts) (sym idle)
@@ -200,7 +200,7 @@ started_stands (Some a) s is idle =
     (first_stands a is.0 is.1)
 
 pub start_stands : (profile : Profile) (code : Code) (s t : State) → s.activations ≡ []
-    → t ≡ started_up (startup_ob profile code) s → IsActivationStack t.mode t.activations
+    → t ≡ state_in_startup (startup_ob profile code) s → IsActivationStack t.mode t.activations
 start_stands profile code s t idle is =
     subst (λ (u : State). IsActivationStack u.mode u.activations) (sym is)
     (started_stands (startup_ob profile code) s (ob_is profile code 27 100 startup_info) idle)

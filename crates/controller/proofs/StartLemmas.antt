@@ -10,9 +10,9 @@ use Rattle.plc_base.specs.Kinds.{kind_number}
 use Rattle.plc_base.specs.declared.BlockId.{BlockId}
 use Rattle.plc_base.specs.declared.blocks.BlockKind.{BlockKind}
 use Rattle.plc_base.specs.declared.blocks.BlockKind.TheVariants as kinds
-use Rattle.flat_code.specs.Faults.{field_fault, is_in_range, unless}
-use Rattle.flat_code.specs.Image.{zero_u16, record_of_block, parts_of_block, code_block_layout, code_blocks, after_block, data_number_layout, instance_field, data_length_layout, contents, data_rows, data_row, fields_of_data, data_block_layout, after_data, data_blocks_layout, records_of, body}
-use Rattle.flat_code.specs.Layout.{chain, good_many, is_fine}
+use Rattle.flat_code.specs.Faults.{field_fault, is_in_range, fault_unless_met}
+use Rattle.flat_code.specs.Image.{zero_u16, record_of_block, parts_of_block, code_block_layout, code_blocks_layout, after_block, data_number_layout, instance_field, data_length_layout, contents_layout, data_rows, data_row, fields_of_data, data_block_layout, after_data, data_blocks_layout, records_of, body_layout}
+use Rattle.flat_code.specs.Layout.{chain_layout, good_many, is_fine}
 use Rattle.flat_code.specs.Loading.{Verifies}
 use Rattle.flat_code.specs.Programs.{CodeBlock, DataBlock, Program}
 use Rattle.flat_code.proofs.PartLemmas.{chain_parts, unless_fine}
@@ -32,13 +32,13 @@ number_rises : (before n : ℕ) → (data_number_layout before).good n ≡ true 
 unfolding data_number_layout field_fault
 number_rises before n good =
     let right = is_in_range 1 2047 n && ltb before n in
-    let fine = and_parts (ltb n 65536) (is_fine (unless right 4)) good in
+    let fine = and_parts (ltb n 65536) (is_fine (fault_unless_met right 4)) good in
     ltb-true before n (and_parts (is_in_range 1 2047 n) (ltb before n) (unless_fine right 4 fine.1)).1
 
 data_rises : (before : ℕ × ℕ) (d : DataBlock) → (data_block_layout before).good d ≡ true → before.0 < d.number
 unfolding data_block_layout data_rows
 data_rises before d good =
-    let a = chain_parts (data_number_layout before.0) (λ number. chain instance_field (λ instance. chain (data_length_layout before.1) (λ n. chain zero_u16 (λ zero. contents n)))) (data_row (fields_of_data d)) good in
+    let a = chain_parts (data_number_layout before.0) (λ number. chain_layout instance_field (λ instance. chain_layout (data_length_layout before.1) (λ n. chain_layout zero_u16 (λ zero. contents_layout n)))) (data_row (fields_of_data d)) good in
     number_rises before.0 d.number a.0
 
 datas_rise : (s : ℕ × ℕ) (n : ℕ) (ds : List DataBlock) → good_many data_block_layout after_data s n ds ≡ true → Rise s.0 ds
@@ -53,7 +53,7 @@ unfolding data_blocks_layout
 datas_are n ds good = datas_rise (0, 0) n ds good
 
 pub numbers_rise : (p : Program) → Verifies p → Rise 0 p.data_blocks
-unfolding body
+unfolding body_layout
 numbers_rise p h = datas_are _ p.data_blocks (good_records true (records_of p) h.right).datas_good
 
 -- ---- code blocks are no data blocks
@@ -82,12 +82,12 @@ blocks_kind s (suc n) (b ∷ bs) h =
     let g = and_parts ((code_block_layout true s).good r) (good_many (code_block_layout true) after_block (after_block s r) n (map record_of_block bs)) h in
     (block_kind s b g.0, blocks_kind (after_block s r) n bs g.1)
 
-codes_are : (n : ℕ) (bs : List CodeBlock) → (code_blocks true n).good (map record_of_block bs) ≡ true → AreCode bs
-unfolding code_blocks
+codes_are : (n : ℕ) (bs : List CodeBlock) → (code_blocks_layout true n).good (map record_of_block bs) ≡ true → AreCode bs
+unfolding code_blocks_layout
 codes_are n bs good = blocks_kind (0, 0) n bs good
 
 are_code : (p : Program) → Verifies p → AreCode p.code_blocks
-unfolding body
+unfolding body_layout
 are_code p h = codes_are _ p.code_blocks (good_records true (records_of p) h.right).codes_good
 
 -- ---- the numbers among all blocks

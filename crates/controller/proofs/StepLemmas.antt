@@ -10,16 +10,16 @@ use Rattle.status_word.specs.declared.Regs.{Regs}
 use Rattle.frames.specs.declared.Activation.{Activation}
 use Rattle.frames.specs.declared.bindings.Binding.{Binding}
 use Rattle.machine.specs.Code.{Code}
-use Rattle.machine.specs.Statement.{World, Step, Went, Ended, SyncError, SysCall, Stop as Stops, statement}
+use Rattle.machine.specs.Statement.{GlobalStore, StatementStep, Went, Ended, SyncError, SysCall, Stop as Stops, statement_step}
 use Rattle.machine.specs.declared.outcomes.Outcome.{Outcome}
 use Rattle.machine.specs.declared.outcomes.Outcome.TheVariants as outcome
 use Rattle.ob_sched.specs.OrganizationBlock.{can_wait, is_error}
 use Rattle.controller.specs.CyclePoint.{cycle_point}
 use Rattle.controller.specs.Errors.{error_raised, error_ob_started, error_in, is_synchronous}
-use Rattle.controller.specs.Leaves.{Steps, StepsTo, stand_of, mode_after, statement_finished}
+use Rattle.controller.specs.Leaves.{LeavesStatementStep, LeavesStepOf, statement_stand, mode_after, statement_finished}
 use Rattle.controller.specs.Monitoring.{regs_left}
 use Rattle.controller.specs.Ready.{HasStatement, IsReady}
-use Rattle.controller.specs.Serving.{Served, Returns, Passes, Stops as Halts, after_service, system_function_served}
+use Rattle.controller.specs.Serving.{ServiceResult, Returns, Passes, Stops as Halts, after_service, system_function_served}
 use Rattle.controller.specs.Stack.{IsStarted, IsErrorIn, StandsOn, RunsInStartup, IsActivationStack}
 use Rattle.controller.specs.State.{State, diagnosis_recorded}
 use Rattle.controller.specs.Stepping.{after_step, step_of_first, after_statement}
@@ -30,21 +30,21 @@ use Rattle.controller.proofs.SameLemmas.{Same, SameStep, statement_same}
 
 -- ---- where nothing runs
 
-pub idle : (code : Code) (old new : List Activation) (w w' : World)
-    → Steps code old new w w' None → new ≡ []
+pub idle : (code : Code) (old new : List Activation) (w w' : GlobalStore)
+    → LeavesStatementStep code old new w w' None → new ≡ []
 idle code [] new w w' steps = steps.0
 idle code (a ∷ below) new w w' steps = absurd steps
 
-idle_on : (code : Code) (s : State) (old new : List Activation) (w' : World)
-    → s.activations ≡ old → Steps code old new s.world w' None
+idle_on : (code : Code) (s : State) (old new : List Activation) (w' : GlobalStore)
+    → s.activations ≡ old → LeavesStatementStep code old new s.world w' None
     → step_of_first code old s ≡ cycle_point code (record s { world = w'; activations = new })
 idle_on code s [] new w' were steps =
     ap (λ (acts : List Activation). cycle_point code (record s { activations = acts })) were
     ∙ rw (steps.0, steps.1) refl
 idle_on code s (a ∷ below) new w' were steps = absurd steps
 
-pub stepped_idle : (code : Code) (s : State) (new : List Activation) (w' : World)
-    → Steps code s.activations new s.world w' None
+pub stepped_idle : (code : Code) (s : State) (new : List Activation) (w' : GlobalStore)
+    → LeavesStatementStep code s.activations new s.world w' None
     → after_step code s ≡ cycle_point code (record s { world = w'; activations = new })
 unfolding after_step
 stepped_idle code s new w' steps = idle_on code s s.activations new w' refl steps
@@ -77,22 +77,22 @@ unfolding error_raised
 failed_from code error at a below acts s =
     failed_by (is_synchronous a.ob) code error at a below acts s
 
-abbrev after : Code → Step → Activation → List Activation → State → State
+abbrev after : Code → StatementStep → Activation → List Activation → State → State
 after code step a below s =
     after_statement code step a.ob (statement_spot code a.running.frame.block a.running.frame.at) below s
 
-service_from : (at : Option Spot) (sv : Served) (to : Option Binding) (below acts : List Activation)
+service_from : (at : Option Spot) (sv : ServiceResult) (to : Option Binding) (below acts : List Activation)
     (s : State)
     → after_service at sv to below s ≡ after_service at sv to below (record s { activations = acts })
 service_from at (Returns r) to below acts s = refl
 service_from at (Passes sched a) to below acts s = refl
 service_from at (Halts cause a) to below acts s = refl
 
-step_done : (code : Code) (s : State) (step : Step) (a : Activation) (regs : Regs)
-    (below new : List Activation) (w' : World) (done : Outcome) → s.activations ≡ a ∷ below
-    → StepsTo step a below new s.world w' done
+step_done : (code : Code) (s : State) (step : StatementStep) (a : Activation) (regs : Regs)
+    (below new : List Activation) (w' : GlobalStore) (done : Outcome) → s.activations ≡ a ∷ below
+    → LeavesStepOf step a below new s.world w' done
     → after code step a below s
-    ≡ statement_finished code (stand_of a regs) done (record s { world = w'; activations = new })
+    ≡ statement_finished code (statement_stand a regs) done (record s { world = w'; activations = new })
 unfolding statement_finished
 step_done code s (Went a' w) a regs below new w' outcome.Went were steps = rw (steps.0, steps.1) refl
 step_done code s (Ended r w) a regs below new w' outcome.Ended were steps = rw (steps.0, steps.1) refl
@@ -108,25 +108,25 @@ step_done code s (Stops cause) a regs below new w' (outcome.Stop why) were steps
     rw (steps.0, steps.2) refl
 step_done code s step a regs below new w' done were steps = absurd steps
 
-running_on : (code : Code) (s : State) (old new : List Activation) (w' : World)
-    (done : At × Outcome) → s.activations ≡ old → Steps code old new s.world w' (Some done)
+running_on : (code : Code) (s : State) (old new : List Activation) (w' : GlobalStore)
+    (done : At × Outcome) → s.activations ≡ old → LeavesStatementStep code old new s.world w' (Some done)
     → step_of_first code old s ≡ statement_finished code done.0 done.1 (record s { world = w'; activations = new })
 running_on code s [] new w' done were steps = absurd steps
 running_on code s (a ∷ below) new w' done were steps =
-    step_done code s (statement code a s.world) a (regs_left (statement code a s.world) a) below new
+    step_done code s (statement_step code a s.world) a (regs_left (statement_step code a s.world) a) below new
     w' done.1 were steps.1
     ∙ ap (λ (stand : At). statement_finished code stand done.1 (record s { world = w'; activations = new }))
     (sym steps.0)
 
-pub stepped_from : (code : Code) (s : State) (new : List Activation) (w' : World)
-    (done : At × Outcome) → Steps code s.activations new s.world w' (Some done)
+pub stepped_from : (code : Code) (s : State) (new : List Activation) (w' : GlobalStore)
+    (done : At × Outcome) → LeavesStatementStep code s.activations new s.world w' (Some done)
     → after_step code s ≡ statement_finished code done.0 done.1 (record s { world = w'; activations = new })
 unfolding after_step
 stepped_from code s new w' done steps =
     running_on code s s.activations new w' done refl steps
 
-pub step_there : (code : Code) (old new : List Activation) (w w' : World)
-    (done : At × Outcome) → IsReady code old → Steps code old new w w' (Some done)
+pub step_there : (code : Code) (old new : List Activation) (w w' : GlobalStore)
+    (done : At × Outcome) → IsReady code old → LeavesStatementStep code old new w w' (Some done)
     → HasStatement code done.0.block done.0.at
 step_there code [] new w w' done ready steps = absurd steps
 step_there code (a ∷ below) new w w' done ready steps =
@@ -208,9 +208,9 @@ ended_by false mode a below is standing = record {
   startup = left_in_startup (is_synchronous a.ob) mode a below is standing.stack.0;
 }
 
-step_left : (mode : Mode) (code : Code) (step : Step) (a : Activation)
-    (below new : List Activation) (w w' : World) (done : Outcome) → SameStep a step
-    → StepsTo step a below new w w' done → IsActivationStack mode (a ∷ below)
+step_left : (mode : Mode) (code : Code) (step : StatementStep) (a : Activation)
+    (below new : List Activation) (w w' : GlobalStore) (done : Outcome) → SameStep a step
+    → LeavesStepOf step a below new w w' done → IsActivationStack mode (a ∷ below)
     → IsActivationStack (mode_after mode a.ob done) new
 step_left mode code (Went a' after) a below new w w' outcome.Went same steps standing =
     subst (λ acts. IsActivationStack mode acts) (sym steps.0) (same_stack mode a a' below same standing)
@@ -225,11 +225,11 @@ step_left mode code (Stops cause) a below new w w' (outcome.Stop why) same steps
     subst (λ acts. IsActivationStack mode acts) (sym steps.1) standing
 step_left mode code step a below new w w' done same steps standing = absurd steps
 
-pub step_stands : (mode : Mode) (code : Code) (old new : List Activation) (w w' : World)
-    (done : At × Outcome) → Steps code old new w w' (Some done) → IsActivationStack mode old
+pub step_stands : (mode : Mode) (code : Code) (old new : List Activation) (w w' : GlobalStore)
+    (done : At × Outcome) → LeavesStatementStep code old new w w' (Some done) → IsActivationStack mode old
     → IsActivationStack (mode_after mode done.0.ob done.1) new
 step_stands mode code [] new w w' done steps standing = absurd steps
 step_stands mode code (a ∷ below) new w w' done steps standing =
     subst (λ (stand : At). IsActivationStack (mode_after mode stand.ob done.1) new) (sym steps.0)
-    (step_left mode code (statement code a w) a below new w w' done.1 (statement_same code a w)
+    (step_left mode code (statement_step code a w) a below new w w' done.1 (statement_same code a w)
     steps.1 standing)

@@ -2,10 +2,10 @@
 use Rattle.std.specs.Prelude.{ℕ, ◌+◌, Bool, true, false, List, [], ◌∷◌, is_some, unwrap_or, Option, Some, None, Result, Ok, Err, if◌then◌else◌}
 use Rattle.plc_base.specs.StopCauses as causes
 use Rattle.plc_mem.specs.Areas.{Areas}
-use Rattle.plc_mem.specs.Number.{number_at}
+use Rattle.plc_mem.specs.Number.{number_at_place}
 use Rattle.plc_mem.specs.Writing.{number_written}
 use Rattle.machine.specs.Code.{Code}
-use Rattle.machine.specs.Statement.{World}
+use Rattle.machine.specs.Statement.{GlobalStore}
 use Rattle.var_access.specs.declared.Reply.{Reply}
 use Rattle.var_access.specs.declared.Reply.TheVariants as reply
 use Rattle.var_access.specs.declared.Request.{Request}
@@ -17,10 +17,10 @@ use Rattle.controller.specs.Stopping.{stop_entered}
 
 -- the number of a variable; none where a bit of it doesn't exist
 abbrev pub var_value : Areas → Var → Option ℕ
-var_value m var = number_at m var.place var.width
+var_value m var = number_at_place m var.place var.width
 
 -- a variable takes a value; nothing changes where it doesn't exist
-abbrev pub var_written : Var → (value : ℕ) → World → World
+abbrev pub var_written : Var → (value : ℕ) → GlobalStore → GlobalStore
 var_written var value w =
     record w { memory = unwrap_or (number_written w.memory var.place var.width value) w.memory }
 
@@ -56,15 +56,15 @@ read_reply (Ok values) = reply.Values values
 read_reply (Err absent) = reply.NoSuch absent
 
 -- the answer where something is there: it is done; the one thing that is named has the index 1
-abbrev pub done_if : (is_there : Bool) → Reply
-done_if true = reply.Done
-done_if false = reply.NoSuch 1
+abbrev pub done_or_no_such : (is_there : Bool) → Reply
+done_or_no_such true = reply.Done
+done_or_no_such false = reply.NoSuch 1
 
 -- what a request is answered, in the state in which it is asked. Indexes count from 1
 unfoldable pub request_reply : Code → Request → State → Reply
 request_reply code (ReadVars vars) s = read_reply (values_from s.world.memory 1 vars)
-request_reply code (WriteVar var value) s = done_if (is_some (var_value s.world.memory var))
-request_reply code (MonitorOn block) s = done_if (is_some (code.head block))
+request_reply code (WriteVar var value) s = done_or_no_such (is_some (var_value s.world.memory var))
+request_reply code (MonitorOn block) s = done_or_no_such (is_some (code.head block))
 request_reply code Restart s = if is_stop s.mode then reply.Done else reply.NotStopped
 request_reply code Diag s = reply.Diag s.diagnostics
 request_reply code Stop s = reply.Done

@@ -12,13 +12,13 @@ use Rattle.ob_sched.specs.declared.start_infos.StartInfo.{StartInfo}
 use Rattle.controller.specs.State.{State}
 
 -- the organization block of a number
-abbrev pub ob_block : ℕ → BlockId
-ob_block ob = record { kind = Ob; number = ob }
+abbrev pub ob_block_id : ℕ → BlockId
+ob_block_id ob = record { kind = Ob; number = ob }
 
 -- the frame of an organization block: at its first statement, nothing open, and its local bytes, 1,024
 -- at most (no program that is loaded has more)
 abbrev pub ob_frame : (ob : ℕ) → BlockHead → Frame
-ob_frame ob head = frame_begun (ob_block ob) (min head.local_len 1024)
+ob_frame ob head = frame_begun (ob_block_id ob) (min head.local_len 1024)
 
 -- bytes from a local byte of the outermost frame on, as far as there are such local bytes
 abbrev pub with_start_bytes : (byte : ℕ) → List ℕ → Activation → Activation
@@ -32,10 +32,10 @@ unfoldable pub ob_begun : Profile → (class ob : ℕ) → StartInfo → BlockHe
 ob_begun profile class ob info head = with_start_bytes 0 info.bytes (activation_begun profile class ob (ob_frame ob head))
 
 -- an organization block of a program as it begins; none where it isn't loaded
-abbrev pub ob_in : Profile → Code → (class ob : ℕ) → StartInfo → Option Activation
-ob_in profile code class ob info = option_map (ob_begun profile class ob info) (code.head (ob_block ob))
+abbrev pub ob_activation : Profile → Code → (class ob : ℕ) → StartInfo → Option Activation
+ob_activation profile code class ob info = option_map (ob_begun profile class ob info) (code.head (ob_block_id ob))
 
 -- it begins above those that stand; without it all stays
-abbrev pub begun_above : Option Activation → State → State
-begun_above None s = s
-begun_above (Some a) s = record s { activations = a ∷ s.activations }
+abbrev pub with_ob_begun : Option Activation → State → State
+with_ob_begun None s = s
+with_ob_begun (Some a) s = record s { activations = a ∷ s.activations }

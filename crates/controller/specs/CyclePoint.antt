@@ -2,18 +2,18 @@
 use Rattle.std.specs.Prelude.{false}
 use Rattle.plc_mem.specs.Refresh.{memory_refreshed}
 use Rattle.machine.specs.Code.{Code}
-use Rattle.machine.specs.Statement.{World}
+use Rattle.machine.specs.Statement.{GlobalStore}
 use Rattle.ob_sched.specs.OrganizationBlock.{priority_class_in}
 use Rattle.ob_sched.specs.Scheduler.{cycle_begun}
 use Rattle.ob_sched.specs.StartInformation.{start_info}
 use Rattle.ob_sched.specs.declared.start_infos.StartInfo.{StartInfo}
 use Rattle.ob_sched.specs.declared.start_infos.StartEvent.TheVariants.{Cycle}
-use Rattle.controller.specs.Beginning.{ob_in, begun_above}
+use Rattle.controller.specs.Beginning.{ob_activation, with_ob_begun}
 use Rattle.controller.specs.State.{State}
 
 -- the process image of the outputs is written to the peripheral outputs, and the peripheral inputs are
 -- read to the process image of the inputs
-abbrev pub images_updated : World → World
+abbrev pub images_updated : GlobalStore → GlobalStore
 images_updated w = record w { memory = memory_refreshed w.memory }
 
 -- and the cycle counter and the mark of an exceeded cycle time are cleared; the next cycle isn't the
@@ -33,4 +33,4 @@ cycle_info s = start_info (Cycle s.first_cycle) (priority_class_in s.mode 1)
 -- then OB 1 begins, if it is loaded
 unfoldable pub cycle_point : Code → State → State
 cycle_point code s =
-    begun_above (ob_in s.profile code (priority_class_in s.mode 1) 1 (cycle_info s)) (cycle_finished s)
+    with_ob_begun (ob_activation s.profile code (priority_class_in s.mode 1) 1 (cycle_info s)) (cycle_finished s)

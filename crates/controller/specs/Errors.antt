@@ -10,7 +10,7 @@ use Rattle.machine.specs.Entering.{at_block}
 use Rattle.ob_sched.specs.StartInformation.{ob_of_error, start_info}
 use Rattle.ob_sched.specs.declared.start_infos.StartEvent.{StartEvent}
 use Rattle.ob_sched.specs.declared.start_infos.StartEvent.TheVariants.{Synchronous}
-use Rattle.controller.specs.Beginning.{ob_in}
+use Rattle.controller.specs.Beginning.{ob_activation}
 use Rattle.controller.specs.State.{State, diagnosis_recorded}
 use Rattle.controller.specs.Stopping.{stop_entered_at}
 
@@ -30,8 +30,8 @@ error_event error (Some at) = Synchronous error (kind_number at.block.kind) at.b
 
 -- an organization block of a synchronous error begins with copies of the registers, but with OS 0, OR 0,
 -- STA 1 and /FC 0, and with the delay count of the activation in which the error came
-abbrev pub copied_from : Activation → (fresh : Activation) → Activation
-copied_from a fresh =
+abbrev pub with_caller_registers : Activation → (fresh : Activation) → Activation
+with_caller_registers a fresh =
     record fresh {
       delay = a.delay;
       running = record fresh.running { regs = at_block a.running.regs };
@@ -40,8 +40,8 @@ copied_from a fresh =
 -- it is one more activation of the same class; none where it isn't loaded
 abbrev pub error_in : Code → (error : ℕ) → (at : Option Spot) → Activation → Option Activation
 error_in code error at a =
-    option_map (copied_from a)
-    (ob_in a.profile code a.class (ob_of_error error) (start_info (error_event error at) a.class))
+    option_map (with_caller_registers a)
+    (ob_activation a.profile code a.class (ob_of_error error) (start_info (error_event error at) a.class))
 
 -- it starts at once, and the activation in which the error came stands below it; without it the
 -- controller stops

@@ -2,7 +2,7 @@
 use Rattle.std.specs.Prelude.{ℕ, ◌+◌, unwrap_or, if◌then◌else◌}
 use Rattle.plc_mem.specs.Peripherals.{with_input}
 use Rattle.machine.specs.Code.{Code}
-use Rattle.machine.specs.Statement.{World}
+use Rattle.machine.specs.Statement.{GlobalStore}
 use Rattle.var_access.specs.declared.What.{What}
 use Rattle.var_access.specs.declared.What.TheVariants.{Step, Input, Arrive, Tick, Ask}
 use Rattle.controller.specs.Asking.{request_effect}
@@ -17,7 +17,7 @@ abbrev pub entry_counted : State → State
 entry_counted s = record s { entries = s.entries + 1 }
 
 -- a byte of the peripheral inputs takes its value; nothing changes where there is no such byte
-abbrev pub input_set : (byte value : ℕ) → World → World
+abbrev pub input_set : (byte value : ℕ) → GlobalStore → GlobalStore
 input_set byte value w =
     record w { memory = unwrap_or (with_input w.memory byte value) w.memory }
 

@@ -16,9 +16,9 @@ use Rattle.ob_sched.specs.Scheduler.{Scheduler}
 use Rattle.var_access.specs.declared.What.{What}
 use Rattle.var_access.specs.Entry.{IsInRange}
 use Rattle.controller.specs.Ready.{IsReady}
-use Rattle.controller.specs.Replay.{happens, replay}
+use Rattle.controller.specs.Replay.{entry_result, replay}
 use Rattle.controller.specs.Stack.{IsActivationStack}
-use Rattle.controller.specs.Start.{start}
+use Rattle.controller.specs.Start.{initial_state}
 use Rattle.controller.specs.State.{State}
 
 -- the activations that stand fit the program and its memory: the running one, and those that wait
@@ -60,13 +60,13 @@ FitIsReady =
 
 -- the first start is fit
 abbrev pub StartIsFit : Type 0
-StartIsFit = (profile : Profile) (p : Program) → Verifies p → IsFit p (start profile (code_of p))
+StartIsFit = (profile : Profile) (p : Program) → Verifies p → IsFit p (initial_state profile (code_of p))
 
 -- each valid entry keeps a state fit
 abbrev pub EntriesKeepFit : Type 0
 EntriesKeepFit =
     (p : Program) (s : State) (what : What)
-    → Verifies p → IsInRange what → IsFit p s → IsFit p (happens (code_of p) s what).state
+    → Verifies p → IsInRange what → IsFit p s → IsFit p (entry_result (code_of p) s what).state
 
 -- so the state after each valid history is fit
 abbrev pub HistoriesAreFit : Type 0

@@ -3,7 +3,7 @@ use Rattle.std.specs.Prelude.{◌≡◌}
 use Rattle.flat_code.specs.Loading.{Verifies}
 use Rattle.machine.specs.Flat.{code_of}
 use Rattle.controller.specs.Fitting.{IsFit}
-use Rattle.controller.specs.Replay.{last_seen, replay}
+use Rattle.controller.specs.Replay.{last_observed, replay}
 use Rattle.controller.specs.Shown.{watched_state}
 use Rattle.controller.specs.Starting.{data_block_numbers}
 use Rattle.controller.specs.Views.{cpu_state}
@@ -24,7 +24,7 @@ pub record IsReplay (a : Inside) : Type 0 where
   pub observer :
       a.observer
       ≡ watched_state (cpu_state a.cpu)
-      (last_seen a.program.profile (code_of a.program.program) (entry_events a.history.entries))
+      (last_observed a.program.profile (code_of a.program.program) (entry_events a.history.entries))
   -- the numbers of the data blocks, in the program's order
   pub numbers :
       a.numbers.items

@@ -8,16 +8,16 @@ use Rattle.plc_mem.specs.Areas.{Areas}
 use Rattle.frames.specs.declared.Activation.{Activation}
 use Rattle.frames.specs.declared.bindings.Binding.{Binding}
 use Rattle.machine.specs.Code.{Code}
-use Rattle.machine.specs.Statement.{World, Step, Went, Ended, SyncError, SysCall, Stop, statement}
+use Rattle.machine.specs.Statement.{GlobalStore, StatementStep, Went, Ended, SyncError, SysCall, Stop, statement_step}
 use Rattle.machine.specs.declared.outcomes.Outcome.{Outcome}
 use Rattle.machine.specs.declared.outcomes.Outcome.TheVariants as outcome
 use Rattle.monitor.specs.declared.MonRecord.{MonRecord}
 use Rattle.ob_sched.specs.Scheduler.{Scheduler}
-use Rattle.sys_funcs.specs.Returned.{LeavesReturned}
+use Rattle.sys_funcs.specs.Returned.{LeavesSystemFunctionResult}
 use Rattle.status_word.specs.declared.Regs.{Regs}
 use Rattle.controller.specs.Errors.{error_in, error_raised}
 use Rattle.controller.specs.Monitoring.{regs_left, regs_served, statement_record}
-use Rattle.controller.specs.Serving.{Served, Returns, Passes, Stops, result_given, after_service, system_function_served}
+use Rattle.controller.specs.Serving.{ServiceResult, Returns, Passes, Stops, result_given, after_service, system_function_served}
 use Rattle.controller.specs.State.{State}
 use Rattle.controller.specs.Stepping.{ob_ended}
 use Rattle.controller.specs.Stopping.{stop_entered_at, statement_spot}
@@ -32,8 +32,8 @@ running_of (a ∷ below) = Some a
 
 -- where its statement stood: its OB, and the innermost block with the position in that block; and the
 -- registers after it
-abbrev pub stand_of : Activation → Regs → At
-stand_of a regs = record {
+abbrev pub statement_stand : Activation → Regs → At
+statement_stand a regs = record {
   ob = a.ob;
   block = a.running.frame.block;
   at = a.running.frame.at;
@@ -64,28 +64,28 @@ ErrorBegins code error at (a ∷ below) new answer =
 
 -- the activations, memory with timers and counters, and the answer after a statement of `a`, above
 -- `below`. By a stop `a` is as it was; for a statement that is stuck there is no answer
-abbrev pub StepsTo :
-    Step → (a : Activation) (below new : List Activation) (w w' : World) → Outcome → Type 0
-StepsTo (Went a' after) a below new w w' outcome.Went = (new ≡ a' ∷ below) × (w' ≡ after)
-StepsTo (Ended regs after) a below new w w' outcome.Ended = (new ≡ below) × (w' ≡ after)
-StepsTo (SyncError code a') a below new w w' (outcome.SyncError error) =
+abbrev pub LeavesStepOf :
+    StatementStep → (a : Activation) (below new : List Activation) (w w' : GlobalStore) → Outcome → Type 0
+LeavesStepOf (Went a' after) a below new w w' outcome.Went = (new ≡ a' ∷ below) × (w' ≡ after)
+LeavesStepOf (Ended regs after) a below new w w' outcome.Ended = (new ≡ below) × (w' ≡ after)
+LeavesStepOf (SyncError code a') a below new w w' (outcome.SyncError error) =
     (error ≡ code) × (new ≡ a' ∷ below) × (w' ≡ w)
-StepsTo (SysCall number given a') a below new w w' (outcome.SysCall function inputs result) =
+LeavesStepOf (SysCall number given a') a below new w w' (outcome.SysCall function inputs result) =
     (function ≡ number) × (inputs ≡ given.inputs) × (result ≡ given.result)
     × (new ≡ a' ∷ below) × (w' ≡ w)
-StepsTo (Stop cause) a below new w w' (outcome.Stop why) =
+LeavesStepOf (Stop cause) a below new w w' (outcome.Stop why) =
     (why ≡ cause) × (new ≡ a ∷ below) × (w' ≡ w)
-StepsTo step a below new w w' answer = ⊥
+LeavesStepOf step a below new w w' answer = ⊥
 
 -- a statement of the running activation, and where it stood, with the registers before a system
 -- function does its work; no answer where nothing runs
-abbrev pub Steps :
-    Code → (old new : List Activation) (w w' : World) → Option (At × Outcome) → Type 0
-Steps code [] new w w' None = (new ≡ []) × (w' ≡ w)
-Steps code (a ∷ below) new w w' (Some done) =
-    (done.0 ≡ stand_of a (regs_left (statement code a w) a))
-    × StepsTo (statement code a w) a below new w w' done.1
-Steps code old new w w' answer = ⊥
+abbrev pub LeavesStatementStep :
+    Code → (old new : List Activation) (w w' : GlobalStore) → Option (At × Outcome) → Type 0
+LeavesStatementStep code [] new w w' None = (new ≡ []) × (w' ≡ w)
+LeavesStatementStep code (a ∷ below) new w w' (Some done) =
+    (done.0 ≡ statement_stand a (regs_left (statement_step code a w) a))
+    × LeavesStepOf (statement_step code a w) a below new w w' done.1
+LeavesStatementStep code old new w w' answer = ⊥
 
 -- the mode after a statement of an organization block: RUN after the end of OB 100, else as before
 -- (a stop is still to come)
@@ -136,16 +136,16 @@ record_of_statement code monitored stand regs = statement_record code monitored 
 
 -- what a system function leaves of the scheduler and its activation, and what it answers: RET_VAL,
 -- nothing, or its stop cause, which changes nothing of the scheduler
-abbrev pub Serves : Served → (s s' : Scheduler) (a' : Activation) → Answer → Type 0
-Serves (Returns r) s s' a' (answers.Value value) = LeavesReturned r s' a' value
-Serves (Passes sched a) s s' a' answers.Nothing = (s' ≡ sched) × (a' ≡ a)
-Serves (Stops cause a) s s' a' (answers.Halt why) = (why ≡ cause) × (s' ≡ s) × (a' ≡ a)
-Serves served s s' a' answer = ⊥
+abbrev pub LeavesServiceResult : ServiceResult → (s s' : Scheduler) (a' : Activation) → Answer → Type 0
+LeavesServiceResult (Returns r) s s' a' (answers.Value value) = LeavesSystemFunctionResult r s' a' value
+LeavesServiceResult (Passes sched a) s s' a' answers.Nothing = (s' ≡ sched) × (a' ≡ a)
+LeavesServiceResult (Stops cause a) s s' a' (answers.Halt why) = (why ≡ cause) × (s' ≡ s) × (a' ≡ a)
+LeavesServiceResult served s s' a' answer = ⊥
 
 -- and its RET_VAL was given where it is bound, and the activation stands above `below`, with no
 -- answer; or the answer is its stop cause, the activation stands there, and memory and scheduler stay
 abbrev pub ServesTo :
-    Served → Option Binding → (below new : List Activation) (m m' : Areas) (s s' : Scheduler)
+    ServiceResult → Option Binding → (below new : List Activation) (m m' : Areas) (s s' : Scheduler)
     → Option ℕ → Type 0
 ServesTo (Returns r) to below new m m' s s' None =
     (new ≡ (result_given to r.value r.activation m).activation ∷ below)

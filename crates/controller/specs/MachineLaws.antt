@@ -17,9 +17,9 @@ use Rattle.flat_code.specs.Programs.{Program}
 use Rattle.machine.specs.Code.{BlockHead}
 use Rattle.machine.specs.Fitting.{IsMemoryOf, SameSizes}
 use Rattle.machine.specs.Flat.{code_of}
-use Rattle.machine.specs.Lasting.{FitsProgram, GoesOnFitting, IsStatementReady, Lasts, first_frame, ob_block}
+use Rattle.machine.specs.Lasting.{FitsProgram, GoesOnFitting, IsStatementReady, StepFitsAgain, first_frame, ob_block}
 use Rattle.machine.specs.Results.{GivesResult}
-use Rattle.machine.specs.Statement.{World, statement}
+use Rattle.machine.specs.Statement.{GlobalStore, statement_step}
 
 -- of activations that fit a program, one that verifies where a law asks for it, and of its memory
 pub record MachineLaws : Type 0 where
@@ -27,8 +27,8 @@ pub record MachineLaws : Type 0 where
   pub goes : (p : Program) (m : Areas) (a : Activation)
       → Verifies p → FitsProgram p m a → IsStatementReady p a
   -- it fits after that statement too
-  pub lasts : (p : Program) (a : Activation) (w : World)
-      → Verifies p → FitsProgram p w.memory a → Lasts p w (statement (code_of p) a w)
+  pub lasts : (p : Program) (a : Activation) (w : GlobalStore)
+      → Verifies p → FitsProgram p w.memory a → StepFitsAgain p w (statement_step (code_of p) a w)
   -- it fits each memory with areas and data blocks of the same sizes
   pub stays : (p : Program) (m n : Areas) (a : Activation)
       → SameSizes m n → FitsProgram p m a → FitsProgram p n a

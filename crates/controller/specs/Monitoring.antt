@@ -8,24 +8,24 @@ use Rattle.status_word.specs.StatusNumber.{status_number}
 use Rattle.status_word.specs.declared.Regs.{Regs}
 use Rattle.frames.specs.declared.Activation.{Activation}
 use Rattle.machine.specs.Code.{Code}
-use Rattle.machine.specs.Statement.{Step, Went, Ended, SyncError, SysCall, Stop, Stuck, statement}
+use Rattle.machine.specs.Statement.{StatementStep, Went, Ended, SyncError, SysCall, Stop, Stuck, statement_step}
 use Rattle.monitor.specs.declared.MonRecord.{MonRecord}
 use Rattle.ob_sched.specs.Scheduler.{Scheduler}
 use Rattle.var_access.specs.declared.What.{What}
 use Rattle.var_access.specs.declared.What.TheVariants as what
-use Rattle.controller.specs.Serving.{Served, Returns, Passes, Stops, system_function_served}
+use Rattle.controller.specs.Serving.{ServiceResult, Returns, Passes, Stops, system_function_served}
 use Rattle.controller.specs.State.{State, is_stop}
 use Rattle.controller.specs.Stopping.{statement_spot}
 
 -- the registers as a system function leaves them; RET_VAL isn't one of them
-abbrev pub regs_served : Served → Regs
+abbrev pub regs_served : ServiceResult → Regs
 regs_served (Returns r) = r.activation.running.regs
 regs_served (Passes sched a) = a.running.regs
 regs_served (Stops cause a) = a.running.regs
 
 -- the registers of activation `a` after its statement, and before a system function that it calls does
 -- its work. One that fails, or stops by block depth or local data, changes none
-abbrev pub regs_left : Step → (a : Activation) → Regs
+abbrev pub regs_left : StatementStep → (a : Activation) → Regs
 regs_left (Went b w) a = b.running.regs
 regs_left (Ended regs w) a = regs
 regs_left (SyncError code b) a = b.running.regs
@@ -34,7 +34,7 @@ regs_left (Stop cause) a = a.running.regs
 regs_left Stuck a = a.running.regs
 
 -- after the whole statement, the work of the system function included
-abbrev pub regs_after : Scheduler → Step → (a : Activation) → Regs
+abbrev pub regs_after : Scheduler → StatementStep → (a : Activation) → Regs
 regs_after s (SysCall number given b) a = regs_served (system_function_served number given.inputs s b)
 regs_after s step a = regs_left step a
 
@@ -66,7 +66,7 @@ abbrev pub step_record : Code → State → List Activation → Option MonRecord
 step_record code s [] = None
 step_record code s (a ∷ below) =
     statement_record code s.monitored a.running.frame.block a.running.frame.at
-    (regs_after s.sched (statement code a s.world) a)
+    (regs_after s.sched (statement_step code a s.world) a)
 
 -- what is recorded of an entry, by the state before it: a step outside STOP shows its statement, with
 -- the registers before settling, whatever comes of it

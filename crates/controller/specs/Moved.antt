@@ -3,9 +3,9 @@ use Rattle.std.specs.Prelude.{◌≡◌, ℕ, List, map}
 use Rattle.plc_base.specs.declared.Profile.{Profile}
 use Rattle.plc_base.specs.declared.BlockId.{BlockId}
 use Rattle.machine.specs.Code.{Code}
-use Rattle.machine.specs.Moved.{Follows, moved_activation}
+use Rattle.machine.specs.Moved.{FollowsCode, moved_activation}
 use Rattle.var_access.specs.declared.What.{What}
-use Rattle.controller.specs.Replay.{Happened, happens, replay}
+use Rattle.controller.specs.Replay.{EntryResult, entry_result, replay}
 use Rattle.controller.specs.State.{State}
 
 -- the state with each frame at the position that the function gives for its own; nothing else has
@@ -14,17 +14,17 @@ abbrev pub moved_state : (BlockId → ℕ → ℕ) → State → State
 moved_state f s = record s { activations = map (moved_activation f) s.activations }
 
 -- what happened, with the state moved so; the answer and what was shown are the same
-abbrev pub moved_happened : (BlockId → ℕ → ℕ) → Happened → Happened
+abbrev pub moved_happened : (BlockId → ℕ → ℕ) → EntryResult → EntryResult
 moved_happened f h = record h { state = moved_state f h.state }
 
 -- an entry does the same in a code that follows
 abbrev pub EntriesMove : Type 0
 EntriesMove =
-    (f : BlockId → ℕ → ℕ) (c d : Code) (s : State) (what : What) → Follows f c d
-    → happens d (moved_state f s) what ≡ moved_happened f (happens c s what)
+    (f : BlockId → ℕ → ℕ) (c d : Code) (s : State) (what : What) → FollowsCode f c d
+    → entry_result d (moved_state f s) what ≡ moved_happened f (entry_result c s what)
 
 -- and so does a whole history: mode, memory, scheduler and diagnostics are the same after it
 abbrev pub HistoriesMove : Type 0
 HistoriesMove =
-    (profile : Profile) (f : BlockId → ℕ → ℕ) (c d : Code) (history : List What) → Follows f c d
+    (profile : Profile) (f : BlockId → ℕ → ℕ) (c d : Code) (history : List What) → FollowsCode f c d
     → replay profile d history ≡ moved_state f (replay profile c history)

@@ -3,11 +3,11 @@ use Rattle.std.specs.Prelude.{◌≡◌, ◌&&◌, ℕ, Bool, false, not, is_som
 use Rattle.frames.specs.declared.Activation.{Activation}
 use Rattle.flat_code.specs.Programs.{Program}
 use Rattle.machine.specs.Code.{Code}
-use Rattle.machine.specs.Silent.{RunsSilently, StaysReady, goes_as, is_silent}
-use Rattle.machine.specs.Statement.{World}
+use Rattle.machine.specs.Silent.{RunsSilently, StaysReady, goes_on_by_kind, is_silent}
+use Rattle.machine.specs.Statement.{GlobalStore}
 use Rattle.ob_sched.specs.Request.{best_of}
 use Rattle.var_access.specs.declared.What.{What}
-use Rattle.controller.specs.Replay.{happens}
+use Rattle.controller.specs.Replay.{entry_result}
 use Rattle.controller.specs.Shown.{nothing_shown}
 use Rattle.controller.specs.State.{State, is_stop}
 
@@ -15,17 +15,17 @@ use Rattle.controller.specs.State.{State, is_stop}
 abbrev pub ShowNothing : Code → State → List What → Type 0
 ShowNothing code s [] = Unit {0}
 ShowNothing code s (what ∷ rest) =
-    ((happens code s what).seen ≡ nothing_shown)
-    × ShowNothing code (happens code s what).state rest
+    ((entry_result code s what).seen ≡ nothing_shown)
+    × ShowNothing code (entry_result code s what).state rest
 
 -- the running activation, if one runs, stays ready through silent statements
-abbrev pub GoesOnReady : Program → List Activation → World → Type 0
+abbrev pub GoesOnReady : Program → List Activation → GlobalStore → Type 0
 GoesOnReady p [] w = Unit {0}
 GoesOnReady p (a ∷ below) w = StaysReady p a w
 
 -- it has executed so many of them, above the others; where none runs nothing was done
 abbrev pub GoesOnQuietly :
-    Code → (count : ℕ) → (old new : List Activation) (w w' : World) → Type 0
+    Code → (count : ℕ) → (old new : List Activation) (w w' : GlobalStore) → Type 0
 GoesOnQuietly code count [] new w w' = (count ≡ 0) × (new ≡ []) × (w' ≡ w)
 GoesOnQuietly code count (a ∷ below) new w w' =
     (b : Activation) × (new ≡ b ∷ below) × RunsSilently code count a b w w'
@@ -33,9 +33,9 @@ GoesOnQuietly code count (a ∷ below) new w w' =
 -- ---- before which steps it stops
 
 -- the running activation goes on with a statement of the silent kind
-abbrev pub goes_on_quietly : Code → List Activation → World → Bool
+abbrev pub goes_on_quietly : Code → List Activation → GlobalStore → Bool
 goes_on_quietly code [] w = false
-goes_on_quietly code (a ∷ below) w = goes_as is_silent code a w
+goes_on_quietly code (a ∷ below) w = goes_on_by_kind is_silent code a w
 
 -- the next step is such a statement, outside STOP, where no block is monitored and no request waits
 abbrev pub steps_quietly : Code → State → Bool

@@ -4,7 +4,7 @@ use Rattle.plc_base.specs.declared.BlockId.{BlockId}
 use Rattle.frames.specs.Activations.{frames_of}
 use Rattle.frames.specs.declared.Activation.{Activation}
 use Rattle.machine.specs.Code.{Code}
-use Rattle.machine.specs.Statement.{World, IsNotStuck, statement}
+use Rattle.machine.specs.Statement.{GlobalStore, IsNotStuck, statement_step}
 
 -- a statement of a block stands at a position
 unfoldable pub HasStatement : Code → BlockId → (at : ℕ) → Type 0
@@ -17,7 +17,7 @@ pub record CanGo (code : Code) (a : Activation) : Type 0 where
   -- each frame has its local data
   pub depth : length a.running.locals.starts ≡ length (frames_of a)
   -- nothing that the statement needs is missing
-  pub there : (w : World) → IsNotStuck (statement code a w)
+  pub there : (w : GlobalStore) → IsNotStuck (statement_step code a w)
 
 -- this is so of the running activation, if one runs
 abbrev pub IsReady : Code → List Activation → Type 0

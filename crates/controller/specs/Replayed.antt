@@ -4,7 +4,7 @@ use Rattle.std.specs.FinMap as finmap
 use Rattle.machine.specs.Flat.{code_of}
 use Rattle.var_access.specs.declared.Entry.{Entry}
 use Rattle.var_access.specs.declared.What.{What}
-use Rattle.controller.specs.Replay.{Happened, happens, last_seen, replay}
+use Rattle.controller.specs.Replay.{EntryResult, entry_result, last_observed, replay}
 use Rattle.controller.specs.State.{State}
 use Rattle.controller.specs.declared.observing.Observed.{Observed}
 use Rattle.controller.specs.Recording.{Recording}
@@ -18,12 +18,12 @@ abbrev pub final_state : Recording → State
 final_state r = replay r.profile (code_of r.program) (entry_events r.history)
 
 -- what a further entry does then
-abbrev pub next_happens : Recording → Entry → Happened
-next_happens r e = happens (code_of r.program) (final_state r) e.what
+abbrev pub next_happens : Recording → Entry → EntryResult
+next_happens r e = entry_result (code_of r.program) (final_state r) e.what
 
 -- what the last entry showed; nothing before the first one
 abbrev pub last_shown : Recording → Observed
-last_shown r = last_seen r.profile (code_of r.program) (entry_events r.history)
+last_shown r = last_observed r.profile (code_of r.program) (entry_events r.history)
 
 -- the loaded data blocks by rising number, with their bytes after all entries
 abbrev pub final_data_blocks : Recording → List (ℕ × List ℕ)

@@ -5,7 +5,7 @@ use Rattle.machine.specs.Code.{Code}
 use Rattle.ob_sched.specs.Request.{best_of}
 use Rattle.ob_sched.specs.Scheduler.{best_removed}
 use Rattle.ob_sched.specs.declared.requests.Pending.{Pending}
-use Rattle.controller.specs.Beginning.{ob_in, begun_above}
+use Rattle.controller.specs.Beginning.{ob_activation, with_ob_begun}
 use Rattle.controller.specs.State.{State, is_stop}
 
 -- an organization block of a class may start: nothing runs, or its class is above the running one's
@@ -22,7 +22,7 @@ request_taken s = record s { sched = best_removed s.sched }
 -- information; if it isn't loaded, none begins
 abbrev pub request_started : Code → Pending → State → State
 request_started code best s =
-    begun_above (ob_in s.profile code best.class best.ob best.info) (request_taken s)
+    with_ob_begun (ob_activation s.profile code best.class best.ob best.info) (request_taken s)
 
 -- the best request, if one is pending, is started where it may; else it stays pending
 abbrev pub best_started : Code → Option Pending → State → State

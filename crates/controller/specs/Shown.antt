@@ -62,7 +62,7 @@ entry_shown code before what after =
     after
 
 -- what is kept from one entry to the next: the peripheral outputs and the mode, and what was shown
-pub record Watched : Type 0 where
+pub record WatchedState : Type 0 where
   -- the peripheral outputs
   pub outputs : PeripheralBytes
   -- the operating mode
@@ -71,7 +71,7 @@ pub record Watched : Type 0 where
   pub seen : Observed
 
 -- what is kept of a state, with what was shown last
-abbrev pub watched_state : State → (seen : Observed) → Watched
+abbrev pub watched_state : State → (seen : Observed) → WatchedState
 watched_state s seen = record {
   outputs = s.world.memory.peripheral_outputs;
   mode = s.mode;
@@ -80,5 +80,5 @@ watched_state s seen = record {
 
 -- the next entry shows its monitoring record and what has changed since then, and the state after it is
 -- kept
-abbrev pub watched_next : Watched → Option MonRecord → (after : State) → Watched
+abbrev pub watched_next : WatchedState → Option MonRecord → (after : State) → WatchedState
 watched_next w mon after = watched_state after (observed_changes mon w.outputs w.mode after)

@@ -11,11 +11,11 @@ use Rattle.controller.specs.Errors.{is_synchronous}
 
 -- which organization blocks are started, above others or above none: in RUN each that can wait, in
 -- STARTUP OB 100 above none, and OB 80 and OB 85 above others, and in STOP none
-abbrev pub may_stand : Mode → (ob : ℕ) → (below : List Activation) → Bool
-may_stand Run ob below = can_wait ob
-may_stand Startup ob [] = ob == 100
-may_stand Startup ob (b ∷ below) = is_error ob
-may_stand (Stop cause at) ob below = false
+abbrev pub may_ob_be_started : Mode → (ob : ℕ) → (below : List Activation) → Bool
+may_ob_be_started Run ob below = can_wait ob
+may_ob_be_started Startup ob [] = ob == 100
+may_ob_be_started Startup ob (b ∷ below) = is_error ob
+may_ob_be_started (Stop cause at) ob below = false
 
 -- its class is above that of the one below it, if there is one
 abbrev pub IsAbove : (class : ℕ) → (below : List Activation) → Type 0
@@ -26,7 +26,7 @@ IsAbove class (b ∷ below) = b.class < class
 -- that is above the class of the one below it
 pub record IsStarted (mode : Mode) (class ob : ℕ) (below : List Activation) : Type 0 where
   -- its organization block may stand there in this mode
-  pub stands : IsTrue (may_stand mode ob below)
+  pub stands : IsTrue (may_ob_be_started mode ob below)
   -- its priority class is its own in this mode
   pub class_is : class ≡ priority_class_in mode ob
   -- that is above the class of the one below it

@@ -10,12 +10,12 @@ use Rattle.timers_counters.specs.Counter.{counter_at_rest}
 use Rattle.timers_counters.specs.Restart.{counters_retained}
 use Rattle.frames.specs.declared.Activation.{Activation}
 use Rattle.machine.specs.Code.{Code}
-use Rattle.machine.specs.Statement.{World}
+use Rattle.machine.specs.Statement.{GlobalStore}
 use Rattle.ob_sched.specs.Scheduler.{sched_at_rest, sched_restarted}
 use Rattle.ob_sched.specs.StartInformation.{start_info}
 use Rattle.ob_sched.specs.declared.start_infos.StartInfo.{StartInfo}
 use Rattle.ob_sched.specs.declared.start_infos.StartEvent.TheVariants.{Startup as OfStartup}
-use Rattle.controller.specs.Beginning.{ob_block, ob_in, begun_above}
+use Rattle.controller.specs.Beginning.{ob_block_id, ob_activation, with_ob_begun}
 use Rattle.controller.specs.State.{State, diagnosis_recorded}
 use Rattle.controller.specs.Stepping.{run_starts}
 
@@ -28,11 +28,11 @@ all_obs =
 
 -- those of them that the program has, by rising number
 abbrev pub loaded_obs : Code → List ℕ
-loaded_obs code = filter (λ ob. is_some (code.head (ob_block ob))) all_obs
+loaded_obs code = filter (λ ob. is_some (code.head (ob_block_id ob))) all_obs
 
 -- data blocks have their first bytes, all other memory is 0, timers and counters are at rest
-abbrev pub world_at_rest : Profile → Code → World
-world_at_rest profile code = record {
+abbrev pub global_store_at_rest : Profile → Code → GlobalStore
+global_store_at_rest profile code = record {
   memory = initial_memory profile code.blocks;
   timers = replicate (timer_count profile) timer_at_rest;
   counters = replicate (counter_count profile) counter_at_rest;
@@ -43,7 +43,7 @@ world_at_rest profile code = record {
 abbrev pub before_start : Profile → Code → State
 before_start profile code = record {
   profile = profile;
-  world = world_at_rest profile code;
+  world = global_store_at_rest profile code;
   mode = Run;
   activations = [];
   sched = sched_at_rest (loaded_obs code);
@@ -59,20 +59,20 @@ startup_info = start_info OfStartup 27
 
 -- OB 100 as it begins; none where it isn't loaded
 abbrev pub startup_ob : Profile → Code → Option Activation
-startup_ob profile code = ob_in profile code 27 100 startup_info
+startup_ob profile code = ob_activation profile code 27 100 startup_info
 
 -- with OB 100 the mode is STARTUP, and it begins; else RUN begins
-abbrev pub started_up : Option Activation → State → State
-started_up None s = run_starts s
-started_up (Some a) s = begun_above (Some a) (record s { mode = Startup })
+abbrev pub state_in_startup : Option Activation → State → State
+state_in_startup None s = run_starts s
+state_in_startup (Some a) s = with_ob_begun (Some a) (record s { mode = Startup })
 
 -- the first start
-unfoldable pub start : Profile → Code → State
-start profile code = started_up (startup_ob profile code) (before_start profile code)
+unfoldable pub initial_state : Profile → Code → State
+initial_state profile code = state_in_startup (startup_ob profile code) (before_start profile code)
 
 -- of memory and counters what is retained stays, and all timers of the profile are at rest again
-abbrev pub world_cleared : Profile → World → World
-world_cleared profile w = record w {
+abbrev pub global_store_after_restart : Profile → GlobalStore → GlobalStore
+global_store_after_restart profile w = record w {
   memory = memory_after_restart w.memory;
   timers = replicate (timer_count profile) timer_at_rest;
   counters = counters_retained w.counters;
@@ -83,7 +83,7 @@ world_cleared profile w = record w {
 abbrev pub restart_cleared : State → State
 restart_cleared s =
     record s {
-      world = world_cleared s.profile s.world;
+      world = global_store_after_restart s.profile s.world;
       sched = sched_restarted s.sched;
       first_cycle = true;
     }
@@ -91,4 +91,4 @@ restart_cleared s =
 -- a warm restart out of STOP, recorded by code 6: what isn't retained is cleared, and OB 100 or RUN
 -- begins
 unfoldable pub warm_restarted : Code → State → State
-warm_restarted code s = started_up (startup_ob s.profile code) (restart_cleared (diagnosis_recorded 6 0 s))
+warm_restarted code s = state_in_startup (startup_ob s.profile code) (restart_cleared (diagnosis_recorded 6 0 s))

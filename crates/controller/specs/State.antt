@@ -5,8 +5,8 @@ use Rattle.plc_base.specs.declared.Profile.{Profile}
 use Rattle.plc_base.specs.declared.Mode.{Mode}
 use Rattle.plc_base.specs.declared.Mode.TheVariants.{Run, Startup, Stop}
 use Rattle.frames.specs.declared.Activation.{Activation}
-use Rattle.machine.specs.Statement.{World}
-use Rattle.monitor.specs.Diagnostics.{latest}
+use Rattle.machine.specs.Statement.{GlobalStore}
+use Rattle.monitor.specs.Diagnostics.{last_records}
 use Rattle.monitor.specs.declared.DiagRecord.{DiagRecord}
 use Rattle.ob_sched.specs.Scheduler.{Scheduler}
 
@@ -18,7 +18,7 @@ pub record State : Type 0 where
   -- the profile (docs/SEMANTICS.md, "Memory")
   pub profile : Profile
   -- memory, timers and counters
-  pub world : World
+  pub world : GlobalStore
   -- the operating mode: STARTUP, RUN or STOP
   pub mode : Mode
   -- the organization blocks that run or are interrupted, the running one first
@@ -44,7 +44,7 @@ is_stop (Stop cause at) = true
 abbrev pub diagnosis_recorded : (code info : ℕ) → State → State
 diagnosis_recorded code info s =
     record s {
-      diagnostics = latest s.diagnostics (record { entry = s.entries; code = code; info = info });
+      diagnostics = last_records s.diagnostics (record { entry = s.entries; code = code; info = info });
     }
 
 -- records one after another

@@ -4,13 +4,13 @@ use Rattle.plc_base.specs.declared.Mode.TheVariants.{Run}
 use Rattle.plc_base.specs.declared.Spot.{Spot}
 use Rattle.frames.specs.declared.Activation.{Activation}
 use Rattle.machine.specs.Code.{Code}
-use Rattle.machine.specs.Statement.{World, Step, Went, Ended, SyncError, SysCall, Stop, Stuck, statement}
+use Rattle.machine.specs.Statement.{GlobalStore, StatementStep, Went, Ended, SyncError, SysCall, Stop, Stuck, statement_step}
 use Rattle.ob_sched.specs.Scheduler.{run_begun}
 use Rattle.controller.specs.CyclePoint.{cycle_point}
 use Rattle.controller.specs.Errors.{error_raised}
 use Rattle.controller.specs.Serving.{system_call_served}
 use Rattle.controller.specs.State.{State}
-use Rattle.controller.specs.Stopping.{stop_entered_at, spot_of}
+use Rattle.controller.specs.Stopping.{stop_entered_at, spot_of_frame}
 
 -- RUN begins, with the periods of the cyclic interrupts and with the cycle counter at 0
 abbrev pub run_starts : State → State
@@ -21,13 +21,13 @@ abbrev pub ob_ended : (ob : ℕ) → State → State
 ob_ended ob s = if ob == 100 then run_starts s else s
 
 -- memory, timers and counters, and the activations are these; all else stays
-abbrev pub with_activations : World → List Activation → State → State
+abbrev pub with_activations : GlobalStore → List Activation → State → State
 with_activations w activations s = record s { world = w; activations = activations }
 
 -- the state by what comes of a statement of an organization block, which stands at `at`. One that
 -- is stuck changes nothing; a program that verifies has none
 abbrev pub after_statement :
-    Code → Step → (ob : ℕ) → (at : Option Spot) → (below : List Activation) → State → State
+    Code → StatementStep → (ob : ℕ) → (at : Option Spot) → (below : List Activation) → State → State
 after_statement code (Went a w) ob at below s = with_activations w (a ∷ below) s
 after_statement code (Ended regs w) ob at below s = ob_ended ob (with_activations w below s)
 after_statement code (SyncError error a) ob at below s = error_raised code error at a below s
@@ -40,7 +40,7 @@ after_statement code Stuck ob at below s = s
 abbrev pub step_of_first : Code → List Activation → State → State
 step_of_first code [] s = cycle_point code s
 step_of_first code (a ∷ below) s =
-    after_statement code (statement code a s.world) a.ob (spot_of code a.running.frame) below s
+    after_statement code (statement_step code a s.world) a.ob (spot_of_frame code a.running.frame) below s
 
 -- a step: of the activations that stand
 unfoldable pub after_step : Code → State → State

@@ -8,7 +8,7 @@ use Rattle.plc_mem.specs.Peripherals.{outputs_cleared}
 use Rattle.frames.specs.declared.Activation.{Activation}
 use Rattle.frames.specs.declared.frame.Frame.{Frame}
 use Rattle.machine.specs.Code.{Code}
-use Rattle.machine.specs.Statement.{World}
+use Rattle.machine.specs.Statement.{GlobalStore}
 use Rattle.ob_sched.specs.Scheduler.{sched_stopped}
 use Rattle.controller.specs.State.{State, diagnosis_recorded}
 
@@ -17,16 +17,16 @@ abbrev pub statement_spot : Code → BlockId → (at : ℕ) → Option Spot
 statement_spot code block at = option_map (λ i. record { block = block; line = i.line }) (code.fetch block at)
 
 -- where a frame stands
-abbrev pub spot_of : Code → Frame → Option Spot
-spot_of code f = statement_spot code f.block f.at
+abbrev pub spot_of_frame : Code → Frame → Option Spot
+spot_of_frame code f = statement_spot code f.block f.at
 
 -- where the running activation stands; nowhere if there is none
 abbrev pub running_spot : Code → List Activation → Option Spot
 running_spot code [] = None
-running_spot code (a ∷ below) = spot_of code a.running.frame
+running_spot code (a ∷ below) = spot_of_frame code a.running.frame
 
 -- each peripheral output becomes 0; the process image of the outputs and all else stay
-abbrev pub outputs_off : World → World
+abbrev pub outputs_off : GlobalStore → GlobalStore
 outputs_off w = record w { memory = outputs_cleared w.memory }
 
 -- STOP with its cause and its spot, recorded by code 5: activations, pending requests and delays end,

@@ -3,7 +3,7 @@ use Rattle.std.specs.Prelude.{ℕ, List, map, reverse}
 use Rattle.std.specs.Fn.{iterate}
 use Rattle.frames.specs.declared.Activation.{Activation}
 use Rattle.machine.specs.Code.{Code}
-use Rattle.machine.specs.Statement.{World}
+use Rattle.machine.specs.Statement.{GlobalStore}
 use Rattle.timers_counters.specs.Timer.{timer_after_ms}
 use Rattle.ob_sched.specs.TickState.{TickState}
 use Rattle.ob_sched.specs.Millisecond.{after_tick}
@@ -11,7 +11,7 @@ use Rattle.controller.specs.State.{State}
 use Rattle.controller.specs.Requests.{tick_state_taken}
 
 -- the running timers, so many single milliseconds
-abbrev pub timers_moved : (ms : ℕ) → World → World
+abbrev pub timers_moved : (ms : ℕ) → GlobalStore → GlobalStore
 timers_moved ms w = record w { timers = iterate (map timer_after_ms) ms w.timers }
 
 -- the organization blocks that are active, the lowest one first

@@ -1,7 +1,7 @@
 -- What the code's types stand for.
 use Rattle.std.specs.Prelude.{List, take, reverse, ℕ}
 use Rattle.frames.specs.declared.Activation.{Activation}
-use Rattle.machine.specs.Statement.{world}
+use Rattle.machine.specs.Statement.{global_store}
 use Rattle.ob_sched.specs.Views.{scheduler_of}
 use Rattle.controller.specs.State.{State}
 use Rattle.controller.specs.declared.cpus.Cpu.{Cpu}
@@ -15,7 +15,7 @@ activations_of standing all = reverse (take standing all)
 abbrev pub cpu_state : Cpu → State
 cpu_state p = record {
   profile = p.profile;
-  world = world p.memory p.timers p.counters;
+  world = global_store p.memory p.timers p.counters;
   mode = p.mode;
   activations = p.activations;
   sched = scheduler_of p.sched;

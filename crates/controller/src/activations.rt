@@ -3,16 +3,16 @@ ghost use Rattle.std.specs.Prelude.{◌≡◌, ◌<◌, ◌≤◌, false, [], �
 ghost use Rattle.std.specs.Option.{option_map};
 ghost use Rattle.frames.specs.Activations.{activation_begun, frame_begun};
 ghost use Rattle.machine.specs.Flat.{code_of};
-ghost use Rattle.machine.specs.Statement.{world};
+ghost use Rattle.machine.specs.Statement.{global_store};
 ghost use Rattle.ob_sched.specs.StartInformation.{ob_of_error};
 ghost use Rattle.ob_sched.specs.Views.{scheduler_of};
-ghost use Rattle.controller.specs.Beginning.{ob_block as block_of_ob, ob_in, with_start_bytes};
+ghost use Rattle.controller.specs.Beginning.{ob_block_id as block_of_ob, ob_activation, with_start_bytes};
 ghost use Rattle.controller.specs.Errors.{error_in};
-ghost use Rattle.controller.specs.Leaves.{ObBegins, ErrorBegins, HandsRegsOn, Steps, ServesRunning, running_of};
+ghost use Rattle.controller.specs.Leaves.{ObBegins, ErrorBegins, HandsRegsOn, LeavesStatementStep, ServesRunning, running_of};
 ghost use Rattle.controller.specs.Quiet.{GoesOnQuietly, GoesOnReady, goes_on_quietly};
 ghost use Rattle.controller.specs.Ready.{CanGo, IsReady};
 ghost use Rattle.controller.specs.Settling.{may_start};
-ghost use Rattle.controller.specs.Stopping.{running_spot, spot_of as spot_of_frame};
+ghost use Rattle.controller.specs.Stopping.{running_spot, spot_of_frame};
 ghost use Rattle.controller.specs.Ticking.{active_obs};
 
 use crate::beginning::{at_begin, local_len_of, ob_block, tell};
@@ -233,9 +233,9 @@ impl Activations {
         info: &StartInfo,
     ) -> bool
         requires { length self.old < 48 }
-        ensures begins { ObBegins (ob_in profile (code_of program.now.program) class ob info.now)
+        ensures begins { ObBegins (ob_activation profile (code_of program.now.program) class ob info.now)
             self.old self.new result }
-        ensures is { IfSome (ob_in profile (code_of program.now.program) class ob info.now)
+        ensures is { IfSome (ob_activation profile (code_of program.now.program) class ob info.now)
             (λ a. (a.class ≡ class) × (a.ob ≡ ob)) }
     {
         match local_len_of(program, ob) {
@@ -307,8 +307,8 @@ impl Activations {
         n: &mut Counters,
     ) -> Option<(At, Outcome)>
         requires { IsReady (code_of program.now.program) self.old }
-        ensures { Steps (code_of program.now.program) self.old self.new
-            (world m.old t.old n.old) (world m.new t.new n.new) result }
+        ensures { LeavesStatementStep (code_of program.now.program) self.old self.new
+            (global_store m.old t.old n.old) (global_store m.new t.new n.new) result }
     {
         let place = self.standing.checked_sub(1)?;
         let running = &mut self.all.as_mut_slice()[place];
@@ -340,12 +340,12 @@ impl Activations {
         n: &mut Counters,
         most: u64,
     ) -> u64
-        requires { GoesOnReady program.now.program self.old (world m.old t.old n.old) }
+        requires { GoesOnReady program.now.program self.old (global_store m.old t.old n.old) }
         ensures few { result ≤ most }
         ensures runs { GoesOnQuietly (code_of program.now.program) result self.old self.new
-            (world m.old t.old n.old) (world m.new t.new n.new) }
+            (global_store m.old t.old n.old) (global_store m.new t.new n.new) }
         ensures stops { result < most → goes_on_quietly (code_of program.now.program) self.new
-            (world m.new t.new n.new) ≡ false }
+            (global_store m.new t.new n.new) ≡ false }
     {
         let Some(place) = self.standing.checked_sub(1) else {
             return 0;

@@ -4,7 +4,7 @@ ghost use Rattle.plc_base.specs.StopCauses.{by_operator};
 ghost use Rattle.plc_base.specs.Widths.{bit_count};
 ghost use Rattle.machine.specs.Flat.{code_of};
 ghost use Rattle.var_access.specs.Entry.{IsRequest};
-ghost use Rattle.controller.specs.Asking.{request_reply, request_effect, done_if as answer_if, values_from, var_written};
+ghost use Rattle.controller.specs.Asking.{request_reply, request_effect, done_or_no_such as answer_if, values_from, var_written};
 ghost use Rattle.controller.specs.Ready.{IsReady};
 ghost use Rattle.controller.specs.Stack.{IsActivationStack};
 ghost use Rattle.controller.specs.Start.{warm_restarted};

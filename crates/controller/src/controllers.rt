@@ -6,11 +6,11 @@ ghost use Rattle.plc_mem.specs.Places.{IsMemory};
 ghost use Rattle.image_file.specs.Readers.{data_bytes_of};
 ghost use Rattle.machine.specs.Flat.{code_of};
 ghost use Rattle.var_access.specs.Entry.{IsRequest, IsValid};
-ghost use Rattle.var_access.specs.Runs.{AreRuns, written_out};
+ghost use Rattle.var_access.specs.Runs.{AreRuns, entries_of_runs};
 ghost use Rattle.var_access.specs.declared.What.TheVariants.{Step};
 ghost use Rattle.controller.specs.Asking.{request_reply};
 ghost use Rattle.controller.specs.Quiet.{ShowNothing, steps_quietly};
-ghost use Rattle.controller.specs.Replay.{run_from};
+ghost use Rattle.controller.specs.Replay.{state_after_entries};
 ghost use Rattle.controller.specs.Replayed.{final_data_blocks as blocks_after, next_happens, block_bytes as with_number, final_state, last_shown};
 
 use crate::cpus::Cpu;
@@ -130,7 +130,7 @@ impl Controller {
 
     /// Makes one entry of the history, and answers what the entry answers: a request its reply, each
     /// other entry `Done`. Takes no memory.
-    #[tactic(auto, unfolding(crate::specs::Replay::happens))]
+    #[tactic(auto, unfolding(crate::specs::Replay::entry_result))]
     pub fn apply(&mut self, e: Entry) -> Reply
         requires room { 1 ≤ self.old.spare }
         requires valid { IsValid e }
@@ -164,7 +164,7 @@ impl Controller {
         } }
         ensures nothing { ShowNothing (code_of self.old.program) (final_state self.old)
             (replicate result Step) }
-        ensures state { final_state self.new ≡ run_from (code_of self.old.program)
+        ensures state { final_state self.new ≡ state_after_entries (code_of self.old.program)
             (final_state self.old) (replicate result Step) }
         ensures stops { result < most
             → steps_quietly (code_of self.old.program) (final_state self.new) ≡ false }
@@ -215,7 +215,7 @@ impl Controller {
     /// The history as runs: written out in their order these are its entries, and no run of steps is
     /// followed by one of the same worker. Takes no memory.
     pub fn runs(&self) -> &[Run]
-        ensures out { written_out result.now ≡ self.now.history }
+        ensures out { entries_of_runs result.now ≡ self.now.history }
         ensures are { AreRuns result.now }
     {
         self.history.runs()

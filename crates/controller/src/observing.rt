@@ -47,9 +47,9 @@ pub struct Observer {
 }
 
 impl Model for Observer {
-    ghost use Rattle.controller.specs.Shown.{Watched};
+    ghost use Rattle.controller.specs.Shown.{WatchedState};
 
-    ghost Value = { Watched };
+    ghost Value = { WatchedState };
 
     ghost view = { λ o. record { outputs = o.outputs; mode = o.mode; seen = o.seen } };
 

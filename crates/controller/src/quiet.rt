@@ -4,7 +4,7 @@ ghost use Rattle.machine.specs.Flat.{code_of};
 ghost use Rattle.var_access.specs.declared.entries.What.TheVariants.{Step};
 ghost use Rattle.controller.specs.Fitting.{IsFit};
 ghost use Rattle.controller.specs.Quiet.{ShowNothing, steps_quietly};
-ghost use Rattle.controller.specs.Replay.{run_from};
+ghost use Rattle.controller.specs.Replay.{state_after_entries};
 ghost use Rattle.controller.specs.Views.{cpu_state};
 
 use crate::cpus::Cpu;
@@ -23,7 +23,7 @@ impl Cpu {
         ensures nothing { ShowNothing (code_of program.now.program) (cpu_state self.old)
             (replicate result Step) }
         ensures state { cpu_state self.new
-            ≡ run_from (code_of program.now.program) (cpu_state self.old) (replicate result Step) }
+            ≡ state_after_entries (code_of program.now.program) (cpu_state self.old) (replicate result Step) }
         ensures outputs { (cpu_state self.new).world.memory.peripheral_outputs
             ≡ (cpu_state self.old).world.memory.peripheral_outputs }
         ensures mode { self.new.mode ≡ self.old.mode }

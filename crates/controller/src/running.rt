@@ -5,7 +5,7 @@ ghost use Rattle.var_access.specs.Entry.{IsInRange};
 ghost use Rattle.controller.specs.Event.{entry_effect, input_set};
 ghost use Rattle.controller.specs.Monitoring.{monitoring_record, step_record};
 ghost use Rattle.controller.specs.Ready.{IsReady};
-ghost use Rattle.controller.specs.Replay.{happens};
+ghost use Rattle.controller.specs.Replay.{entry_result};
 ghost use Rattle.controller.specs.Stack.{IsActivationStack};
 ghost use Rattle.controller.specs.State.{is_stop as is_stop_of};
 ghost use Rattle.controller.specs.Stepping.{after_step};
@@ -71,16 +71,16 @@ impl Cpu {
 
     /// One entry of the history, over a program in which the running activation can go on, and settling
     /// after it. The answer is what is recorded of it. Takes no memory.
-    #[tactic(auto, unfolding(crate::specs::Event::state_after, crate::specs::Monitoring::monitoring_record, crate::specs::Replay::happens, crate::specs::Shown::entry_shown))]
+    #[tactic(auto, unfolding(crate::specs::Event::state_after, crate::specs::Monitoring::monitoring_record, crate::specs::Replay::entry_result, crate::specs::Shown::entry_shown))]
     pub fn enter(&mut self, program: &Loaded, what: &What) -> Option<MonRecord>
         requires range { IsInRange what.now }
         requires few { self.old.entries + 1 < 2 ^ 64 }
         requires ready { IsReady (code_of program.now.program) self.old.activations }
         requires stack { IsActivationStack self.old.mode self.old.activations }
         ensures state { cpu_state self.new
-            ≡ (happens (code_of program.now.program) (cpu_state self.old) what.now).state }
+            ≡ (entry_result (code_of program.now.program) (cpu_state self.old) what.now).state }
         ensures record { result
-            ≡ (happens (code_of program.now.program) (cpu_state self.old) what.now).seen.mon }
+            ≡ (entry_result (code_of program.now.program) (cpu_state self.old) what.now).seen.mon }
         ensures stack { IsActivationStack self.new.mode self.new.activations }
     {
         self.entries += 1;

@@ -3,7 +3,7 @@ ghost use Rattle.std.specs.Prelude.{◌≡◌, [], false};
 ghost use Rattle.machine.specs.Flat.{code_of};
 ghost use Rattle.ob_sched.specs.Request.{IsBest};
 ghost use Rattle.ob_sched.specs.Views.{scheduler_of};
-ghost use Rattle.controller.specs.Beginning.{ob_in, begun_above};
+ghost use Rattle.controller.specs.Beginning.{ob_activation, with_ob_begun};
 ghost use Rattle.controller.specs.CyclePoint.{cycle_point};
 ghost use Rattle.controller.specs.Settling.{request_started, after_settling};
 ghost use Rattle.controller.specs.Stack.{IsActivationStack, MayBegin};
@@ -25,7 +25,7 @@ impl Cpu {
         requires stack { IsActivationStack self.old.mode self.old.activations }
         requires above { MayBegin self.old.mode class ob self.old.activations }
         ensures state { cpu_state self.new
-            ≡ begun_above (ob_in self.old.profile (code_of program.now.program) class ob info)
+            ≡ with_ob_begun (ob_activation self.old.profile (code_of program.now.program) class ob info)
             (cpu_state self.old) }
         ensures stack { IsActivationStack self.new.mode self.new.activations }
     {

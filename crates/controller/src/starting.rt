@@ -3,7 +3,7 @@ ghost use Rattle.std.specs.Prelude.{◌≡◌, [], true, map, IfOk};
 ghost use Rattle.machine.specs.Flat.{code_of};
 ghost use Rattle.plc_mem.specs.Blocks.{bytes_by_number};
 ghost use Rattle.plc_mem.specs.Fresh.{initial_memory};
-ghost use Rattle.controller.specs.Start.{loaded_obs as obs_loaded, warm_restarted, start, started_up, startup_ob};
+ghost use Rattle.controller.specs.Start.{loaded_obs as obs_loaded, warm_restarted, initial_state, state_in_startup, startup_ob};
 ghost use Rattle.controller.specs.Stack.{IsActivationStack};
 ghost use Rattle.controller.specs.State.{is_stop};
 ghost use Rattle.controller.specs.Starting.{is_data_block_id as is_data_block_of, data_block_numbers_in as numbers_in_of, data_block_numbers, read_block as read_block_of};
@@ -113,7 +113,7 @@ impl Cpu {
     fn start_up(&mut self, program: &Loaded)
         requires { self.old.activations ≡ [] }
         ensures { cpu_state self.new
-            ≡ started_up (startup_ob self.old.profile (code_of program.now.program))
+            ≡ state_in_startup (startup_ob self.old.profile (code_of program.now.program))
             (cpu_state self.old) }
     {
         let info = StartInfo::new(StartEvent::Startup, STARTUP_CLASS);
@@ -134,9 +134,9 @@ impl Cpu {
     /// # Errors
     ///
     /// `NoMemory` for want of memory.
-    #[tactic(auto, unfolding(crate::specs::Start::start))]
+    #[tactic(auto, unfolding(crate::specs::Start::initial_state))]
     pub fn start(alloc: Global, program: &Loaded, profile: Profile) -> Result<Cpu, NoMemory>
-        ensures { IfOk result (λ p. cpu_state p ≡ start profile (code_of program.now.program)) }
+        ensures { IfOk result (λ p. cpu_state p ≡ initial_state profile (code_of program.now.program)) }
     {
         let obs = loaded_obs(alloc, program)?;
         let mut cpu = Cpu {

@@ -4,7 +4,7 @@ use Rattle.std.specs.Char.{to_ascii_lowercase}
 use Rattle.std.specs.Str.{bytes_eq, str_eq_ignore_ascii_case, str_to_ascii_lowercase}
 use Rattle.std.proofs.lemmas.List.{map-append}
 use Rattle.std.proofs.lemmas.Slice.Eq.{bytes_eq-Decides}
-use Rattle.de_mnemonics.specs.Places.{is_among}
+use Rattle.de_mnemonics.specs.Places.{is_word_in_list}
 
 pub same_from : (a b : List ℕ) → str_to_ascii_lowercase a ≡ str_to_ascii_lowercase b → str_eq_ignore_ascii_case a b ≡ true
 same_from a b e = (bytes_eq-Decides (str_to_ascii_lowercase a) (str_to_ascii_lowercase b)).1 e
@@ -28,7 +28,7 @@ pub same_text : (a b c : List ℕ) → str_eq_ignore_ascii_case a b ≡ true →
 same_text a b c e = ap (λ (l : List ℕ). bytes_eq l (str_to_ascii_lowercase c)) (same_to a b e)
 
 -- a word is in a list where such a word is
-pub same_among : (table : List (List ℕ)) (a b : List ℕ) → str_eq_ignore_ascii_case a b ≡ true → is_among table a ≡ is_among table b
-unfolding is_among
+pub same_among : (table : List (List ℕ)) (a b : List ℕ) → str_eq_ignore_ascii_case a b ≡ true → is_word_in_list table a ≡ is_word_in_list table b
+unfolding is_word_in_list
 same_among [] a b e = refl
 same_among (x ∷ xs) a b e = rw (same_text a b x e, same_among xs a b e) refl

@@ -14,9 +14,9 @@ use Rattle.stl_symbols.specs.declared.languages.Language.{Language}
 use Rattle.stl_symbols.specs.declared.languages.Language.TheVariants.{English, German}
 use Rattle.de_mnemonics.specs.declared.roles.Role.TheVariants as role
 use Rattle.de_mnemonics.specs.Back.{WordsComeBack}
-use Rattle.de_mnemonics.specs.Tables.{Pairs, instructions, jumps, operands, results}
+use Rattle.de_mnemonics.specs.Tables.{WordPairs, instruction_pairs, jump_pairs, operand_pairs, result_pairs}
 use Rattle.de_mnemonics.proofs.CaseLemmas.{itself, same_behind}
-use Rattle.de_mnemonics.specs.Words.{digits, exchanged, instruction_partner, letter_count, letters, numbered_partner, operand_partner, opposite, partner, written}
+use Rattle.de_mnemonics.specs.Words.{digits_of_word, exchanged_word, instruction_partner, letter_count_of_word, letters_of_word, numbered_partner, operand_partner, opposite_language, partner_in_table, translated_word}
 
 none≢some : {A : Type 0} (a : A) → None ≡ Some a → ⊥
 none≢some a e = cc
@@ -39,9 +39,9 @@ record IsPair (language : Language) (test : List ℕ × List ℕ → Bool) (word
   beside : other language pair ≡ found
   passes : test pair ≡ true
 
-pair_there : (language : Language) (test : List ℕ × List ℕ → Bool) (table : Pairs) (word found : List ℕ)
-    → list_all test table ≡ true → partner language table word ≡ Some found → IsPair language test word found
-unfolding partner
+pair_there : (language : Language) (test : List ℕ × List ℕ → Bool) (table : WordPairs) (word found : List ℕ)
+    → list_all test table ≡ true → partner_in_table language table word ≡ Some found → IsPair language test word found
+unfolding partner_in_table
 pair_there German test [] word found all is = absurd (none≢some found is)
 pair_there English test [] word found all is = absurd (none≢some found is)
 pair_there German test (p ∷ ps) word found all is =
@@ -89,28 +89,28 @@ back_from language look_up word found p = record {
 -- ---- instruction words
 
 instructions_back : (language : Language)
-    → list_all (λ pair. gives (instruction_partner (opposite language) (other language pair)) (own language pair)) instructions ≡ true
-unfolding instruction_partner partner instructions jumps
+    → list_all (λ pair. gives (instruction_partner (opposite_language language) (other language pair)) (own language pair)) instruction_pairs ≡ true
+unfolding instruction_partner partner_in_table instruction_pairs jump_pairs
 instructions_back German = refl
 instructions_back English = refl
 
 jumps_back : (language : Language)
-    → list_all (λ pair. gives (instruction_partner (opposite language) (other language pair)) (own language pair)) jumps ≡ true
-unfolding instruction_partner partner instructions jumps
+    → list_all (λ pair. gives (instruction_partner (opposite_language language) (other language pair)) (own language pair)) jump_pairs ≡ true
+unfolding instruction_partner partner_in_table instruction_pairs jump_pairs
 jumps_back German = refl
 jumps_back English = refl
 
 instruction_back : (language : Language) (word found : List ℕ) → instruction_partner language word ≡ Some found
-    → IsBack (instruction_partner (opposite language)) word found
+    → IsBack (instruction_partner (opposite_language language)) word found
 unfolding instruction_partner
-instruction_back language word found is = by_first (partner language instructions word) refl is
+instruction_back language word found is = by_first (partner_in_table language instruction_pairs word) refl is
   where
-    by_first : (o : Option (List ℕ)) → partner language instructions word ≡ o → option_or o (partner language jumps word) ≡ Some found
-        → IsBack (instruction_partner (opposite language)) word found
-    by_first (Some x) e is = back_from language (instruction_partner (opposite language)) word found
-        (pair_there language _ instructions word found (instructions_back language) (e ∙ is))
-    by_first None e is = back_from language (instruction_partner (opposite language)) word found
-        (pair_there language _ jumps word found (jumps_back language) is)
+    by_first : (o : Option (List ℕ)) → partner_in_table language instruction_pairs word ≡ o → option_or o (partner_in_table language jump_pairs word) ≡ Some found
+        → IsBack (instruction_partner (opposite_language language)) word found
+    by_first (Some x) e is = back_from language (instruction_partner (opposite_language language)) word found
+        (pair_there language _ instruction_pairs word found (instructions_back language) (e ∙ is))
+    by_first None e is = back_from language (instruction_partner (opposite_language language)) word found
+        (pair_there language _ jump_pairs word found (jumps_back language) is)
 
 -- ---- operand words
 
@@ -121,101 +121,101 @@ no_digits (b ∷ s) e = rw ((and_parts (is_ascii_digit b) (list_all is_ascii_dig
 one_add : (n : ℕ) → 1 + n ≡ suc n
 one_add n = omega arith
 
-pub letters_end : (w s : List ℕ) → list_all (λ b. not (is_ascii_digit b)) w ≡ true → list_all is_ascii_digit s ≡ true → letter_count (w ++ s) ≡ length w
+pub letters_end : (w s : List ℕ) → list_all (λ b. not (is_ascii_digit b)) w ≡ true → list_all is_ascii_digit s ≡ true → letter_count_of_word (w ++ s) ≡ length w
 letters_end [] s e h = no_digits s h
 letters_end (b ∷ w) s e h =
     let parts = and_parts (not (is_ascii_digit b)) (list_all (λ b. not (is_ascii_digit b)) w) e in
     rw (parts.0, one_add) (ap suc (letters_end w s parts.1 h))
 
 numbered_there : (language : Language) (w s again : List ℕ) → list_all (λ b. not (is_ascii_digit b)) w ≡ true → list_all is_ascii_digit s ≡ true
-    → partner language operands w ≡ Some again → numbered_partner language (w ++ s) ≡ Some (again ++ s)
+    → partner_in_table language operand_pairs w ≡ Some again → numbered_partner language (w ++ s) ≡ Some (again ++ s)
 unfolding numbered_partner
 numbered_there language w s again e h found =
-    let end : letter_count (w ++ s) ≡ length w = letters_end w s e h in
+    let end : letter_count_of_word (w ++ s) ≡ length w = letters_end w s e h in
     rw (end, drop-append_seam w s, take-append_seam w s, h, found) refl
 
 operands_back : (language : Language)
-    → list_all (λ pair. gives (partner (opposite language) operands (other language pair)) (own language pair)
-    && list_all (λ b. not (is_ascii_digit b)) (other language pair)) operands ≡ true
-unfolding partner operands
+    → list_all (λ pair. gives (partner_in_table (opposite_language language) operand_pairs (other language pair)) (own language pair)
+    && list_all (λ b. not (is_ascii_digit b)) (other language pair)) operand_pairs ≡ true
+unfolding partner_in_table operand_pairs
 operands_back German = refl
 operands_back English = refl
 
 results_back : (language : Language)
-    → list_all (λ pair. gives (operand_partner (opposite language) (other language pair)) (own language pair)) results ≡ true
-unfolding operand_partner numbered_partner partner operands results
+    → list_all (λ pair. gives (operand_partner (opposite_language language) (other language pair)) (own language pair)) result_pairs ≡ true
+unfolding operand_partner numbered_partner partner_in_table operand_pairs result_pairs
 results_back German = refl
 results_back English = refl
 
 numbered_back : (language : Language) (word found : List ℕ) → numbered_partner language word ≡ Some found
-    → IsBack (operand_partner (opposite language)) word found
+    → IsBack (operand_partner (opposite_language language)) word found
 unfolding numbered_partner operand_partner
-numbered_back language word found is = by_digits (list_all is_ascii_digit (digits word)) refl is
+numbered_back language word found is = by_digits (list_all is_ascii_digit (digits_of_word word)) refl is
   where
-    by_pair : list_all is_ascii_digit (digits word) ≡ true → (x : List ℕ)
-        → IsPair language (λ pair. gives (partner (opposite language) operands (other language pair)) (own language pair)
-        && list_all (λ b. not (is_ascii_digit b)) (other language pair)) (letters word) x
-        → x ++ digits word ≡ found → IsBack (operand_partner (opposite language)) word found
+    by_pair : list_all is_ascii_digit (digits_of_word word) ≡ true → (x : List ℕ)
+        → IsPair language (λ pair. gives (partner_in_table (opposite_language language) operand_pairs (other language pair)) (own language pair)
+        && list_all (λ b. not (is_ascii_digit b)) (other language pair)) (letters_of_word word) x
+        → x ++ digits_of_word word ≡ found → IsBack (operand_partner (opposite_language language)) word found
     by_pair h x p e =
         let at = other language p.pair in
-        let parts = and_parts (gives (partner (opposite language) operands at) (own language p.pair)) (list_all (λ b. not (is_ascii_digit b)) at) p.passes in
-        let there : numbered_partner (opposite language) (at ++ digits word) ≡ Some (own language p.pair ++ digits word) =
-        numbered_there (opposite language) at (digits word) (own language p.pair) parts.1 h
-        (given (partner (opposite language) operands at) (own language p.pair) parts.0) in
-        let found_is : at ++ digits word ≡ found = ap (λ (front : List ℕ). front ++ digits word) p.beside ∙ e in
+        let parts = and_parts (gives (partner_in_table (opposite_language language) operand_pairs at) (own language p.pair)) (list_all (λ b. not (is_ascii_digit b)) at) p.passes in
+        let there : numbered_partner (opposite_language language) (at ++ digits_of_word word) ≡ Some (own language p.pair ++ digits_of_word word) =
+        numbered_there (opposite_language language) at (digits_of_word word) (own language p.pair) parts.1 h
+        (given (partner_in_table (opposite_language language) operand_pairs at) (own language p.pair) parts.0) in
+        let found_is : at ++ digits_of_word word ≡ found = ap (λ (front : List ℕ). front ++ digits_of_word word) p.beside ∙ e in
         record {
-          again = own language p.pair ++ digits word;
-          back = ap (λ o. option_or o (partner (opposite language) results found)) (ap (numbered_partner (opposite language)) (sym found_is) ∙ there);
-          same = subst (λ (w : List ℕ). str_eq_ignore_ascii_case w (own language p.pair ++ digits word) ≡ true) (take-append-drop (letter_count word) word)
-              (same_behind (letters word) (own language p.pair) (digits word) p.same);
+          again = own language p.pair ++ digits_of_word word;
+          back = ap (λ o. option_or o (partner_in_table (opposite_language language) result_pairs found)) (ap (numbered_partner (opposite_language language)) (sym found_is) ∙ there);
+          same = subst (λ (w : List ℕ). str_eq_ignore_ascii_case w (own language p.pair ++ digits_of_word word) ≡ true) (take-append-drop (letter_count_of_word word) word)
+              (same_behind (letters_of_word word) (own language p.pair) (digits_of_word word) p.same);
         }
 
-    by_letters : list_all is_ascii_digit (digits word) ≡ true → (o : Option (List ℕ)) → partner language operands (letters word) ≡ o
-        → option_map (λ found. found ++ digits word) o ≡ Some found → IsBack (operand_partner (opposite language)) word found
+    by_letters : list_all is_ascii_digit (digits_of_word word) ≡ true → (o : Option (List ℕ)) → partner_in_table language operand_pairs (letters_of_word word) ≡ o
+        → option_map (λ found. found ++ digits_of_word word) o ≡ Some found → IsBack (operand_partner (opposite_language language)) word found
     by_letters h None e is = absurd (none≢some found is)
-    by_letters h (Some x) e is = by_pair h x (pair_there language _ operands (letters word) x (operands_back language) e) (same_Some (x ++ digits word) found is)
+    by_letters h (Some x) e is = by_pair h x (pair_there language _ operand_pairs (letters_of_word word) x (operands_back language) e) (same_Some (x ++ digits_of_word word) found is)
 
-    by_digits : (b : Bool) → list_all is_ascii_digit (digits word) ≡ b
-        → (if b then option_map (λ found. found ++ digits word) (partner language operands (letters word)) else None) ≡ Some found
-        → IsBack (operand_partner (opposite language)) word found
-    by_digits true h is = by_letters h (partner language operands (letters word)) refl is
+    by_digits : (b : Bool) → list_all is_ascii_digit (digits_of_word word) ≡ b
+        → (if b then option_map (λ found. found ++ digits_of_word word) (partner_in_table language operand_pairs (letters_of_word word)) else None) ≡ Some found
+        → IsBack (operand_partner (opposite_language language)) word found
+    by_digits true h is = by_letters h (partner_in_table language operand_pairs (letters_of_word word)) refl is
     by_digits false h is = absurd (none≢some found is)
 
 operand_back : (language : Language) (word found : List ℕ) → operand_partner language word ≡ Some found
-    → IsBack (operand_partner (opposite language)) word found
+    → IsBack (operand_partner (opposite_language language)) word found
 unfolding operand_partner
 operand_back language word found is = by_first (numbered_partner language word) refl is
   where
-    by_first : (o : Option (List ℕ)) → numbered_partner language word ≡ o → option_or o (partner language results word) ≡ Some found
-        → IsBack (operand_partner (opposite language)) word found
+    by_first : (o : Option (List ℕ)) → numbered_partner language word ≡ o → option_or o (partner_in_table language result_pairs word) ≡ Some found
+        → IsBack (operand_partner (opposite_language language)) word found
     by_first (Some x) e is = numbered_back language word found (e ∙ is)
-    by_first None e is = back_from language (operand_partner (opposite language)) word found
-        (pair_there language _ results word found (results_back language) is)
+    by_first None e is = back_from language (operand_partner (opposite_language language)) word found
+        (pair_there language _ result_pairs word found (results_back language) is)
 
 -- ---- what is written
 
-opposite_twice : (language : Language) → opposite (opposite language) ≡ language
+opposite_twice : (language : Language) → opposite_language (opposite_language language) ≡ language
 opposite_twice German = refl
 opposite_twice English = refl
 
 -- the word that a look-up in both directions makes of what it made of a word
 record IsExchangedBack (look_up : Language → List ℕ → Option (List ℕ)) (language : Language) (word there : List ℕ) : Type 0 where
   again : List ℕ
-  back : exchanged (look_up (opposite language) there) (is_some (look_up (opposite (opposite language)) there)) there ≡ Some again
+  back : exchanged_word (look_up (opposite_language language) there) (is_some (look_up (opposite_language (opposite_language language)) there)) there ≡ Some again
   same : str_eq_ignore_ascii_case word again ≡ true
 
 -- a word with a partner
 back_by_partner : (look_up : Language → List ℕ → Option (List ℕ)) (language : Language) (word there : List ℕ)
-    → IsBack (look_up (opposite language)) word there → IsExchangedBack look_up language word there
+    → IsBack (look_up (opposite_language language)) word there → IsExchangedBack look_up language word there
 back_by_partner look_up language word there b = record {
   again = b.again;
-  back = ap (λ o. exchanged o (is_some (look_up (opposite (opposite language)) there)) there) b.back;
+  back = ap (λ o. exchanged_word o (is_some (look_up (opposite_language (opposite_language language)) there)) there) b.back;
   same = b.same;
 }
 
 -- a word with none, in either language
 back_by_word : (look_up : Language → List ℕ → Option (List ℕ)) (language : Language) (word : List ℕ)
-    → look_up language word ≡ None → look_up (opposite language) word ≡ None → IsExchangedBack look_up language word word
+    → look_up language word ≡ None → look_up (opposite_language language) word ≡ None → IsExchangedBack look_up language word word
 back_by_word look_up language word e f = record {
   again = word;
   back = rw (f, opposite_twice language, e) refl;
@@ -223,29 +223,29 @@ back_by_word look_up language word e f = record {
 }
 
 back_by_other : (look_up : Language → List ℕ → Option (List ℕ)) (language : Language) (word there : List ℕ) (o : Option (List ℕ))
-    → look_up language word ≡ None → look_up (opposite language) word ≡ o → exchanged None (is_some o) word ≡ Some there
+    → look_up language word ≡ None → look_up (opposite_language language) word ≡ o → exchanged_word None (is_some o) word ≡ Some there
     → IsExchangedBack look_up language word there
 back_by_other look_up language word there (Some found) e f is = absurd (none≢some there is)
 back_by_other look_up language word there None e f is =
     subst (λ (w : List ℕ). IsExchangedBack look_up language word w) (same_Some word there is) (back_by_word look_up language word e f)
 
 exchanged_back : (look_up : Language → List ℕ → Option (List ℕ)) (language : Language) (word there : List ℕ) (o : Option (List ℕ))
-    → ((found : List ℕ) → look_up language word ≡ Some found → IsBack (look_up (opposite language)) word found)
-    → look_up language word ≡ o → exchanged o (is_some (look_up (opposite language) word)) word ≡ Some there
+    → ((found : List ℕ) → look_up language word ≡ Some found → IsBack (look_up (opposite_language language)) word found)
+    → look_up language word ≡ o → exchanged_word o (is_some (look_up (opposite_language language) word)) word ≡ Some there
     → IsExchangedBack look_up language word there
 exchanged_back look_up language word there (Some found) back e is =
     back_by_partner look_up language word there (back there (e ∙ is))
 exchanged_back look_up language word there None back e is =
-    back_by_other look_up language word there (look_up (opposite language) word) e refl is
+    back_by_other look_up language word there (look_up (opposite_language language) word) e refl is
 
 pub instructions_come_back : WordsComeBack role.Instruction
-unfolding written
+unfolding translated_word
 instructions_come_back language word there is =
     let b = exchanged_back instruction_partner language word there (instruction_partner language word) (λ found e. instruction_back language word found e) refl is in
     (b.again, b.back, b.same)
 
 pub operands_come_back : WordsComeBack role.Operand
-unfolding written
+unfolding translated_word
 operands_come_back language word there is =
     let b = exchanged_back operand_partner language word there (operand_partner language word) (λ found e. operand_back language word found e) refl is in
     (b.again, b.back, b.same)

@@ -15,24 +15,24 @@ use Rattle.de_mnemonics.specs.declared.places.Place.{Place}
 use Rattle.de_mnemonics.specs.declared.places.Place.TheVariants as place
 use Rattle.de_mnemonics.specs.declared.roles.Role.{Role}
 use Rattle.de_mnemonics.specs.declared.roles.Role.TheVariants as role
-use Rattle.de_mnemonics.specs.Tables.{Pairs, jumps, operands, results, common_jumps, code_openings, data_openings, begin_words, endings, network_words, zone_words}
-use Rattle.de_mnemonics.specs.Words.{partner, letters, digits}
+use Rattle.de_mnemonics.specs.Tables.{WordPairs, jump_pairs, operand_pairs, result_pairs, common_jumps, code_openings, data_openings, begin_words, block_end_words, network_words, zone_words}
+use Rattle.de_mnemonics.specs.Words.{partner_in_table, letters_of_word, digits_of_word}
 
 -- a mark is written so
-abbrev pub is_text : List ℕ → Mark → Bool
-is_text text m = str_eq_ignore_ascii_case text (mark_text m)
+abbrev pub is_mark_text : List ℕ → Mark → Bool
+is_mark_text text m = str_eq_ignore_ascii_case text (mark_text m)
 
 -- the class of a mark
 unfoldable pub class_of_mark : List ℕ → TokenClass
 class_of_mark text =
-    if is_text text mark.Semicolon then class.Semicolon
-    else (if is_text text mark.Dot then class.Dot
-    else (if is_text text mark.Assign then class.Assign
-    else (if is_text text mark.Colon then class.Colon
-    else (if is_text text mark.OpenBracket then class.OpenBracket
-    else (if is_text text mark.OpenParen then class.OpenParen
-    else (if is_text text mark.CloseParen then class.CloseParen
-    else (if is_text text mark.Pointer then class.Pointer
+    if is_mark_text text mark.Semicolon then class.Semicolon
+    else (if is_mark_text text mark.Dot then class.Dot
+    else (if is_mark_text text mark.Assign then class.Assign
+    else (if is_mark_text text mark.Colon then class.Colon
+    else (if is_mark_text text mark.OpenBracket then class.OpenBracket
+    else (if is_mark_text text mark.OpenParen then class.OpenParen
+    else (if is_mark_text text mark.CloseParen then class.CloseParen
+    else (if is_mark_text text mark.Pointer then class.Pointer
     else class.Other)))))))
 
 -- the class of a token
@@ -45,16 +45,16 @@ class_of kind.Mark text = class_of_mark text
 class_of _ text = class.Other
 
 -- a word is in the list, without case
-unfoldable pub is_among : List (List ℕ) → List ℕ → Bool
-is_among table word = list_any (λ entry. str_eq_ignore_ascii_case word entry) table
+unfoldable pub is_word_in_list : List (List ℕ) → List ℕ → Bool
+is_word_in_list table word = list_any (λ entry. str_eq_ignore_ascii_case word entry) table
 
 -- a word is in one of the two columns
-unfoldable pub is_in : Pairs → List ℕ → Bool
-is_in table word = is_some (partner German table word) || is_some (partner English table word)
+unfoldable pub is_word_in_pairs : WordPairs → List ℕ → Bool
+is_word_in_pairs table word = is_some (partner_in_table German table word) || is_some (partner_in_table English table word)
 
 -- an instruction word is that of a jump
-unfoldable pub is_jump : List ℕ → Bool
-is_jump word = is_in jumps word || is_among common_jumps word
+unfoldable pub is_jump_word : List ℕ → Bool
+is_jump_word word = is_word_in_pairs jump_pairs word || is_word_in_list common_jumps word
 
 -- a keyword stands behind neither `:` nor `.`
 abbrev pub may_be_keyword : TokenClass → Bool
@@ -63,83 +63,83 @@ may_be_keyword class.Dot = false
 may_be_keyword _ = true
 
 -- the place behind a word outside of blocks, or in a block of data
-unfoldable pub behind_outside : TokenClass → List ℕ → Place
-behind_outside before word = if may_be_keyword before && is_among code_openings word then place.Head else place.Outside
+unfoldable pub place_behind_outside : TokenClass → List ℕ → Place
+place_behind_outside before word = if may_be_keyword before && is_word_in_list code_openings word then place.Head else place.Outside
 
 -- the place behind a word before the body of a block of statements
-unfoldable pub behind_head : TokenClass → List ℕ → Place
-behind_head before word =
+unfoldable pub place_behind_head : TokenClass → List ℕ → Place
+place_behind_head before word =
     if may_be_keyword before
-    then (if is_among begin_words word then place.Start else (if is_among data_openings word then place.Outside else place.Head))
+    then (if is_word_in_list begin_words word then place.Start else (if is_word_in_list data_openings word then place.Outside else place.Head))
     else place.Head
 
 -- the place behind an instruction word
-unfoldable pub behind_instruction : List ℕ → Place
-behind_instruction word = if is_jump word then place.Jump else place.Instruction
+unfoldable pub place_behind_instruction : List ℕ → Place
+place_behind_instruction word = if is_jump_word word then place.Jump else place.Instruction
 
 -- the same, where it may be a label; `next` is the class of the token behind it
-abbrev pub behind_first : TokenClass → List ℕ → Place
-behind_first class.Colon word = place.Label
-behind_first next word = behind_instruction word
+abbrev pub place_behind_first : TokenClass → List ℕ → Place
+place_behind_first class.Colon word = place.Label
+place_behind_first next word = place_behind_instruction word
 
 -- the place behind a word at the start of a statement: the end of the block, a further network, a label or an instruction word
-unfoldable pub behind_start : List ℕ → TokenClass → Place
-behind_start word next =
-    if is_among endings word then place.Outside
-    else (if is_among network_words word then place.Start else behind_first next word)
+unfoldable pub place_behind_start : List ℕ → TokenClass → Place
+place_behind_start word next =
+    if is_word_in_list block_end_words word then place.Outside
+    else (if is_word_in_list network_words word then place.Start else place_behind_first next word)
 
 -- the place behind a word that follows a `)` at the front of an instruction
-unfoldable pub behind_closing : List ℕ → Place
-behind_closing word = if is_among zone_words word then place.Path else place.Inside
+unfoldable pub place_behind_closing : List ℕ → Place
+place_behind_closing word = if is_word_in_list zone_words word then place.Path else place.Inside
 
 -- the place behind a word
-unfoldable pub behind_word : Place → TokenClass → List ℕ → TokenClass → Place
-behind_word place.Outside before word next = behind_outside before word
-behind_word place.Head before word next = behind_head before word
-behind_word place.Start before word next = behind_start word next
-behind_word place.Label before word next = behind_instruction word
-behind_word place.Labelled before word next = behind_instruction word
-behind_word place.Closing before word next = behind_closing word
-behind_word _ before word next = place.Inside
+unfoldable pub place_behind_word : Place → TokenClass → List ℕ → TokenClass → Place
+place_behind_word place.Outside before word next = place_behind_outside before word
+place_behind_word place.Head before word next = place_behind_head before word
+place_behind_word place.Start before word next = place_behind_start word next
+place_behind_word place.Label before word next = place_behind_instruction word
+place_behind_word place.Labelled before word next = place_behind_instruction word
+place_behind_word place.Closing before word next = place_behind_closing word
+place_behind_word _ before word next = place.Inside
 
 -- the place behind another token at the front of an instruction; a number is none
-abbrev pub behind_front : TokenClass → Place
-behind_front class.Semicolon = place.Start
-behind_front class.CloseParen = place.Closing
-behind_front class.Number = place.Inside
-behind_front _ = place.Path
+abbrev pub place_behind_front : TokenClass → Place
+place_behind_front class.Semicolon = place.Start
+place_behind_front class.CloseParen = place.Closing
+place_behind_front class.Number = place.Inside
+place_behind_front _ = place.Path
 
 -- the same at the start of a statement, where titles and attributes belong to none
-abbrev pub behind_open : TokenClass → Place
-behind_open class.Note = place.Start
-behind_open c = behind_front c
+abbrev pub place_behind_open : TokenClass → Place
+place_behind_open class.Note = place.Start
+place_behind_open c = place_behind_front c
 
 -- the place behind a token that is no word, within a statement: `;` ends it
-abbrev pub behind_part : Place → TokenClass → Place
-behind_part p class.Semicolon = place.Start
-behind_part p _ = p
+abbrev pub place_behind_part : Place → TokenClass → Place
+place_behind_part p class.Semicolon = place.Start
+place_behind_part p _ = p
 
 -- the place behind a token that follows an instruction word: a `(` may belong to the instruction
-abbrev pub behind_opening : TokenClass → Place
-behind_opening class.Semicolon = place.Start
-behind_opening class.OpenParen = place.Path
-behind_opening _ = place.Inside
+abbrev pub place_behind_opening : TokenClass → Place
+place_behind_opening class.Semicolon = place.Start
+place_behind_opening class.OpenParen = place.Path
+place_behind_opening _ = place.Inside
 
 -- the place behind a token that is no word
-unfoldable pub behind_sign : Place → TokenClass → Place
-behind_sign place.Outside c = place.Outside
-behind_sign place.Head c = place.Head
-behind_sign place.Start c = behind_open c
-behind_sign place.Label c = place.Labelled
-behind_sign place.Labelled c = behind_front c
-behind_sign place.Jump c = behind_part place.Jump c
-behind_sign place.Instruction c = behind_opening c
-behind_sign _ c = behind_part place.Inside c
+unfoldable pub place_behind_sign : Place → TokenClass → Place
+place_behind_sign place.Outside c = place.Outside
+place_behind_sign place.Head c = place.Head
+place_behind_sign place.Start c = place_behind_open c
+place_behind_sign place.Label c = place.Labelled
+place_behind_sign place.Labelled c = place_behind_front c
+place_behind_sign place.Jump c = place_behind_part place.Jump c
+place_behind_sign place.Instruction c = place_behind_opening c
+place_behind_sign _ c = place_behind_part place.Inside c
 
 -- the place behind a token of this class, with the classes of the tokens before and behind it
-unfoldable pub behind : Place → TokenClass → TokenClass → List ℕ → TokenClass → Place
-behind p before class.Word text next = behind_word p before text next
-behind p before c text next = behind_sign p c
+unfoldable pub place_behind : Place → TokenClass → TokenClass → List ℕ → TokenClass → Place
+place_behind p before class.Word text next = place_behind_word p before text next
+place_behind p before c text next = place_behind_sign p c
 
 -- a number or an index in brackets follows
 abbrev pub opens_number : TokenClass → Bool
@@ -153,13 +153,13 @@ is_pointer class.Pointer = true
 is_pointer _ = false
 
 -- an operand word with its number, in the same word or behind it
-unfoldable pub is_numbered : List ℕ → TokenClass → Bool
-is_numbered word next =
-    is_in operands (letters word) && list_all is_ascii_digit (digits word) && (nat_lt 0 (length (digits word)) || opens_number next)
+unfoldable pub is_numbered_operand : List ℕ → TokenClass → Bool
+is_numbered_operand word next =
+    is_word_in_pairs operand_pairs (letters_of_word word) && list_all is_ascii_digit (digits_of_word word) && (nat_lt 0 (length (digits_of_word word)) || opens_number next)
 
 -- a word stands in an operand place: behind `P#`, as an operand word with its number, or as one that stands alone
 unfoldable pub is_operand_place : TokenClass → List ℕ → TokenClass → Bool
-is_operand_place before word next = is_pointer before || is_numbered word next || is_in results word
+is_operand_place before word next = is_pointer before || is_numbered_operand word next || is_word_in_pairs result_pairs word
 
 -- a `.`
 abbrev pub is_dot : TokenClass → Bool
@@ -201,7 +201,7 @@ role_first next = role.Instruction
 -- the same with the keywords
 unfoldable pub role_at_start : List ℕ → TokenClass → Role
 role_at_start word next =
-    if is_among endings word || is_among network_words word then role.Stays else role_first next
+    if is_word_in_list block_end_words word || is_word_in_list network_words word then role.Stays else role_first next
 
 -- the role of a word
 unfoldable pub role_of_word : Place → TokenClass → List ℕ → TokenClass → Role

@@ -3,12 +3,12 @@
 use Rattle.std.specs.Prelude.{ℕ, List, [], ◌∷◌, codes}
 
 -- a table of pairs
-abbrev pub Pairs : Type 0
-Pairs = List (List ℕ × List ℕ)
+abbrev pub WordPairs : Type 0
+WordPairs = List (List ℕ × List ℕ)
 
 -- the instruction words that are no jumps
-unfoldable pub instructions : Pairs
-instructions =
+unfoldable pub instruction_pairs : WordPairs
+instruction_pairs =
     (codes "A", codes "U")
     ∷ (codes "AN", codes "UN")
     ∷ (codes "AW", codes "UW")
@@ -29,8 +29,8 @@ instructions =
     ∷ []
 
 -- the instruction words of jumps
-unfoldable pub jumps : Pairs
-jumps =
+unfoldable pub jump_pairs : WordPairs
+jump_pairs =
     (codes "JU", codes "SPA")
     ∷ (codes "JL", codes "SPL")
     ∷ (codes "JC", codes "SPB")
@@ -51,8 +51,8 @@ jumps =
     ∷ []
 
 -- the operand words that take a number: inputs, outputs, counters, peripheral inputs and outputs
-unfoldable pub operands : Pairs
-operands =
+unfoldable pub operand_pairs : WordPairs
+operand_pairs =
     (codes "I", codes "E")
     ∷ (codes "IB", codes "EB")
     ∷ (codes "IW", codes "EW")
@@ -71,8 +71,8 @@ operands =
     ∷ []
 
 -- the operand word that stands alone: the binary result
-unfoldable pub results : Pairs
-results = (codes "BR", codes "BIE") ∷ []
+unfoldable pub result_pairs : WordPairs
+result_pairs = (codes "BR", codes "BIE") ∷ []
 
 -- the jump whose word is the same in both languages
 unfoldable pub common_jumps : List (List ℕ)
@@ -91,8 +91,8 @@ unfoldable pub begin_words : List (List ℕ)
 begin_words = codes "BEGIN" ∷ []
 
 -- the words that end a block of statements
-unfoldable pub endings : List (List ℕ)
-endings = codes "END_ORGANIZATION_BLOCK" ∷ codes "END_FUNCTION" ∷ codes "END_FUNCTION_BLOCK" ∷ []
+unfoldable pub block_end_words : List (List ℕ)
+block_end_words = codes "END_ORGANIZATION_BLOCK" ∷ codes "END_FUNCTION" ∷ codes "END_FUNCTION_BLOCK" ∷ []
 
 -- the word that opens a network
 unfoldable pub network_words : List (List ℕ)

@@ -10,12 +10,12 @@ use Rattle.de_mnemonics.specs.declared.classes.TokenClass.TheVariants as class
 use Rattle.de_mnemonics.specs.declared.places.Place.TheVariants as place
 use Rattle.de_mnemonics.specs.declared.roles.Role.{Role}
 use Rattle.de_mnemonics.specs.declared.translation.Spot.{Spot}
-use Rattle.de_mnemonics.specs.Places.{behind, class_of, role_of}
-use Rattle.de_mnemonics.specs.Words.{written}
+use Rattle.de_mnemonics.specs.Places.{place_behind, class_of, role_of}
+use Rattle.de_mnemonics.specs.Words.{translated_word}
 
 -- the rule of a word of the other language
-abbrev pub foreign_word : ℕ
-foreign_word = 17
+abbrev pub foreign_word_rule : ℕ
+foreign_word_rule = 17
 
 -- the class of a token of a source
 abbrev pub class_in : List ℕ → Token → TokenClass
@@ -27,14 +27,14 @@ next_class source [] = class.Other
 next_class source (t ∷ ts) = class_in source t
 
 -- bytes in front of a translation
-abbrev pub put : List ℕ → Result (List ℕ) ℕ → Result (List ℕ) ℕ
-put front (Ok rest) = Ok (front ++ rest)
-put front (Err line) = Err line
+abbrev pub with_bytes_before : List ℕ → Result (List ℕ) ℕ → Result (List ℕ) ℕ
+with_bytes_before front (Ok rest) = Ok (front ++ rest)
+with_bytes_before front (Err line) = Err line
 
 -- a word on this line in front of a translation; a word without one is told by its line
-abbrev pub put_word : Option (List ℕ) → ℕ → Result (List ℕ) ℕ → Result (List ℕ) ℕ
-put_word None line rest = Err line
-put_word (Some word) line rest = put word rest
+abbrev pub with_word_before : Option (List ℕ) → ℕ → Result (List ℕ) ℕ → Result (List ℕ) ℕ
+with_word_before None line rest = Err line
+with_word_before (Some word) line rest = with_bytes_before word rest
 
 -- the role of a token at a spot, with the tokens behind it
 abbrev pub role_at : List ℕ → Spot → Token → List Token → Role
@@ -44,53 +44,53 @@ role_at source spot t ts = role_of spot.place spot.before (class_in source t) (t
 abbrev pub spot_behind : List ℕ → Spot → Token → List Token → Spot
 spot_behind source spot t ts = record {
   from = t.end;
-  place = behind spot.place spot.before (class_in source t) (text_of source t) (next_class source ts);
+  place = place_behind spot.place spot.before (class_in source t) (text_of source t) (next_class source ts);
   before = class_in source t;
 }
 
 -- the translation of a source from a spot on: what stands between tokens stays, and each token is written as its role asks; or the
 -- line of the first word that has no translation
-unfoldable pub translated_from : Language → List ℕ → Spot → List Token → Result (List ℕ) ℕ
-translated_from language source spot [] = Ok (drop spot.from source)
-translated_from language source spot (t ∷ ts) =
-    put (slice_range source spot.from t.start) (put_word (written language (role_at source spot t ts) (text_of source t)) t.line
-    (translated_from language source (spot_behind source spot t ts) ts))
+unfoldable pub translation_from : Language → List ℕ → Spot → List Token → Result (List ℕ) ℕ
+translation_from language source spot [] = Ok (drop spot.from source)
+translation_from language source spot (t ∷ ts) =
+    with_bytes_before (slice_range source spot.from t.start) (with_word_before (translated_word language (role_at source spot t ts) (text_of source t)) t.line
+    (translation_from language source (spot_behind source spot t ts) ts))
 
 -- the front of a source
 abbrev pub front_spot : Spot
 front_spot = record { from = 0; place = place.Outside; before = class.Other }
 
 -- the translation of a source with these tokens
-unfoldable pub translated : Language → List ℕ → List Token → Result (List ℕ) ℕ
-translated language source ts = translated_from language source front_spot ts
+unfoldable pub translation_of : Language → List ℕ → List Token → Result (List ℕ) ℕ
+translation_of language source ts = translation_from language source front_spot ts
 
 -- behind a text that was written, the translation goes on from one spot as from another, behind a text that was then written
-abbrev pub GoesOn : Language → List ℕ → List ℕ → Spot → List Token → List ℕ → Spot → List Token → Type 0
-GoesOn language source old spot ts now next rest =
-    put old (translated_from language source spot ts) ≡ put now (translated_from language source next rest)
+abbrev pub ContinuesTranslation : Language → List ℕ → List ℕ → Spot → List Token → List ℕ → Spot → List Token → Type 0
+ContinuesTranslation language source old spot ts now next rest =
+    with_bytes_before old (translation_from language source spot ts) ≡ with_bytes_before now (translation_from language source next rest)
 
 -- it ends with a word of the other language; nothing is said of want of memory
-abbrev pub IsStopped : Result (List ℕ) ℕ → SourceFault → Type 0
-IsStopped found (Refused refusal) = (found ≡ Err refusal.line) × (refusal.rule ≡ foreign_word)
-IsStopped found NoMemory = Unit {0}
+abbrev pub IsStoppedByForeignWord : Result (List ℕ) ℕ → SourceFault → Type 0
+IsStoppedByForeignWord found (Refused refusal) = (found ≡ Err refusal.line) × (refusal.rule ≡ foreign_word_rule)
+IsStoppedByForeignWord found NoMemory = Unit {0}
 
 -- a text is the translation of a source
 abbrev pub IsTranslation : Language → List ℕ → List ℕ → Type 0
-IsTranslation language source text = (ts : List Token) × AreTokens source ts × (translated language source ts ≡ Ok text)
+IsTranslation language source text = (ts : List Token) × AreTokens source ts × (translation_of language source ts ≡ Ok text)
 
 -- the first word of the other language, in a source that breaks no rule of tokens, stands on this line
 abbrev pub HasForeignWord : Language → List ℕ → ℕ → Type 0
-HasForeignWord language source line = (ts : List Token) × AreTokens source ts × (translated language source ts ≡ Err line)
+HasForeignWord language source line = (ts : List Token) × AreTokens source ts × (translation_of language source ts ≡ Err line)
 
 -- the first violation of the rules of tokens and, where there is none, of the rule of words of the other language
-abbrev pub IsUntranslated : Language → List ℕ → ℕ → ℕ → Type 0
-IsUntranslated language source line rule =
-    IsViolation source line rule ⊎ (HasForeignWord language source line × (rule ≡ foreign_word))
+abbrev pub IsTranslationViolation : Language → List ℕ → ℕ → ℕ → Type 0
+IsTranslationViolation language source line rule =
+    IsViolation source line rule ⊎ (HasForeignWord language source line × (rule ≡ foreign_word_rule))
 
 -- a refusal names that violation; nothing is said of want of memory
-abbrev pub IsRefused : Language → List ℕ → SourceFault → Type 0
-IsRefused language source (Refused refusal) = IsUntranslated language source refusal.line refusal.rule
-IsRefused language source NoMemory = Unit {0}
+abbrev pub IsTranslationRefused : Language → List ℕ → SourceFault → Type 0
+IsTranslationRefused language source (Refused refusal) = IsTranslationViolation language source refusal.line refusal.rule
+IsTranslationRefused language source NoMemory = Unit {0}
 
 -- a source has one translation at most
 abbrev pub IsTranslationUnique : Type 0
@@ -99,22 +99,22 @@ IsTranslationUnique =
     → text ≡ other
 
 -- and none where there is a violation
-abbrev pub ExcludesViolation : Type 0
-ExcludesViolation =
+abbrev pub TranslationExcludesViolation : Type 0
+TranslationExcludesViolation =
     (language : Language) (source text : List ℕ) (line rule : ℕ) → IsTranslation language source text
-    → IsUntranslated language source line rule → ⊥
+    → IsTranslationViolation language source line rule → ⊥
 
 -- one line and one rule are the violation
-abbrev pub IsViolationUnique : Type 0
-IsViolationUnique =
-    (language : Language) (source : List ℕ) (line rule line' rule' : ℕ) → IsUntranslated language source line rule
-    → IsUntranslated language source line' rule' → (line ≡ line') × (rule ≡ rule')
+abbrev pub IsTranslationViolationUnique : Type 0
+IsTranslationViolationUnique =
+    (language : Language) (source : List ℕ) (line rule line' rule' : ℕ) → IsTranslationViolation language source line rule
+    → IsTranslationViolation language source line' rule' → (line ≡ line') × (rule ≡ rule')
 
 -- a source has a translation or a violation
 abbrev pub HasTranslationOrViolation : Language → List ℕ → Type 0
 HasTranslationOrViolation language source =
-    ((text : List ℕ) × IsTranslation language source text) ⊎ ((line : ℕ) × (rule : ℕ) × IsUntranslated language source line rule)
+    ((text : List ℕ) × IsTranslation language source text) ⊎ ((line : ℕ) × (rule : ℕ) × IsTranslationViolation language source line rule)
 
 -- so it is with every source
-abbrev pub IsTotal : Type 0
-IsTotal = (language : Language) (source : List ℕ) → HasTranslationOrViolation language source
+abbrev pub IsTranslationTotal : Type 0
+IsTranslationTotal = (language : Language) (source : List ℕ) → HasTranslationOrViolation language source

@@ -1,5 +1,5 @@
 ghost use Rattle.std.specs.Prelude.{◌≡◌};
-ghost use Rattle.de_mnemonics.specs.Places.{class_of, class_of_mark, is_text};
+ghost use Rattle.de_mnemonics.specs.Places.{class_of, class_of_mark, is_mark_text};
 
 use stl_lexer::{Mark, TokenKind, mark_text};
 
@@ -23,7 +23,7 @@ pub enum TokenClass {
 
 /// Whether a mark is written so.
 fn is_text(text: &[u8], mark: Mark) -> bool
-    ensures { result ≡ is_text text.now mark }
+    ensures { result ≡ is_mark_text text.now mark }
 {
     text.eq_ignore_ascii_case(mark_text(mark))
 }

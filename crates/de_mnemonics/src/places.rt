@@ -1,23 +1,23 @@
 ghost use Rattle.std.specs.Prelude.{◌≡◌};
 ghost use Rattle.de_mnemonics.specs.Places.{
-  behind,
-  behind_closing,
-  behind_first,
-  behind_front,
-  behind_head,
-  behind_instruction,
-  behind_open,
-  behind_opening,
-  behind_outside,
-  behind_part,
-  behind_sign,
-  behind_start,
-  behind_word,
+  place_behind,
+  place_behind_closing,
+  place_behind_first,
+  place_behind_front,
+  place_behind_head,
+  place_behind_instruction,
+  place_behind_open,
+  place_behind_opening,
+  place_behind_outside,
+  place_behind_part,
+  place_behind_sign,
+  place_behind_start,
+  place_behind_word,
   is_assign,
   is_behind_instruction,
   is_component,
   is_dot,
-  is_numbered,
+  is_numbered_operand,
   is_operand_place,
   is_pointer,
   may_be_keyword,
@@ -70,9 +70,9 @@ fn may_be_keyword(before: TokenClass) -> bool
 }
 
 /// The place behind a word outside of blocks, or in a block of data.
-#[tactic(auto, unfolding(crate::specs::Places::behind_outside))]
+#[tactic(auto, unfolding(crate::specs::Places::place_behind_outside))]
 fn behind_outside(before: TokenClass, word: &[u8]) -> Place
-    ensures { result ≡ behind_outside before word.now }
+    ensures { result ≡ place_behind_outside before word.now }
 {
     if may_be_keyword(before) && opens_code(word) {
         Place::Head
@@ -82,9 +82,9 @@ fn behind_outside(before: TokenClass, word: &[u8]) -> Place
 }
 
 /// The place behind a word before the body of a block of statements.
-#[tactic(auto, unfolding(crate::specs::Places::behind_head))]
+#[tactic(auto, unfolding(crate::specs::Places::place_behind_head))]
 fn behind_head(before: TokenClass, word: &[u8]) -> Place
-    ensures { result ≡ behind_head before word.now }
+    ensures { result ≡ place_behind_head before word.now }
 {
     if !may_be_keyword(before) {
         return Place::Head;
@@ -99,9 +99,9 @@ fn behind_head(before: TokenClass, word: &[u8]) -> Place
 }
 
 /// The place behind an instruction word.
-#[tactic(auto, unfolding(crate::specs::Places::behind_instruction))]
+#[tactic(auto, unfolding(crate::specs::Places::place_behind_instruction))]
 fn behind_instruction(word: &[u8]) -> Place
-    ensures { result ≡ behind_instruction word.now }
+    ensures { result ≡ place_behind_instruction word.now }
 {
     if is_jump(word) {
         Place::Jump
@@ -112,7 +112,7 @@ fn behind_instruction(word: &[u8]) -> Place
 
 /// The same, where the word may be a label.
 fn behind_first(next: TokenClass, word: &[u8]) -> Place
-    ensures { result ≡ behind_first next word.now }
+    ensures { result ≡ place_behind_first next word.now }
 {
     match next {
         TokenClass::Colon => Place::Label,
@@ -121,9 +121,9 @@ fn behind_first(next: TokenClass, word: &[u8]) -> Place
 }
 
 /// The place behind a word at the start of a statement.
-#[tactic(auto, unfolding(crate::specs::Places::behind_start))]
+#[tactic(auto, unfolding(crate::specs::Places::place_behind_start))]
 fn behind_start(word: &[u8], next: TokenClass) -> Place
-    ensures { result ≡ behind_start word.now next }
+    ensures { result ≡ place_behind_start word.now next }
 {
     if ends_code(word) {
         return Place::Outside;
@@ -135,9 +135,9 @@ fn behind_start(word: &[u8], next: TokenClass) -> Place
 }
 
 /// The place behind a word that follows a `)` at the front of an instruction.
-#[tactic(auto, unfolding(crate::specs::Places::behind_closing))]
+#[tactic(auto, unfolding(crate::specs::Places::place_behind_closing))]
 fn behind_closing(word: &[u8]) -> Place
-    ensures { result ≡ behind_closing word.now }
+    ensures { result ≡ place_behind_closing word.now }
 {
     if ends_zone(word) {
         Place::Path
@@ -147,9 +147,9 @@ fn behind_closing(word: &[u8]) -> Place
 }
 
 /// The place behind a word.
-#[tactic(auto, unfolding(crate::specs::Places::behind_word))]
+#[tactic(auto, unfolding(crate::specs::Places::place_behind_word))]
 fn behind_word(place: Place, before: TokenClass, word: &[u8], next: TokenClass) -> Place
-    ensures { result ≡ behind_word place before word.now next }
+    ensures { result ≡ place_behind_word place before word.now next }
 {
     match place {
         Place::Outside => behind_outside(before, word),
@@ -164,7 +164,7 @@ fn behind_word(place: Place, before: TokenClass, word: &[u8], next: TokenClass) 
 
 /// The place behind another token at the front of an instruction.
 fn behind_front(class: TokenClass) -> Place
-    ensures { result ≡ behind_front class }
+    ensures { result ≡ place_behind_front class }
 {
     match class {
         TokenClass::Semicolon => Place::Start,
@@ -176,7 +176,7 @@ fn behind_front(class: TokenClass) -> Place
 
 /// The same at the start of a statement.
 fn behind_open(class: TokenClass) -> Place
-    ensures { result ≡ behind_open class }
+    ensures { result ≡ place_behind_open class }
 {
     match class {
         TokenClass::Note => Place::Start,
@@ -186,7 +186,7 @@ fn behind_open(class: TokenClass) -> Place
 
 /// The place behind a token that is no word, within a statement.
 fn behind_part(place: Place, class: TokenClass) -> Place
-    ensures { result ≡ behind_part place class }
+    ensures { result ≡ place_behind_part place class }
 {
     match class {
         TokenClass::Semicolon => Place::Start,
@@ -196,7 +196,7 @@ fn behind_part(place: Place, class: TokenClass) -> Place
 
 /// The place behind a token that follows an instruction word.
 fn behind_opening(class: TokenClass) -> Place
-    ensures { result ≡ behind_opening class }
+    ensures { result ≡ place_behind_opening class }
 {
     match class {
         TokenClass::Semicolon => Place::Start,
@@ -206,9 +206,9 @@ fn behind_opening(class: TokenClass) -> Place
 }
 
 /// The place behind a token that is no word.
-#[tactic(auto, unfolding(crate::specs::Places::behind_sign))]
+#[tactic(auto, unfolding(crate::specs::Places::place_behind_sign))]
 fn behind_sign(place: Place, class: TokenClass) -> Place
-    ensures { result ≡ behind_sign place class }
+    ensures { result ≡ place_behind_sign place class }
 {
     match place {
         Place::Outside => Place::Outside,
@@ -223,7 +223,7 @@ fn behind_sign(place: Place, class: TokenClass) -> Place
 }
 
 /// The place behind a token of this class, with the classes of the tokens before and behind it.
-#[tactic(auto, unfolding(crate::specs::Places::behind))]
+#[tactic(auto, unfolding(crate::specs::Places::place_behind))]
 pub(crate) fn behind(
     place: Place,
     before: TokenClass,
@@ -231,7 +231,7 @@ pub(crate) fn behind(
     text: &[u8],
     next: TokenClass,
 ) -> Place
-    ensures { result ≡ behind place before class text.now next }
+    ensures { result ≡ place_behind place before class text.now next }
 {
     match class {
         TokenClass::Word => behind_word(place, before, text, next),
@@ -254,9 +254,9 @@ fn is_pointer(before: TokenClass) -> bool
 }
 
 /// Whether a word is an operand word with its number.
-#[tactic(auto, unfolding(crate::specs::Places::is_numbered))]
+#[tactic(auto, unfolding(crate::specs::Places::is_numbered_operand))]
 fn is_numbered(word: &[u8], next: TokenClass) -> bool
-    ensures { result ≡ is_numbered word.now next }
+    ensures { result ≡ is_numbered_operand word.now next }
 {
     takes_number(word) && ends_in_digits(word) && (has_digits(word) || opens_number(next))
 }

@@ -1,22 +1,22 @@
 ghost use Rattle.std.specs.Prelude.{◌≡◌, ◌≤◌, ◌∷◌, ◌++◌, length, drop, slice_range, Ok, IfOk, IfErr, OnOk};
 ghost use Rattle.stl_lexer.specs.Limits.{source_limit};
 ghost use Rattle.stl_lexer.specs.Tokens.{text_of};
-ghost use Rattle.de_mnemonics.specs.Words.{IsFound, written};
+ghost use Rattle.de_mnemonics.specs.Words.{IsFoundAsWanted, translated_word};
 ghost use Rattle.stl_symbols.specs.declared.languages.Language.TheVariants.{English, German};
 ghost use Rattle.de_mnemonics.specs.Translation.{
-  ExcludesViolation,
-  GoesOn,
-  IsRefused,
-  IsStopped,
-  IsTotal,
+  TranslationExcludesViolation,
+  ContinuesTranslation,
+  IsTranslationRefused,
+  IsStoppedByForeignWord,
+  IsTranslationTotal,
   IsTranslation,
   IsTranslationUnique,
-  IsViolationUnique,
+  IsTranslationViolationUnique,
   next_class,
   role_at,
   spot_behind,
-  translated,
-  translated_from,
+  translation_of,
+  translation_from,
 };
 
 use crate::classes::{TokenClass, class_of};
@@ -101,8 +101,8 @@ fn spelling_at<'a>(
     token: &Token,
     rest: &[Token],
 ) -> Option<Spelling<'a>>
-    ensures { IsFound (λ s. s.front.now ++ s.rest.now)
-        (written language (role_at source.now spot.now token.now rest.now)
+    ensures { IsFoundAsWanted (λ s. s.front.now ++ s.rest.now)
+        (translated_word language (role_at source.now spot.now token.now rest.now)
         (text_of source.now token.now)) result }
 {
     written(
@@ -137,9 +137,9 @@ fn put_token(
     token: &Token,
     rest: &[Token],
 ) -> Result<Spot, SourceFault>
-    ensures ok { IfOk result (λ next. GoesOn language source.now text.old.items spot.now
+    ensures ok { IfOk result (λ next. ContinuesTranslation language source.now text.old.items spot.now
         (token.now ∷ rest.now) text.new.items next rest.now) }
-    ensures stopped { IfErr result (IsStopped (translated_from language source.now spot.now
+    ensures stopped { IfErr result (IsStoppedByForeignWord (translation_from language source.now spot.now
         (token.now ∷ rest.now))) }
 {
     let Some(spelling) = spelling_at(language, source, spot, token, rest) else {
@@ -163,8 +163,8 @@ fn translate_tokens(
     source: &[u8],
     tokens: &[Token],
 ) -> Result<Vec<u8>, SourceFault>
-    ensures ok { IfOk result (λ text. translated language source.now tokens.now ≡ Ok text.items) }
-    ensures stopped { IfErr result (IsStopped (translated language source.now tokens.now)) }
+    ensures ok { IfOk result (λ text. translation_of language source.now tokens.now ≡ Ok text.items) }
+    ensures stopped { IfErr result (IsStoppedByForeignWord (translation_of language source.now tokens.now)) }
 {
     let mut text = Vec::new(alloc);
     let mut spot = Spot {
@@ -186,7 +186,7 @@ fn translate_tokens(
 fn translate(alloc: Global, language: Language, bytes: &[u8]) -> Result<Vec<u8>, SourceFault>
     requires { length bytes.now ≤ source_limit }
     ensures ok { IfOk result (λ text. IsTranslation language bytes.now text.items) }
-    ensures refused { IfErr result (IsRefused language bytes.now) }
+    ensures refused { IfErr result (IsTranslationRefused language bytes.now) }
 {
     let tokens = lex(alloc, bytes)?;
     let text = translate_tokens(alloc, language, bytes, tokens.list.as_slice())?;
@@ -202,7 +202,7 @@ fn translate(alloc: Global, language: Language, bytes: &[u8]) -> Result<Vec<u8>,
 pub fn to_english(alloc: Global, bytes: &[u8]) -> Result<Vec<u8>, SourceFault>
     requires { length bytes.now ≤ source_limit }
     ensures ok { IfOk result (λ text. IsTranslation English bytes.now text.items) }
-    ensures refused { IfErr result (IsRefused English bytes.now) }
+    ensures refused { IfErr result (IsTranslationRefused English bytes.now) }
 {
     translate(alloc, Language::English, bytes)
 }
@@ -216,7 +216,7 @@ pub fn to_english(alloc: Global, bytes: &[u8]) -> Result<Vec<u8>, SourceFault>
 pub fn to_german(alloc: Global, bytes: &[u8]) -> Result<Vec<u8>, SourceFault>
     requires { length bytes.now ≤ source_limit }
     ensures ok { IfOk result (λ text. IsTranslation German bytes.now text.items) }
-    ensures refused { IfErr result (IsRefused German bytes.now) }
+    ensures refused { IfErr result (IsTranslationRefused German bytes.now) }
 {
     translate(alloc, Language::German, bytes)
 }
@@ -225,9 +225,9 @@ pub fn to_german(alloc: Global, bytes: &[u8]) -> Result<Vec<u8>, SourceFault>
 /// with a violation, with exactly that line and rule.
 pub fn law_of_translations()
     ensures one_text { IsTranslationUnique }
-    ensures text_or_violation { ExcludesViolation }
-    ensures one_violation { IsViolationUnique }
-    ensures total { IsTotal }
+    ensures text_or_violation { TranslationExcludesViolation }
+    ensures one_violation { IsTranslationViolationUnique }
+    ensures total { IsTranslationTotal }
 {
     stl_lexer::law_of_tokens();
 }

@@ -9,17 +9,17 @@ ghost use Rattle.de_mnemonics.specs.Tables.{
   code_openings,
   common_jumps,
   data_openings,
-  endings,
-  instructions,
-  jumps,
+  block_end_words,
+  instruction_pairs,
+  jump_pairs,
   network_words,
-  operands,
-  results,
+  operand_pairs,
+  result_pairs,
   zone_words,
 };
 ghost use Rattle.de_mnemonics.specs.Back.{WordsComeBack};
-ghost use Rattle.de_mnemonics.specs.Places.{is_among, is_in, is_jump};
-ghost use Rattle.de_mnemonics.specs.Words.{IsFound, digits, instruction_partner, letter_count, letters, numbered_partner, operand_partner, opposite, partner, written};
+ghost use Rattle.de_mnemonics.specs.Places.{is_word_in_list, is_word_in_pairs, is_jump_word};
+ghost use Rattle.de_mnemonics.specs.Words.{IsFoundAsWanted, digits_of_word, instruction_partner, letter_count_of_word, letters_of_word, numbered_partner, operand_partner, opposite_language, partner_in_table, translated_word};
 
 use crate::roles::Role;
 use crate::tables::{
@@ -37,7 +37,7 @@ pub(crate) struct Spelling<'a> {
 
 /// The other language.
 fn opposite(language: Language) -> Language
-    ensures { result ≡ opposite language }
+    ensures { result ≡ opposite_language language }
 {
     match language {
         Language::English => Language::German,
@@ -69,7 +69,7 @@ fn english_of(table: &'static [Pair], word: &[u8]) -> Option<&'static [u8]>
 
 /// What a table has beside a word of the language that is translated from.
 fn partner(language: Language, table: &'static [Pair], word: &[u8]) -> Option<&'static [u8]>
-    ensures { IsFound (λ found. found.now) (partner language
+    ensures { IsFoundAsWanted (λ found. found.now) (partner_in_table language
         (map (λ pair. (pair.0.now, pair.1.now)) table.now) word.now) result }
 {
     match language {
@@ -79,17 +79,17 @@ fn partner(language: Language, table: &'static [Pair], word: &[u8]) -> Option<&'
 }
 
 /// What stands beside an instruction word that is no jump.
-#[tactic(auto, unfolding(crate::specs::Tables::instructions))]
+#[tactic(auto, unfolding(crate::specs::Tables::instruction_pairs))]
 fn common_partner(language: Language, word: &[u8]) -> Option<&'static [u8]>
-    ensures { IsFound (λ found. found.now) (partner language instructions word.now) result }
+    ensures { IsFoundAsWanted (λ found. found.now) (partner_in_table language instruction_pairs word.now) result }
 {
     partner(language, &INSTRUCTIONS, word)
 }
 
 /// What stands beside the instruction word of a jump.
-#[tactic(auto, unfolding(crate::specs::Tables::jumps))]
+#[tactic(auto, unfolding(crate::specs::Tables::jump_pairs))]
 fn jump_partner(language: Language, word: &[u8]) -> Option<&'static [u8]>
-    ensures { IsFound (λ found. found.now) (partner language jumps word.now) result }
+    ensures { IsFoundAsWanted (λ found. found.now) (partner_in_table language jump_pairs word.now) result }
 {
     partner(language, &JUMPS, word)
 }
@@ -97,7 +97,7 @@ fn jump_partner(language: Language, word: &[u8]) -> Option<&'static [u8]>
 /// What stands beside an instruction word.
 #[tactic(auto, unfolding(crate::specs::Words::instruction_partner))]
 fn instruction_partner(language: Language, word: &[u8]) -> Option<&'static [u8]>
-    ensures { IsFound (λ found. found.now) (instruction_partner language word.now) result }
+    ensures { IsFoundAsWanted (λ found. found.now) (instruction_partner language word.now) result }
 {
     match common_partner(language, word) {
         Some(found) => Some(found),
@@ -107,7 +107,7 @@ fn instruction_partner(language: Language, word: &[u8]) -> Option<&'static [u8]>
 
 /// How many bytes of a word stand before its first digit.
 fn letter_count(word: &[u8]) -> usize
-    ensures value { result ≡ letter_count word.now }
+    ensures value { result ≡ letter_count_of_word word.now }
     ensures within { result ≤ length word.now }
 {
     word.iter().take_while(|b| !b.is_ascii_digit()).count()
@@ -115,36 +115,36 @@ fn letter_count(word: &[u8]) -> usize
 
 /// The letters of a word that may be followed by a number.
 fn letters(word: &[u8]) -> &[u8]
-    ensures { result.now ≡ letters word.now }
+    ensures { result.now ≡ letters_of_word word.now }
 {
     &word[..letter_count(word)]
 }
 
 /// What stands behind them.
 fn digits(word: &[u8]) -> &[u8]
-    ensures { result.now ≡ digits word.now }
+    ensures { result.now ≡ digits_of_word word.now }
 {
     &word[letter_count(word)..]
 }
 
 /// Whether nothing but digits stands behind them.
 pub(crate) fn ends_in_digits(word: &[u8]) -> bool
-    ensures { result ≡ list_all is_ascii_digit (digits word.now) }
+    ensures { result ≡ list_all is_ascii_digit (digits_of_word word.now) }
 {
     digits(word).iter().all(|b| b.is_ascii_digit())
 }
 
 /// Whether anything stands behind them.
 pub(crate) fn has_digits(word: &[u8]) -> bool
-    ensures { result ≡ nat_lt 0 (length (digits word.now)) }
+    ensures { result ≡ nat_lt 0 (length (digits_of_word word.now)) }
 {
     !digits(word).is_empty()
 }
 
 /// What stands beside the letters of an operand word that takes a number.
-#[tactic(auto, unfolding(crate::specs::Tables::operands))]
+#[tactic(auto, unfolding(crate::specs::Tables::operand_pairs))]
 fn letters_partner(language: Language, letters: &[u8]) -> Option<&'static [u8]>
-    ensures { IsFound (λ found. found.now) (partner language operands letters.now) result }
+    ensures { IsFoundAsWanted (λ found. found.now) (partner_in_table language operand_pairs letters.now) result }
 {
     partner(language, &OPERANDS, letters)
 }
@@ -152,7 +152,7 @@ fn letters_partner(language: Language, letters: &[u8]) -> Option<&'static [u8]>
 /// What stands beside the letters of an operand word, with the digits of the same word.
 #[tactic(auto, unfolding(crate::specs::Words::numbered_partner))]
 fn numbered_partner<'a>(language: Language, word: &'a [u8]) -> Option<Spelling<'a>>
-    ensures { IsFound (λ s. s.front.now ++ s.rest.now) (numbered_partner language word.now) result }
+    ensures { IsFoundAsWanted (λ s. s.front.now ++ s.rest.now) (numbered_partner language word.now) result }
 {
     if !ends_in_digits(word) {
         return None;
@@ -167,9 +167,9 @@ fn numbered_partner<'a>(language: Language, word: &'a [u8]) -> Option<Spelling<'
 }
 
 /// What stands beside an operand word that stands alone.
-#[tactic(auto, unfolding(crate::specs::Tables::results))]
+#[tactic(auto, unfolding(crate::specs::Tables::result_pairs))]
 fn result_partner(language: Language, word: &[u8]) -> Option<&'static [u8]>
-    ensures { IsFound (λ found. found.now) (partner language results word.now) result }
+    ensures { IsFoundAsWanted (λ found. found.now) (partner_in_table language result_pairs word.now) result }
 {
     partner(language, &RESULTS, word)
 }
@@ -177,7 +177,7 @@ fn result_partner(language: Language, word: &[u8]) -> Option<&'static [u8]>
 /// What stands beside an operand word.
 #[tactic(auto, unfolding(crate::specs::Words::operand_partner))]
 fn operand_partner<'a>(language: Language, word: &'a [u8]) -> Option<Spelling<'a>>
-    ensures { IsFound (λ s. s.front.now ++ s.rest.now) (operand_partner language word.now) result }
+    ensures { IsFoundAsWanted (λ s. s.front.now ++ s.rest.now) (operand_partner language word.now) result }
 {
     if let Some(found) = numbered_partner(language, word) {
         return Some(found);
@@ -203,9 +203,9 @@ fn has_operand(language: Language, word: &[u8]) -> bool
 }
 
 /// How an instruction word is written in the translation.
-#[tactic(auto, unfolding(crate::specs::Words::written))]
+#[tactic(auto, unfolding(crate::specs::Words::translated_word))]
 fn written_instruction<'a>(language: Language, word: &'a [u8]) -> Option<Spelling<'a>>
-    ensures { IsFound (λ s. s.front.now ++ s.rest.now) (written language Instruction word.now) result }
+    ensures { IsFoundAsWanted (λ s. s.front.now ++ s.rest.now) (translated_word language Instruction word.now) result }
 {
     if let Some(rest) = instruction_partner(language, word) {
         return Some(Spelling { front: &[], rest });
@@ -220,9 +220,9 @@ fn written_instruction<'a>(language: Language, word: &'a [u8]) -> Option<Spellin
 }
 
 /// How an operand word is written in the translation.
-#[tactic(auto, unfolding(crate::specs::Words::written))]
+#[tactic(auto, unfolding(crate::specs::Words::translated_word))]
 fn written_operand<'a>(language: Language, word: &'a [u8]) -> Option<Spelling<'a>>
-    ensures { IsFound (λ s. s.front.now ++ s.rest.now) (written language Operand word.now) result }
+    ensures { IsFoundAsWanted (λ s. s.front.now ++ s.rest.now) (translated_word language Operand word.now) result }
 {
     if let Some(found) = operand_partner(language, word) {
         return Some(found);
@@ -237,9 +237,9 @@ fn written_operand<'a>(language: Language, word: &'a [u8]) -> Option<Spelling<'a
 }
 
 /// How a word that begins a path is written in the translation.
-#[tactic(auto, unfolding(crate::specs::Words::written))]
+#[tactic(auto, unfolding(crate::specs::Words::translated_word))]
 fn written_path<'a>(language: Language, word: &'a [u8]) -> Spelling<'a>
-    ensures { Some (result.front.now ++ result.rest.now) ≡ written language Path word.now }
+    ensures { Some (result.front.now ++ result.rest.now) ≡ translated_word language Path word.now }
 {
     if has_operand(opposite(language), word) {
         return Spelling {
@@ -255,9 +255,9 @@ fn written_path<'a>(language: Language, word: &'a [u8]) -> Spelling<'a>
 
 /// How a word in this role is written in the translation, or None where it is a word of the other
 /// language alone.
-#[tactic(auto, unfolding(crate::specs::Words::written))]
+#[tactic(auto, unfolding(crate::specs::Words::translated_word))]
 pub(crate) fn written<'a>(language: Language, role: Role, word: &'a [u8]) -> Option<Spelling<'a>>
-    ensures { IsFound (λ s. s.front.now ++ s.rest.now) (written language role word.now) result }
+    ensures { IsFoundAsWanted (λ s. s.front.now ++ s.rest.now) (translated_word language role word.now) result }
 {
     match role {
         Role::Instruction => written_instruction(language, word),
@@ -279,54 +279,54 @@ fn is_listed(table: &'static [&'static [u8]], word: &[u8]) -> bool
 
 /// The same, where the list is seen as bytes.
 fn is_among(table: &'static [&'static [u8]], word: &[u8]) -> bool
-    ensures { result ≡ is_among (map (λ entry. entry.now) table.now) word.now }
+    ensures { result ≡ is_word_in_list (map (λ entry. entry.now) table.now) word.now }
 {
     is_listed(table, word)
 }
 
 /// Whether a table has something beside a word of the language that is translated from.
 fn has_partner(language: Language, table: &'static [Pair], word: &[u8]) -> bool
-    ensures { result ≡ is_some (partner language
+    ensures { result ≡ is_some (partner_in_table language
         (map (λ pair. (pair.0.now, pair.1.now)) table.now) word.now) }
 {
     partner(language, table, word).is_some()
 }
 
 /// Whether a word is in one of the two columns of a table.
-#[tactic(auto, unfolding(crate::specs::Places::is_in))]
+#[tactic(auto, unfolding(crate::specs::Places::is_word_in_pairs))]
 fn is_in(table: &'static [Pair], word: &[u8]) -> bool
-    ensures { result ≡ is_in (map (λ pair. (pair.0.now, pair.1.now)) table.now) word.now }
+    ensures { result ≡ is_word_in_pairs (map (λ pair. (pair.0.now, pair.1.now)) table.now) word.now }
 {
     has_partner(Language::German, table, word) || has_partner(Language::English, table, word)
 }
 
 /// Whether a word is an operand word that takes a number, without it.
-#[tactic(auto, unfolding(crate::specs::Tables::operands))]
+#[tactic(auto, unfolding(crate::specs::Tables::operand_pairs))]
 fn is_operand(letters: &[u8]) -> bool
-    ensures { result ≡ is_in operands letters.now }
+    ensures { result ≡ is_word_in_pairs operand_pairs letters.now }
 {
     is_in(&OPERANDS, letters)
 }
 
 /// Whether these are the letters of an operand word that takes a number.
 pub(crate) fn takes_number(word: &[u8]) -> bool
-    ensures { result ≡ is_in operands (letters word.now) }
+    ensures { result ≡ is_word_in_pairs operand_pairs (letters_of_word word.now) }
 {
     is_operand(letters(word))
 }
 
 /// Whether this is an operand word that stands alone.
-#[tactic(auto, unfolding(crate::specs::Tables::results))]
+#[tactic(auto, unfolding(crate::specs::Tables::result_pairs))]
 pub(crate) fn is_result(word: &[u8]) -> bool
-    ensures { result ≡ is_in results word.now }
+    ensures { result ≡ is_word_in_pairs result_pairs word.now }
 {
     is_in(&RESULTS, word)
 }
 
 /// Whether this is the word of a jump that differs between the two languages.
-#[tactic(auto, unfolding(crate::specs::Tables::jumps))]
+#[tactic(auto, unfolding(crate::specs::Tables::jump_pairs))]
 fn is_own_jump(word: &[u8]) -> bool
-    ensures { result ≡ is_in jumps word.now }
+    ensures { result ≡ is_word_in_pairs jump_pairs word.now }
 {
     is_in(&JUMPS, word)
 }
@@ -334,15 +334,15 @@ fn is_own_jump(word: &[u8]) -> bool
 /// Whether this is the word of a jump in both of them.
 #[tactic(auto, unfolding(crate::specs::Tables::common_jumps))]
 fn is_common_jump(word: &[u8]) -> bool
-    ensures { result ≡ is_among common_jumps word.now }
+    ensures { result ≡ is_word_in_list common_jumps word.now }
 {
     is_among(&COMMON_JUMPS, word)
 }
 
 /// Whether an instruction word is that of a jump.
-#[tactic(auto, unfolding(crate::specs::Places::is_jump))]
+#[tactic(auto, unfolding(crate::specs::Places::is_jump_word))]
 pub(crate) fn is_jump(word: &[u8]) -> bool
-    ensures { result ≡ is_jump word.now }
+    ensures { result ≡ is_jump_word word.now }
 {
     is_own_jump(word) || is_common_jump(word)
 }
@@ -350,7 +350,7 @@ pub(crate) fn is_jump(word: &[u8]) -> bool
 /// Whether a word opens a block of statements.
 #[tactic(auto, unfolding(crate::specs::Tables::code_openings))]
 pub(crate) fn opens_code(word: &[u8]) -> bool
-    ensures { result ≡ is_among code_openings word.now }
+    ensures { result ≡ is_word_in_list code_openings word.now }
 {
     is_among(&CODE_OPENINGS, word)
 }
@@ -358,7 +358,7 @@ pub(crate) fn opens_code(word: &[u8]) -> bool
 /// Whether a word opens a block of data.
 #[tactic(auto, unfolding(crate::specs::Tables::data_openings))]
 pub(crate) fn opens_data(word: &[u8]) -> bool
-    ensures { result ≡ is_among data_openings word.now }
+    ensures { result ≡ is_word_in_list data_openings word.now }
 {
     is_among(&DATA_OPENINGS, word)
 }
@@ -366,15 +366,15 @@ pub(crate) fn opens_data(word: &[u8]) -> bool
 /// Whether a word opens a body.
 #[tactic(auto, unfolding(crate::specs::Tables::begin_words))]
 pub(crate) fn begins_body(word: &[u8]) -> bool
-    ensures { result ≡ is_among begin_words word.now }
+    ensures { result ≡ is_word_in_list begin_words word.now }
 {
     is_among(&BEGIN_WORDS, word)
 }
 
 /// Whether a word ends a block of statements.
-#[tactic(auto, unfolding(crate::specs::Tables::endings))]
+#[tactic(auto, unfolding(crate::specs::Tables::block_end_words))]
 pub(crate) fn ends_code(word: &[u8]) -> bool
-    ensures { result ≡ is_among endings word.now }
+    ensures { result ≡ is_word_in_list block_end_words word.now }
 {
     is_among(&ENDINGS, word)
 }
@@ -382,7 +382,7 @@ pub(crate) fn ends_code(word: &[u8]) -> bool
 /// Whether a word opens a network.
 #[tactic(auto, unfolding(crate::specs::Tables::network_words))]
 pub(crate) fn opens_network(word: &[u8]) -> bool
-    ensures { result ≡ is_among network_words word.now }
+    ensures { result ≡ is_word_in_list network_words word.now }
 {
     is_among(&NETWORK_WORDS, word)
 }
@@ -390,7 +390,7 @@ pub(crate) fn opens_network(word: &[u8]) -> bool
 /// Whether a word is that of `)MCR`.
 #[tactic(auto, unfolding(crate::specs::Tables::zone_words))]
 pub(crate) fn ends_zone(word: &[u8]) -> bool
-    ensures { result ≡ is_among zone_words word.now }
+    ensures { result ≡ is_word_in_list zone_words word.now }
 {
     is_among(&ZONE_WORDS, word)
 }

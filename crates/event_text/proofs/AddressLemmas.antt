@@ -11,7 +11,7 @@ use Rattle.plc_base.specs.declared.places.Area.{Area}
 use Rattle.plc_base.specs.declared.places.Area.TheVariants.{P, I, Q, M, Db, Di, L}
 use Rattle.plc_base.specs.declared.places.Width.{Width}
 use Rattle.plc_base.specs.declared.places.Width.TheVariants.{Bit, Byte, Word, Dword}
-use Rattle.var_access.specs.Entry.{has_variables, has_bit, is_var, IsRequest}
+use Rattle.var_access.specs.Entry.{has_variables, is_bit_of_width, is_var, IsRequest}
 use Rattle.var_access.specs.declared.requests.Request.{Request}
 use Rattle.var_access.specs.declared.requests.Request.TheVariants.{ReadVars, WriteVar, Stop, Restart, MonitorOn, MonitorOff, Diag}
 use Rattle.var_access.specs.declared.requests.Var.{Var}
@@ -46,7 +46,7 @@ has-area P number h = cc
 has-area Di number h = cc
 has-area L number h = cc
 
-has-bit : (width : Width) (bit : ℕ) → has_bit width bit ≡ true → HasBit width bit
+has-bit : (width : Width) (bit : ℕ) → is_bit_of_width width bit ≡ true → HasBit width bit
 has-bit Bit bit h = leb-true bit 7 h
 has-bit Byte bit h = eqb-true bit 0 h
 has-bit Word bit h = eqb-true bit 0 h

@@ -15,7 +15,7 @@ use Rattle.var_access.specs.declared.entries.What.{What}
 use Rattle.var_access.specs.declared.entries.What.TheVariants.{Step, Input, Arrive, Tick, Ask}
 use Rattle.var_access.specs.declared.requests.Request.{Request}
 use Rattle.event_text.specs.declared.kinds.TextKind.TheVariants.{History}
-use Rattle.event_text.specs.Lines.{one_entry, step_entries, most_steps, step_count, count_behind, step_line, number_among, input_line, arrival_line, tick_line, operator_with, operator_line, line_with, is_skipped, line_read}
+use Rattle.event_text.specs.Lines.{one_entry, step_entries, most_steps, step_count, count_behind, step_line, number_among, input_line, arrival_line, tick_line, operator_with, operator_line, line_with, is_entry_line_skipped, line_read}
 use Rattle.event_text.specs.Regular.{IsRegular}
 use Rattle.event_text.specs.Workers.{request_entry, feeder_entry, one_step, operator_of, worker_of}
 use Rattle.event_text.specs.HistoryText.{arrival_text, request_text, what_text}
@@ -27,13 +27,13 @@ use Rattle.event_text.proofs.VarLemmas.{both-read}
 use Rattle.event_text.proofs.WordLemmas.{is_solid, IsWord, first-word, first-word-behind, words-one, words-two}
 
 -- a line that begins with another byte than `/` isn't skipped
-unskipped : (b : ℕ) (t : List ℕ) → starts_with nat_eq (b ∷ t) (codes "//") ≡ false → is_skipped (b ∷ t) ≡ false
+unskipped : (b : ℕ) (t : List ℕ) → starts_with nat_eq (b ∷ t) (codes "//") ≡ false → is_entry_line_skipped (b ∷ t) ≡ false
 unskipped b t e =
     let l : eqb (length (b ∷ t)) 0 ≡ false = grind (arith, common_steps) in
     rw l e
 
 -- what a line is read as, by its first word
-by-word : (names : Names) (before : ℕ) (w t : List ℕ) → IsWord w → Stops is_solid t → is_skipped (w ++ t) ≡ false
+by-word : (names : Names) (before : ℕ) (w t : List ℕ) → IsWord w → Stops is_solid t → is_entry_line_skipped (w ++ t) ≡ false
     → line_read History names before (w ++ t) ≡ line_with History names before (Some (w, t))
 unfolding line_read
 by-word names before w t h k s = rw s (ap (line_with History names before) (first-word w t h k))

@@ -3,8 +3,8 @@ use Rattle.std.proofs.Common.{◌≡◌, ◌≤◌, ℕ, Bool, true, false, [], 
 use Rattle.std.specs.List.{All}
 use Rattle.std.proofs.lemmas.List.Elements.{All-nil, All-cons, All-replicate}
 use Rattle.var_access.specs.Entry.{IsValid}
-use Rattle.var_access.specs.Readings.{Reading, both}
-use Rattle.event_text.specs.LineEntries.{entries_of, HasWorker, IsOtherLine, IsScriptLine, IsLineOf}
+use Rattle.var_access.specs.Readings.{Reading, both_readings}
+use Rattle.event_text.specs.LineEntries.{entries_of_line, HasWorker, IsOtherLine, IsScriptLine, IsLineAllowed}
 use Rattle.event_text.specs.Lines.{script_worker, where_allowed}
 use Rattle.event_text.specs.Workers.{one_step}
 use Rattle.event_text.specs.declared.kinds.TextKind.{TextKind}
@@ -16,7 +16,7 @@ differ : {A : Type 0} {a : A} {rule : ℕ} → Err rule ≡ Ok a → ⊥
 differ e = cc
 
 -- what is known of the second of two parts
-pub both_second : {A B : Type 0} (P : B → Type 0) (a : Reading A) (b : Reading B) (x : A) (y : B) → both a b ≡ Ok (x, y) → IfOk b P → P y
+pub both_second : {A B : Type 0} (P : B → Type 0) (a : Reading A) (b : Reading B) (x : A) (y : B) → both_readings a b ≡ Ok (x, y) → IfOk b P → P y
 both_second {A} {B} P (Ok a) (Ok b) x y is known = subst P (ap second is) known where
   second : Reading (A × B) → B
   second (Ok p) = p.1
@@ -41,20 +41,20 @@ worker_some History h = omega arith
 worker_some Stimuli h = omega arith
 worker_some (Script who) h = h
 
-pub other_line : (kind : TextKind) (before : ℕ) (r : Reading LineEntries) → IfOk r IsOtherLine → IfOk r (IsLineOf kind before)
+pub other_line : (kind : TextKind) (before : ℕ) (r : Reading LineEntries) → IfOk r IsOtherLine → IfOk r (IsLineAllowed kind before)
 other_line kind before (Ok Nothing) is = tt
 other_line kind before (Ok (Steps count)) is = absurd is
 other_line kind before (Ok (One entry)) is = (is.other, λ worker. is.valid)
 other_line kind before (Err rule) is = tt
 
-pub script_line_of : (kind : TextKind) (before : ℕ) (r : Reading LineEntries) → IfOk r (IsScriptLine kind) → IfOk r (IsLineOf kind before)
+pub script_line_of : (kind : TextKind) (before : ℕ) (r : Reading LineEntries) → IfOk r (IsScriptLine kind) → IfOk r (IsLineAllowed kind before)
 script_line_of kind before (Ok Nothing) is = tt
 script_line_of kind before (Ok (Steps count)) is = absurd is
 script_line_of kind before (Ok (One entry)) is = is
 script_line_of kind before (Err rule) is = tt
 
 -- the entries of a line are valid
-pub valid_line : (kind : TextKind) (before : ℕ) (found : LineEntries) → HasWorker kind → IsLineOf kind before found → All IsValid (entries_of found)
+pub valid_line : (kind : TextKind) (before : ℕ) (found : LineEntries) → HasWorker kind → IsLineAllowed kind before found → All IsValid (entries_of_line found)
 valid_line kind before Nothing worker is = All-nil IsValid
 valid_line kind before (Steps count) worker is = All-replicate IsValid count one_step (omega arith, tt)
 valid_line kind before (One entry) worker is = All-cons IsValid entry [] (is.1 worker) (All-nil IsValid)

@@ -16,9 +16,9 @@ use Rattle.plc_base.specs.declared.places.Width.TheVariants.{Bit, Byte, Word, Dw
 use Rattle.var_access.specs.declared.requests.Request.{Request}
 use Rattle.var_access.specs.declared.requests.Request.TheVariants.{ReadVars, WriteVar, Stop, Restart, MonitorOn, MonitorOff, Diag}
 use Rattle.var_access.specs.declared.requests.Var.{Var}
-use Rattle.var_access.specs.Readings.{reading_map, all_read, address_number, trim, first_word, words_of}
+use Rattle.var_access.specs.Readings.{reading_map, all_readings, address_number, trim, first_word, words_of}
 use Rattle.var_access.specs.Variables.{Names, is_letter, is_quote, is_point, var_of, width_value, bit_value}
-use Rattle.var_access.specs.Requests.{is_comma, parts_from, few_vars, read_of, write_to, write_in, write_of, kind_of_word, monitor_of, one_word, request_of, request_by, request_line}
+use Rattle.var_access.specs.Requests.{is_comma, comma_parts, few_vars, read_request, write_to, write_in, write_request, kind_of_word, monitor_request, one_word, request_of, request_by, request_line}
 use Rattle.monitor.specs.LineText.{hex_text, kind_text}
 use Rattle.event_text.specs.HistoryText.{value_text, place_text, var_text, more_vars_text, vars_text, request_text, width_text, block_width_text, bit_text}
 use Rattle.event_text.proofs.AddressLemmas.{HasArea, HasBit, IsAddress, AreAddresses, IsKind, IsWritable}
@@ -111,34 +111,34 @@ var-word v h = record {
 -- ---- read
 
 -- a byte that doesn't cut
-no-cut : (b : ℕ) (t : List ℕ) → is_quote b ≡ false → is_comma b ≡ false → parts_from false (b ∷ t) ≡ onto_first b (parts_from false t)
+no-cut : (b : ℕ) (t : List ℕ) → is_quote b ≡ false → is_comma b ≡ false → comma_parts false (b ∷ t) ≡ onto_first b (comma_parts false t)
 no-cut b t q c = rw (q, c) refl
 
-parts-none : (t : List ℕ) → Each is_shown t → parts_from false t ≡ t ∷ []
+parts-none : (t : List ℕ) → Each is_shown t → comma_parts false t ≡ t ∷ []
 parts-none [] h = refl
 parts-none (b ∷ t) h = no-cut b t (shown-quote b h.0) (shown-comma b h.0) ∙ ap (onto_first b) (parts-none t h.1)
 
-parts-at : (t rest : List ℕ) → Each is_shown t → parts_from false (t ++ 44 ∷ rest) ≡ t ∷ parts_from false rest
+parts-at : (t rest : List ℕ) → Each is_shown t → comma_parts false (t ++ 44 ∷ rest) ≡ t ∷ comma_parts false rest
 parts-at [] rest h = refl
 parts-at (b ∷ t) rest h = no-cut b (t ++ 44 ∷ rest) (shown-quote b h.0) (shown-comma b h.0) ∙ ap (onto_first b) (parts-at t rest h.1)
 
 abbrev spaced : Var → List ℕ
 spaced v = 32 ∷ var_text v
 
-parts-of : (v : Var) (vs : List Var) → AreAddresses (v ∷ vs) → parts_from false (32 ∷ (var_text v ++ more_vars_text vs)) ≡ map spaced (v ∷ vs)
+parts-of : (v : Var) (vs : List Var) → AreAddresses (v ∷ vs) → comma_parts false (32 ∷ (var_text v ++ more_vars_text vs)) ≡ map spaced (v ∷ vs)
 parts-of v [] h =
-    ap (λ t. parts_from false (32 ∷ t)) (append-nil (var_text v)) ∙ no-cut 32 (var_text v) refl refl
+    ap (λ t. comma_parts false (32 ∷ t)) (append-nil (var_text v)) ∙ no-cut 32 (var_text v) refl refl
     ∙ ap (onto_first 32) (parts-none (var_text v) (var-shown v h.0))
 parts-of v (w ∷ ws) h =
     no-cut 32 (var_text v ++ more_vars_text (w ∷ ws)) refl refl
     ∙ ap (onto_first 32) (parts-at (var_text v) (32 ∷ (var_text w ++ more_vars_text ws)) (var-shown v h.0))
     ∙ ap (λ ps. spaced v ∷ ps) (parts-of w ws h.1)
 
-read-each : (names : Names) (vs : List Var) → AreAddresses vs → all_read (map (λ part. var_of names (trim part)) (map spaced vs)) ≡ Ok vs
+read-each : (names : Names) (vs : List Var) → AreAddresses vs → all_readings (map (λ part. var_of names (trim part)) (map spaced vs)) ≡ Ok vs
 read-each names [] h = refl
 read-each names (v ∷ vs) h =
     ap (λ r. reading_map (λ p. p.0 ∷ p.1) r)
-    (both-read (var_of names (trim (spaced v))) (all_read (map (λ part. var_of names (trim part)) (map spaced vs))) v vs
+    (both-read (var_of names (trim (spaced v))) (all_readings (map (λ part. var_of names (trim part)) (map spaced vs))) v vs
     (ap (var_of names) (trimmed-word (var_text v) (var-word v h.0)) ∙ var_read names v h.0) (read-each names vs h.1))
 
 count-each : (names : Names) (vs : List Var) → length (map (λ part. var_of names (trim part)) (map spaced vs)) ≡ length vs
@@ -151,8 +151,8 @@ few-read names vs few h =
     let le : nat_le (length (map (λ part. var_of names (trim part)) (map spaced vs))) 8 ≡ true = ap (λ n. nat_le n 8) (count-each names vs) ∙ grind (arith, nat_tests) in
     rw le (read-each names vs h)
 
-pub read-read : (names : Names) (vs : List Var) → 1 ≤ length vs → length vs ≤ 8 → AreAddresses vs → read_of names (32 ∷ vars_text vs) ≡ Ok (ReadVars vs)
-unfolding read_of
+pub read-read : (names : Names) (vs : List Var) → 1 ≤ length vs → length vs ≤ 8 → AreAddresses vs → read_request names (32 ∷ vars_text vs) ≡ Ok (ReadVars vs)
+unfolding read_request
 read-read names [] some few h = absurd (omega arith)
 read-read names (v ∷ vs) some few h =
     ap (λ ps. reading_map (λ xs. ReadVars xs) (few_vars (map (λ part. var_of names (trim part)) ps))) (parts-of v vs h)
@@ -194,8 +194,8 @@ value-word Word n h = hex-word 4 n (omega arith) h
 value-word Dword n h = hex-word 8 n (omega arith) h
 
 pub write-read : (names : Names) (v : Var) (n : ℕ) → IsAddress v → n < 2 ^ bit_count v.width
-    → write_of names (32 ∷ (var_text v ++ 32 ∷ value_text v.width n)) ≡ Ok (WriteVar v n)
-unfolding write_of
+    → write_request names (32 ∷ (var_text v ++ 32 ∷ value_text v.width n)) ≡ Ok (WriteVar v n)
+unfolding write_request
 write-read names v n h small =
     let a : List ℕ = var_text v in
     let b : List ℕ = value_text v.width n in
@@ -233,20 +233,20 @@ kind-read Sfc h = absurd h
 kind-read Udt h = absurd h
 
 pub monitor-read : (block : BlockId) → IsKind block.kind → block.number < 65536
-    → monitor_of (words_of (codes " on " ++ (kind_text block.kind ++ (codes " " ++ decimal block.number)))) ≡ Ok (MonitorOn block)
-unfolding monitor_of
+    → monitor_request (words_of (codes " on " ++ (kind_text block.kind ++ (codes " " ++ decimal block.number)))) ≡ Ok (MonitorOn block)
+unfolding monitor_request
 monitor-read block k small =
     let kind : List ℕ = kind_text block.kind in
     let number : List ℕ = decimal block.number in
     let on : IsWord (111 ∷ 110 ∷ []) = record { some = omega arith; solid = (refl, (refl, tt)) } in
-    ap monitor_of (words-blank (111 ∷ 110 ∷ 32 ∷ (kind ++ 32 ∷ number)) ∙ words-more (111 ∷ 110 ∷ []) (kind ++ 32 ∷ number) on
+    ap monitor_request (words-blank (111 ∷ 110 ∷ 32 ∷ (kind ++ 32 ∷ number)) ∙ words-more (111 ∷ 110 ∷ []) (kind ++ 32 ∷ number) on
     ∙ ap (λ ws. (111 ∷ 110 ∷ []) ∷ ws) (words-more kind number (kind-word block.kind k) ∙ ap (λ ws. kind ∷ ws) (words-last number (number-word block.number (omega arith)))))
     ∙ ap (λ r. reading_map (λ b. MonitorOn (record { kind = b.0; number = b.1 })) r)
     (both-read (kind_of_word kind) (address_number number) block.kind block.number (kind-read block.kind k) (number-of block.number small))
 
-monitor-off : monitor_of (words_of (codes " off")) ≡ Ok MonitorOff
-unfolding monitor_of
-monitor-off = ap monitor_of (words-one (codes "off") (record { some = omega arith; solid = (refl, (refl, (refl, tt))) }))
+monitor-off : monitor_request (words_of (codes " off")) ≡ Ok MonitorOff
+unfolding monitor_request
+monitor-off = ap monitor_request (words-one (codes "off") (record { some = omega arith; solid = (refl, (refl, (refl, tt))) }))
 
 -- ---- every request
 

@@ -27,7 +27,7 @@ use Rattle.var_access.specs.declared.requests.Var.{Var}
 use Rattle.event_text.specs.declared.kinds.TextKind.TheVariants.{History}
 use Rattle.event_text.specs.Lines.{most_steps, line_read}
 use Rattle.event_text.specs.Regular.{IsRegular}
-use Rattle.event_text.specs.Texts.{steps_in, in_front, line_first, lines_read, text_read, history_of}
+use Rattle.event_text.specs.Texts.{steps_in, entries_in_front, entries_of_line_first, entries_of_read_lines, text_read, history_of_text}
 use Rattle.event_text.specs.Workers.{one_step, operator_of}
 use Rattle.event_text.specs.HistoryText.{var_text, more_vars_text, vars_text, value_text, arrival_text, request_text, what_text, entry_line, steps_text, history_text_behind, history_text}
 use Rattle.event_text.proofs.AddressLemmas.{IsAddress, AreAddresses, IsWritable, writable}
@@ -192,19 +192,19 @@ steps-first e es = omega (arith, sum_by-append step-count (e ∷ []) es)
 -- the reading of a line that is right, with those behind it
 reads-on : (names : Names) (line before : ℕ) (text : List ℕ) (more : List (List ℕ)) (es rest : List Entry)
     → line_read History names before text ≡ Ok es
-    → lines_read History names (line + 1) (before + steps_in es) more ≡ Ok rest
-    → lines_read History names line before (text ∷ more) ≡ Ok (es ++ rest)
-unfolding lines_read
+    → entries_of_read_lines History names (line + 1) (before + steps_in es) more ≡ Ok rest
+    → entries_of_read_lines History names line before (text ∷ more) ≡ Ok (es ++ rest)
+unfolding entries_of_read_lines
 reads-on names line before text more es rest right behind =
-    ap (λ r. line_first line r (λ xs. lines_read History names (line + 1) (before + steps_in xs) more)) right
-    ∙ ap (in_front es) behind
+    ap (λ r. entries_of_line_first line r (λ xs. entries_of_read_lines History names (line + 1) (before + steps_in xs) more)) right
+    ∙ ap (entries_in_front es) behind
 
 -- what a text behind so many steps is read as
 abbrev Reads : Names → (line before : ℕ) → List ℕ → List Entry → Type 0
-Reads names line before text es = lines_read History names line before (lines text) ≡ Ok es
+Reads names line before text es = entries_of_read_lines History names line before (lines text) ≡ Ok es
 
 nothing-read : (names : Names) (line before : ℕ) → Reads names line before [] []
-unfolding lines_read
+unfolding entries_of_read_lines
 nothing-read names line before = refl
 
 step-text-inner : (n : ℕ) → n ≤ most_steps → Each is_inner (codes "step " ++ decimal n)
@@ -224,10 +224,10 @@ behind-steps names line before (suc n) tail es few more =
     ∙ ap lines (sym (append_assoc (codes "step ") (decimal (suc n)) (10 ∷ tail)))
     ∙ line-first text tail (step-text-inner (suc n) (omega arith)) in
     let count : steps_in (replicate (suc n) one_step) ≡ suc n = steps-replicate (suc n) in
-    ap (lines_read History names line before) cut
+    ap (entries_of_read_lines History names line before) cut
     ∙ reads-on names line before text (lines tail) (replicate (suc n) one_step) es
     (steps-line names before (suc n) (omega arith) (omega arith))
-    (subst (λ (m : ℕ). lines_read History names (line + 1) (before + m) (lines tail) ≡ Ok es) (sym count) (more (line + 1)))
+    (subst (λ (m : ℕ). entries_of_read_lines History names (line + 1) (before + m) (lines tail) ≡ Ok es) (sym count) (more (line + 1)))
 
 differ : {A : Type 0} → false ≡ true → A
 differ p = absurd (no p) where
@@ -255,7 +255,7 @@ from-read : (names : Names) (line before k : ℕ) (es : List Entry) → AllByRec
     → Reads names line before (history_text_behind k es) (replicate k one_step ++ es)
 unfolding history_text_behind
 from-read names line before k [] h few =
-    ap (λ t. lines_read History names line before (lines t)) (steps-end k)
+    ap (λ t. entries_of_read_lines History names line before (lines t)) (steps-end k)
     ∙ behind-steps names line before k [] [] (omega arith) (λ line'. nothing-read names line' (before + k))
 from-read names line before k (e ∷ es) h few = by (is_step e) refl
     (λ is. from-read names line before (k + 1) es h.1 (omega (arith, steps-first e es, ap one-if is)))
@@ -269,11 +269,11 @@ from-read names line before k (e ∷ es) h few = by (is_step e) refl
         rw is (steps-more refl ∙ ap Ok (sym (replicate-more k es)) ∙ ap (λ x. Ok (replicate k one_step ++ (x ∷ es))) (step-is e h.0 is))
     by false is steps-more more =
         rw is (behind-steps names line before k (entry_line e ++ history_text_behind 0 es) (e ∷ es) (omega arith)
-        (λ line'. ap (lines_read History names line' (before + k)) (entry-lines e (history_text_behind 0 es) h.0)
+        (λ line'. ap (entries_of_read_lines History names line' (before + k)) (entry-lines e (history_text_behind 0 es) h.0)
         ∙ reads-on names line' (before + k) (what_text e.who e.what) (lines (history_text_behind 0 es)) (e ∷ []) es (entry-read names (before + k) e h.0 is)
         (more refl line')))
 
 pub written_is_read : (names : List NameEntry) (es : List Entry)
-    → All IsRegular es → steps_in es ≤ most_steps → history_of names (history_text es) ≡ Ok es
+    → All IsRegular es → steps_in es ≤ most_steps → history_of_text names (history_text es) ≡ Ok es
 unfolding history_text text_read
 written_is_read names es h few = from-read (find names) 1 0 0 es (recursion_from_All IsRegular es h) (omega arith)

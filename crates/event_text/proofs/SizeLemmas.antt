@@ -9,13 +9,13 @@ use Rattle.std.proofs.lemmas.Bool.{eqb-true}
 use Rattle.plc_base.specs.AreaBytes.{is_peripheral_byte}
 use Rattle.plc_base.specs.Texts.{is_blank}
 use Rattle.plc_base.specs.declared.refusals.Refusal.{Refusal}
-use Rattle.var_access.specs.Readings.{Reading, address_number, both, reading_map, hex_of, is_hex, behind_blanks, word_at, first_word, is_word, words_of}
+use Rattle.var_access.specs.Readings.{Reading, address_number, both_readings, reading_map, hex_of, is_hex, behind_blanks, leading_word, first_word, is_nonempty_part, words_of}
 use Rattle.var_access.specs.Requests.{request_of}
 use Rattle.var_access.specs.Variables.{Names}
 use Rattle.var_access.specs.declared.entries.Entry.{Entry}
 use Rattle.var_access.specs.declared.requests.Request.{Request}
-use Rattle.event_text.specs.Lines.{one_entry, step_entries, number_among, input_line, arrival_line, tick_line, step_line, operator_line, script_line, is_history, has_feeder_lines, is_script, script_worker, where_allowed, line_with, is_skipped, line_read}
-use Rattle.event_text.specs.Texts.{in_front, line_first, lines_read, steps_in, text_read}
+use Rattle.event_text.specs.Lines.{one_entry, step_entries, number_among, input_line, arrival_line, tick_line, step_line, operator_line, script_line, is_history, has_feeder_lines, is_script, script_worker, where_allowed, line_with, is_entry_line_skipped, line_read}
+use Rattle.event_text.specs.Texts.{entries_in_front, entries_of_line_first, entries_of_read_lines, steps_in, text_read}
 use Rattle.event_text.specs.Workers.{request_entry}
 use Rattle.event_text.specs.declared.kinds.TextKind.{TextKind}
 
@@ -50,7 +50,7 @@ parts-bytes (x ∷ y ∷ more) = omega (arith, strip-shorter x, parts-bytes (y �
 lines-bytes : (t : List ℕ) → bytes_in (lines t) ≤ length t
 lines-bytes t = omega (arith, parts-bytes (slice_split (λ b. eqb b 10) t), split-bytes (λ b. eqb b 10) t)
 
-filter-bytes : (parts : List (List ℕ)) → bytes_in (filter is_word parts) ≤ bytes_in parts
+filter-bytes : (parts : List (List ℕ)) → bytes_in (filter is_nonempty_part parts) ≤ bytes_in parts
 filter-bytes [] = omega arith
 filter-bytes ([] ∷ parts) = omega (arith, filter-bytes parts)
 filter-bytes ((b ∷ t) ∷ parts) = omega (arith, filter-bytes parts)
@@ -70,7 +70,7 @@ behind-shorter t = omega (arith, cut (prefix_len is_blank t) t)
 first-follows : (line : List ℕ) (w : List ℕ × List ℕ) → first_word line ≡ Some w → length w.0 + length w.1 ≤ length line
 unfolding first_word
 first-follows line w is = by (behind_blanks line) is (behind-shorter line) where
-  by : (t : List ℕ) → word_at t ≡ Some w → length t ≤ length line → length w.0 + length w.1 ≤ length line
+  by : (t : List ℕ) → leading_word t ≡ Some w → length t ≤ length line → length w.0 + length w.1 ≤ length line
   by [] none shorter = absurd (differ none) where
     differ : {A : Type 0} {a : A} → None ≡ Some a → ⊥
     differ e = cc
@@ -125,7 +125,7 @@ hex-length digits word n is =
     (λ hex as_long. pick (eqb (length word) digits) _ _ n as_long (λ long read. eqb-true (length word) digits long) (λ long read. absurd (differ read)))
     (λ other wrong. absurd (differ wrong))
 
-second-read : {A B C : Type 0} (f : A × B → C) (a : Reading A) (b : Reading B) (c : C) → reading_map f (both a b) ≡ Ok c → (x : B) × (b ≡ Ok x)
+second-read : {A B C : Type 0} (f : A × B → C) (a : Reading A) (b : Reading B) (c : C) → reading_map f (both_readings a b) ≡ Ok c → (x : B) × (b ≡ Ok x)
 second-read f (Ok a) (Ok b) c is = (b, refl)
 second-read f (Ok a) (Err rule) c is = absurd (differ is)
 second-read f (Err rule) (Ok b) c is = absurd (differ is)
@@ -178,7 +178,7 @@ line-size : (kind : TextKind) (names : Names) (before : ℕ) (line : List ℕ) (
     → line_read kind names before line ≡ Ok es → 4 * length es ≤ length line
 unfolding line_read
 line-size kind names before line es other is =
-    pick (is_skipped line) _ _ es is (λ t x. omega (arith, ap (λ (xs : List Entry). length xs) (same x)))
+    pick (is_entry_line_skipped line) _ _ es is (λ t x. omega (arith, ap (λ (xs : List Entry). length xs) (same x)))
     (λ t x. by (first_word line) refl x)
   where
     by : (w : Option (List ℕ × List ℕ)) → first_word line ≡ w → line_with kind names before w ≡ Ok es → 4 * length es ≤ length line
@@ -197,22 +197,22 @@ same-entries {a} {b} is = ap value is where
   value (Err refusal) = a
 
 lines-size : (kind : TextKind) (names : Names) (line before : ℕ) (ls : List (List ℕ)) (es : List Entry) → is_history kind ≡ false
-    → lines_read kind names line before ls ≡ Ok es → 4 * length es ≤ bytes_in ls
-unfolding lines_read
+    → entries_of_read_lines kind names line before ls ≡ Ok es → 4 * length es ≤ bytes_in ls
+unfolding entries_of_read_lines
 lines-size kind names line before [] es other is = omega (arith, ap (λ (xs : List Entry). length xs) (same-entries is))
 lines-size kind names line before (text ∷ more) es other is =
     by (line_read kind names before text) refl is (λ xs ys at. lines-size kind names (line + 1) (before + steps_in xs) more ys other at)
   where
-    behind : (xs : List Entry) (r : Result (List Entry) Refusal) → in_front xs r ≡ Ok es → (ys : List Entry) × (r ≡ Ok ys) × (es ≡ xs ++ ys)
+    behind : (xs : List Entry) (r : Result (List Entry) Refusal) → entries_in_front xs r ≡ Ok es → (ys : List Entry) × (r ≡ Ok ys) × (es ≡ xs ++ ys)
     behind xs (Ok ys) at = (ys, refl, sym (same-entries at))
     behind xs (Err refusal) at = absurd (differ-refusal at)
 
     by : (r : Reading (List Entry)) → line_read kind names before text ≡ r
-        → line_first line r (λ xs. lines_read kind names (line + 1) (before + steps_in xs) more) ≡ Ok es
-        → ((xs ys : List Entry) → lines_read kind names (line + 1) (before + steps_in xs) more ≡ Ok ys → 4 * length ys ≤ bytes_in more)
+        → entries_of_line_first line r (λ xs. entries_of_read_lines kind names (line + 1) (before + steps_in xs) more) ≡ Ok es
+        → ((xs ys : List Entry) → entries_of_read_lines kind names (line + 1) (before + steps_in xs) more ≡ Ok ys → 4 * length ys ≤ bytes_in more)
         → 4 * length es ≤ length text + bytes_in more
     by (Ok xs) at x rest =
-        let b = behind xs (lines_read kind names (line + 1) (before + steps_in xs) more) x in
+        let b = behind xs (entries_of_read_lines kind names (line + 1) (before + steps_in xs) more) x in
         omega (arith, line-size kind names before text xs other at, rest xs b.0 b.1, ap (λ (zs : List Entry). length zs) b.2, length-append xs b.0)
     by (Err rule) at x rest = absurd (differ-refusal x)
 

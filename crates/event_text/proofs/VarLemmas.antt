@@ -9,8 +9,8 @@ use Rattle.plc_base.specs.declared.places.Width.{Width}
 use Rattle.plc_base.specs.declared.places.Width.TheVariants.{Bit, Byte, Word, Dword}
 use Rattle.var_access.specs.declared.requests.Var.{Var}
 use Rattle.plc_base.specs.Texts.{is_blank}
-use Rattle.var_access.specs.Readings.{Reading, both, reading_map, number_in, address_number, behind_blanks}
-use Rattle.var_access.specs.Variables.{Names, is_letter, letters_of, behind_letters, area_of_letters, width_of_letters, wide_of, db_width_of, var_at, wide_var, bit_var, block_var, block_bit, two_parts, var_of_parts, is_point, is_quote, var_of}
+use Rattle.var_access.specs.Readings.{Reading, both_readings, reading_map, number_in, address_number, behind_blanks}
+use Rattle.var_access.specs.Variables.{Names, is_letter, leading_letters, behind_letters, area_of_letters, width_of_letters, wide_of, db_width_of, var_at, wide_var, bit_var, block_var, block_bit, two_parts, var_of_parts, is_point, is_quote, var_of}
 use Rattle.event_text.specs.HistoryText.{place_text, var_text}
 use Rattle.event_text.proofs.AddressLemmas.{HasArea, HasBit, IsAddress}
 use Rattle.event_text.proofs.ByteLemmas.{Each, each-append, each-weaker, Implies, Excludes, Stops, split-none, split-at, prefix-whole, prefix-none, take-front, drop-front}
@@ -49,7 +49,7 @@ stops-by q p x (b ∷ t) h = x b h.0
 -- ---- letters, and the number behind them
 
 pub record IsLettered (text ls rest : List ℕ) : Type 0 where
-  pub letters : letters_of text ≡ ls
+  pub letters : leading_letters text ≡ ls
   pub behind : behind_letters text ≡ rest
 
 blanks-none : (t : List ℕ) → Stops is_blank t → behind_blanks t ≡ t
@@ -93,8 +93,8 @@ wide-read names area width b ls n h is small =
 bit-of : (k : ℕ) → k ≤ 7 → number_in 0 7 2 (decimal k) ≡ Ok k
 bit-of k few = number_read 0 7 2 k (omega arith) (omega arith) few
 
-pub both-read : {A B : Type 0} (x : Reading A) (y : Reading B) (a : A) (c : B) → x ≡ Ok a → y ≡ Ok c → both x y ≡ Ok (a, c)
-both-read x y a c e f = ap (λ u. both u y) e ∙ ap (λ u. both (Ok a) u) f
+pub both-read : {A B : Type 0} (x : Reading A) (y : Reading B) (a : A) (c : B) → x ≡ Ok a → y ≡ Ok c → both_readings x y ≡ Ok (a, c)
+both-read x y a c e f = ap (λ u. both_readings u y) e ∙ ap (λ u. both_readings (Ok a) u) f
 
 point-cut : (s t : List ℕ) → Each is_plain s → Each is_plain t → slice_split is_point (s ++ 46 ∷ t) ≡ s ∷ t ∷ []
 point-cut s t h k =
@@ -128,7 +128,7 @@ block-read names width c m n h is ms ns =
     ∙ ap var_of_parts (point-cut (68 ∷ 66 ∷ decimal m) (68 ∷ 66 ∷ c ∷ decimal n) (plain-text (68 ∷ 66 ∷ []) m (refl, (refl, tt)) ms) (plain-text (68 ∷ 66 ∷ c ∷ []) n (refl, (refl, (h, tt))) ns))
     ∙ ap (λ x. two_parts (area_of_letters x) (68 ∷ 66 ∷ decimal m) (68 ∷ 66 ∷ c ∷ decimal n)) l.letters
     ∙ ap (λ x. two_parts x (68 ∷ 66 ∷ decimal m) (68 ∷ 66 ∷ c ∷ decimal n)) no-area
-    ∙ ap (λ x. if bytes_eq x (codes "DB") then block_var (db_width_of (letters_of (68 ∷ 66 ∷ c ∷ decimal n))) (behind_letters (68 ∷ 66 ∷ decimal m)) (behind_letters (68 ∷ 66 ∷ c ∷ decimal n)) else Err 1) l.letters
+    ∙ ap (λ x. if bytes_eq x (codes "DB") then block_var (db_width_of (leading_letters (68 ∷ 66 ∷ c ∷ decimal n))) (behind_letters (68 ∷ 66 ∷ decimal m)) (behind_letters (68 ∷ 66 ∷ c ∷ decimal n)) else Err 1) l.letters
     ∙ ap (λ x. block_var (db_width_of x) (behind_letters (68 ∷ 66 ∷ decimal m)) (behind_letters (68 ∷ 66 ∷ c ∷ decimal n))) r.letters
     ∙ ap (λ x. block_var x (behind_letters (68 ∷ 66 ∷ decimal m)) (behind_letters (68 ∷ 66 ∷ c ∷ decimal n))) is
     ∙ ap (λ x. block_var (Some width) x (behind_letters (68 ∷ 66 ∷ c ∷ decimal n))) l.behind
@@ -145,12 +145,12 @@ block-bit-read names m n k ms ns few =
     by-points names 68 (66 ∷ decimal m ++ (46 ∷ (second ++ (46 ∷ decimal k)))) refl
     ∙ ap var_of_parts (split-at is_plain is_point plain-point first 46 (second ++ (46 ∷ decimal k)) (plain-text (68 ∷ 66 ∷ []) m (refl, (refl, tt)) ms) refl)
     ∙ ap (λ ps. var_of_parts (first ∷ ps)) (point-cut second (decimal k) (plain-text (68 ∷ 66 ∷ 88 ∷ []) n (refl, (refl, (refl, tt))) ns) (plain-text [] k tt (omega arith)))
-    ∙ ap (λ x. if bytes_eq x (codes "DB") && bytes_eq (letters_of second) (codes "DBX") then block_bit (behind_letters first) (behind_letters second) (decimal k) else Err 1) l.letters
+    ∙ ap (λ x. if bytes_eq x (codes "DB") && bytes_eq (leading_letters second) (codes "DBX") then block_bit (behind_letters first) (behind_letters second) (decimal k) else Err 1) l.letters
     ∙ ap (λ x. if bytes_eq (68 ∷ 66 ∷ []) (codes "DB") && bytes_eq x (codes "DBX") then block_bit (behind_letters first) (behind_letters second) (decimal k) else Err 1) r.letters
     ∙ ap (λ x. block_bit x (behind_letters second) (decimal k)) l.behind
     ∙ ap (λ x. block_bit (decimal m) x (decimal k)) r.behind
     ∙ ap (λ x. reading_map (λ p. var_at Db p.0 p.1.0 p.1.1 Bit) x)
-    (both-read (address_number (decimal m)) (both (address_number (decimal n)) (number_in 0 7 2 (decimal k))) m (n, k) (number-of m ms) (both-read (address_number (decimal n)) (number_in 0 7 2 (decimal k)) n k (number-of n ns) (bit-of k few)))
+    (both-read (address_number (decimal m)) (both_readings (address_number (decimal n)) (number_in 0 7 2 (decimal k))) m (n, k) (number-of m ms) (both-read (address_number (decimal n)) (number_in 0 7 2 (decimal k)) n k (number-of n ns) (bit-of k few)))
 
 -- ---- every place
 

@@ -4,7 +4,7 @@ use Rattle.std.proofs.lemmas.List.{reverse-append, reverse-reverse}
 use Rattle.std.specs.List.{slice_split, position_or_len}
 use Rattle.std.proofs.lemmas.List.Splits.{slice_split-cons_yes}
 use Rattle.plc_base.specs.Texts.{is_blank}
-use Rattle.var_access.specs.Readings.{behind_blanks, before_blanks, onto_end, trim, word_at, first_word, is_word, words_of}
+use Rattle.var_access.specs.Readings.{behind_blanks, before_blanks, onto_end, trim, leading_word, first_word, is_nonempty_part, words_of}
 use Rattle.event_text.proofs.ByteLemmas.{Each, each-append, Excludes, Stops, split-none, split-at, prefix-whole, prefix-none, take-front, drop-front}
 
 -- a byte that is no blank
@@ -76,7 +76,7 @@ trimmed-two a b h k =
 
 -- ---- the first word
 
-at-word : (w t : List ℕ) → IsWord w → Stops is_solid t → word_at (w ++ t) ≡ Some (w, t)
+at-word : (w t : List ℕ) → IsWord w → Stops is_solid t → leading_word (w ++ t) ≡ Some (w, t)
 at-word [] t h k = absurd (omega (arith, h.some))
 at-word (b ∷ w) t h k =
     ap (λ n. Some (take n (b ∷ w ++ t), drop n (b ∷ w ++ t))) (prefix-whole is_solid (b ∷ w) t h.solid k)
@@ -85,21 +85,21 @@ at-word (b ∷ w) t h k =
 
 pub first-word : (w t : List ℕ) → IsWord w → Stops is_solid t → first_word (w ++ t) ≡ Some (w, t)
 unfolding first_word
-first-word w t h k = ap word_at (behind-none w t h) ∙ at-word w t h k
+first-word w t h k = ap leading_word (behind-none w t h) ∙ at-word w t h k
 
 pub first-word-behind : (w t : List ℕ) → IsWord w → Stops is_solid t → first_word (32 ∷ (w ++ t)) ≡ Some (w, t)
 unfolding first_word
-first-word-behind w t h k = ap word_at (behind-one w t h) ∙ at-word w t h k
+first-word-behind w t h k = ap leading_word (behind-one w t h) ∙ at-word w t h k
 
 -- ---- words
 
-kept : (w : List ℕ) (ws : List (List ℕ)) → 0 < length w → filter is_word (w ∷ ws) ≡ w ∷ filter is_word ws
+kept : (w : List ℕ) (ws : List (List ℕ)) → 0 < length w → filter is_nonempty_part (w ∷ ws) ≡ w ∷ filter is_nonempty_part ws
 kept [] ws some = absurd (omega arith)
 kept (b ∷ w) ws some = refl
 
 pub words-blank : (t : List ℕ) → words_of (32 ∷ t) ≡ words_of t
 unfolding words_of
-words-blank t = ap (filter is_word) (slice_split-cons_yes is_blank 32 t refl)
+words-blank t = ap (filter is_nonempty_part) (slice_split-cons_yes is_blank 32 t refl)
 
 pub words-none : words_of [] ≡ []
 unfolding words_of
@@ -107,11 +107,11 @@ words-none = refl
 
 pub words-last : (w : List ℕ) → IsWord w → words_of w ≡ w ∷ []
 unfolding words_of
-words-last w h = ap (filter is_word) (split-none is_solid is_blank solid-blank w h.solid) ∙ kept w [] h.some
+words-last w h = ap (filter is_nonempty_part) (split-none is_solid is_blank solid-blank w h.solid) ∙ kept w [] h.some
 
 pub words-more : (w t : List ℕ) → IsWord w → words_of (w ++ 32 ∷ t) ≡ w ∷ words_of t
 unfolding words_of
-words-more w t h = ap (filter is_word) (split-at is_solid is_blank solid-blank w 32 t h.solid refl) ∙ kept w (slice_split is_blank t) h.some
+words-more w t h = ap (filter is_nonempty_part) (split-at is_solid is_blank solid-blank w 32 t h.solid refl) ∙ kept w (slice_split is_blank t) h.some
 
 pub words-one : (w : List ℕ) → IsWord w → words_of (32 ∷ w) ≡ w ∷ []
 words-one w h = words-blank w ∙ words-last w h

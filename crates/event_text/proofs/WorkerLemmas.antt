@@ -7,14 +7,14 @@ use Rattle.plc_base.specs.AreaBytes.{is_peripheral_byte}
 use Rattle.plc_base.specs.declared.refusals.Refusal.{Refusal}
 use Rattle.plc_base.proofs.ListLemmas.{all_append}
 use Rattle.var_access.specs.Entry.{IsValid, is_arrivable}
-use Rattle.var_access.specs.Readings.{Reading, address_number, both, first_word, hex_of, number_in, reading_map, words_of}
+use Rattle.var_access.specs.Readings.{Reading, address_number, both_readings, first_word, hex_of, number_in, reading_map, words_of}
 use Rattle.var_access.specs.Requests.{request_of}
 use Rattle.var_access.specs.Variables.{Names}
 use Rattle.var_access.specs.declared.entries.Entry.{Entry}
 use Rattle.event_text.specs.LineEntries.{HasWorker}
-use Rattle.event_text.specs.Lines.{arrival_line, input_line, is_history, is_skipped, line_read, line_with, number_among, one_entry, operator_line, script_line, step_entries, step_line, tick_line, where_allowed}
+use Rattle.event_text.specs.Lines.{arrival_line, input_line, is_history, is_entry_line_skipped, line_read, line_with, number_among, one_entry, operator_line, script_line, step_entries, step_line, tick_line, where_allowed}
 use Rattle.event_text.specs.Regular.{HasMaker, IsRegularOf, IsWorkerOf, WhatFits, maker_of}
-use Rattle.event_text.specs.Texts.{in_front, line_first, lines_read, steps_in, text_read}
+use Rattle.event_text.specs.Texts.{entries_in_front, entries_of_line_first, entries_of_read_lines, steps_in, text_read}
 use Rattle.event_text.specs.Workers.{request_entry}
 use Rattle.event_text.specs.declared.kinds.TextKind.{TextKind}
 use Rattle.event_text.specs.declared.kinds.TextKind.TheVariants.{History, Stimuli, Script}
@@ -47,14 +47,14 @@ input_made : (words : List (List ℕ)) → IfOk (input_line words) (IsMadeBy 2)
 unfolding input_line
 input_made [] = tt
 input_made (byte ∷ []) = tt
-input_made (byte ∷ value ∷ []) = mapped (IsMadeBy 2) _ (both (number_among is_peripheral_byte (address_number byte)) (hex_of 2 value)) (λ p. (refl, refl))
+input_made (byte ∷ value ∷ []) = mapped (IsMadeBy 2) _ (both_readings (number_among is_peripheral_byte (address_number byte)) (hex_of 2 value)) (λ p. (refl, refl))
 input_made (byte ∷ value ∷ word ∷ words) = tt
 
 arrival_made : (words : List (List ℕ)) → IfOk (arrival_line words) (IsMadeBy 2)
 unfolding arrival_line
 arrival_made [] = tt
 arrival_made (ob ∷ []) = mapped (IsMadeBy 2) _ (number_among is_arrivable (address_number ob)) (λ n. (refl, refl))
-arrival_made (ob ∷ value ∷ []) = mapped (IsMadeBy 2) _ (both (number_among is_arrivable (address_number ob)) (hex_of 8 value)) (λ p. (refl, refl))
+arrival_made (ob ∷ value ∷ []) = mapped (IsMadeBy 2) _ (both_readings (number_among is_arrivable (address_number ob)) (hex_of 8 value)) (λ p. (refl, refl))
 arrival_made (ob ∷ value ∷ word ∷ words) = tt
 
 tick_made : (words : List (List ℕ)) → IfOk (tick_line words) (IsMadeBy 2)
@@ -93,7 +93,7 @@ line_made : (kind : TextKind) (names : Names) (before : ℕ) (line : List ℕ) �
     → IfOk (line_read kind names before line) (AllByRecursion (IsMadeBy (maker_of kind)))
 unfolding line_read
 line_made kind names before line other maker =
-    either (AllByRecursion (IsMadeBy (maker_of kind))) (is_skipped line) _ _ tt (by (first_word line))
+    either (AllByRecursion (IsMadeBy (maker_of kind))) (is_entry_line_skipped line) _ _ tt (by (first_word line))
   where
     by : (w : Option (List ℕ × List ℕ)) → IfOk (line_with kind names before w) (AllByRecursion (IsMadeBy (maker_of kind)))
     by None = tt
@@ -101,19 +101,19 @@ line_made kind names before line other maker =
 
 -- a line in front of others
 first_made : (P : Entry → Type 0) (line : ℕ) (r : Reading (List Entry)) (more : List Entry → Result (List Entry) Refusal)
-    → IfOk r (AllByRecursion P) → ((es : List Entry) → IfOk (more es) (AllByRecursion P)) → IfOk (line_first line r more) (AllByRecursion P)
+    → IfOk r (AllByRecursion P) → ((es : List Entry) → IfOk (more es) (AllByRecursion P)) → IfOk (entries_of_line_first line r more) (AllByRecursion P)
 first_made P line (Err rule) more h k = tt
 first_made P line (Ok es) more h k = by (more es) (k es) where
-  by : (r : Result (List Entry) Refusal) → IfOk r (AllByRecursion P) → IfOk (in_front es r) (AllByRecursion P)
+  by : (r : Result (List Entry) Refusal) → IfOk r (AllByRecursion P) → IfOk (entries_in_front es r) (AllByRecursion P)
   by (Ok rest) all = all_append P es rest h all
   by (Err refusal) all = tt
 
 lines_made : (kind : TextKind) (names : Names) (line before : ℕ) (ls : List (List ℕ)) → is_history kind ≡ false → HasMaker kind
-    → IfOk (lines_read kind names line before ls) (AllByRecursion (IsMadeBy (maker_of kind)))
-unfolding lines_read
+    → IfOk (entries_of_read_lines kind names line before ls) (AllByRecursion (IsMadeBy (maker_of kind)))
+unfolding entries_of_read_lines
 lines_made kind names line before [] other maker = tt
 lines_made kind names line before (text ∷ more) other maker =
-    first_made (IsMadeBy (maker_of kind)) line (line_read kind names before text) (λ es. lines_read kind names (line + 1) (before + steps_in es) more)
+    first_made (IsMadeBy (maker_of kind)) line (line_read kind names before text) (λ es. entries_of_read_lines kind names (line + 1) (before + steps_in es) more)
     (line_made kind names before text other maker) (λ es. lines_made kind names (line + 1) (before + steps_in es) more other maker)
 
 text_made : (kind : TextKind) (names : Names) (text : List ℕ) (es : List Entry) → is_history kind ≡ false → HasMaker kind

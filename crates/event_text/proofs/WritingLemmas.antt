@@ -1,7 +1,7 @@
 -- Runs as they are written, one by one.
 use Rattle.std.proofs.Common.{◌≡◌, ◌≤◌, ◌+◌, ℕ, zero, suc, true, false, List, [], ◌∷◌, ◌++◌, length, replicate, drop, refl, ap, sym, ◌∙◌, arith, append_assoc}
 use Rattle.std.proofs.lemmas.List.{at_drop_all}
-use Rattle.var_access.specs.Runs.{is_step, written_out}
+use Rattle.var_access.specs.Runs.{is_step, entries_of_runs}
 use Rattle.var_access.specs.declared.entries.Entry.{Entry}
 use Rattle.var_access.specs.declared.runs.Run.{Run}
 use Rattle.event_text.specs.HistoryText.{entry_line, steps_text, history_text_behind, history_text}
@@ -41,8 +41,8 @@ unfolding history_text_behind
 none steps = refl
 
 -- no run is left
-pub none_left : (runs : List Run) (i steps : ℕ) → length runs ≤ i → history_text_behind steps (written_out (drop i runs)) ≡ steps_text steps
-none_left runs i steps end = at_drop_all (λ (left : List Run). history_text_behind steps (written_out left)) runs i end ∙ none steps
+pub none_left : (runs : List Run) (i steps : ℕ) → length runs ≤ i → history_text_behind steps (entries_of_runs (drop i runs)) ≡ steps_text steps
+none_left runs i steps end = at_drop_all (λ (left : List Run). history_text_behind steps (entries_of_runs left)) runs i end ∙ none steps
 
 pub written_whole : (es : List Entry) → history_text es ≡ history_text_behind 0 es
 unfolding history_text

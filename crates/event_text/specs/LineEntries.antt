@@ -11,14 +11,14 @@ use Rattle.event_text.specs.declared.lines.LineEntries.TheVariants.{Nothing, Ste
 use Rattle.event_text.specs.Lines.{is_history, most_steps, one_entry, step_entries}
 
 -- the entries that it stands for
-abbrev pub entries_of : LineEntries → List Entry
-entries_of Nothing = []
-entries_of (Steps count) = step_entries count
-entries_of (One entry) = one_entry entry
+abbrev pub entries_of_line : LineEntries → List Entry
+entries_of_line Nothing = []
+entries_of_line (Steps count) = step_entries count
+entries_of_line (One entry) = one_entry entry
 
 -- the entries that a line was read as, or the rule that it breaks
 abbrev pub entries_read : Reading LineEntries → Reading (List Entry)
-entries_read reading = reading_map entries_of reading
+entries_read reading = reading_map entries_of_line reading
 
 -- a valid entry that is no step
 pub record IsOtherEntry (entry : Entry) : Type 0 where
@@ -41,7 +41,7 @@ IsScriptLine kind (One entry) = (is_step entry ≡ false) × (HasWorker kind →
 IsScriptLine kind _ = ⊥
 
 -- steps come in histories alone, no more than there may be; any other entry is valid
-abbrev pub IsLineOf : TextKind → (before : ℕ) → LineEntries → Type 0
-IsLineOf kind before Nothing = Unit {0}
-IsLineOf kind before (Steps count) = (is_history kind ≡ true) × (1 ≤ count) × (before + count ≤ most_steps)
-IsLineOf kind before (One entry) = (is_step entry ≡ false) × (HasWorker kind → IsValid entry)
+abbrev pub IsLineAllowed : TextKind → (before : ℕ) → LineEntries → Type 0
+IsLineAllowed kind before Nothing = Unit {0}
+IsLineAllowed kind before (Steps count) = (is_history kind ≡ true) × (1 ≤ count) × (before + count ≤ most_steps)
+IsLineAllowed kind before (One entry) = (is_step entry ≡ false) × (HasWorker kind → IsValid entry)

@@ -4,7 +4,7 @@ use Rattle.std.specs.Prelude.{ℕ, ◌==◌, ◌+◌, List, [], ◌∷◌, lengt
 use Rattle.std.specs.List.{starts_with}
 use Rattle.plc_base.specs.AreaBytes.{is_peripheral_byte}
 use Rattle.var_access.specs.Entry.{is_arrivable}
-use Rattle.var_access.specs.Readings.{Reading, both, reading_map, no_line, number_in, address_number, hex_of, first_word, words_of}
+use Rattle.var_access.specs.Readings.{Reading, both_readings, reading_map, no_line, number_in, address_number, hex_of, first_word, words_of}
 use Rattle.var_access.specs.Requests.{request_line, request_of}
 use Rattle.var_access.specs.Variables.{Names}
 use Rattle.var_access.specs.declared.entries.Entry.{Entry}
@@ -40,14 +40,14 @@ number_among test (Ok n) = if test n then Ok n else Err 2
 -- `in b hh`: an existing peripheral byte takes a value
 unfoldable pub input_line : List (List ℕ) → Reading Entry
 input_line (byte ∷ value ∷ []) =
-    reading_map (λ p. feeder_entry (Input p.0 p.1)) (both (number_among is_peripheral_byte (address_number byte)) (hex_of 2 value))
+    reading_map (λ p. feeder_entry (Input p.0 p.1)) (both_readings (number_among is_peripheral_byte (address_number byte)) (hex_of 2 value))
 input_line words = no_line
 
 -- `arrive ob`, `arrive ob hhhhhhhh`: an interrupt arrives, with the value 0 or another one
 unfoldable pub arrival_line : List (List ℕ) → Reading Entry
 arrival_line (ob ∷ []) = reading_map (λ n. feeder_entry (Arrive n 0)) (number_among is_arrivable (address_number ob))
 arrival_line (ob ∷ value ∷ []) =
-    reading_map (λ p. feeder_entry (Arrive p.0 p.1)) (both (number_among is_arrivable (address_number ob)) (hex_of 8 value))
+    reading_map (λ p. feeder_entry (Arrive p.0 p.1)) (both_readings (number_among is_arrivable (address_number ob)) (hex_of 8 value))
 arrival_line words = no_line
 
 -- `tick n`: 1 to 60,000 milliseconds pass
@@ -59,7 +59,7 @@ tick_line words = no_line
 abbrev pub operator_with : Names → Option (List ℕ × List ℕ) → Reading Entry
 operator_with names None = no_line
 operator_with names (Some w) =
-    reading_map (λ p. request_entry (worker_of p.0) p.1) (both (number_in 1 4 5 w.0) (request_line names w.1))
+    reading_map (λ p. request_entry (worker_of p.0) p.1) (both_readings (number_in 1 4 5 w.0) (request_line names w.1))
 
 -- `op k REQUEST`: operator k, 1 to 4, asks
 unfoldable pub operator_line : Names → (rest : List ℕ) → Reading Entry
@@ -120,10 +120,10 @@ line_with kind names before (Some w) =
     else one_where_allowed (is_script kind) (script_line names (script_worker kind) w.0 w.1)
 
 -- empty lines and lines that begin with `//` are skipped
-abbrev pub is_skipped : (line : List ℕ) → Bool
-is_skipped line = length line == 0 || starts_with nat_eq line (codes "//")
+abbrev pub is_entry_line_skipped : (line : List ℕ) → Bool
+is_entry_line_skipped line = length line == 0 || starts_with nat_eq line (codes "//")
 
 -- a line behind so many steps
 unfoldable pub line_read : TextKind → Names → (before : ℕ) → (line : List ℕ) → Reading (List Entry)
 line_read kind names before line =
-    if is_skipped line then Ok [] else line_with kind names before (first_word line)
+    if is_entry_line_skipped line then Ok [] else line_with kind names before (first_word line)

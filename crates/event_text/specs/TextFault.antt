@@ -12,11 +12,11 @@ IsTextFault reading (BadLine line rule) = reading ≡ Err (record { line = line;
 IsTextFault reading NoMemory = Unit {0}
 
 -- a line with this number that breaks the rule, and no lesser one
-abbrev pub IsLineFault : (number : ℕ) → Reading (List Entry) → TextFault → Type 0
-IsLineFault number reading (BadLine line rule) = (line ≡ number) × (reading ≡ Err rule)
-IsLineFault number reading NoMemory = Unit {0}
+abbrev pub IsEntryLineFault : (number : ℕ) → Reading (List Entry) → TextFault → Type 0
+IsEntryLineFault number reading (BadLine line rule) = (line ≡ number) × (reading ≡ Err rule)
+IsEntryLineFault number reading NoMemory = Unit {0}
 
 -- entries with those of a right line behind them
-abbrev pub IsBehind : Reading (List Entry) → (before after : List Entry) → Type 0
-IsBehind (Ok entries) before after = after ≡ before ++ entries
-IsBehind (Err rule) before after = ⊥
+abbrev pub IsFollowedByEntries : Reading (List Entry) → (before after : List Entry) → Type 0
+IsFollowedByEntries (Ok entries) before after = after ≡ before ++ entries
+IsFollowedByEntries (Err rule) before after = ⊥

@@ -18,29 +18,29 @@ abbrev pub steps_in : List Entry → ℕ
 steps_in entries = count_by is_step entries
 
 -- entries in front of those that follow, or the refusal of these
-abbrev pub in_front : List Entry → Result (List Entry) Refusal → Result (List Entry) Refusal
-in_front entries (Ok more) = Ok (entries ++ more)
-in_front entries (Err refusal) = Err refusal
+abbrev pub entries_in_front : List Entry → Result (List Entry) Refusal → Result (List Entry) Refusal
+entries_in_front entries (Ok more) = Ok (entries ++ more)
+entries_in_front entries (Err refusal) = Err refusal
 
 -- a line's entries in front of those that follow, or the line's refusal
-abbrev pub line_first : (line : ℕ) → Reading (List Entry) → (List Entry → Result (List Entry) Refusal) → Result (List Entry) Refusal
-line_first line (Err rule) more = Err (record { line = line; rule = rule })
-line_first line (Ok entries) more = in_front entries (more entries)
+abbrev pub entries_of_line_first : (line : ℕ) → Reading (List Entry) → (List Entry → Result (List Entry) Refusal) → Result (List Entry) Refusal
+entries_of_line_first line (Err rule) more = Err (record { line = line; rule = rule })
+entries_of_line_first line (Ok entries) more = entries_in_front entries (more entries)
 
 -- lines from one with this number on, behind so many steps
-unfoldable pub lines_read : TextKind → Names → (line before : ℕ) → List (List ℕ) → Result (List Entry) Refusal
-lines_read kind names line before [] = Ok []
-lines_read kind names line before (text ∷ more) =
-    line_first line (line_read kind names before text)
-    (λ entries. lines_read kind names (line + 1) (before + steps_in entries) more)
+unfoldable pub entries_of_read_lines : TextKind → Names → (line before : ℕ) → List (List ℕ) → Result (List Entry) Refusal
+entries_of_read_lines kind names line before [] = Ok []
+entries_of_read_lines kind names line before (text ∷ more) =
+    entries_of_line_first line (line_read kind names before text)
+    (λ entries. entries_of_read_lines kind names (line + 1) (before + steps_in entries) more)
 
 -- a whole text, whose lines are counted from 1
 unfoldable pub text_read : TextKind → Names → List ℕ → Result (List Entry) Refusal
-text_read kind names text = lines_read kind names 1 0 (lines text)
+text_read kind names text = entries_of_read_lines kind names 1 0 (lines text)
 
 -- a history, with the names of a program
-abbrev pub history_of : List NameEntry → List ℕ → Result (List Entry) Refusal
-history_of names text = text_read History (find names) text
+abbrev pub history_of_text : List NameEntry → List ℕ → Result (List Entry) Refusal
+history_of_text names text = text_read History (find names) text
 
 -- stimuli, which know no names
 abbrev pub stimuli_of : List ℕ → Result (List Entry) Refusal

@@ -4,9 +4,9 @@ ghost use Rattle.flat_code.specs.Names.{find};
 ghost use Rattle.var_access.specs.Entry.{is_arrivable as is_arrivable_of, IsRequest};
 ghost use Rattle.var_access.specs.Readings.{address_number as address_number_of, number_in, words_of};
 ghost use Rattle.var_access.specs.Requests.{request_line};
-ghost use Rattle.event_text.specs.LineEntries.{entries_read, IsScriptLine, IsOtherEntry, IsOtherLine, IsLineOf};
+ghost use Rattle.event_text.specs.LineEntries.{entries_read, IsScriptLine, IsOtherEntry, IsOtherLine, IsLineAllowed};
 ghost use Rattle.event_text.specs.Workers.{feeder_entry as feeder_entry_of};
-ghost use Rattle.event_text.specs.Lines.{arrival_line, input_line, is_script, is_skipped as is_skipped_line, line_read, line_with, most_steps, number_among, one_where_allowed, operator_line, script_line, script_worker, where_allowed as where_allowed_of, step_count, step_line, tick_line};
+ghost use Rattle.event_text.specs.Lines.{arrival_line, input_line, is_script, is_entry_line_skipped as is_skipped_line, line_read, line_with, most_steps, number_among, one_where_allowed, operator_line, script_line, script_worker, where_allowed as where_allowed_of, step_count, step_line, tick_line};
 
 use crate::kinds::TextKind;
 use flat_code::Names;
@@ -265,7 +265,7 @@ fn read_words(
     requires { before ≤ most_steps }
     ensures value { entries_read result
         ≡ line_with kind (find names.now) before (Some (word.now, rest.now)) }
-    ensures line { IfOk result (IsLineOf kind before) }
+    ensures line { IfOk result (IsLineAllowed kind before) }
 {
     if word == b"step".as_slice() {
         let count = where_allowed(kind.is_history(), read_steps(before, rest))?;
@@ -297,7 +297,7 @@ pub(crate) fn read_line(
 ) -> Result<LineEntries, u16>
     requires { before ≤ most_steps }
     ensures value { entries_read result ≡ line_read kind (find names.now) before line.now }
-    ensures line { IfOk result (IsLineOf kind before) }
+    ensures line { IfOk result (IsLineAllowed kind before) }
 {
     if is_skipped(line) {
         return Ok(LineEntries::Nothing);

@@ -1,11 +1,11 @@
 ghost use Rattle.std.specs.Prelude.{◌≡◌, ◌+◌, ◌*◌, ◌≤◌, ◌<◌, ◌^◌, [], ◌++◌, length, false, Ok, All, IfErr, IfOk, OnOk};
 ghost use Rattle.flat_code.specs.Names.{find};
 ghost use Rattle.var_access.specs.Entry.{IsValid};
-ghost use Rattle.event_text.specs.LineEntries.{entries_of, HasWorker, IsLineOf};
+ghost use Rattle.event_text.specs.LineEntries.{entries_of_line, HasWorker, IsLineAllowed};
 ghost use Rattle.event_text.specs.Lines.{is_history, line_read, most_steps};
 ghost use Rattle.event_text.specs.Regular.{HasMaker, IsRegularOf, maker_of};
-ghost use Rattle.event_text.specs.TextFault.{IsBehind, IsLineFault, IsTextFault};
-ghost use Rattle.event_text.specs.Texts.{history_of, script_of, steps_in, stimuli_of, text_read};
+ghost use Rattle.event_text.specs.TextFault.{IsFollowedByEntries, IsEntryLineFault, IsTextFault};
+ghost use Rattle.event_text.specs.Texts.{history_of_text, script_of, steps_in, stimuli_of, text_read};
 ghost use Rattle.event_text.specs.declared.kinds.TextKind.TheVariants.{History};
 
 use crate::faults::TextFault;
@@ -50,10 +50,10 @@ impl HistoryReader {
 
     /// Takes what the line spells.
     fn add(&mut self, found: &LineEntries) -> Result<(), NoMemory>
-        requires line { IsLineOf History self.old.steps found.now }
+        requires line { IsLineAllowed History self.old.steps found.now }
         requires few { self.old.line < 2 ^ 31 }
         ensures added { OnOk result
-            (self.new.entries.entries ≡ self.old.entries.entries ++ entries_of found.now) }
+            (self.new.entries.entries ≡ self.old.entries.entries ++ entries_of_line found.now) }
         ensures line { OnOk result (self.new.line ≡ self.old.line + 1) }
     {
         match found {
@@ -71,13 +71,13 @@ impl HistoryReader {
     /// Takes one more line.
     fn take(&mut self, names: &Names, line: &[u8]) -> Result<(), TextFault>
         requires few { self.old.line < 2 ^ 31 }
-        ensures taken { OnOk result (IsBehind
+        ensures taken { OnOk result (IsFollowedByEntries
             (line_read History (find names.now) self.old.steps line.now)
             self.old.entries.entries self.new.entries.entries) }
         ensures line { OnOk result (self.new.line ≡ self.old.line + 1) }
         ensures valid { All IsValid self.old.entries.entries
             → OnOk result (All IsValid self.new.entries.entries) }
-        ensures bad { IfErr result (IsLineFault self.old.line
+        ensures bad { IfErr result (IsEntryLineFault self.old.line
             (line_read History (find names.now) self.old.steps line.now)) }
     {
         match read_line(TextKind::History, names, self.steps, line) {
@@ -106,9 +106,9 @@ impl HistoryReader {
 pub fn read_history(alloc: Global, bytes: &[u8], names: &Names) -> Result<Entries, TextFault>
     requires { length bytes.now ≤ 4194304 }
     ensures spelled { IfOk result (λ entries.
-        history_of names.now bytes.now ≡ Ok entries.entries) }
+        history_of_text names.now bytes.now ≡ Ok entries.entries) }
     ensures valid { IfOk result (λ entries. All IsValid entries.entries) }
-    ensures refused { IfErr result (IsTextFault (history_of names.now bytes.now)) }
+    ensures refused { IfErr result (IsTextFault (history_of_text names.now bytes.now)) }
 {
     let mut reader = HistoryReader::new(alloc);
     let mut rest = bytes;
@@ -123,8 +123,8 @@ pub fn read_history(alloc: Global, bytes: &[u8], names: &Names) -> Result<Entrie
 /// Takes what a line spells that isn't one of a history.
 fn add_entry(kind: TextKind, found: &LineEntries, entries: &mut Vec<Entry>) -> Result<(), NoMemory>
     requires kind { is_history kind ≡ false }
-    requires line { IsLineOf kind 0 found.now }
-    ensures { OnOk result (entries.new.items ≡ entries.old.items ++ entries_of found.now) }
+    requires line { IsLineAllowed kind 0 found.now }
+    ensures { OnOk result (entries.new.items ≡ entries.old.items ++ entries_of_line found.now) }
 {
     match found {
         LineEntries::Nothing => {}
@@ -143,12 +143,12 @@ fn take_line(
     entries: &mut Vec<Entry>,
 ) -> Result<(), TextFault>
     requires kind { is_history kind ≡ false }
-    ensures taken { OnOk result (IsBehind (line_read kind (find names.now) 0 line.now)
+    ensures taken { OnOk result (IsFollowedByEntries (line_read kind (find names.now) 0 line.now)
         entries.old.items entries.new.items) }
     ensures steps { OnOk result (steps_in entries.new.items ≡ steps_in entries.old.items) }
     ensures valid { (HasWorker kind → All IsValid entries.old.items)
         → OnOk result (HasWorker kind → All IsValid entries.new.items) }
-    ensures bad { IfErr result (IsLineFault number (line_read kind (find names.now) 0 line.now)) }
+    ensures bad { IfErr result (IsEntryLineFault number (line_read kind (find names.now) 0 line.now)) }
 {
     match read_line(kind, names, 0, line) {
         Ok(found) => {

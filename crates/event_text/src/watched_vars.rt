@@ -5,7 +5,7 @@ ghost use Rattle.var_access.specs.Entry.{IsInRange, IsRequest};
 ghost use Rattle.var_access.specs.declared.requests.Request.TheVariants.{ReadVars};
 ghost use Rattle.event_text.specs.Lines.{line_read};
 ghost use Rattle.event_text.specs.Regular.{IsRegularOf};
-ghost use Rattle.event_text.specs.WatchedVars.{vars_asked, vars_behind, vars_found, vars_of};
+ghost use Rattle.event_text.specs.WatchedVars.{vars_of_read_request, vars_behind, vars_or_no_request, watched_vars_of};
 ghost use Rattle.event_text.specs.Workers.{request_entry};
 ghost use Rattle.event_text.specs.declared.kinds.TextKind.TheVariants.{Script};
 
@@ -25,7 +25,7 @@ const LAST_OPERATOR: u8 = 6;
 /// The variables of a line that asks for something.
 fn vars_asked(line: u32, entry: &Entry) -> Result<Option<Vars>, Refusal>
     requires { IsInRange entry.now.what }
-    ensures value { result ≡ vars_asked line entry.now.what }
+    ensures value { result ≡ vars_of_read_request line entry.now.what }
     ensures valid { IfOk result (λ o. IfSome o (λ vars. IsRequest (ReadVars vars))) }
 {
     match &entry.what {
@@ -67,7 +67,7 @@ fn vars_behind(
 /// The variables that were found in a whole script.
 fn only_vars(found: Option<Vars>) -> Result<Vars, Refusal>
     requires { IfSome found (λ vars. IsRequest (ReadVars vars)) }
-    ensures value { result ≡ vars_found found }
+    ensures value { result ≡ vars_or_no_request found }
     ensures regular { IfOk result (λ vars. IsRegularOf 6 (request_entry 6 (ReadVars vars))) }
 {
     match found {
@@ -92,7 +92,7 @@ fn only_vars(found: Option<Vars>) -> Result<Vars, Refusal>
 /// script without lines breaks rule 7 in line 1.
 pub fn read_vars(bytes: &[u8], names: &Names) -> Result<Vars, Refusal>
     requires { length bytes.now ≤ 1048576 }
-    ensures value { result ≡ vars_of names.now bytes.now }
+    ensures value { result ≡ watched_vars_of names.now bytes.now }
     ensures regular { IfOk result (λ vars. IsRegularOf 6 (request_entry 6 (ReadVars vars))) }
 {
     let mut found = None;

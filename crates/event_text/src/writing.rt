@@ -1,6 +1,6 @@
 ghost use Rattle.std.specs.Prelude.{◌≡◌, ◌+◌, ◌<◌, ◌≤◌, ◌^◌, ◌++◌, List, length, replicate, decimal, codes, false, IfOk, OnErr, OnOk};
 ghost use Rattle.monitor.specs.LineText.{hex_text, kind_text};
-ghost use Rattle.var_access.specs.Runs.{AreRuns, is_step, written_out};
+ghost use Rattle.var_access.specs.Runs.{AreRuns, is_step, entries_of_runs};
 ghost use Rattle.var_access.specs.declared.entries.Entry.{Entry};
 ghost use Rattle.event_text.specs.Workers.{operator_of as operator_number};
 ghost use Rattle.event_text.specs.HistoryText.{
@@ -227,8 +227,8 @@ fn append_run(run: &Run, steps: u64, out: &mut Vec<u8>) -> Result<u64, NoMemory>
 #[tactic(auto, using(crate::proofs::WritingLemmas::none_left, crate::proofs::WritingLemmas::written_whole))]
 fn append_runs(runs: &[Run], out: &mut Vec<u8>) -> Result<(), NoMemory>
     requires are { AreRuns runs.now }
-    requires bounded { length (written_out runs.now) < 2 ^ 64 }
-    ensures { OnOk result (out.new.items ≡ out.old.items ++ history_text (written_out runs.now)) }
+    requires bounded { length (entries_of_runs runs.now) < 2 ^ 64 }
+    ensures { OnOk result (out.new.items ≡ out.old.items ++ history_text (entries_of_runs runs.now)) }
 {
     let mut steps: u64 = 0;
     for run in runs {
@@ -241,8 +241,8 @@ fn append_runs(runs: &[Run], out: &mut Vec<u8>) -> Result<(), NoMemory>
 /// on a line of its own.
 fn write_runs(alloc: Global, runs: &[Run]) -> Result<Vec<u8>, NoMemory>
     requires are { AreRuns runs.now }
-    requires bounded { length (written_out runs.now) < 2 ^ 64 }
-    ensures { IfOk result (λ text. text.items ≡ history_text (written_out runs.now)) }
+    requires bounded { length (entries_of_runs runs.now) < 2 ^ 64 }
+    ensures { IfOk result (λ text. text.items ≡ history_text (entries_of_runs runs.now)) }
 {
     let mut out = Vec::new(alloc);
     append_runs(runs, &mut out)?;

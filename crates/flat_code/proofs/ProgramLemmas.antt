@@ -4,11 +4,11 @@ use Rattle.std.proofs.lemmas.Bool.{and_parts, and_from}
 use Rattle.plc_base.proofs.TruthLemmas.{and_first, and_second}
 use Rattle.flat_code.specs.Programs.{Program, NameEntry}
 use Rattle.flat_code.specs.Layout.{is_fine, good_many}
-use Rattle.flat_code.specs.Faults.{is_earlier_name, is_upper, unless, name_fault}
+use Rattle.flat_code.specs.Faults.{is_earlier_name, is_upper, fault_unless_met, name_fault}
 use Rattle.flat_code.specs.Names.{names_rise}
-use Rattle.flat_code.specs.Image.{name_bytes, name_rows, name_record, after_name, names, counts_layout, code_blocks, data_blocks_layout, body_rows, records, body, parts_of_records, records_of, name_of_entry, IsProgram}
+use Rattle.flat_code.specs.Image.{name_bytes, name_rows, name_record, after_name, names_layout, counts_layout, code_blocks_layout, data_blocks_layout, body_rows, records_layout, body_layout, parts_of_records, records_of, name_of_entry, IsProgram}
 
-is_met : (test : Bool) (code : ℕ) → is_fine (unless test code) ≡ true → test ≡ true
+is_met : (test : Bool) (code : ℕ) → is_fine (fault_unless_met test code) ≡ true → test ≡ true
 is_met true code h = refl
 is_met false code h = absurd cc
 
@@ -27,10 +27,10 @@ good_names before (entry ∷ entries) h =
     and_from _ _ (name_is_next before entry p.0) (good_names entry.name entries p.1)
 
 pub names_of_program : (p : Program) → IsProgram p → names_rise [] p.names ≡ true
-unfolding body records body_rows names
+unfolding body_layout records_layout body_rows names_layout
 names_of_program p h =
     let r = parts_of_records (records_of p) in
-    let codes = (code_blocks false r.counts.code_blocks).good r.code_blocks in
+    let codes = (code_blocks_layout false r.counts.code_blocks).good r.code_blocks in
     let datas = (data_blocks_layout r.counts.data_blocks).good r.data_blocks in
-    let named = (names r.counts.names).good r.names in
+    let named = (names_layout r.counts.names).good r.names in
     good_names [] p.names (and_second datas named (and_second codes (datas && named) (and_second (counts_layout.good r.counts) (codes && (datas && named)) h.good)))

@@ -11,7 +11,7 @@ use Rattle.flat_code.specs.declared.operands.Operand.{Operand}
 use Rattle.flat_code.specs.declared.operands.Operand.TheVariants as operand
 use Rattle.flat_code.specs.declared.operands.Passed.{Passed}
 use Rattle.flat_code.specs.declared.operands.Passed.TheVariants as passed
-use Rattle.flat_code.specs.Codes.{size}
+use Rattle.flat_code.specs.Codes.{size_of_op}
 use Rattle.flat_code.specs.Forms.{actual_in, direct_coding, form_of_operand, payload, payload_in}
 use Rattle.flat_code.specs.Ops.{OpData, code_byte, is_op, op_at, op_bytes, op_of}
 use Rattle.flat_code.specs.Table.{admits, takes_of}
@@ -54,7 +54,7 @@ operand_there (b ∷ n ∷ rest) h =
 
 -- the op that was found, and how many bytes it takes
 abbrev pub measured : Option (OpData × List ℕ) → Option (OpData × ℕ)
-measured found = option_map (λ r. (r.0, size r.0)) found
+measured found = option_map (λ r. (r.0, size_of_op r.0)) found
 
 len_of : Option (OpData × ℕ) → ℕ
 len_of None = 0
@@ -71,14 +71,14 @@ begins_within bytes at h = by (ltb (length bytes) at) refl
 -- and ends there
 pub ends_within : (bytes : List ℕ) (at : ℕ) (op : OpData) (len : ℕ) → IsBytes bytes → at ≤ length bytes
     → measured (op_at (drop at bytes)) ≡ Some (op, len) → at + len ≤ length bytes
-unfolding size len_of
+unfolding size_of_op len_of
 ends_within bytes at op len are within is = by (op_at (drop at bytes)) refl is
   where
     by : (o : Option (OpData × List ℕ)) → op_at (drop at bytes) ≡ o → measured o ≡ Some (op, len) → at + len ≤ length bytes
     by None e s = absurd cc
     by (Some r) e s =
         let parts = (op_takes (drop at bytes) r.0 r.1 (bytes_from at bytes are) e).0.parts in
-        let sized : size r.0 ≡ len = ap len_of s in
+        let sized : size_of_op r.0 ≡ len = ap len_of s in
         omega (arith, sized, ap length parts ∙ length-append (op_bytes r.0) r.1, length-drop at bytes)
 
 -- an op of the table, and as long as its operand says
@@ -90,7 +90,7 @@ pub record IsFirst (bytes : List ℕ) (operand : Operand) (len : ℕ) : Type 0 w
 pub is_first : (bytes : List ℕ) (operand : Operand) (len : ℕ) → IsBytes bytes → is_some (op_at bytes) ≡ true
     → option_map (λ r. r.0) (payload_in (get_or bytes 1 0) (behind_form bytes)) ≡ Some operand → len ≡ 2 + length (payload operand)
     → IsFirst bytes operand len
-unfolding op_at op_bytes size
+unfolding op_at op_bytes size_of_op
 is_first [] operand len are h read sized = absurd cc
 is_first (b ∷ []) operand len are h read sized = absurd cc
 is_first (b ∷ n ∷ rest) operand len are h read sized =

@@ -13,9 +13,9 @@ use Rattle.flat_code.specs.declared.operands.Passed.{Passed}
 use Rattle.flat_code.specs.declared.operands.Passed.TheVariants as passed
 use Rattle.flat_code.specs.Ops.{OpData}
 use Rattle.flat_code.specs.Records.{BlockRecord}
-use Rattle.flat_code.specs.Codes.{size, first_found}
+use Rattle.flat_code.specs.Codes.{size_of_op, first_found}
 use Rattle.flat_code.specs.declared.image_fields.OpenBracket.{OpenBracket}
-use Rattle.flat_code.specs.Placed.{Placed, code_places, begins, is_empty_list, last_op, is_opening, open_behind, zones_left, few, most_brackets, most_zones, StatementSpot, spots, spot_at}
+use Rattle.flat_code.specs.Placed.{PlacedOp, code_places, begins_its_statement, is_empty_list, last_op, is_opening, open_behind, zones_left, codes_of_few_brackets, most_brackets, most_zones, StatementSpot, statement_spots, spot_at}
 use Rattle.flat_code.specs.OpCodes.{op_code_of}
 use Rattle.flat_code.specs.Kinds.{jump_number}
 use Rattle.flat_code.specs.Records.{section_in, section_out}
@@ -40,7 +40,7 @@ signature_of b = record { kind = b.kind; number = b.number; instance_len = b.ins
 
 -- what the faults of a block depend on besides its ops: its kind, local bytes and parameters; the code
 -- blocks; the numbers and lengths of the data blocks, if all blocks were read, so that calls are checked
-pub record Around : Type 0 where
+pub record Environment : Type 0 where
   pub kind : ℕ
   pub local_len : ℕ
   pub params : List ParameterRecord
@@ -88,8 +88,8 @@ abbrev pub callee_of_system : List ParameterRecord → CalleeSeen
 callee_of_system params = (kind_number kinds.Sfc, 0, params)
 
 -- the block that is called: a system function, or one of the program
-unfoldable pub callee : List BlockSignature → ℕ → ℕ → Option CalleeSeen
-callee blocks kind number = if kind == kind_number kinds.Sfc then option_map callee_of_system (system_params number) else block_with kind number blocks
+unfoldable pub callee_among : List BlockSignature → ℕ → ℕ → Option CalleeSeen
+callee_among blocks kind number = if kind == kind_number kinds.Sfc then option_map callee_of_system (system_params number) else block_with kind number blocks
 
 -- the length of the first data block of a number
 abbrev pub length_of_data : ℕ → List (ℕ × ℕ) → Option ℕ
@@ -104,12 +104,12 @@ is_odd_bit width.Bit bit = false
 is_odd_bit w bit = not (bit == 0)
 
 -- a local byte past those of the block
-abbrev pub is_past_locals : Around → Area → Width → ℕ → Bool
+abbrev pub is_past_locals : Environment → Area → Width → ℕ → Bool
 is_past_locals around area.L w byte = nat_lt around.local_len (byte + byte_count w)
 is_past_locals around a w byte = false
 
 -- a direct place that isn't allowed with any instruction
-abbrev pub is_bad_place : Around → Area → Width → ℕ → ℕ → Bool
+abbrev pub is_bad_place : Environment → Area → Width → ℕ → ℕ → Bool
 is_bad_place around a w byte bit = is_odd_bit w bit || is_past_locals around a w byte
 
 -- a width that the instruction doesn't have
@@ -121,13 +121,13 @@ abbrev pub writes_operand : ℕ → Bool
 writes_operand code = nat_le (op_code_of operation.Transfer) code && nat_le code (op_code_of (operation.Edge false))
 
 -- the parameter of the block that an operand of form 05 means: only a function has such
-abbrev pub parameter_meant : Around → ℕ → Option ParameterRecord
+abbrev pub parameter_meant : Environment → ℕ → Option ParameterRecord
 parameter_meant around index = if around.kind == kind_number kinds.Fc then slice_get around.params index else None
 
 -- an operand of form 05 whose parameter isn't there, or has another width
-abbrev pub lacks_own : Option ParameterRecord → Width → Bool
-lacks_own None w = true
-lacks_own (Some p) w = not (p.width == width_number w)
+abbrev pub lacks_own_parameter : Option ParameterRecord → Width → Bool
+lacks_own_parameter None w = true
+lacks_own_parameter (Some p) w = not (p.width == width_number w)
 
 -- an IN parameter, if there is one; a function doesn't write it, nor pass it for OUT or IN_OUT
 abbrev pub is_in_parameter : Option ParameterRecord → Bool
@@ -142,8 +142,8 @@ is_in_db (operand.Direct area.Db w byte bit) = true
 is_in_db _ = false
 
 -- a USEDB that isn't first, or whose statement has no such operand
-abbrev pub is_stray_use_db : Placed → Bool
-is_stray_use_db p = not (begins p) || not (is_in_db (last_op p).operand)
+abbrev pub is_stray_use_db : PlacedOp → Bool
+is_stray_use_db p = not (begins_its_statement p) || not (is_in_db (last_op p).operand)
 
 -- the index of a PASS
 abbrev pub pass_index : Operand → Option ℕ
@@ -161,14 +161,14 @@ is_above index None = true
 is_above index (Some other) = nat_lt other index
 
 -- a PASS without a CALL, or whose index doesn't rise
-abbrev pub is_stray_pass : Placed → ℕ → Bool
+abbrev pub is_stray_pass : PlacedOp → ℕ → Bool
 is_stray_pass p index = not ((last_op p).code == op_code_of (operation.Call calls.Call)) || not (is_above index (pass_before None p.before))
 
 -- what is passed, by itself: as operands are
-abbrev pub is_bad_actual : Around → Passed → Bool
+abbrev pub is_bad_actual : Environment → Passed → Bool
 is_bad_actual around (passed.Literal value) = false
 is_bad_actual around (passed.Direct a w byte bit) = is_bad_place around a w byte bit
-is_bad_actual around (passed.Parameter index w) = lacks_own (parameter_meant around index) w
+is_bad_actual around (passed.Parameter index w) = lacks_own_parameter (parameter_meant around index) w
 is_bad_actual around (passed.InBlock number area.Db w byte bit) = is_odd_bit w bit
 is_bad_actual around (passed.InBlock number a w byte bit) = true
 
@@ -182,25 +182,25 @@ literal_fits number value =
 
 -- what is passed doesn't fit its parameter: another width, a literal for OUT or IN_OUT or too wide, an
 -- input of a function for OUT or IN_OUT
-abbrev pub misfits_parameter : Around → ParameterRecord → Passed → Bool
+abbrev pub misfits_parameter : Environment → ParameterRecord → Passed → Bool
 misfits_parameter around q (passed.Literal value) = not (q.section == section_in) || not (literal_fits q.width value)
 misfits_parameter around q (passed.Direct a w byte bit) = not (q.width == width_number w)
 misfits_parameter around q (passed.Parameter index w) = not (q.width == width_number w) || not (q.section == section_in) && is_in_parameter (parameter_meant around index)
 misfits_parameter around q (passed.InBlock number a w byte bit) = not (q.width == width_number w)
 
 -- a parameter that the called block lacks (None), or that what is passed doesn't fit
-abbrev pub misfits_index : Around → Option ParameterRecord → Passed → Bool
+abbrev pub misfits_index : Environment → Option ParameterRecord → Passed → Bool
 misfits_index around None actual = true
 misfits_index around (Some q) actual = misfits_parameter around q actual
 
 -- a block that is absent is a fault of the CALL, not of its PASS
-abbrev pub misfits_callee : Around → Option CalleeSeen → ℕ → Passed → Bool
+abbrev pub misfits_callee : Environment → Option CalleeSeen → ℕ → Passed → Bool
 misfits_callee around None index actual = false
 misfits_callee around (Some s) index actual = misfits_index around (slice_get s.2 index) actual
 
 -- what is passed to the block that a CALL calls
-abbrev pub misfits_call : Around → Operand → ℕ → Passed → Bool
-misfits_call around (operand.Called kind number instance) index actual = misfits_callee around (callee around.blocks kind number) index actual
+abbrev pub misfits_call : Environment → Operand → ℕ → Passed → Bool
+misfits_call around (operand.Called kind number instance) index actual = misfits_callee around (callee_among around.blocks kind number) index actual
 misfits_call around _ index actual = false
 
 -- ---- CALL, UC, CC
@@ -216,34 +216,34 @@ is_passed index [] = false
 is_passed index (op ∷ ops) = is_index index (pass_index op.operand) || is_passed index ops
 
 -- whether each parameter from an index on is passed
-abbrev pub are_passed : ℕ → List ParameterRecord → List OpData → Bool
-are_passed index [] ops = true
-are_passed index (p ∷ ps) ops = is_passed index ops && are_passed (suc index) ps ops
+abbrev pub are_all_passed : ℕ → List ParameterRecord → List OpData → Bool
+are_all_passed index [] ops = true
+are_all_passed index (p ∷ ps) ops = is_passed index ops && are_all_passed (suc index) ps ops
 
 -- an instance that is absent or shorter than the function block's
-abbrev pub is_short : ℕ → Option ℕ → Bool
-is_short needed None = true
-is_short needed (Some len) = nat_lt len needed
+abbrev pub is_short_instance : ℕ → Option ℕ → Bool
+is_short_instance needed None = true
+is_short_instance needed (Some len) = nat_lt len needed
 
 -- no instance (0) is right where the block has no parameters; one is given to function blocks alone
 abbrev pub is_bad_instance : List (ℕ × ℕ) → CalleeSeen → ℕ → Bool
 is_bad_instance data_lens s instance =
-    if s.0 == kind_number kinds.Fb then (if instance == 0 then not (is_empty_list s.2) else is_short s.1 (length_of_data instance data_lens))
+    if s.0 == kind_number kinds.Fb then (if instance == 0 then not (is_empty_list s.2) else is_short_instance s.1 (length_of_data instance data_lens))
     else not (instance == 0)
 
 -- absent; a function or system function whose parameters aren't all passed; the instance
 abbrev pub is_bad_call : List (ℕ × ℕ) → Option CalleeSeen → ℕ → List OpData → Bool
 is_bad_call data_lens None instance before = true
-is_bad_call data_lens (Some s) instance before = not (s.0 == kind_number kinds.Fb) && not (are_passed 0 s.2 before) || is_bad_instance data_lens s instance
+is_bad_call data_lens (Some s) instance before = not (s.0 == kind_number kinds.Fb) && not (are_all_passed 0 s.2 before) || is_bad_instance data_lens s instance
 
 -- ---- jumps
 
 -- equally many open brackets, with the same op codes (18 to 1D) in the same order
-abbrev pub same_codes : List ℕ → List ℕ → Bool
-same_codes [] [] = true
-same_codes [] (y ∷ ys) = false
-same_codes (x ∷ xs) [] = false
-same_codes (x ∷ xs) (y ∷ ys) = x == y && same_codes xs ys
+abbrev pub are_same_codes : List ℕ → List ℕ → Bool
+are_same_codes [] [] = true
+are_same_codes [] (y ∷ ys) = false
+are_same_codes (x ∷ xs) [] = false
+are_same_codes (x ∷ xs) (y ∷ ys) = x == y && are_same_codes xs ys
 
 -- JU, which alone stands in the list of a JL
 abbrev pub is_ju_operand : Operand → Bool
@@ -251,34 +251,34 @@ is_ju_operand (operand.Jump zero target) = true
 is_ju_operand _ = false
 
 -- whether from an offset on at most so many JU stand before a target
-abbrev pub leads : ℕ → ℕ → ℕ → List OpData → Bool
-leads most target from [] = from == target
-leads zero target from (op ∷ ops) = from == target
-leads (suc most) target from (op ∷ ops) = from == target || is_ju_operand op.operand && leads most target (from + size op) ops
+abbrev pub leads_to_target : ℕ → ℕ → ℕ → List OpData → Bool
+leads_to_target most target from [] = from == target
+leads_to_target zero target from (op ∷ ops) = from == target
+leads_to_target (suc most) target from (op ∷ ops) = from == target || is_ju_operand op.operand && leads_to_target most target (from + size_of_op op) ops
 
 -- JL: its target stands behind it, and between are at most 255 JU alone
-abbrev pub is_bad_list : Placed → ℕ → ℕ → Bool
-is_bad_list p kind target = kind == jump_number jump.Jl && not (leads 255 target (p.at + size p.op) p.rest)
+abbrev pub is_bad_list : PlacedOp → ℕ → ℕ → Bool
+is_bad_list p kind target = kind == jump_number jump.Jl && not (leads_to_target 255 target (p.at + size_of_op p.op) p.rest)
 
 -- other brackets stand open at the target. (Where more than seven stand open at the jump, an earlier op
 -- has fault 8, and no comparison is needed.)
-abbrev pub are_other : Option (List ℕ) → Option (List ℕ) → Bool
-are_other None others = false
-are_other (Some codes) None = true
-are_other (Some codes) (Some others) = not (same_codes codes others)
+abbrev pub are_other_brackets : Option (List ℕ) → Option (List ℕ) → Bool
+are_other_brackets None others = false
+are_other_brackets (Some codes) None = true
+are_other_brackets (Some codes) (Some others) = not (are_same_codes codes others)
 
 -- 8: other brackets, or another number of zones, stand open at the target than at the jump
-abbrev pub differing : Option (List ℕ) → ℕ → StatementSpot → Option ℕ
-differing codes zones there = if are_other codes there.codes || not (zones == there.zones) then Some 8 else None
+abbrev pub nesting_fault : Option (List ℕ) → ℕ → StatementSpot → Option ℕ
+nesting_fault codes zones there = if are_other_brackets codes there.codes || not (zones == there.zones) then Some 8 else None
 
 -- 6: no statement begins at the target, or a JL's list
 abbrev pub target_fault : Option (List ℕ) → ℕ → Option StatementSpot → Option ℕ
 target_fault codes zones None = Some 6
-target_fault codes zones (Some there) = differing codes zones there
+target_fault codes zones (Some there) = nesting_fault codes zones there
 
 -- the fault of a jump: 6 for the list of a JL, else 6 or 8 by what begins at the target
-abbrev pub jump_fault : List StatementSpot → Placed → ℕ → ℕ → Option ℕ
-jump_fault statements p kind target = if is_bad_list p kind target then Some 6 else target_fault (few p.brackets) (length p.zones) (spot_at statements target)
+abbrev pub jump_fault : List StatementSpot → PlacedOp → ℕ → ℕ → Option ℕ
+jump_fault statements p kind target = if is_bad_list p kind target then Some 6 else target_fault (codes_of_few_brackets p.brackets) (length p.zones) (spot_at statements target)
 
 -- ---- ops
 
@@ -287,34 +287,34 @@ abbrev pub seven_if : Bool → Option ℕ
 seven_if b = if b then Some 7 else None
 
 -- what only needs the own block
-abbrev pub operand_fault : Around → List StatementSpot → Placed → Operand → Option ℕ
+abbrev pub operand_fault : Environment → List StatementSpot → PlacedOp → Operand → Option ℕ
 operand_fault around statements p (operand.Direct a w byte bit) = seven_if (lacks_width p.op w || is_bad_place around a w byte bit)
 operand_fault around statements p (operand.ByMemory a w from byte) = seven_if (lacks_width p.op w)
 operand_fault around statements p (operand.ByRegister a w register bits) = seven_if (lacks_width p.op w)
-operand_fault around statements p (operand.Parameter index w) = seven_if (lacks_width p.op w || lacks_own (parameter_meant around index) w || writes_operand p.op.code && is_in_parameter (parameter_meant around index))
+operand_fault around statements p (operand.Parameter index w) = seven_if (lacks_width p.op w || lacks_own_parameter (parameter_meant around index) w || writes_operand p.op.code && is_in_parameter (parameter_meant around index))
 operand_fault around statements p (operand.Jump kind target) = jump_fault statements p kind target
 operand_fault around statements p (operand.UseDb number) = seven_if (is_stray_use_db p)
 operand_fault around statements p (operand.Pass index actual) = seven_if (is_stray_pass p index || is_bad_actual around actual)
 operand_fault around statements p _ = None
 
 -- what needs the other blocks
-abbrev pub call_fault_among : Around → List (ℕ × ℕ) → Placed → Operand → Option ℕ
-call_fault_among around data_lens p (operand.Called kind number instance) = seven_if (is_bad_call data_lens (callee around.blocks kind number) instance p.before)
+abbrev pub call_fault_among : Environment → List (ℕ × ℕ) → PlacedOp → Operand → Option ℕ
+call_fault_among around data_lens p (operand.Called kind number instance) = seven_if (is_bad_call data_lens (callee_among around.blocks kind number) instance p.before)
 call_fault_among around data_lens p (operand.Pass index actual) = seven_if ((last_op p).code == op_code_of (operation.Call calls.Call) && misfits_call around (last_op p).operand index actual)
 call_fault_among around data_lens p _ = None
 
 -- what is called and passed is checked only where all code and data blocks were read
-abbrev pub call_fault : Around → Option (List (ℕ × ℕ)) → Placed → Option ℕ
+abbrev pub call_fault : Environment → Option (List (ℕ × ℕ)) → PlacedOp → Option ℕ
 call_fault around None p = None
 call_fault around (Some data_lens) p = call_fault_among around data_lens p p.op.operand
 
 -- 7: USEDB and PASS prepare, and have no end mark; every other op has it
-abbrev pub prepares : ℕ → Bool
-prepares code = code == op_code_of operation.UseDb || code == op_code_of operation.Pass
+abbrev pub prepares_statement : ℕ → Bool
+prepares_statement code = code == op_code_of operation.UseDb || code == op_code_of operation.Pass
 
 -- the fault of an end mark on USEDB or PASS, and of another op that has none
 abbrev pub mark_fault : OpData → Option ℕ
-mark_fault op = seven_if (if prepares op.code then op.last else not op.last)
+mark_fault op = seven_if (if prepares_statement op.code then op.last else not op.last)
 
 -- 8: `)` without open bracket, an eighth bracket
 abbrev pub bracket_fault : ℕ → List OpenBracket → Option ℕ
@@ -337,7 +337,7 @@ at_offset at (Some code) = (at, code) ∷ []
 
 -- the faults of one op, each at the op's own offset (`start` is where the code begins): of its
 -- operand, of what is called or passed, of its end mark, of its bracket, of its zone
-unfoldable pub op_faults : Around → List StatementSpot → ℕ → Placed → List (ℕ × ℕ)
+unfoldable pub op_faults : Environment → List StatementSpot → ℕ → PlacedOp → List (ℕ × ℕ)
 op_faults around statements start p =
     at_offset (start + p.at) (operand_fault around statements p p.op.operand)
     ++ at_offset (start + p.at) (call_fault around around.data_lens p)
@@ -346,7 +346,7 @@ op_faults around statements start p =
     ++ at_offset (start + p.at) (zone_fault p.op.code p.zones)
 
 -- the faults of ops one behind the other; all are listed, whichever is told in the end
-abbrev pub faults_over : Around → List StatementSpot → ℕ → List Placed → List (ℕ × ℕ)
+abbrev pub faults_over : Environment → List StatementSpot → ℕ → List PlacedOp → List (ℕ × ℕ)
 faults_over around statements start [] = []
 faults_over around statements start (p ∷ rest) = op_faults around statements start p ++ faults_over around statements start rest
 
@@ -361,8 +361,8 @@ open_zone_faults start [] = []
 open_zone_faults start (at ∷ zones) = (start + at, 8) ∷ open_zone_faults start zones
 
 -- the faults of a block whose code begins at an offset
-unfoldable pub block_faults : Around → ℕ → List OpData → List (ℕ × ℕ)
+unfoldable pub block_faults : Environment → ℕ → List OpData → List (ℕ × ℕ)
 block_faults around start ops =
-    faults_over around (spots ops) start (code_places ops)
+    faults_over around (statement_spots ops) start (code_places ops)
     ++ open_faults start (open_behind 0 [] ops)
     ++ open_zone_faults start (zones_left 0 [] ops)

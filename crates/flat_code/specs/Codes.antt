@@ -26,8 +26,8 @@ are_ops [] = true
 are_ops (op ∷ ops) = is_op op.code op.operand && are_ops ops
 
 -- how many bytes an op takes
-unfoldable pub size : OpData → ℕ
-size op = length (op_bytes op)
+unfoldable pub size_of_op : OpData → ℕ
+size_of_op op = length (op_bytes op)
 
 -- the code as an image has it: the bytes of each op, one behind the other
 abbrev pub code_bytes : List OpData → List ℕ
@@ -44,16 +44,16 @@ ends_by_be (op ∷ others) = ends_by_be others
 abbrev pub last_place : ℕ → List OpData → ℕ
 last_place at [] = at
 last_place at (op ∷ []) = at
-last_place at (op ∷ others) = last_place (at + size op) others
+last_place at (op ∷ others) = last_place (at + size_of_op op) others
 
 -- a statement has at most 64 ops
 abbrev pub most_ops : ℕ
 most_ops = 64
 
 -- the offset of the first op that is the 65th of its statement, behind so many ops of the statement
-abbrev pub overlong : ℕ → ℕ → List OpData → Option ℕ
-overlong count at [] = None
-overlong count at (op ∷ ops) = if count == most_ops then Some at else overlong (if op.last then 0 else suc count) (at + size op) ops
+abbrev pub overlong_statement : ℕ → ℕ → List OpData → Option ℕ
+overlong_statement count at [] = None
+overlong_statement count at (op ∷ ops) = if count == most_ops then Some at else overlong_statement (if op.last then 0 else suc count) (at + size_of_op op) ops
 
 -- the left one, if there is one, else the right one
 abbrev pub first_found : Option ℕ → Option ℕ → Option ℕ
@@ -61,15 +61,15 @@ first_found None other = other
 first_found (Some at) other = Some at
 
 -- something where it is checked
-abbrev pub only : Bool → Option ℕ → Option ℕ
-only true found = found
-only false found = None
+abbrev pub if_checked : Bool → Option ℕ → Option ℕ
+if_checked true found = found
+if_checked false found = None
 
 -- 5: the 65th op of a statement; bytes that begin no op; ops of which the last isn't BE with the end
 -- mark (where there is none, the place where it would begin)
 abbrev pub stop_at : Bool → List OpData → List ℕ → Option ℕ
-stop_at with_code_faults ops [] = first_found (only with_code_faults (overlong 0 0 ops)) (only with_code_faults (if ends_by_be ops then None else Some (last_place 0 ops)))
-stop_at with_code_faults ops (byte ∷ left) = first_found (only with_code_faults (overlong 0 0 ops)) (Some (length (code_bytes ops)))
+stop_at with_code_faults ops [] = first_found (if_checked with_code_faults (overlong_statement 0 0 ops)) (if_checked with_code_faults (if ends_by_be ops then None else Some (last_place 0 ops)))
+stop_at with_code_faults ops (byte ∷ left) = first_found (if_checked with_code_faults (overlong_statement 0 0 ops)) (Some (length (code_bytes ops)))
 
 -- the fault 5 of the code of a block
 abbrev pub code_fault : List OpData → Option ℕ

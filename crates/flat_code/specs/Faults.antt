@@ -14,8 +14,8 @@ use Rattle.flat_code.specs.declared.image_fields.Field.{Field}
 use Rattle.flat_code.specs.declared.image_fields.Field.TheVariants as field
 
 -- a fault unless a test is met
-abbrev pub unless : Bool → ℕ → Option ℕ
-unless fine code = if fine then None else Some code
+abbrev pub fault_unless_met : Bool → ℕ → Option ℕ
+fault_unless_met fine code = if fine then None else Some code
 
 -- a number from low to high, both included
 abbrev pub is_in_range : ℕ → ℕ → ℕ → Bool
@@ -37,33 +37,33 @@ holds_parameter kind instance width byte =
 -- the code of a field's fault, None where it has none; for the bytes of a name see `name_fault`
 unfoldable pub field_fault : Field → Option ℕ
 -- 1: the magic is `S7FB`
-field_fault (field.Magic number) = unless (number == 0x53374642) 1
+field_fault (field.Magic number) = fault_unless_met (number == 0x53374642) 1
 -- 2: the version is 1 or 2
-field_fault (field.Version number) = unless (number == 1 || number == 2) 2
+field_fault (field.Version number) = fault_unless_met (number == 1 || number == 2) 2
 -- 4: the profile of version 2 is that of Small or Large; in version 1 the field is 0
-field_fault (field.Profile version number) = unless (if version == 2 then is_in_range (profile_number profile.Small) (profile_number profile.Large) number else number == 0) 4
+field_fault (field.Profile version number) = fault_unless_met (if version == 2 then is_in_range (profile_number profile.Small) (profile_number profile.Large) number else number == 0) 4
 -- 4: a reserved field is 0
-field_fault (field.Reserved number) = unless (number == 0) 4
+field_fault (field.Reserved number) = fault_unless_met (number == 0) 4
 -- sizes, counts, kinds and numbers are within their limits, and records rise
-field_fault (field.DataBlockCount count) = unless (nat_le count 256) 4
-field_fault (field.Kind before kind) = unless (is_in_range (kind_number kinds.Ob) (kind_number kinds.Fb) kind && nat_le before kind) 4
-field_fault (field.ParameterCount kind count) = unless (nat_le count 60 && (not (kind == kind_number kinds.Ob) || count == 0)) 4
-field_fault (field.Number kind_before before kind number) = unless (has_number kind number && (not (kind == kind_before) || nat_lt before number)) 4
-field_fault (field.LocalBytes kind bytes) = unless (nat_le bytes 1024 && (not (kind == kind_number kinds.Ob) || nat_le 20 bytes)) 4
-field_fault (field.InstanceBytes kind bytes) = unless (if kind == kind_number kinds.Fb then nat_le bytes 16384 else bytes == 0) 4
-field_fault (field.Section section) = unless (is_in_range section_in section_in_out section) 4
-field_fault (field.Width width) = unless (is_in_range (width_number widths.Bit) (width_number widths.Dword) width) 4
-field_fault (field.ParameterByte kind instance width byte) = unless (holds_parameter kind instance width byte) 4
-field_fault (field.ParameterBit kind bit) = unless (nat_le bit 7 && (kind == kind_number kinds.Fb || bit == 0)) 4
-field_fault (field.DataNumber before number) = unless (is_in_range 1 2047 number && nat_lt before number) 4
-field_fault (field.InstanceOf number) = unless (nat_le number 2048) 4
-field_fault (field.DataBytes before bytes) = unless (nat_le bytes 16384 && nat_le (before + bytes) 2097152) 4
-field_fault (field.NameLength bytes) = unless (is_in_range 1 24 bytes) 4
-field_fault (field.NameArea number) = unless (is_in_range (area_code area.I) (area_code area.M) number) 4
-field_fault (field.NameBit width bit) = unless (nat_le bit 7 && (width == width_number widths.Bit || bit == 0)) 4
+field_fault (field.DataBlockCount count) = fault_unless_met (nat_le count 256) 4
+field_fault (field.Kind before kind) = fault_unless_met (is_in_range (kind_number kinds.Ob) (kind_number kinds.Fb) kind && nat_le before kind) 4
+field_fault (field.ParameterCount kind count) = fault_unless_met (nat_le count 60 && (not (kind == kind_number kinds.Ob) || count == 0)) 4
+field_fault (field.Number kind_before before kind number) = fault_unless_met (has_number kind number && (not (kind == kind_before) || nat_lt before number)) 4
+field_fault (field.LocalBytes kind bytes) = fault_unless_met (nat_le bytes 1024 && (not (kind == kind_number kinds.Ob) || nat_le 20 bytes)) 4
+field_fault (field.InstanceBytes kind bytes) = fault_unless_met (if kind == kind_number kinds.Fb then nat_le bytes 16384 else bytes == 0) 4
+field_fault (field.Section section) = fault_unless_met (is_in_range section_in section_in_out section) 4
+field_fault (field.Width width) = fault_unless_met (is_in_range (width_number widths.Bit) (width_number widths.Dword) width) 4
+field_fault (field.ParameterByte kind instance width byte) = fault_unless_met (holds_parameter kind instance width byte) 4
+field_fault (field.ParameterBit kind bit) = fault_unless_met (nat_le bit 7 && (kind == kind_number kinds.Fb || bit == 0)) 4
+field_fault (field.DataNumber before number) = fault_unless_met (is_in_range 1 2047 number && nat_lt before number) 4
+field_fault (field.InstanceOf number) = fault_unless_met (nat_le number 2048) 4
+field_fault (field.DataBytes before bytes) = fault_unless_met (nat_le bytes 16384 && nat_le (before + bytes) 2097152) 4
+field_fault (field.NameLength bytes) = fault_unless_met (is_in_range 1 24 bytes) 4
+field_fault (field.NameArea number) = fault_unless_met (is_in_range (area_code area.I) (area_code area.M) number) 4
+field_fault (field.NameBit width bit) = fault_unless_met (nat_le bit 7 && (width == width_number widths.Bit || bit == 0)) 4
 -- 9: as many statements as end marks; a line isn't 0, and none falls
-field_fault (field.StatementCount end_marks count) = unless (end_marks == count) 9
-field_fault (field.Line before line) = unless (not (line == 0) && nat_le before line) 9
+field_fault (field.StatementCount end_marks count) = fault_unless_met (end_marks == count) 9
+field_fault (field.Line before line) = fault_unless_met (not (line == 0) && nat_le before line) 9
 
 -- the order of names: by bytes, a name before those that it begins
 abbrev pub is_earlier_name : List ℕ → List ℕ → Bool
@@ -84,4 +84,4 @@ ends_blank (x ∷ xs) = ends_blank xs
 
 -- 4: a name rises from the name before it, has no lower-case letter, and no blank at its end
 unfoldable pub name_fault : List ℕ → List ℕ → Option ℕ
-name_fault before name = unless (is_earlier_name before name && is_upper name && not (ends_blank name)) 4
+name_fault before name = fault_unless_met (is_earlier_name before name && is_upper name && not (ends_blank name)) 4

@@ -51,8 +51,8 @@ abbrev pub width_of_number : ℕ → Width
 width_of_number n = or_bit (width_of_code n)
 
 -- areas, and those of them that a form takes
-abbrev pub any_area : Coding Area
-any_area = byte_coding area_code area_of_code
+abbrev pub any_area_coding : Coding Area
+any_area_coding = byte_coding area_code area_of_code
 
 -- all but peripherals
 abbrev pub is_memory_area : Area → Bool
@@ -82,20 +82,20 @@ is_crossing_area None = true
 is_crossing_area (Some a) = is_memory_area a
 
 -- the area byte of form 04: 0, or 16#81 I to 16#86 L
-abbrev pub crossing : Coding (Option Area)
-crossing = such_that is_crossing_area (byte_coding crossing_code crossing_of_code)
+abbrev pub crossing_area_coding : Coding (Option Area)
+crossing_area_coding = such_that is_crossing_area (byte_coding crossing_code crossing_of_code)
 
 -- a width byte, 1 to 4; a width that the instruction lacks is read too (fault 7)
-abbrev pub a_width : Coding Width
-a_width = byte_coding width_number width_of_code
+abbrev pub width_coding : Coding Width
+width_coding = byte_coding width_number width_of_code
 
 -- 2 FC, 3 FB, 5 SFC
 abbrev pub is_callable_number : ℕ → Bool
 is_callable_number n = n == 2 || n == 3 || n == 5
 
 -- the kind byte of a call; that of an OB (1) can't be read
-abbrev pub callable : Coding ℕ
-callable = such_that is_callable_number u8
+abbrev pub callable_coding : Coding ℕ
+callable_coding = such_that is_callable_number u8
 
 -- the payloads, in the order of the table of forms
 abbrev pub literal_coding : Coding ℕ
@@ -103,27 +103,27 @@ literal_coding = u32
 
 -- form 02: area, width, byte, and bit 0 to 7, whatever the width is
 unfoldable pub direct_coding : Coding (Area × (Width × (ℕ × ℕ)))
-direct_coding = then_coding any_area (then_coding a_width (then_coding u16 (range_coding 0 7)))
+direct_coding = then_coding any_area_coding (then_coding width_coding (then_coding u16 (range_coding 0 7)))
 
 -- the area byte of form 03: 16#81 I to 16#86 L
-abbrev pub memory_area : Coding Area
-memory_area = such_that is_memory_area any_area
+abbrev pub memory_area_coding : Coding Area
+memory_area_coding = such_that is_memory_area any_area_coding
 
 -- the area byte of a pointer, or of the word of a number: 16#83 M to 16#86 L
 abbrev pub pointer_area_coding : Coding Area
-pointer_area_coding = such_that holds_pointers any_area
+pointer_area_coding = such_that holds_pointers any_area_coding
 
 -- form 03: area and width of the operand, then area and byte of its pointer in memory
-abbrev pub by_memory : Coding (Area × (Width × (Area × ℕ)))
-by_memory = then_coding memory_area (then_coding a_width (then_coding pointer_area_coding u16))
+abbrev pub by_memory_coding : Coding (Area × (Width × (Area × ℕ)))
+by_memory_coding = then_coding memory_area_coding (then_coding width_coding (then_coding pointer_area_coding u16))
 
 -- form 04: area and width of the operand, address register 1 or 2, the offset in bits
 abbrev pub register_coding : Coding (Option Area × (Width × (ℕ × ℕ)))
-register_coding = then_coding crossing (then_coding a_width (then_coding (range_coding 1 2) u32))
+register_coding = then_coding crossing_area_coding (then_coding width_coding (then_coding (range_coding 1 2) u32))
 
 -- form 05: the index of the function's parameter, from 0, and the width
 abbrev pub parameter_coding : Coding (ℕ × Width)
-parameter_coding = then_coding u8 a_width
+parameter_coding = then_coding u8 width_coding
 
 -- form 06: 1 timer or 2 counter, and its number, 0 to 65,535
 abbrev pub numbered_coding : Coding (ℕ × ℕ)
@@ -134,28 +134,28 @@ abbrev pub numbered_by_coding : Coding (ℕ × (Area × ℕ))
 numbered_by_coding = then_coding (range_coding 1 2) (then_coding pointer_area_coding u16)
 
 -- form 08: the kind, 0 JU to 17 LOOP, and the target as a byte offset in the block's code
-abbrev pub jump : Coding (ℕ × ℕ)
-jump = then_coding (range_coding 0 17) u32
+abbrev pub jump_coding : Coding (ℕ × ℕ)
+jump_coding = then_coding (range_coding 0 17) u32
 
 -- form 09: a condition of the status word, 1 BR to 10 UO
-abbrev pub of_status : Coding ℕ
-of_status = range_coding 1 10
+abbrev pub of_status_coding : Coding ℕ
+of_status_coding = range_coding 1 10
 
 -- form 0A: the number of the data block that the statement opens first
-abbrev pub use_db : Coding ℕ
-use_db = u16
+abbrev pub use_db_coding : Coding ℕ
+use_db_coding = u16
 
 -- form 0D: kind and number of the block that is called, and the number of its instance, or 0
 abbrev pub called_coding : Coding (ℕ × (ℕ × ℕ))
-called_coding = then_coding callable (then_coding u16 u16)
+called_coding = then_coding callable_coding (then_coding u16 u16)
 
 -- form 0E: 1 DB or 2 DI, the register, and the number of the data block to open
-abbrev pub open_block : Coding (ℕ × ℕ)
-open_block = then_coding (range_coding 1 2) u16
+abbrev pub open_block_coding : Coding (ℕ × ℕ)
+open_block_coding = then_coding (range_coding 1 2) u16
 
 -- form 0F: 1 DB or 2 DI, the register, then area and byte of the word that has the number
-abbrev pub open_by : Coding (ℕ × (Area × ℕ))
-open_by = then_coding (range_coding 1 2) (then_coding pointer_area_coding u16)
+abbrev pub open_by_coding : Coding (ℕ × (Area × ℕ))
+open_by_coding = then_coding (range_coding 1 2) (then_coding pointer_area_coding u16)
 
 -- form 0C, only inside 0B: the number of a data block, and a place in it as in form 02
 abbrev pub in_block_coding : Coding (ℕ × (Area × (Width × (ℕ × ℕ))))
@@ -201,12 +201,12 @@ unfoldable pub passed_coding : Coding Passed
 passed_coding = record { fits = actual_fits; spell = actual_spelled; read = passed_at }
 
 -- form 0B: the index of the parameter of the called block, from 0, and what is passed for it
-abbrev pub pass : Coding (ℕ × Passed)
-pass = then_coding u8 passed_coding
+abbrev pub pass_coding : Coding (ℕ × Passed)
+pass_coding = then_coding u8 passed_coding
 
 -- an op of form 0B behind its first byte
-abbrev pub passes : ℕ → Passed → List ℕ
-passes index passed = 11 ∷ pass.spell (index, passed)
+abbrev pub pass_bytes : ℕ → Passed → List ℕ
+pass_bytes index passed = 11 ∷ pass_coding.spell (index, passed)
 
 -- the form of an operand, and its byte
 abbrev pub form_of_operand : Operand → ℕ
@@ -231,38 +231,38 @@ abbrev pub payload_fits : Operand → Bool
 payload_fits operand.Nothing = true
 payload_fits (operand.Literal value) = literal_coding.fits value
 payload_fits (operand.Direct area width byte bit) = direct_coding.fits (area, (width, (byte, bit)))
-payload_fits (operand.ByMemory area width from byte) = by_memory.fits (area, (width, (from, byte)))
+payload_fits (operand.ByMemory area width from byte) = by_memory_coding.fits (area, (width, (from, byte)))
 payload_fits (operand.ByRegister area width register bits) =
     register_coding.fits (area, (width, (register, bits)))
 payload_fits (operand.Parameter index width) = parameter_coding.fits (index, width)
 payload_fits (operand.Numbered kind number) = numbered_coding.fits (kind, number)
 payload_fits (operand.NumberedBy kind from byte) = numbered_by_coding.fits (kind, (from, byte))
-payload_fits (operand.Jump kind target) = jump.fits (kind, target)
-payload_fits (operand.OfStatus condition) = of_status.fits condition
-payload_fits (operand.UseDb number) = use_db.fits number
-payload_fits (operand.Pass index actual) = pass.fits (index, actual)
+payload_fits (operand.Jump kind target) = jump_coding.fits (kind, target)
+payload_fits (operand.OfStatus condition) = of_status_coding.fits condition
+payload_fits (operand.UseDb number) = use_db_coding.fits number
+payload_fits (operand.Pass index actual) = pass_coding.fits (index, actual)
 payload_fits (operand.Called kind number instance) = called_coding.fits (kind, (number, instance))
-payload_fits (operand.OpenBlock register number) = open_block.fits (register, number)
-payload_fits (operand.OpenBy register from byte) = open_by.fits (register, (from, byte))
+payload_fits (operand.OpenBlock register number) = open_block_coding.fits (register, number)
+payload_fits (operand.OpenBy register from byte) = open_by_coding.fits (register, (from, byte))
 
 -- the bytes of an operand behind its form byte; form 00 has none
 abbrev pub payload : Operand → List ℕ
 payload operand.Nothing = []
 payload (operand.Literal value) = literal_coding.spell value
 payload (operand.Direct area width byte bit) = direct_coding.spell (area, (width, (byte, bit)))
-payload (operand.ByMemory area width from byte) = by_memory.spell (area, (width, (from, byte)))
+payload (operand.ByMemory area width from byte) = by_memory_coding.spell (area, (width, (from, byte)))
 payload (operand.ByRegister area width register bits) =
     register_coding.spell (area, (width, (register, bits)))
 payload (operand.Parameter index width) = parameter_coding.spell (index, width)
 payload (operand.Numbered kind number) = numbered_coding.spell (kind, number)
 payload (operand.NumberedBy kind from byte) = numbered_by_coding.spell (kind, (from, byte))
-payload (operand.Jump kind target) = jump.spell (kind, target)
-payload (operand.OfStatus condition) = of_status.spell condition
-payload (operand.UseDb number) = use_db.spell number
-payload (operand.Pass index actual) = pass.spell (index, actual)
+payload (operand.Jump kind target) = jump_coding.spell (kind, target)
+payload (operand.OfStatus condition) = of_status_coding.spell condition
+payload (operand.UseDb number) = use_db_coding.spell number
+payload (operand.Pass index actual) = pass_coding.spell (index, actual)
 payload (operand.Called kind number instance) = called_coding.spell (kind, (number, instance))
-payload (operand.OpenBlock register number) = open_block.spell (register, number)
-payload (operand.OpenBy register from byte) = open_by.spell (register, (from, byte))
+payload (operand.OpenBlock register number) = open_block_coding.spell (register, number)
+payload (operand.OpenBy register from byte) = open_by_coding.spell (register, (from, byte))
 
 -- the operand of a form byte and the bytes behind; None for 0C, which is no form of an operand,
 -- for forms above 0F, and for bytes that the form doesn't have
@@ -271,17 +271,17 @@ payload_in n bytes =
     if n == 0 then Some (operand.Nothing, bytes)
     else if n == 1 then read_as operand.Literal literal_coding bytes
     else if n == 2 then read_as (λ x. operand.Direct x.0 x.1.0 x.1.1.0 x.1.1.1) direct_coding bytes
-    else if n == 3 then read_as (λ x. operand.ByMemory x.0 x.1.0 x.1.1.0 x.1.1.1) by_memory bytes
+    else if n == 3 then read_as (λ x. operand.ByMemory x.0 x.1.0 x.1.1.0 x.1.1.1) by_memory_coding bytes
     else if n == 4 then
     read_as (λ x. operand.ByRegister x.0 x.1.0 x.1.1.0 x.1.1.1) register_coding bytes
     else if n == 5 then read_as (λ x. operand.Parameter x.0 x.1) parameter_coding bytes
     else if n == 6 then read_as (λ x. operand.Numbered x.0 x.1) numbered_coding bytes
     else if n == 7 then read_as (λ x. operand.NumberedBy x.0 x.1.0 x.1.1) numbered_by_coding bytes
-    else if n == 8 then read_as (λ x. operand.Jump x.0 x.1) jump bytes
-    else if n == 9 then read_as operand.OfStatus of_status bytes
-    else if n == 10 then read_as operand.UseDb use_db bytes
-    else if n == 11 then read_as (λ x. operand.Pass x.0 x.1) pass bytes
+    else if n == 8 then read_as (λ x. operand.Jump x.0 x.1) jump_coding bytes
+    else if n == 9 then read_as operand.OfStatus of_status_coding bytes
+    else if n == 10 then read_as operand.UseDb use_db_coding bytes
+    else if n == 11 then read_as (λ x. operand.Pass x.0 x.1) pass_coding bytes
     else if n == 13 then read_as (λ x. operand.Called x.0 x.1.0 x.1.1) called_coding bytes
-    else if n == 14 then read_as (λ x. operand.OpenBlock x.0 x.1) open_block bytes
-    else if n == 15 then read_as (λ x. operand.OpenBy x.0 x.1.0 x.1.1) open_by bytes
+    else if n == 14 then read_as (λ x. operand.OpenBlock x.0 x.1) open_block_coding bytes
+    else if n == 15 then read_as (λ x. operand.OpenBy x.0 x.1.0 x.1.1) open_by_coding bytes
     else None

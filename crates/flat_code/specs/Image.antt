@@ -17,8 +17,8 @@ use Rattle.flat_code.specs.Records.{BlockRecord, NameRecord, Records}
 use Rattle.flat_code.specs.Faults.{field_fault, name_fault}
 use Rattle.flat_code.specs.Stamps.{version_number, profile_field_of, stamp_of}
 use Rattle.flat_code.specs.declared.stamps.Stamp.{Stamp}
-use Rattle.flat_code.specs.Layout.{Note, Faulty, Whole, AllBlocks, Cursor, ReadResult, Layout, reading_ended, bind, field, chain, checked_layout, located_layout, many, seen_as, noted_layout}
-use Rattle.flat_code.specs.Codes.{code_bytes, code_layout, only}
+use Rattle.flat_code.specs.Layout.{Note, Faulty, Whole, AllBlocks, Cursor, ReadResult, Layout, reading_ended, bind_reading, field_layout, chain_layout, checked_layout, located_layout, list_layout, seen_as, noted_layout}
+use Rattle.flat_code.specs.Codes.{code_bytes, code_layout, if_checked}
 
 -- a field that is checked later, or not at all
 abbrev pub no_fault : ℕ → Option ℕ
@@ -26,23 +26,23 @@ no_fault n = None
 
 -- any u16: statement count, counts of code blocks and names, byte of a name
 unfoldable pub plain_u16 : Layout ℕ
-plain_u16 = field u16 no_fault
+plain_u16 = field_layout u16 no_fault
 
 -- any u32: code length, total length
 unfoldable pub plain_u32 : Layout ℕ
-plain_u32 = field u32 no_fault
+plain_u32 = field_layout u32 no_fault
 
 -- the reserved byte of a parameter: 0, else fault 4
 unfoldable pub zero_u8 : Layout ℕ
-zero_u8 = field u8 (λ n. field_fault (field_of.Reserved n))
+zero_u8 = field_layout u8 (λ n. field_fault (field_of.Reserved n))
 
 -- a reserved u16 of the counts, a code block's head or a data block: 0, else fault 4
 unfoldable pub zero_u16 : Layout ℕ
-zero_u16 = field u16 (λ n. field_fault (field_of.Reserved n))
+zero_u16 = field_layout u16 (λ n. field_fault (field_of.Reserved n))
 
 -- the width of a parameter, or of a name's variable: 1 to 4, else fault 4
 unfoldable pub width_field : Layout ℕ
-width_field = field u8 (λ n. field_fault (field_of.Width n))
+width_field = field_layout u8 (λ n. field_fault (field_of.Width n))
 
 -- each number is a byte, below 256
 abbrev pub bytes_fit : List ℕ → Bool
@@ -50,20 +50,20 @@ bytes_fit [] = true
 bytes_fit (b ∷ bs) = nat_lt b 256 && bytes_fit bs
 
 -- n bytes as one field, which can't be read where fewer are left
-abbrev pub bytes : ℕ → Coding (List ℕ)
-bytes n = record { fits = λ bs. length bs == n && bytes_fit bs; spell = λ bs. bs; read = λ text. if nat_lt (length text) n then None else Some (take n text, drop n text) }
+abbrev pub bytes_coding : ℕ → Coding (List ℕ)
+bytes_coding n = record { fits = λ bs. length bs == n && bytes_fit bs; spell = λ bs. bs; read = λ text. if nat_lt (length text) n then None else Some (take n text, drop n text) }
 
 -- PARAMETER: section u8, width u8, byte u16, bit u8, zero u8
 unfoldable pub section_field : Layout ℕ
-section_field = field u8 (λ n. field_fault (field_of.Section n))
+section_field = field_layout u8 (λ n. field_fault (field_of.Section n))
 
 -- the byte of a parameter: with its width inside the instance bytes of an FB, 0 in an FC
 unfoldable pub parameter_byte : ℕ → ℕ → ℕ → Layout ℕ
-parameter_byte kind instance w = field u16 (λ n. field_fault (field_of.ParameterByte kind instance w n))
+parameter_byte kind instance w = field_layout u16 (λ n. field_fault (field_of.ParameterByte kind instance w n))
 
 -- the bit of a parameter: 0 to 7 in an FB, whatever the width is, and 0 in an FC
 unfoldable pub parameter_bit : ℕ → Layout ℕ
-parameter_bit kind = field u8 (λ n. field_fault (field_of.ParameterBit kind n))
+parameter_bit kind = field_layout u8 (λ n. field_fault (field_of.ParameterBit kind n))
 
 -- the fields of a parameter
 pub record ParameterFields : Type 0 where
@@ -88,10 +88,10 @@ parameter_row f = (f.section, (f.width, (f.byte, (f.bit, f.reserved))))
 -- the layout of a row, in a block of this kind with so many instance bytes
 unfoldable pub parameter_rows : ℕ → ℕ → Layout ParameterRow
 parameter_rows kind instance =
-    chain section_field (λ section.
-    chain width_field (λ width.
-    chain (parameter_byte kind instance width) (λ byte.
-    chain (parameter_bit kind) (λ bit. zero_u8))))
+    chain_layout section_field (λ section.
+    chain_layout width_field (λ width.
+    chain_layout (parameter_byte kind instance width) (λ byte.
+    chain_layout (parameter_bit kind) (λ bit. zero_u8))))
 
 -- the record of a parameter's fields, without the reserved one
 abbrev pub parameter_of_fields : ParameterFields → ParameterRecord
@@ -108,23 +108,23 @@ parameter_layout kind instance = seen_as (λ r. parameter_of_fields (parameter_f
 -- HEAD OF A CODE BLOCK: kind u8, parameter count u8, number u16, local bytes u16, instance bytes u16,
 -- statement count u16, zero u16, code length u32. `before` has kind and number of the block before, 0 and 0 for none
 unfoldable pub kind_field : ℕ → Layout ℕ
-kind_field before = field u8 (λ n. field_fault (field_of.Kind before n))
+kind_field before = field_layout u8 (λ n. field_fault (field_of.Kind before n))
 
 -- the parameter count: at most 60, and 0 for an OB, else fault 4
 unfoldable pub parameter_count_layout : ℕ → Layout ℕ
-parameter_count_layout kind = field u8 (λ n. field_fault (field_of.ParameterCount kind n))
+parameter_count_layout kind = field_layout u8 (λ n. field_fault (field_of.ParameterCount kind n))
 
 -- a number that this kind has, above that of the block before where it has the same kind
 unfoldable pub block_number_layout : ℕ → ℕ → ℕ → Layout ℕ
-block_number_layout kind_before before kind = field u16 (λ n. field_fault (field_of.Number kind_before before kind n))
+block_number_layout kind_before before kind = field_layout u16 (λ n. field_fault (field_of.Number kind_before before kind n))
 
 -- the local bytes: at most 1,024; at least 20 for an OB, which has its start information there
 unfoldable pub local_length_layout : ℕ → Layout ℕ
-local_length_layout kind = field u16 (λ n. field_fault (field_of.LocalBytes kind n))
+local_length_layout kind = field_layout u16 (λ n. field_fault (field_of.LocalBytes kind n))
 
 -- the instance bytes: at most 16,384 for an FB, and 0 for another block
-unfoldable pub instance_bytes : ℕ → Layout ℕ
-instance_bytes kind = field u16 (λ n. field_fault (field_of.InstanceBytes kind n))
+unfoldable pub instance_bytes_layout : ℕ → Layout ℕ
+instance_bytes_layout kind = field_layout u16 (λ n. field_fault (field_of.InstanceBytes kind n))
 
 -- the head of a code block
 pub record Head : Type 0 where
@@ -161,13 +161,13 @@ row_of_head h = (h.kind, (h.parameter_count, (h.number, (h.local_bytes, (h.insta
 -- the sixteen bytes with which a code block begins, behind one of kind and number `before`, as a row
 unfoldable pub head_rows : ℕ × ℕ → Layout HeadRow
 head_rows before =
-    chain (kind_field before.0) (λ kind.
-    chain (parameter_count_layout kind) (λ params.
-    chain (block_number_layout before.0 before.1 kind) (λ number.
-    chain (local_length_layout kind) (λ locals.
-    chain (instance_bytes kind) (λ instance.
-    chain plain_u16 (λ statements.
-    chain zero_u16 (λ zero. plain_u32)))))))
+    chain_layout (kind_field before.0) (λ kind.
+    chain_layout (parameter_count_layout kind) (λ params.
+    chain_layout (block_number_layout before.0 before.1 kind) (λ number.
+    chain_layout (local_length_layout kind) (λ locals.
+    chain_layout (instance_bytes_layout kind) (λ instance.
+    chain_layout plain_u16 (λ statements.
+    chain_layout zero_u16 (λ zero. plain_u32)))))))
 
 -- the same bytes as a head
 unfoldable pub head_layout : ℕ × ℕ → Layout Head
@@ -179,8 +179,8 @@ abbrev pub same_state : ℕ → ParameterRecord → ℕ
 same_state s p = s
 
 -- as many parameters as the head counts, by its kind and instance bytes
-unfoldable pub parameters : Head → Layout (List ParameterRecord)
-parameters h = many (λ s. parameter_layout h.kind h.instance_bytes) same_state 0 h.parameter_count
+unfoldable pub parameters_layout : Head → Layout (List ParameterRecord)
+parameters_layout h = list_layout (λ s. parameter_layout h.kind h.instance_bytes) same_state 0 h.parameter_count
 
 -- LINES, u32 each; the statement count at `start` + 8 is checked now, as the code is known
 -- how many ops have the end mark: the number of statements, where the code ends with one
@@ -194,17 +194,17 @@ line_after before line = line
 
 -- a line: not 0, nor below the line `before` (0 for none), else fault 9; with false any u32
 unfoldable pub line_field : Bool → ℕ → Layout ℕ
-line_field with_code_faults before = field u32 (λ n. only with_code_faults (field_fault (field_of.Line before n)))
+line_field with_code_faults before = field_layout u32 (λ n. if_checked with_code_faults (field_fault (field_of.Line before n)))
 
 -- as many lines as the head counts; with true, fault 9 if other than the number of end marks
 unfoldable pub lines_layout : Bool → ℕ → Head → List OpData → Layout (List ℕ)
 lines_layout with_code_faults start h ops =
-    checked_layout (start + 8) (only with_code_faults (field_fault (field_of.StatementCount (end_marks ops) h.statement_count)))
-    (many (line_field with_code_faults) line_after 0 h.statement_count)
+    checked_layout (start + 8) (if_checked with_code_faults (field_fault (field_of.StatementCount (end_marks ops) h.statement_count)))
+    (list_layout (line_field with_code_faults) line_after 0 h.statement_count)
 
 -- CODE BLOCK: head, parameters, code, lines
 unfoldable pub code_and_lines : Bool → ℕ → Head → Layout (List OpData × List ℕ)
-code_and_lines with_code_faults start h = chain (code_layout with_code_faults h.code_length) (lines_layout with_code_faults start h)
+code_and_lines with_code_faults start h = chain_layout (code_layout with_code_faults h.code_length) (lines_layout with_code_faults start h)
 
 -- the parts of a code block
 pub record BlockParts : Type 0 where
@@ -227,7 +227,7 @@ row_of_block_parts p = (p.head, (p.params, (p.code, p.lines)))
 
 -- the layout of a row from offset `start` on, behind a block of kind and number `before`
 unfoldable pub block_rows : Bool → ℕ × ℕ → ℕ → Layout BlockRow
-block_rows with_code_faults before start = chain (head_layout before) (λ h. chain (parameters h) (λ params. code_and_lines with_code_faults start h))
+block_rows with_code_faults before start = chain_layout (head_layout before) (λ h. chain_layout (parameters_layout h) (λ params. code_and_lines with_code_faults start h))
 
 -- the record without counts, code length and reserved field: the lists are as long as they say
 abbrev pub block_of_parts : BlockParts → BlockRecord
@@ -273,19 +273,19 @@ after_block before b = (b.kind, b.number)
 -- DATA BLOCK: number u16, FB number of an instance plus 1 or 0 u16, length u16, zero u16, bytes.
 -- `before` has the number of the block before, 0 for none, and the bytes of all before together
 unfoldable pub data_number_layout : ℕ → Layout ℕ
-data_number_layout before = field u16 (λ n. field_fault (field_of.DataNumber before n))
+data_number_layout before = field_layout u16 (λ n. field_fault (field_of.DataNumber before n))
 
 -- 0, or the number of an FB plus 1, so at most 2,048; that there is this FB isn't tested
 unfoldable pub instance_field : Layout ℕ
-instance_field = field u16 (λ n. field_fault (field_of.InstanceOf n))
+instance_field = field_layout u16 (λ n. field_fault (field_of.InstanceOf n))
 
 -- at most 16,384, and at most 2,097,152 together with the bytes `before` of earlier blocks
 unfoldable pub data_length_layout : ℕ → Layout ℕ
-data_length_layout before = field u16 (λ n. field_fault (field_of.DataBytes before n))
+data_length_layout before = field_layout u16 (λ n. field_fault (field_of.DataBytes before n))
 
 -- the n bytes of a data block, of any values
-unfoldable pub contents : ℕ → Layout (List ℕ)
-contents n = field (bytes n) (λ bs. None)
+unfoldable pub contents_layout : ℕ → Layout (List ℕ)
+contents_layout n = field_layout (bytes_coding n) (λ bs. None)
 
 -- the fields of a data block
 pub record DataFields : Type 0 where
@@ -310,10 +310,10 @@ data_row f = (f.number, (f.instance, (f.length, (f.reserved, f.bytes))))
 -- the layout of a row, behind a block of number `before.0` and bytes `before.1` in all
 unfoldable pub data_rows : ℕ × ℕ → Layout DataRow
 data_rows before =
-    chain (data_number_layout before.0) (λ number.
-    chain instance_field (λ instance.
-    chain (data_length_layout before.1) (λ n.
-    chain zero_u16 (λ zero. contents n))))
+    chain_layout (data_number_layout before.0) (λ number.
+    chain_layout instance_field (λ instance.
+    chain_layout (data_length_layout before.1) (λ n.
+    chain_layout zero_u16 (λ zero. contents_layout n))))
 
 -- 0 is no instance, and n + 1 one of FB n, so that FB 0 has instances too
 abbrev pub instance_of_number : ℕ → Option ℕ
@@ -343,19 +343,19 @@ after_data before d = (d.number, before.1 + length d.bytes)
 
 -- NAME: length u8, bytes, area u8, width u8, byte u16, bit u8. `before` is the name before, empty for none
 unfoldable pub name_len : Layout ℕ
-name_len = field u8 (λ n. field_fault (field_of.NameLength n))
+name_len = field_layout u8 (λ n. field_fault (field_of.NameLength n))
 
 -- n bytes: above those of the name `before`, without a to z, without blank at the end
 unfoldable pub name_bytes : List ℕ → ℕ → Layout (List ℕ)
-name_bytes before n = field (bytes n) (name_fault before)
+name_bytes before n = field_layout (bytes_coding n) (name_fault before)
 
 -- the area of a name's variable: 16#81 I, 16#82 Q, 16#83 M, else fault 4
 unfoldable pub name_area : Layout ℕ
-name_area = field u8 (λ n. field_fault (field_of.NameArea n))
+name_area = field_layout u8 (λ n. field_fault (field_of.NameArea n))
 
 -- the bit of a name's variable: 0 to 7 where its width w is 1, else 0
 unfoldable pub name_bit : ℕ → Layout ℕ
-name_bit w = field u8 (λ n. field_fault (field_of.NameBit w n))
+name_bit w = field_layout u8 (λ n. field_fault (field_of.NameBit w n))
 
 -- the fields of a name
 pub record NameFields : Type 0 where
@@ -381,11 +381,11 @@ name_row f = (f.length, (f.name, (f.area, (f.width, (f.byte, f.bit)))))
 -- the layout of a row, behind the name `before`
 unfoldable pub name_rows : List ℕ → Layout NameRow
 name_rows before =
-    chain name_len (λ n.
-    chain (name_bytes before n) (λ name.
-    chain name_area (λ area.
-    chain width_field (λ w.
-    chain plain_u16 (λ byte. name_bit w)))))
+    chain_layout name_len (λ n.
+    chain_layout (name_bytes before n) (λ name.
+    chain_layout name_area (λ area.
+    chain_layout width_field (λ w.
+    chain_layout plain_u16 (λ byte. name_bit w)))))
 
 -- the record of a name's fields, without the length: the name has as many bytes
 abbrev pub name_of_fields : NameFields → NameRecord
@@ -405,10 +405,10 @@ after_name before n = n.name
 
 -- ALL BEHIND THE TOTAL LENGTH: count of code blocks u16, of data blocks u16, of names u16, zero u16; the records
 unfoldable pub data_count : Layout ℕ
-data_count = field u16 (λ n. field_fault (field_of.DataBlockCount n))
+data_count = field_layout u16 (λ n. field_fault (field_of.DataBlockCount n))
 
 -- how many records of each kind there are
-pub record Counts : Type 0 where
+pub record RecordCounts : Type 0 where
   pub code_blocks : ℕ
   pub data_blocks : ℕ
   pub names : ℕ
@@ -419,47 +419,47 @@ abbrev pub CountRow : Type 0
 CountRow = ℕ × (ℕ × (ℕ × ℕ))
 
 -- the counts of such a row
-abbrev pub counts_of_row : CountRow → Counts
+abbrev pub counts_of_row : CountRow → RecordCounts
 counts_of_row r = record { code_blocks = r.0; data_blocks = r.1.0; names = r.1.1.0; reserved = r.1.1.1 }
 
 -- the row of these counts
-abbrev pub row_of_counts : Counts → CountRow
+abbrev pub row_of_counts : RecordCounts → CountRow
 row_of_counts c = (c.code_blocks, (c.data_blocks, (c.names, c.reserved)))
 
 -- the last eight bytes of the header as a row; more than 256 data blocks are fault 4
 unfoldable pub count_rows : Layout CountRow
-count_rows = chain plain_u16 (λ codes. chain data_count (λ datas. chain plain_u16 (λ names. zero_u16)))
+count_rows = chain_layout plain_u16 (λ codes. chain_layout data_count (λ datas. chain_layout plain_u16 (λ names. zero_u16)))
 
 -- the same bytes as counts
-unfoldable pub counts_layout : Layout Counts
+unfoldable pub counts_layout : Layout RecordCounts
 counts_layout = seen_as counts_of_row row_of_counts count_rows
 
 -- n code blocks, the first behind none
-unfoldable pub code_blocks : Bool → ℕ → Layout (List BlockRecord)
-code_blocks with_code_faults n = many (code_block_layout with_code_faults) after_block (0, 0) n
+unfoldable pub code_blocks_layout : Bool → ℕ → Layout (List BlockRecord)
+code_blocks_layout with_code_faults n = list_layout (code_block_layout with_code_faults) after_block (0, 0) n
 
 -- n data blocks, the first behind none
 abbrev pub plain_data_blocks : ℕ → Layout (List DataBlock)
-plain_data_blocks n = many data_block_layout after_data (0, 0) n
+plain_data_blocks n = list_layout data_block_layout after_data (0, 0) n
 
 -- that all blocks were read is noted
 unfoldable pub data_blocks_layout : ℕ → Layout (List DataBlock)
 data_blocks_layout n = noted_layout AllBlocks (plain_data_blocks n)
 
 -- n names, the first behind none
-unfoldable pub names : ℕ → Layout (List NameRecord)
-names n = many name_record after_name [] n
+unfoldable pub names_layout : ℕ → Layout (List NameRecord)
+names_layout n = list_layout name_record after_name [] n
 
 -- the parts of an image behind the total length
 pub record BodyParts : Type 0 where
-  pub counts : Counts
+  pub counts : RecordCounts
   pub code_blocks : List BlockRecord
   pub data_blocks : List DataBlock
   pub names : List NameRecord
 
 -- as they stand one behind the other
 abbrev pub BodyRow : Type 0
-BodyRow = Counts × (List BlockRecord × (List DataBlock × List NameRecord))
+BodyRow = RecordCounts × (List BlockRecord × (List DataBlock × List NameRecord))
 
 -- the parts of such a row
 abbrev pub parts_of_body_row : BodyRow → BodyParts
@@ -471,14 +471,14 @@ row_of_body_parts p = (p.counts, (p.code_blocks, (p.data_blocks, p.names)))
 
 -- with_code_faults: the faults of code and lines (5 and 9) too
 unfoldable pub body_rows : Bool → Layout BodyRow
-body_rows with_code_faults = chain counts_layout (λ c. chain (code_blocks with_code_faults c.code_blocks) (λ blocks. chain (data_blocks_layout c.data_blocks) (λ datas. names c.names)))
+body_rows with_code_faults = chain_layout counts_layout (λ c. chain_layout (code_blocks_layout with_code_faults c.code_blocks) (λ blocks. chain_layout (data_blocks_layout c.data_blocks) (λ datas. names_layout c.names)))
 
 -- the records without the counts: the lists are as long as these say
 abbrev pub records_of_parts : BodyParts → Records
 records_of_parts p = record { code_blocks = p.code_blocks; data_blocks = p.data_blocks; names = p.names }
 
 -- the counts are the lengths of the lists of records, and the reserved field is 0
-abbrev pub counts_of : Records → Counts
+abbrev pub counts_of : Records → RecordCounts
 counts_of r = record { code_blocks = length r.code_blocks; data_blocks = length r.data_blocks; names = length r.names; reserved = 0 }
 
 -- the parts of records
@@ -486,8 +486,8 @@ abbrev pub parts_of_records : Records → BodyParts
 parts_of_records r = record { counts = counts_of r; code_blocks = r.code_blocks; data_blocks = r.data_blocks; names = r.names }
 
 -- the records of an image, with their counts before them
-unfoldable pub records : Bool → Layout Records
-records with_code_faults = seen_as (λ r. records_of_parts (parts_of_body_row r)) (λ r. row_of_body_parts (parts_of_records r)) (body_rows with_code_faults)
+unfoldable pub records_layout : Bool → Layout Records
+records_layout with_code_faults = seen_as (λ r. records_of_parts (parts_of_body_row r)) (λ r. row_of_body_parts (parts_of_records r)) (body_rows with_code_faults)
 
 -- the kind where an image has blocks of code of it: OB, FC or FB; a data type in place of the others
 abbrev pub or_type : Option BlockKind → BlockKind
@@ -551,20 +551,20 @@ abbrev pub records_of : Program → Records
 records_of p = record { code_blocks = map record_of_block p.code_blocks; data_blocks = p.data_blocks; names = map name_of_entry p.names }
 
 -- a program as the bytes behind the total length: the counts, then all records
-unfoldable pub body : Bool → Layout Program
-body with_code_faults = seen_as program_of_records records_of (records with_code_faults)
+unfoldable pub body_layout : Bool → Layout Program
+body_layout with_code_faults = seen_as program_of_records records_of (records_layout with_code_faults)
 
 -- HEADER up to the total length: magic u32, version u16, profile u16, total length u32
 unfoldable pub magic_field : Layout ℕ
-magic_field = field u32 (λ n. field_fault (field_of.Magic n))
+magic_field = field_layout u32 (λ n. field_fault (field_of.Magic n))
 
 -- the version: 1 or 2, else fault 2
 unfoldable pub version_field : Layout ℕ
-version_field = field u16 (λ n. field_fault (field_of.Version n))
+version_field = field_layout u16 (λ n. field_fault (field_of.Version n))
 
 -- the profile that version 2 names, and 0 in version 1, else fault 4
 unfoldable pub profile_field : ℕ → Layout ℕ
-profile_field version = field u16 (λ n. field_fault (field_of.Profile version n))
+profile_field version = field_layout u16 (λ n. field_fault (field_of.Profile version n))
 
 -- the fields of the header up to the total length
 pub record Front : Type 0 where
@@ -585,13 +585,13 @@ front_of_row r = record { magic = r.0; version = r.1.0; profile = r.1.1.0; total
 abbrev pub row_of_front : Front → FrontRow
 row_of_front f = (f.magic, (f.version, (f.profile, f.total_length)))
 
--- the first twelve bytes of the header as a row; whether the total length is right is tested by `cut`
+-- the first twelve bytes of the header as a row; whether the total length is right is tested by `read_cut_off`
 unfoldable pub front_rows : Layout FrontRow
-front_rows = chain magic_field (λ magic. chain version_field (λ version. chain (profile_field version) (λ profile. plain_u32)))
+front_rows = chain_layout magic_field (λ magic. chain_layout version_field (λ version. chain_layout (profile_field version) (λ profile. plain_u32)))
 
 -- the same bytes as a front
-unfoldable pub front : Layout Front
-front = seen_as front_of_row row_of_front front_rows
+unfoldable pub front_layout : Layout Front
+front_layout = seen_as front_of_row row_of_front front_rows
 
 -- 4 bytes magic, 2 version, 2 profile, 4 total length
 abbrev pub front_size : ℕ
@@ -607,16 +607,16 @@ stamp_in f = stamp_of f.version f.profile
 
 -- the bytes of a program: the front, with the length of them all, and the body
 unfoldable pub image : Stamp → Program → List ℕ
-image stamp p = front.spell (front_of stamp (front_size + length ((body false).spell p))) ++ (body false).spell p
+image stamp p = front_layout.spell (front_of stamp (front_size + length ((body_layout false).spell p))) ++ (body_layout false).spell p
 
 -- A PROGRAM: every number fits its field, nothing in it is fault 4, and its image has at most 8,388,608 bytes
 pub record IsProgram (p : Program) : Type 0 where
-  pub good : (body false).good p ≡ true
-  pub short : front_size + length ((body false).spell p) ≤ 8388608
+  pub good : (body_layout false).good p ≡ true
+  pub short : front_size + length ((body_layout false).spell p) ≤ 8388608
 
 -- no field of it has a fault
 abbrev pub IsRight : Program → Type 0
-IsRight p = (body true).good p ≡ true
+IsRight p = (body_layout true).good p ≡ true
 
 -- 10: bytes behind the last record
 abbrev pub end_layout : Stamp → Program → Cursor → ReadResult (Stamp × Program)
@@ -624,12 +624,12 @@ end_layout stamp p end = record { notes = if length end.rest == 0 then [] else F
 
 -- the body of so many bytes, and that nothing stands behind its last record
 abbrev pub read_body : Bool → Stamp → ℕ → Cursor → ReadResult (Stamp × Program)
-read_body with_code_faults stamp size cur = bind ((body with_code_faults).read (record { at = cur.at; rest = take size cur.rest })) (end_layout stamp)
+read_body with_code_faults stamp size cur = bind_reading ((body_layout with_code_faults).read (record { at = cur.at; rest = take size cur.rest })) (end_layout stamp)
 
 -- 3: a total length above the bytes there, or below 20. 4: one above 8,388,608. Both end the reading. 10: bytes
 -- behind the total length, which are cut off
-abbrev pub cut : Bool → Stamp → (size total : ℕ) → Cursor → ReadResult (Stamp × Program)
-cut with_code_faults stamp size total cur =
+abbrev pub read_cut_off : Bool → Stamp → (size total : ℕ) → Cursor → ReadResult (Stamp × Program)
+read_cut_off with_code_faults stamp size total cur =
     if nat_lt total 20 || nat_lt size total then reading_ended 8 3
     else if nat_lt 8388608 total then reading_ended 8 4
     else record {
@@ -639,7 +639,7 @@ cut with_code_faults stamp size total cur =
 
 -- bytes read as an image: the front (faults 1, 2 and 4 don't end it), then by its total length
 unfoldable pub read_by : Bool → List ℕ → ReadResult (Stamp × Program)
-read_by with_code_faults text = bind (front.read (record { at = 0; rest = text })) (λ f cur. cut with_code_faults (stamp_in f) (length text) f.total_length cur)
+read_by with_code_faults text = bind_reading (front_layout.read (record { at = 0; rest = text })) (λ f cur. read_cut_off with_code_faults (stamp_in f) (length text) f.total_length cur)
 
 -- bytes read as an image, with all faults of its fields, and of code and lines (5 and 9)
 abbrev pub read_image : List ℕ → ReadResult (Stamp × Program)

@@ -42,8 +42,8 @@ go_on notes None f = record { notes = notes; found = None }
 go_on notes (Some x) f = record { notes = notes ++ (f x.0 x.1).notes; found = (f x.0 x.1).found }
 
 -- a reading, and then `f` behind what it found; where it found nothing, that is the end
-abbrev pub bind : {A B : Type 0} → ReadResult A → (A → Cursor → ReadResult B) → ReadResult B
-bind r f = go_on r.notes r.found f
+abbrev pub bind_reading : {A B : Type 0} → ReadResult A → (A → Cursor → ReadResult B) → ReadResult B
+bind_reading r f = go_on r.notes r.found f
 
 -- the note of a fault, if there is one
 abbrev pub fault_note : ℕ → Option ℕ → List Note
@@ -61,15 +61,15 @@ field_of fault_in cur None = reading_ended cur.at 3
 field_of fault_in cur (Some r) = record { notes = fault_note cur.at (fault_in r.0); found = Some (r.0, record { at = cur.at + (length cur.rest - length r.1); rest = r.1 }) }
 
 -- a field is good where its value fits and has no fault; a fault is noted, and reading goes on
-abbrev pub field : {A : Type 0} → Coding A → (A → Option ℕ) → Layout A
-field c fault_in = record { spell = c.spell; good = λ x. c.fits x && is_fine (fault_in x); read = λ cur. field_of fault_in cur (c.read cur.rest) }
+abbrev pub field_layout : {A : Type 0} → Coding A → (A → Option ℕ) → Layout A
+field_layout c fault_in = record { spell = c.spell; good = λ x. c.fits x && is_fine (fault_in x); read = λ cur. field_of fault_in cur (c.read cur.rest) }
 
 -- one behind the other; what comes second may depend on what came first
-abbrev pub chain : {A B : Type 0} → Layout A → (A → Layout B) → Layout (A × B)
-chain l m = record {
+abbrev pub chain_layout : {A B : Type 0} → Layout A → (A → Layout B) → Layout (A × B)
+chain_layout l m = record {
   spell = λ x. l.spell x.0 ++ (m x.0).spell x.1;
   good = λ x. l.good x.0 && (m x.0).good x.1;
-  read = λ cur. bind (l.read cur) (λ x next. bind ((m x).read next) (λ y end. reading_given (x, y) end));
+  read = λ cur. bind_reading (l.read cur) (λ x next. bind_reading ((m x).read next) (λ y end. reading_given (x, y) end));
 }
 
 -- a fault at an earlier place, found only now
@@ -99,19 +99,19 @@ good_many l next s (suc n) (x ∷ xs) = (l s).good x && good_many l next (next s
 -- n values from left to right; one at which reading ends is the last, and no list is found
 abbrev pub read_many : {S A : Type 0} → (S → Layout A) → (S → A → S) → S → ℕ → Cursor → ReadResult (List A)
 read_many l next s zero cur = reading_given [] cur
-read_many l next s (suc n) cur = bind ((l s).read cur) (λ x after. bind (read_many l next (next s x) n after) (λ xs end. reading_given (x ∷ xs) end))
+read_many l next s (suc n) cur = bind_reading ((l s).read cur) (λ x after. bind_reading (read_many l next (next s x) n after) (λ xs end. reading_given (x ∷ xs) end))
 
 -- n values; `s` is the state before the first of them, `next` the state behind one
-abbrev pub many : {S A : Type 0} → (S → Layout A) → (S → A → S) → S → ℕ → Layout (List A)
-many l next s n = record { spell = spell_many l next s; good = good_many l next s n; read = read_many l next s n }
+abbrev pub list_layout : {S A : Type 0} → (S → Layout A) → (S → A → S) → S → ℕ → Layout (List A)
+list_layout l next s n = record { spell = spell_many l next s; good = good_many l next s n; read = read_many l next s n }
 
 -- the same bytes for another type of values
 abbrev pub seen_as : {A B : Type 0} → (A → B) → (B → A) → Layout A → Layout B
-seen_as to from l = record { spell = λ y. l.spell (from y); good = λ y. l.good (from y); read = λ cur. bind (l.read cur) (λ x end. reading_given (to x) end) }
+seen_as to from l = record { spell = λ y. l.spell (from y); good = λ y. l.good (from y); read = λ cur. bind_reading (l.read cur) (λ x end. reading_given (to x) end) }
 
 -- a value that was read whole is noted
 abbrev pub noted_layout : {A : Type 0} → (A → Note) → Layout A → Layout A
-noted_layout note l = record { spell = l.spell; good = l.good; read = λ cur. bind (l.read cur) (λ x end. record { notes = note x ∷ []; found = Some (x, end) }) }
+noted_layout note l = record { spell = l.spell; good = l.good; read = λ cur. bind_reading (l.read cur) (λ x end. record { notes = note x ∷ []; found = Some (x, end) }) }
 
 -- the faults among notes
 abbrev pub faults_in : List Note → List (ℕ × ℕ)

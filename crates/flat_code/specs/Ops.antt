@@ -47,7 +47,7 @@ op_at _ = None
 
 -- what decoding at an offset answers: the op that the bytes from there begin with and the offset
 -- after it, or that they begin with none
-abbrev pub Decodes : List ℕ → ℕ → Result (OpData × ℕ) BadOp → Type 0
-Decodes bytes at (Ok r) =
+abbrev pub DecodesOp : List ℕ → ℕ → Result (OpData × ℕ) BadOp → Type 0
+DecodesOp bytes at (Ok r) =
     (op_at (drop at bytes) ≡ Some (r.0, drop r.1 bytes)) × (at < r.1) × (r.1 ≤ length bytes)
-Decodes bytes at (Err e) = op_at (drop at bytes) ≡ None
+DecodesOp bytes at (Err e) = op_at (drop at bytes) ≡ None

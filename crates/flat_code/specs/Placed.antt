@@ -2,7 +2,7 @@
 use Rattle.std.specs.Prelude.{ℕ, ◌+◌, ◌-◌, nat_le, ◌==◌, Bool, true, false, ◌&&◌, if◌then◌else◌, List, [], ◌∷◌, ◌++◌, length, take, drop, slice_get, Option, Some, None}
 use Rattle.flat_code.specs.declared.image_fields.OpenBracket.{OpenBracket}
 use Rattle.flat_code.specs.Ops.{OpData}
-use Rattle.flat_code.specs.Codes.{size}
+use Rattle.flat_code.specs.Codes.{size_of_op}
 use Rattle.flat_code.specs.OpCodes.{op_code_of}
 use Rattle.flat_code.specs.declared.operations.Operation.TheVariants as operation
 use Rattle.flat_code.specs.declared.operations.RelayOperation.TheVariants as relay
@@ -11,20 +11,20 @@ use Rattle.plc_base.specs.declared.instructions.Check.TheVariants as check
 -- the op at an offset and the offset after it, of ops that begin at an offset; none where no op begins there
 abbrev pub op_placed : ℕ → List OpData → ℕ → Option (OpData × ℕ)
 op_placed from [] at = None
-op_placed from (op ∷ ops) at = if from == at then Some (op, from + size op) else op_placed (from + size op) ops at
+op_placed from (op ∷ ops) at = if from == at then Some (op, from + size_of_op op) else op_placed (from + size_of_op op) ops at
 
--- the line of the statement that begins at an offset, of ops that begin at an offset; `begins`: whether
+-- the line of the statement that begins at an offset, of ops that begin at an offset; `begins_its_statement`: whether
 -- a statement begins with the first of them. None where no statement begins there
 abbrev pub line_placed : ℕ → Bool → List OpData → List ℕ → ℕ → Option ℕ
 line_placed from begins [] lines at = None
 line_placed from begins (op ∷ ops) lines at =
     if from == at then (if begins then slice_get lines 0 else None)
-    else line_placed (from + size op) op.last ops (if op.last then drop 1 lines else lines) at
+    else line_placed (from + size_of_op op) op.last ops (if op.last then drop 1 lines else lines) at
 
 -- an op in its code: its offset, the brackets that stand open before it in the text and the zones of the
 -- master control relay, by the offsets of their `MCR(` (the outermost first), the ops of its statement
 -- before it, the op, and the ops behind it
-pub record Placed : Type 0 where
+pub record PlacedOp : Type 0 where
   pub at : ℕ
   pub brackets : List OpenBracket
   pub zones : List ℕ
@@ -62,14 +62,14 @@ before_next op before = if op.last then [] else before ++ op ∷ []
 
 -- ops at their places, the first at an offset, behind these open brackets and zones and behind these
 -- ops of its own statement
-abbrev pub ops_placed : ℕ → List OpenBracket → List ℕ → List OpData → List OpData → List Placed
+abbrev pub ops_placed : ℕ → List OpenBracket → List ℕ → List OpData → List OpData → List PlacedOp
 ops_placed at brackets zones before [] = []
 ops_placed at brackets zones before (op ∷ ops) =
     record { at = at; brackets = brackets; zones = zones; before = before; op = op; rest = ops }
-    ∷ ops_placed (at + size op) (brackets_after at op.code brackets) (zones_behind_op at op.code zones) (before_next op before) ops
+    ∷ ops_placed (at + size_of_op op) (brackets_after at op.code brackets) (zones_behind_op at op.code zones) (before_next op before) ops
 
 -- the ops of a block
-abbrev pub code_places : List OpData → List Placed
+abbrev pub code_places : List OpData → List PlacedOp
 code_places ops = ops_placed 0 [] [] [] ops
 
 -- nothing stands in the list: no op before in the statement, no open bracket, no parameter
@@ -78,8 +78,8 @@ is_empty_list [] = true
 is_empty_list (x ∷ xs) = false
 
 -- whether a statement begins with the op
-abbrev pub begins : Placed → Bool
-begins p = is_empty_list p.before
+abbrev pub begins_its_statement : PlacedOp → Bool
+begins_its_statement p = is_empty_list p.before
 
 -- the codes of open brackets, the outermost first
 abbrev pub bracket_codes : List OpenBracket → List ℕ
@@ -95,8 +95,8 @@ abbrev pub most_zones : ℕ
 most_zones = 8
 
 -- the codes of open brackets, where they are few enough
-abbrev pub few : List OpenBracket → Option (List ℕ)
-few brackets = if nat_le (length brackets) most_brackets then Some (bracket_codes brackets) else None
+abbrev pub codes_of_few_brackets : List OpenBracket → Option (List ℕ)
+codes_of_few_brackets brackets = if nat_le (length brackets) most_brackets then Some (bracket_codes brackets) else None
 
 -- a statement of a block: the offset at which it begins, the brackets that stand open there, and how
 -- many zones
@@ -110,12 +110,12 @@ pub record StatementSpot : Type 0 where
 abbrev pub spots_from : ℕ → Bool → List OpenBracket → List ℕ → List OpData → List StatementSpot
 spots_from at begin brackets zones [] = []
 spots_from at begin brackets zones (op ∷ ops) =
-    if begin then record { at = at; codes = few brackets; zones = length zones } ∷ spots_from (at + size op) op.last (brackets_after at op.code brackets) (zones_behind_op at op.code zones) ops
-    else spots_from (at + size op) op.last (brackets_after at op.code brackets) (zones_behind_op at op.code zones) ops
+    if begin then record { at = at; codes = codes_of_few_brackets brackets; zones = length zones } ∷ spots_from (at + size_of_op op) op.last (brackets_after at op.code brackets) (zones_behind_op at op.code zones) ops
+    else spots_from (at + size_of_op op) op.last (brackets_after at op.code brackets) (zones_behind_op at op.code zones) ops
 
 -- the statements of a block
-abbrev pub spots : List OpData → List StatementSpot
-spots ops = spots_from 0 true [] [] ops
+abbrev pub statement_spots : List OpData → List StatementSpot
+statement_spots ops = spots_from 0 true [] [] ops
 
 -- the statement that begins at an offset; None where none begins there
 abbrev pub spot_at : List StatementSpot → ℕ → Option StatementSpot
@@ -128,15 +128,15 @@ ending_op op [] = op
 ending_op op (next ∷ ops) = if op.last then op else ending_op next ops
 
 -- the op that ends the statement of a placed op, from itself on; with no end mark the last one
-abbrev pub last_op : Placed → OpData
+abbrev pub last_op : PlacedOp → OpData
 last_op p = ending_op p.op p.rest
 
 -- the brackets that stand open behind all ops
 abbrev pub open_behind : ℕ → List OpenBracket → List OpData → List OpenBracket
 open_behind at brackets [] = brackets
-open_behind at brackets (op ∷ ops) = open_behind (at + size op) (brackets_after at op.code brackets) ops
+open_behind at brackets (op ∷ ops) = open_behind (at + size_of_op op) (brackets_after at op.code brackets) ops
 
 -- the zones that stand open behind all ops
 abbrev pub zones_left : ℕ → List ℕ → List OpData → List ℕ
 zones_left at zones [] = zones
-zones_left at zones (op ∷ ops) = zones_left (at + size op) (zones_behind_op at op.code zones) ops
+zones_left at zones (op ∷ ops) = zones_left (at + size_of_op op) (zones_behind_op at op.code zones) ops

@@ -1,7 +1,7 @@
 ghost use Rattle.std.specs.Prelude.{◌≡◌, ◌<◌, ◌≤◌, ◌^◌, ◌%◌, nat_le, true, length, drop, Some, None, IfSome, IfNone, MatchResult};
 ghost use Rattle.std.specs.Option.{option_map};
 ghost use Rattle.flat_code.specs.Forms.{payload_in, payload_fits};
-ghost use Rattle.flat_code.specs.Ops.{op_of, op_at, is_op, Decodes};
+ghost use Rattle.flat_code.specs.Ops.{op_of, op_at, is_op, DecodesOp};
 
 use crate::fields::{
     actual_at, area_at, callable_at, crossing_at, direct_at, memory_area_at, pointer_area_at,
@@ -197,7 +197,7 @@ fn op_behind(bytes: &[u8], at: u32) -> Option<(Op, u32)>
 /// `BadOp` exactly where the bytes from there begin with no op, whatever follows.
 pub fn decode_op(bytes: &[u8], at: u32) -> Result<(Op, u32), BadOp>
     requires { length bytes.now < 2 ^ 32 }
-    ensures { Decodes bytes.now at result }
+    ensures { DecodesOp bytes.now at result }
 {
     if at as usize > bytes.len() {
         return Err(BadOp);

@@ -1,5 +1,5 @@
 ghost use Rattle.std.specs.Prelude.{◌≡◌, ◌<◌, ◌∷◌, ◌++◌, OnOk, OnErr};
-ghost use Rattle.flat_code.specs.Forms.{crossing_code, form_of_operand, payload, passes};
+ghost use Rattle.flat_code.specs.Forms.{crossing_code, form_of_operand, payload, pass_bytes};
 ghost use Rattle.flat_code.specs.Ops.{op_bytes, code_byte};
 
 use crate::operands::{Operand, Passed};
@@ -127,7 +127,7 @@ fn put(out: &mut Vec<u8>, first: u8, operand: &Operand) -> Result<(), NoMemory>
 
 #[tactic(auto, unfolding(crate::specs::Forms::direct_coding, crate::specs::Forms::passed_coding))]
 fn put_pass(out: &mut Vec<u8>, first: u8, index: u8, actual: Passed) -> Result<(), NoMemory>
-    ensures ok { OnOk result (out.new.items ≡ out.old.items ++ first ∷ passes index actual) }
+    ensures ok { OnOk result (out.new.items ≡ out.old.items ++ first ∷ pass_bytes index actual) }
     ensures err { OnErr result (out.new.items ≡ out.old.items) }
 {
     match actual {

@@ -1,7 +1,7 @@
 //! Whether operands can be written in their forms.
 ghost use Rattle.std.specs.Prelude.{◌≡◌, ◌&&◌};
 ghost use Rattle.flat_code.specs.Coding.{u8, u16, u32, range_coding};
-ghost use Rattle.flat_code.specs.Forms.{actual_fits, callable, crossing, memory_area, payload_fits, pointer_area_coding};
+ghost use Rattle.flat_code.specs.Forms.{actual_fits, callable_coding, crossing_area_coding, memory_area_coding, payload_fits, pointer_area_coding};
 
 use crate::operands::{Operand, Passed};
 use plc_base::Area;
@@ -46,14 +46,14 @@ fn is_pointer(area: Area, byte: u16) -> bool
 }
 
 fn is_in_memory(area: Area) -> bool
-    ensures { result ≡ memory_area.fits area }
+    ensures { result ≡ memory_area_coding.fits area }
 {
     !matches!(area, Area::P)
 }
 
 /// Whether an offset to an address register may have the area.
 fn crosses(area: Option<Area>) -> bool
-    ensures { result ≡ crossing.fits area }
+    ensures { result ≡ crossing_area_coding.fits area }
 {
     match area {
         None => true,
@@ -62,7 +62,7 @@ fn crosses(area: Option<Area>) -> bool
 }
 
 fn is_callable(kind: u8) -> bool
-    ensures { result ≡ callable.fits kind }
+    ensures { result ≡ callable_coding.fits kind }
 {
     kind == 2 || kind == 3 || kind == 5
 }

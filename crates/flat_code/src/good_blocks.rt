@@ -5,7 +5,7 @@ ghost use Rattle.flat_code.specs.Checking.{good_blocks, good_lines, good_params}
 ghost use Rattle.flat_code.specs.Codes.{are_ops, code_bytes};
 ghost use Rattle.flat_code.specs.Coding.{u8, u16};
 ghost use Rattle.flat_code.specs.Faults.{field_fault};
-ghost use Rattle.flat_code.specs.Image.{code_block_layout, head_layout, head_of_block, instance_bytes, local_length_layout, parameter_layout, plain_u16, plain_u32, record_of_block, record_of_param, zero_u16};
+ghost use Rattle.flat_code.specs.Image.{code_block_layout, head_layout, head_of_block, instance_bytes_layout, local_length_layout, parameter_layout, plain_u16, plain_u32, record_of_block, record_of_param, zero_u16};
 ghost use Rattle.flat_code.specs.Layout.{is_fine};
 
 use crate::image_fields::Field;
@@ -119,11 +119,11 @@ fn is_good_code_len(ops: &[Op]) -> bool
 }
 
 /// Whether the lengths and the statement count in the head of a block have no fault.
-#[tactic(auto, unfolding(crate::specs::Image::local_length_layout, crate::specs::Image::instance_bytes, crate::specs::Image::plain_u16), using(crate::proofs::CheckLemmas::zero_word_good))]
+#[tactic(auto, unfolding(crate::specs::Image::local_length_layout, crate::specs::Image::instance_bytes_layout, crate::specs::Image::plain_u16), using(crate::proofs::CheckLemmas::zero_word_good))]
 fn are_good_lens(kind: u8, block: &CodeBlock) -> bool
     ensures good { result
         ≡ ((local_length_layout kind).good block.now.local_len
-        && ((instance_bytes kind).good block.now.instance_len
+        && ((instance_bytes_layout kind).good block.now.instance_len
         && (plain_u16.good (length block.now.lines)
         && (zero_u16.good 0 && plain_u32.good (length (code_bytes block.now.code)))))) }
     ensures ops { result ≡ true → are_ops block.now.code ≡ true }

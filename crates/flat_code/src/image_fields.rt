@@ -1,5 +1,5 @@
 ghost use Rattle.std.specs.Prelude.{◌≡◌, ◌≤◌};
-ghost use Rattle.flat_code.specs.Faults.{field_fault, has_number, holds_parameter, is_existing_ob, unless};
+ghost use Rattle.flat_code.specs.Faults.{field_fault, has_number, holds_parameter, is_existing_ob, fault_unless_met};
 
 use crate::record_numbers::{code_of_area, width_of_number};
 use crate::stamps::profile_number;
@@ -131,7 +131,7 @@ pub struct OpenBracket {
 }
 
 fn fault_unless(fine: bool, code: u16) -> Option<u16>
-    ensures { result ≡ unless fine code }
+    ensures { result ≡ fault_unless_met fine code }
 {
     if fine { None } else { Some(code) }
 }

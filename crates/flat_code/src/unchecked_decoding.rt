@@ -1,7 +1,7 @@
 //! Ops read without a test, from bytes where one is known to stand: code that was verified.
 ghost use Rattle.std.specs.Prelude.{◌≡◌, ◌<◌, ◌≤◌, ◌+◌, ◌^◌, is_some, length, drop, true, Some};
 ghost use Rattle.std.specs.Option.{option_map};
-ghost use Rattle.flat_code.specs.Codes.{size};
+ghost use Rattle.flat_code.specs.Codes.{size_of_op};
 ghost use Rattle.flat_code.specs.Forms.{actual_in, actual_spelled, area_of_code, direct_coding, payload, payload_in, width_of_code};
 ghost use Rattle.flat_code.specs.Ops.{op_at};
 
@@ -247,7 +247,7 @@ fn known_operand(form: u8, bytes: &[u8]) -> (Operand, u32)
 #[inline(always)]
 fn first_op(bytes: &[u8]) -> (Op, u32)
     requires { is_some (op_at bytes.now) ≡ true }
-    ensures { Some result ≡ option_map (λ r. (r.0, size r.0)) (op_at bytes.now) }
+    ensures { Some result ≡ option_map (λ r. (r.0, size_of_op r.0)) (op_at bytes.now) }
 {
     let [first, form, rest @ ..] = bytes else {
         unreachable!()
@@ -265,7 +265,7 @@ fn first_op(bytes: &[u8]) -> (Op, u32)
 #[inline(always)]
 fn first_part(bytes: &[u8]) -> (Op, u32)
     requires { is_some (op_at bytes.now) ≡ true }
-    ensures { Some result ≡ option_map (λ r. (r.0, size r.0)) (op_at bytes.now) }
+    ensures { Some result ≡ option_map (λ r. (r.0, size_of_op r.0)) (op_at bytes.now) }
 {
     let [first, form, rest @ ..] = bytes else {
         unreachable!()
@@ -286,7 +286,7 @@ fn first_part(bytes: &[u8]) -> (Op, u32)
 pub fn decode_op_unchecked(bytes: &[u8], at: u32) -> (Op, u32)
     requires known { is_some (op_at (drop at bytes.now)) ≡ true }
     requires short { length bytes.now < 2 ^ 32 }
-    ensures { Some result ≡ option_map (λ r. (r.0, at + size r.0)) (op_at (drop at bytes.now)) }
+    ensures { Some result ≡ option_map (λ r. (r.0, at + size_of_op r.0)) (op_at (drop at bytes.now)) }
 {
     let (op, size) = first_op(behind(bytes, at as usize));
     (op, at + size)
@@ -298,7 +298,7 @@ pub fn decode_op_unchecked(bytes: &[u8], at: u32) -> (Op, u32)
 pub fn decode_part_unchecked(bytes: &[u8], at: u32) -> (Op, u32)
     requires known { is_some (op_at (drop at bytes.now)) ≡ true }
     requires short { length bytes.now < 2 ^ 32 }
-    ensures { Some result ≡ option_map (λ r. (r.0, at + size r.0)) (op_at (drop at bytes.now)) }
+    ensures { Some result ≡ option_map (λ r. (r.0, at + size_of_op r.0)) (op_at (drop at bytes.now)) }
 {
     let (op, size) = first_part(behind(bytes, at as usize));
     (op, at + size)

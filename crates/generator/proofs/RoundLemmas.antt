@@ -5,25 +5,25 @@ use Rattle.std.proofs.lemmas.List.Elements.{All-append, All-cons, All-nil, All-r
 use Rattle.std.proofs.lemmas.Bool.Decides.{nat_tests}
 use Rattle.var_access.specs.Entry.{IsValid}
 use Rattle.var_access.specs.declared.entries.Entry.{Entry}
-use Rattle.generator.specs.Draws.{draws, state_behind}
-use Rattle.generator.specs.History.{happening, history, one_step, round}
+use Rattle.generator.specs.Draws.{random_draws, state_behind}
+use Rattle.generator.specs.History.{round_event, generated_history, step_entry_of_worker_1, generated_round}
 
-pub valid_happening : (d : ℕ) → IsValid (happening d)
-unfolding happening
+pub valid_happening : (d : ℕ) → IsValid (round_event d)
+unfolding round_event
 valid_happening d = first_of (search (rules, nat_tests), grind (arith, nat_tests))
 
-pub valid_round : (d : ℕ) → All IsValid (round d)
-unfolding round
+pub valid_round : (d : ℕ) → All IsValid (generated_round d)
+unfolding generated_round
 valid_round d =
-    All-append IsValid (replicate (d % 400 + 1) one_step) (happening d ∷ [])
-    (All-replicate IsValid (d % 400 + 1) one_step (omega arith, tt))
-    (All-cons IsValid (happening d) [] (valid_happening d) (All-nil IsValid))
+    All-append IsValid (replicate (d % 400 + 1) step_entry_of_worker_1) (round_event d ∷ [])
+    (All-replicate IsValid (d % 400 + 1) step_entry_of_worker_1 (omega arith, tt))
+    (All-cons IsValid (round_event d) [] (valid_happening d) (All-nil IsValid))
 
-pub valid_rounds : (ds : List ℕ) → All IsValid (flat_map round ds)
+pub valid_rounds : (ds : List ℕ) → All IsValid (flat_map generated_round ds)
 valid_rounds [] = All-nil IsValid
-valid_rounds (d ∷ ds) = All-append IsValid (round d) (flat_map round ds) (valid_round d) (valid_rounds ds)
+valid_rounds (d ∷ ds) = All-append IsValid (generated_round d) (flat_map generated_round ds) (valid_round d) (valid_rounds ds)
 
-pub valid_history : (number : ℕ) (entries : List Entry) → entries ≡ history number → All IsValid entries
-unfolding history
+pub valid_history : (number : ℕ) (entries : List Entry) → entries ≡ generated_history number → All IsValid entries
+unfolding generated_history
 valid_history number entries is =
-    subst (λ es. All IsValid es) (sym is) (valid_rounds (draws 1000 (state_behind 2000 number)))
+    subst (λ es. All IsValid es) (sym is) (valid_rounds (random_draws 1000 (state_behind 2000 number)))

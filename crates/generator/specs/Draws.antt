@@ -11,6 +11,6 @@ unfoldable pub state_behind : (count x : ℕ) → ℕ
 state_behind count x = iterate next_state count x
 
 -- so many draws from a state on: each gives the state that it leaves without its lowest 16 bits
-unfoldable pub draws : (count x : ℕ) → List ℕ
-draws zero x = []
-draws (suc count) x = next_state x / 65536 ∷ draws count (next_state x)
+unfoldable pub random_draws : (count x : ℕ) → List ℕ
+random_draws zero x = []
+random_draws (suc count) x = next_state x / 65536 ∷ random_draws count (next_state x)

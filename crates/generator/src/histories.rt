@@ -1,8 +1,8 @@
 ghost use Rattle.std.specs.Prelude.{◌≡◌, ◌+◌, ◌*◌, ◌^◌, ◌<◌, ◌≤◌, ◌++◌, ◌∷◌, [], length, OnOk, IfOk};
 ghost use Rattle.std.specs.List.{All, flat_map};
 ghost use Rattle.var_access.specs.Entry.{IsValid};
-ghost use Rattle.generator.specs.Draws.{draws as draws_of};
-ghost use Rattle.generator.specs.History.{happening, history, memory_word, one_step, round};
+ghost use Rattle.generator.specs.Draws.{random_draws as draws_of};
+ghost use Rattle.generator.specs.History.{round_event, generated_history, memory_word, step_entry_of_worker_1, generated_round};
 
 use crate::draws::Draws;
 use crate::sources::SOURCE_DRAWS;
@@ -24,7 +24,7 @@ const OPERATOR_1: u8 = 3;
 
 /// A step.
 fn one_step() -> Entry
-    ensures { result ≡ one_step }
+    ensures { result ≡ step_entry_of_worker_1 }
 {
     Entry {
         who: STEPPER,
@@ -57,9 +57,9 @@ fn reading(var: Var) -> Vars
 }
 
 /// What happens in a round behind its steps.
-#[tactic(auto, unfolding(crate::specs::History::happening))]
+#[tactic(auto, unfolding(crate::specs::History::round_event))]
 fn happening(draw: u32) -> Entry
-    ensures { result ≡ happening draw }
+    ensures { result ≡ round_event draw }
 {
     match draw / 400 % 3 {
         0 => Entry {
@@ -85,11 +85,11 @@ fn happening(draw: u32) -> Entry
 }
 
 /// Appends the round that a draw gives.
-#[tactic(auto, unfolding(crate::specs::History::round))]
+#[tactic(auto, unfolding(crate::specs::History::generated_round))]
 fn append_round(draw: u32, entries: &mut Entries) -> Result<(), NoMemory>
     requires { length entries.old.entries + entries.old.spare + 401 < 2 ^ 64 }
     ensures round { OnOk result (entries.new ≡ record entries.old {
-      entries = entries.old.entries ++ round draw;
+      entries = entries.old.entries ++ generated_round draw;
     }) }
     ensures few { OnOk result (length entries.new.entries ≤ length entries.old.entries + 401) }
 {
@@ -102,7 +102,7 @@ fn append_round(draw: u32, entries: &mut Entries) -> Result<(), NoMemory>
 fn append_rounds(draws: &mut Draws, count: u32, entries: &mut Entries) -> Result<(), NoMemory>
     requires { length entries.old.entries + entries.old.spare + 401 * count < 2 ^ 64 }
     ensures rounds { OnOk result (entries.new.entries
-        ≡ entries.old.entries ++ flat_map round (draws_of count draws.old)) }
+        ≡ entries.old.entries ++ flat_map generated_round (draws_of count draws.old)) }
     ensures few { OnOk result
         (length entries.new.entries ≤ length entries.old.entries + 401 * count) }
 {
@@ -119,9 +119,9 @@ fn append_rounds(draws: &mut Draws, count: u32, entries: &mut Entries) -> Result
 /// # Errors
 ///
 /// `NoMemory` for want of memory.
-#[tactic(auto, using(crate::proofs::RoundLemmas::valid_history), unfolding(crate::specs::History::history))]
+#[tactic(auto, using(crate::proofs::RoundLemmas::valid_history), unfolding(crate::specs::History::generated_history))]
 pub fn history(alloc: Global, number: u32) -> Result<Entries, NoMemory>
-    ensures entries { IfOk result (λ es. es.entries ≡ history number) }
+    ensures entries { IfOk result (λ es. es.entries ≡ generated_history number) }
     ensures valid { IfOk result (λ es. All IsValid es.entries) }
     ensures few { IfOk result (λ es. length es.entries ≤ 401000) }
 {

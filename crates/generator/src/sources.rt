@@ -1,7 +1,7 @@
 ghost use Rattle.std.specs.Prelude.{◌≡◌, ◌+◌, ◌*◌, ◌≤◌, ◌++◌, length, codes, decimal, OnOk, IfOk};
 ghost use Rattle.std.specs.List.{flat_map};
-ghost use Rattle.generator.specs.Draws.{draws as draws_of};
-ghost use Rattle.generator.specs.Source.{source_end, source_head, source_text, statement_line, word_of};
+ghost use Rattle.generator.specs.Draws.{random_draws as draws_of};
+ghost use Rattle.generator.specs.Source.{source_end, source_head, source_text, statement_line, drawn_memory_word};
 
 use crate::draws::Draws;
 use monitor::Line;
@@ -77,7 +77,7 @@ fn bits_line(byte: u32) -> Line
 
 /// The word of bit memory that a draw's statement is about, by its first byte.
 fn word_of(draw: u32) -> u32
-    ensures { result ≡ word_of draw }
+    ensures { result ≡ drawn_memory_word draw }
 {
     2 * (draw / 8 % 100)
 }

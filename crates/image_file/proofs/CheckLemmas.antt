@@ -5,22 +5,22 @@ use Rattle.std.proofs.lemmas.List.{append-nil}
 use Rattle.plc_base.proofs.ListLemmas.{drop_next}
 use Rattle.flat_code.specs.declared.image_fields.OpenBracket.{OpenBracket}
 use Rattle.flat_code.specs.Ops.{OpData, op_bytes}
-use Rattle.flat_code.specs.Codes.{size, code_bytes}
+use Rattle.flat_code.specs.Codes.{size_of_op, code_bytes}
 use Rattle.flat_code.specs.OpCodes.{op_code_of}
 use Rattle.flat_code.specs.declared.operations.Operation.TheVariants as operation
 use Rattle.flat_code.specs.declared.operations.RelayOperation.TheVariants as relay
-use Rattle.flat_code.specs.Placed.{Placed, ops_placed, code_places, is_opening, outer_brackets, brackets_after, zones_behind_op, before_next, open_behind, zones_left, StatementSpot, spots, spots_from, few}
-use Rattle.flat_code.specs.Blocks.{Around, is_ju_operand, leads, op_faults, faults_over, open_faults, open_zone_faults, block_faults}
+use Rattle.flat_code.specs.Placed.{PlacedOp, ops_placed, code_places, is_opening, outer_brackets, brackets_after, zones_behind_op, before_next, open_behind, zones_left, StatementSpot, statement_spots, spots_from, codes_of_few_brackets}
+use Rattle.flat_code.specs.Blocks.{Environment, is_ju_operand, leads_to_target, op_faults, faults_over, open_faults, open_zone_faults, block_faults}
 use Rattle.image_file.specs.declared.faults.LoadFault.{LoadFault}
 use Rattle.image_file.specs.Least.{with_fault, with_faults}
 use Rattle.image_file.specs.OpChecking.{AllUpTo, ZonesUpTo}
 use Rattle.image_file.proofs.RunLemmas.{with_more}
 
-pub code_len : (op : OpData) (ops : List OpData) → length (code_bytes (op ∷ ops)) ≡ size op + length (code_bytes ops)
-unfolding size
+pub code_len : (op : OpData) (ops : List OpData) → length (code_bytes (op ∷ ops)) ≡ size_of_op op + length (code_bytes ops)
+unfolding size_of_op
 code_len op ops = length-append (op_bytes op) (code_bytes ops)
 
-pub leads_step : (most target at : ℕ) (op : OpData) (ops : List OpData) → eqb at target ≡ false → is_ju_operand op.operand ≡ true → (most ≡ 0 → ⊥) → leads (most - 1) target (at + size op) ops ≡ leads most target at (op ∷ ops)
+pub leads_step : (most target at : ℕ) (op : OpData) (ops : List OpData) → eqb at target ≡ false → is_ju_operand op.operand ≡ true → (most ≡ 0 → ⊥) → leads_to_target (most - 1) target (at + size_of_op op) ops ≡ leads_to_target most target at (op ∷ ops)
 leads_step zero target at op ops e j some = absurd (some refl)
 leads_step (suc m) target at op ops e j some = let k : suc m - 1 ≡ m = omega arith in rw (k, e, j) refl
 
@@ -88,13 +88,13 @@ zone_at n (suc i) d (x ∷ zones) lt h = zone_at n i d zones (omega (arith, lt))
 
 -- ---- one op more
 
-pub faults_next : (around : Around) (ss : List StatementSpot) (start at i : ℕ) (brackets after : List OpenBracket) (zones zones' : List ℕ) (before next : List OpData) (ops : List OpData) (op : OpData) (least mid : Option LoadFault) (end : ℕ)
+pub faults_next : (around : Environment) (ss : List StatementSpot) (start at i : ℕ) (brackets after : List OpenBracket) (zones zones' : List ℕ) (before next : List OpData) (ops : List OpData) (op : OpData) (least mid : Option LoadFault) (end : ℕ)
     → i < length ops → op ≡ get_or ops i op → mid ≡ with_faults least (op_faults around ss start (record { at = at; brackets = brackets; zones = zones; before = before; op = op; rest = drop (i + 1) ops }))
-    → end ≡ at + size op → after ≡ brackets_after at op.code brackets → zones' ≡ zones_behind_op at op.code zones → next ≡ before_next op before
+    → end ≡ at + size_of_op op → after ≡ brackets_after at op.code brackets → zones' ≡ zones_behind_op at op.code zones → next ≡ before_next op before
     → with_faults mid (faults_over around ss start (ops_placed end after zones' next (drop (i + 1) ops))) ≡ with_faults least (faults_over around ss start (ops_placed at brackets zones before (drop i ops)))
 faults_next around ss start at i brackets after zones zones' before next ops op least mid end lt is m e a o b =
-    let p : Placed = record { at = at; brackets = brackets; zones = zones; before = before; op = op; rest = drop (i + 1) ops } in
-    let behind = ops_placed (at + size op) (brackets_after at op.code brackets) (zones_behind_op at op.code zones) (before_next op before) (drop (i + 1) ops) in
+    let p : PlacedOp = record { at = at; brackets = brackets; zones = zones; before = before; op = op; rest = drop (i + 1) ops } in
+    let behind = ops_placed (at + size_of_op op) (brackets_after at op.code brackets) (zones_behind_op at op.code zones) (before_next op before) (drop (i + 1) ops) in
     sym (ap (λ (z : List OpData). with_faults least (faults_over around ss start (ops_placed at brackets zones before z))) (drop_next ops i op lt is)
     ∙ with_more least (op_faults around ss start p) (faults_over around ss start behind)
     ∙ ap (λ (z : Option LoadFault). with_faults z (faults_over around ss start behind)) (sym m)
@@ -103,18 +103,18 @@ faults_next around ss start at i brackets after zones zones' before next ops op 
     ∙ ap (λ (z : List ℕ). with_faults mid (faults_over around ss start (ops_placed end after z (before_next op before) (drop (i + 1) ops)))) (sym o)
     ∙ ap (λ (z : List OpData). with_faults mid (faults_over around ss start (ops_placed end after zones' z (drop (i + 1) ops)))) (sym b))
 
-pub faults_done : (around : Around) (ss : List StatementSpot) (start at i : ℕ) (brackets : List OpenBracket) (zones : List ℕ) (before ops : List OpData) (least : Option LoadFault) → length ops ≤ i → with_faults least (faults_over around ss start (ops_placed at brackets zones before (drop i ops))) ≡ least
+pub faults_done : (around : Environment) (ss : List StatementSpot) (start at i : ℕ) (brackets : List OpenBracket) (zones : List ℕ) (before ops : List OpData) (least : Option LoadFault) → length ops ≤ i → with_faults least (faults_over around ss start (ops_placed at brackets zones before (drop i ops))) ≡ least
 unfolding with_faults
 faults_done around ss start at i brackets zones before ops least le = rw (drop_of_length-le ops {i = i} le) refl
 
-pub open_next : (at i end : ℕ) (brackets after : List OpenBracket) (ops : List OpData) (op : OpData) → i < length ops → op ≡ get_or ops i op → end ≡ at + size op → after ≡ brackets_after at op.code brackets → open_behind end after (drop (i + 1) ops) ≡ open_behind at brackets (drop i ops)
+pub open_next : (at i end : ℕ) (brackets after : List OpenBracket) (ops : List OpData) (op : OpData) → i < length ops → op ≡ get_or ops i op → end ≡ at + size_of_op op → after ≡ brackets_after at op.code brackets → open_behind end after (drop (i + 1) ops) ≡ open_behind at brackets (drop i ops)
 open_next at i end brackets after ops op lt is e a =
     sym (ap (open_behind at brackets) (drop_next ops i op lt is) ∙ ap (λ (n : ℕ). open_behind n (brackets_after at op.code brackets) (drop (i + 1) ops)) (sym e) ∙ ap (λ (z : List OpenBracket). open_behind end z (drop (i + 1) ops)) (sym a))
 
 pub open_done : (at i : ℕ) (brackets : List OpenBracket) (ops : List OpData) → length ops ≤ i → open_behind at brackets (drop i ops) ≡ brackets
 open_done at i brackets ops le = rw (drop_of_length-le ops {i = i} le) refl
 
-pub left_open_next : (at i end : ℕ) (zones after : List ℕ) (ops : List OpData) (op : OpData) → i < length ops → op ≡ get_or ops i op → end ≡ at + size op → after ≡ zones_behind_op at op.code zones → zones_left end after (drop (i + 1) ops) ≡ zones_left at zones (drop i ops)
+pub left_open_next : (at i end : ℕ) (zones after : List ℕ) (ops : List OpData) (op : OpData) → i < length ops → op ≡ get_or ops i op → end ≡ at + size_of_op op → after ≡ zones_behind_op at op.code zones → zones_left end after (drop (i + 1) ops) ≡ zones_left at zones (drop i ops)
 left_open_next at i end zones after ops op lt is e a =
     sym (ap (zones_left at zones) (drop_next ops i op lt is) ∙ ap (λ (n : ℕ). zones_left n (zones_behind_op at op.code zones) (drop (i + 1) ops)) (sym e) ∙ ap (λ (z : List ℕ). zones_left end z (drop (i + 1) ops)) (sym a))
 
@@ -122,27 +122,27 @@ left_open_done : (at i : ℕ) (zones : List ℕ) (ops : List OpData) → length 
 left_open_done at i zones ops le = rw (drop_of_length-le ops {i = i} le) refl
 
 -- the code that is left takes the op's bytes less
-pub left_next : (at i end total : ℕ) (ops : List OpData) (op : OpData) → i < length ops → op ≡ get_or ops i op → end ≡ at + size op → at + length (code_bytes (drop i ops)) ≡ total → end + length (code_bytes (drop (i + 1) ops)) ≡ total
+pub left_next : (at i end total : ℕ) (ops : List OpData) (op : OpData) → i < length ops → op ≡ get_or ops i op → end ≡ at + size_of_op op → at + length (code_bytes (drop i ops)) ≡ total → end + length (code_bytes (drop (i + 1) ops)) ≡ total
 left_next at i end total ops op lt is e h =
     omega (arith, h, e, ap (λ (z : List OpData). length (code_bytes z)) (drop_next ops i op lt is), code_len op (drop (i + 1) ops))
 
-pub here_fits : (at i total : ℕ) (ops : List OpData) (op : OpData) → i < length ops → op ≡ get_or ops i op → at + length (code_bytes (drop i ops)) ≡ total → at + size op ≤ total
+pub here_fits : (at i total : ℕ) (ops : List OpData) (op : OpData) → i < length ops → op ≡ get_or ops i op → at + length (code_bytes (drop i ops)) ≡ total → at + size_of_op op ≤ total
 here_fits at i total ops op lt is h = omega (arith, h, ap (λ (z : List OpData). length (code_bytes z)) (drop_next ops i op lt is), code_len op (drop (i + 1) ops))
 
 -- ---- the statements
 
 pub spots_next : (front : List StatementSpot) (at i end : ℕ) (begin : Bool) (brackets after : List OpenBracket) (zones zones' : List ℕ) (ops : List OpData) (op : OpData) (now : List StatementSpot)
-    → i < length ops → op ≡ get_or ops i op → end ≡ at + size op → after ≡ brackets_after at op.code brackets → zones' ≡ zones_behind_op at op.code zones
-    → now ≡ cond begin (front ++ record { at = at; codes = few brackets; zones = length zones } ∷ []) front
+    → i < length ops → op ≡ get_or ops i op → end ≡ at + size_of_op op → after ≡ brackets_after at op.code brackets → zones' ≡ zones_behind_op at op.code zones
+    → now ≡ cond begin (front ++ record { at = at; codes = codes_of_few_brackets brackets; zones = length zones } ∷ []) front
     → now ++ spots_from end op.last after zones' (drop (i + 1) ops) ≡ front ++ spots_from at begin brackets zones (drop i ops)
 spots_next front at i end begin brackets after zones zones' ops op now lt is e a o n =
     rw (n, e, a, o, drop_next ops i op lt is) (by begin)
   where
     here : StatementSpot
-    here = record { at = at; codes = few brackets; zones = length zones }
+    here = record { at = at; codes = codes_of_few_brackets brackets; zones = length zones }
 
     behind : List StatementSpot
-    behind = spots_from (at + size op) op.last (brackets_after at op.code brackets) (zones_behind_op at op.code zones) (drop (i + 1) ops)
+    behind = spots_from (at + size_of_op op) op.last (brackets_after at op.code brackets) (zones_behind_op at op.code zones) (drop (i + 1) ops)
 
     by : (b : Bool) → cond b (front ++ here ∷ []) front ++ behind ≡ front ++ cond b (here ∷ behind) behind
     by true = append_assoc front (here ∷ []) behind
@@ -179,21 +179,21 @@ pub zone_faults_done : (start i : ℕ) (zones : List ℕ) (least : Option LoadFa
 unfolding with_faults
 zone_faults_done start i zones least le = rw (drop_of_length-le zones {i = i} le) refl
 
-pub room_here : (at i total : ℕ) (ops : List OpData) (op : OpData) → i < length ops → op ≡ get_or ops i op → at + length (code_bytes (drop i ops)) ≡ total → at + size op + length (code_bytes (drop (i + 1) ops)) ≡ total
+pub room_here : (at i total : ℕ) (ops : List OpData) (op : OpData) → i < length ops → op ≡ get_or ops i op → at + length (code_bytes (drop i ops)) ≡ total → at + size_of_op op + length (code_bytes (drop (i + 1) ops)) ≡ total
 room_here at i total ops op lt is h = omega (arith, h, ap (λ (z : List OpData). length (code_bytes z)) (drop_next ops i op lt is), code_len op (drop (i + 1) ops))
 
-pub same_place : (around : Around) (ss ss' : List StatementSpot) (start at : ℕ) (brackets brackets' : List OpenBracket) (zones zones' : List ℕ) (before before' : List OpData) (op : OpData) (rest rest' : List OpData) (least : Option LoadFault)
+pub same_place : (around : Environment) (ss ss' : List StatementSpot) (start at : ℕ) (brackets brackets' : List OpenBracket) (zones zones' : List ℕ) (before before' : List OpData) (op : OpData) (rest rest' : List OpData) (least : Option LoadFault)
     → ss ≡ ss' → brackets ≡ brackets' → zones ≡ zones' → before ≡ before' → rest ≡ rest'
     → with_faults least (op_faults around ss start (record { at = at; brackets = brackets; zones = zones; before = before; op = op; rest = rest })) ≡ with_faults least (op_faults around ss' start (record { at = at; brackets = brackets'; zones = zones'; before = before'; op = op; rest = rest' }))
 same_place around ss ss' start at brackets brackets' zones zones' before before' op rest rest' least p q o r s = rw (p, q, o, r, s) refl
 
-pub check_done : (around : Around) (ss : List StatementSpot) (start at i : ℕ) (brackets : List OpenBracket) (zones : List ℕ) (before ops : List OpData) (least first result : Option LoadFault) → length ops ≤ i → ss ≡ spots ops
+pub check_done : (around : Environment) (ss : List StatementSpot) (start at i : ℕ) (brackets : List OpenBracket) (zones : List ℕ) (before ops : List OpData) (least first result : Option LoadFault) → length ops ≤ i → ss ≡ statement_spots ops
     → with_faults least (faults_over around ss start (ops_placed at brackets zones before (drop i ops))) ≡ with_faults first (faults_over around ss start (code_places ops))
     → open_behind at brackets (drop i ops) ≡ open_behind 0 [] ops → zones_left at zones (drop i ops) ≡ zones_left 0 [] ops
     → result ≡ with_faults (with_faults least (open_faults start brackets)) (open_zone_faults start zones) → result ≡ with_faults first (block_faults around start ops)
 unfolding block_faults
 check_done around ss start at i brackets zones before ops least first result le s f o l r =
-    let over = faults_over around (spots ops) start (code_places ops) in
+    let over = faults_over around (statement_spots ops) start (code_places ops) in
     let done : least ≡ with_faults first over = sym (faults_done around ss start at i brackets zones before ops least le) ∙ f ∙ ap (λ (z : List StatementSpot). with_faults first (faults_over around z start (code_places ops))) s in
     let open_ones : brackets ≡ open_behind 0 [] ops = sym (open_done at i brackets ops le) ∙ o in
     let left : zones ≡ zones_left 0 [] ops = sym (left_open_done at i zones ops le) ∙ l in

@@ -6,7 +6,7 @@ use Rattle.flat_code.specs.Ops.{OpData, is_op, op_bytes, op_at}
 use Rattle.flat_code.proofs.CodingLemmas.{IsBytes, Takes}
 use Rattle.flat_code.proofs.OpLemmas.{op_again, op_takes, long_enough}
 use Rattle.flat_code.specs.Layout.{Cursor, ReadResult, reading_ended, reading_given}
-use Rattle.flat_code.specs.Codes.{cons_op, ops_next, ops_from, ends_by_be, are_ops, code_bytes, only, overlong, first_found, stop_at, read_ops, read_code, is_nowhere, code_layout, size, last_place}
+use Rattle.flat_code.specs.Codes.{cons_op, ops_next, ops_from, ends_by_be, are_ops, code_bytes, if_checked, overlong_statement, first_found, stop_at, read_ops, read_code, is_nowhere, code_layout, size_of_op, last_place}
 use Rattle.image_file.specs.Walking.{ops_behind_front, HasReadOps}
 use Rattle.image_file.proofs.LayoutLemmas.{at_place, Finds, Spells, IsLaidOut, given_finds}
 
@@ -71,7 +71,7 @@ first_some (Some at) n h = cc
 -- nothing is left where the code has no fault
 nothing_left : (with_code_faults : Bool) (ops : List OpData) (left : List ℕ) → stop_at with_code_faults ops left ≡ None → left ≡ []
 nothing_left with_code_faults ops [] h = refl
-nothing_left with_code_faults ops (byte ∷ left) h = absurd (first_some (only with_code_faults (overlong 0 0 ops)) (length (code_bytes ops)) h)
+nothing_left with_code_faults ops (byte ∷ left) h = absurd (first_some (if_checked with_code_faults (overlong_statement 0 0 ops)) (length (code_bytes ops)) h)
 
 pub is_none : (o : Option ℕ) → is_nowhere o ≡ true → o ≡ None
 is_none None h = refl
@@ -167,7 +167,7 @@ ops_start code = refl
 -- ---- one pass over code
 
 pub last_of : (from : ℕ) (front : List OpData) (op : OpData) → last_place from (front ++ op ∷ []) ≡ from + length (code_bytes front)
-unfolding size
+unfolding size_of_op
 last_of from [] op = omega arith
 last_of from (a ∷ []) op = omega (arith, length-append (op_bytes a) [])
 last_of from (a ∷ b ∷ front) op = omega (arith, last_of (from + length (op_bytes a)) (b ∷ front) op, length-append (op_bytes a) (code_bytes (b ∷ front)))
@@ -199,24 +199,24 @@ count_after op count = cond op.last 0 (suc count)
 
 pub read_goes : (code : List ℕ) (ops : List OpData) (at next last count after : ℕ) (ended end : Bool) (op : OpData) → IsBytes code → op_at (drop at code) ≡ Some (op, drop next code) → at < next → next ≤ length code
     → eqb count 64 ≡ false → after ≡ count_after op count → end ≡ (eqb op.code 0x7B && op.last) → HasReadOps code ops at last ended count → HasReadOps code (ops ++ op ∷ []) next at end after
-unfolding size
+unfolding size_of_op
 read_goes code ops at next last count after ended end op are found lt within not64 counted is_end h =
     let t = op_takes (drop at code) op (drop next code) (bytes_dropped at code are) found in
     let lengths : length (drop at code) ≡ length (op_bytes op) + length (drop next code) = ap length t.0.parts ∙ length-append (op_bytes op) (drop next code) in
     let step : next ≡ at + length (op_bytes op) = omega (arith, lengths, lt, within, length-drop at code, length-drop next code) in
     let there = ops_there (length code) code at next op refl are found lt within in
-    let here : overlong count at (ops_from (length code) (drop at code)).0 ≡ overlong (count_after op count) (at + length (op_bytes op)) (ops_from (length code) (drop next code)).0 =
-    ap (λ (r : List OpData × List ℕ). overlong count at r.0) there ∙ rw not64 refl in
+    let here : overlong_statement count at (ops_from (length code) (drop at code)).0 ≡ overlong_statement (count_after op count) (at + length (op_bytes op)) (ops_from (length code) (drop next code)).0 =
+    ap (λ (r : List OpData × List ℕ). overlong_statement count at r.0) there ∙ rw not64 refl in
     record {
       within = within;
       all = ops_more code ops at next op _ are found lt within h.all;
       size = ap length (bytes-append ops (op ∷ [])) ∙ omega (arith, length-append (code_bytes ops) (code_bytes (op ∷ [])), length-append (op_bytes op) [], h.size, step);
       last = sym (last_of 0 ops op ∙ omega (arith, h.size));
       ended = is_end ∙ sym (ends_at ops op);
-      few = h.few ∙ here ∙ ap (λ (k : ℕ). overlong k (at + length (op_bytes op)) (ops_from (length code) (drop next code)).0) (sym counted) ∙ ap (λ (k : ℕ). overlong after k (ops_from (length code) (drop next code)).0) (sym step);
+      few = h.few ∙ here ∙ ap (λ (k : ℕ). overlong_statement k (at + length (op_bytes op)) (ops_from (length code) (drop next code)).0) (sym counted) ∙ ap (λ (k : ℕ). overlong_statement after k (ops_from (length code) (drop next code)).0) (sym step);
     }
 
-stop_overlong : (ops : List OpData) (left : List ℕ) (at : ℕ) → overlong 0 0 ops ≡ Some at → stop_at true ops left ≡ Some at
+stop_overlong : (ops : List OpData) (left : List ℕ) (at : ℕ) → overlong_statement 0 0 ops ≡ Some at → stop_at true ops left ≡ Some at
 stop_overlong ops [] at e = ap (λ (o : Option ℕ). first_found o (cond (ends_by_be ops) None (Some (last_place 0 ops)))) e
 stop_overlong ops (b ∷ left) at e = ap (λ (o : Option ℕ). first_found o (Some (length (code_bytes ops)))) e
 
@@ -225,10 +225,10 @@ pub read_65th : (code : List ℕ) (ops : List OpData) (at next last count : ℕ)
     → eqb count 64 ≡ true → HasReadOps code ops at last ended count → stop_at true (ops_from (length code) code).0 (ops_from (length code) code).1 ≡ Some at
 read_65th code ops at next last count ended op are found lt within is64 h =
     let there = ops_there (length code) code at next op refl are found lt within in
-    let here : overlong count at (ops_from (length code) (drop at code)).0 ≡ Some at = ap (λ (r : List OpData × List ℕ). overlong count at r.0) there ∙ rw is64 refl in
+    let here : overlong_statement count at (ops_from (length code) (drop at code)).0 ≡ Some at = ap (λ (r : List OpData × List ℕ). overlong_statement count at r.0) there ∙ rw is64 refl in
     stop_overlong (ops_from (length code) code).0 (ops_from (length code) code).1 at (h.few ∙ here)
 
-left_stop : (ops : List OpData) (left : List ℕ) (at size : ℕ) → overlong 0 0 ops ≡ None → length (code_bytes ops) ≡ at → 0 < length left → stop_at true ops left ≡ Some at
+left_stop : (ops : List OpData) (left : List ℕ) (at size : ℕ) → overlong_statement 0 0 ops ≡ None → length (code_bytes ops) ≡ at → 0 < length left → stop_at true ops left ≡ Some at
 left_stop ops [] at size e f lt = absurd (omega (arith, lt))
 left_stop ops (b ∷ left) at size e f lt = ap (λ (o : Option ℕ). first_found o (Some (length (code_bytes ops)))) e ∙ ap (λ (n : ℕ). Some n) f
 
@@ -236,14 +236,14 @@ left_stop ops (b ∷ left) at size e f lt = ap (λ (o : Option ℕ). first_found
 record Ended (code : List ℕ) (ops : List OpData) (at : ℕ) : Type 0 where
   ops_are : ops ≡ (ops_from (length code) code).0
   left_is : drop at code ≡ (ops_from (length code) code).1
-  few : overlong 0 0 ops ≡ None
+  few : overlong_statement 0 0 ops ≡ None
 
 read_ended : (code : List ℕ) (ops : List OpData) (at last count : ℕ) (ended : Bool) → op_at (drop at code) ≡ None → HasReadOps code ops at last ended count → Ended code ops at
 read_ended code ops at last count ended none h =
     let p = ops_stop code ops at (ops_from (length code) code) none h.all in
     let nothing : (ops_from (length code) (drop at code)).0 ≡ [] = ap (λ (r : List OpData × List ℕ). r.0) (nothing_more (length code) (drop at code) none) in
-    let few : overlong 0 0 (ops_from (length code) code).0 ≡ None = h.few ∙ ap (overlong count at) nothing in
-    record { ops_are = p.0; left_is = p.1; few = ap (overlong 0 0) p.0 ∙ few }
+    let few : overlong_statement 0 0 (ops_from (length code) code).0 ≡ None = h.few ∙ ap (overlong_statement count at) nothing in
+    record { ops_are = p.0; left_is = p.1; few = ap (overlong_statement 0 0) p.0 ∙ few }
 
 abbrev Stops : List ℕ → Option ℕ → Type 0
 Stops code fault = fault ≡ stop_at true (ops_from (length code) code).0 (ops_from (length code) code).1

@@ -19,14 +19,14 @@ use Rattle.flat_code.specs.Forms.{area_code, width_of_number}
 use Rattle.flat_code.specs.Ops.{OpData}
 use Rattle.flat_code.specs.Programs.{CodeBlock, DataBlock, NameEntry, Program}
 use Rattle.flat_code.specs.Records.{BlockRecord, NameRecord, Records}
-use Rattle.flat_code.specs.Faults.{field_fault, name_fault, unless, is_in_range}
-use Rattle.flat_code.specs.Layout.{Faulty, AllBlocks, Cursor, ReadResult, Layout, reading_ended, bind, is_fine, chain, spell_many, good_many, faults_in}
-use Rattle.flat_code.specs.Codes.{are_ops, code_bytes, stop_at, is_nowhere, code_layout, only}
+use Rattle.flat_code.specs.Faults.{field_fault, name_fault, fault_unless_met, is_in_range}
+use Rattle.flat_code.specs.Layout.{Faulty, AllBlocks, Cursor, ReadResult, Layout, reading_ended, bind_reading, is_fine, chain_layout, spell_many, good_many, faults_in}
+use Rattle.flat_code.specs.Codes.{are_ops, code_bytes, stop_at, is_nowhere, code_layout, if_checked}
 use Rattle.plc_base.specs.declared.profiles.Profile.TheVariants as profiles
 use Rattle.flat_code.specs.Stamps.{version_number, profile_field_of, stamp_of}
 use Rattle.flat_code.specs.declared.stamps.Stamp.{Stamp}
 use Rattle.flat_code.specs.declared.stamps.Stamp.TheVariants as stamps
-use Rattle.flat_code.specs.Image.{no_fault, plain_u16, plain_u32, zero_u8, zero_u16, width_field, bytes_fit, bytes, section_field, parameter_byte, parameter_bit, ParameterRow, parameter_rows, parameter_fields, parameter_row, parameter_of_fields, fields_of_parameter, parameter_layout, kind_field, parameter_count_layout, block_number_layout, local_length_layout, instance_bytes, Head, HeadRow, head_of_row, row_of_head, head_rows, head_layout, same_state, parameters, end_marks, line_after, line_field, lines_layout, code_and_lines, BlockRow, parts_of_block_row, row_of_block_parts, block_rows, block_of_parts, head_of_block, parts_of_block, plain_block, whole_note, code_block_at, code_block_layout, after_block, data_number_layout, instance_field, data_length_layout, contents, DataRow, data_rows, data_fields, data_row, instance_of_number, number_of_instance, data_of_fields, fields_of_data, data_block_layout, after_data, name_len, name_bytes, name_area, name_bit, NameRow, name_rows, name_fields, name_row, name_of_fields, fields_of_name, name_record, after_name, data_count, Counts, CountRow, counts_of_row, row_of_counts, count_rows, counts_layout, counts_of, code_blocks, plain_data_blocks, data_blocks_layout, names, BodyParts, BodyRow, parts_of_body_row, row_of_body_parts, body_rows, records_of_parts, parts_of_records, records, kind_of_number, area_of_number, number_of_area, param_of_record, record_of_param, block_of_record, record_of_block, entry_of_name, name_of_entry, program_of_records, records_of, body, magic_field, version_field, profile_field, Front, FrontRow, front_of_row, row_of_front, front_rows, front, front_size, front_of, stamp_in, image, IsProgram, IsRight, end_layout, cut, read_by, read_image}
+use Rattle.flat_code.specs.Image.{no_fault, plain_u16, plain_u32, zero_u8, zero_u16, width_field, bytes_fit, bytes_coding, section_field, parameter_byte, parameter_bit, ParameterRow, parameter_rows, parameter_fields, parameter_row, parameter_of_fields, fields_of_parameter, parameter_layout, kind_field, parameter_count_layout, block_number_layout, local_length_layout, instance_bytes_layout, Head, HeadRow, head_of_row, row_of_head, head_rows, head_layout, same_state, parameters_layout, end_marks, line_after, line_field, lines_layout, code_and_lines, BlockRow, parts_of_block_row, row_of_block_parts, block_rows, block_of_parts, head_of_block, parts_of_block, plain_block, whole_note, code_block_at, code_block_layout, after_block, data_number_layout, instance_field, data_length_layout, contents_layout, DataRow, data_rows, data_fields, data_row, instance_of_number, number_of_instance, data_of_fields, fields_of_data, data_block_layout, after_data, name_len, name_bytes, name_area, name_bit, NameRow, name_rows, name_fields, name_row, name_of_fields, fields_of_name, name_record, after_name, data_count, RecordCounts, CountRow, counts_of_row, row_of_counts, count_rows, counts_layout, counts_of, code_blocks_layout, plain_data_blocks, data_blocks_layout, names_layout, BodyParts, BodyRow, parts_of_body_row, row_of_body_parts, body_rows, records_of_parts, parts_of_records, records_layout, kind_of_number, area_of_number, number_of_area, param_of_record, record_of_param, block_of_record, record_of_block, entry_of_name, name_of_entry, program_of_records, records_of, body_layout, magic_field, version_field, profile_field, Front, FrontRow, front_of_row, row_of_front, front_rows, front_layout, front_size, front_of, stamp_in, image, IsProgram, IsRight, end_layout, read_cut_off, read_by, read_image}
 use Rattle.flat_code.proofs.CodingLemmas.{IsBytes, Takes, IsExact, pair_is, u8_exact, u16_exact, u32_exact}
 use Rattle.flat_code.proofs.PartLemmas.{GoodBlock, behind_head, good_block, chain_parts, from_params, good_head, head_params, unless_fine}
 use Rattle.image_file.specs.Typing.{AreFew}
@@ -58,7 +58,7 @@ run_takes n text bs rest are false t e =
     (subst (λ (z : List ℕ). Takes text (take n text) z × ((eqb (length (take n text)) n && bytes_fit (take n text)) ≡ true)) p.1
     (record { parts = sym (take-append-drop n text); rest_fits = bytes_dropped n text are }, and_from _ _ (eq-eqb _ _ size) (fit (take n text) (bytes_taken n text are))))
 
-run_exact : (n : ℕ) → IsExact (List ℕ) (bytes n)
+run_exact : (n : ℕ) → IsExact (List ℕ) (bytes_coding n)
 run_exact n = record {
   again = λ bs rest fits.
       let g = and_parts (eqb (length bs) n) (bytes_fit bs) fits in
@@ -72,19 +72,19 @@ run_exact n = record {
 
 zero_u8_is : (n : ℕ) → zero_u8.good n ≡ true → n ≡ 0
 unfolding zero_u8 field_fault
-zero_u8_is n good = eqb-true n 0 (unless_fine (eqb n 0) 4 (and_parts (ltb n 256) (is_fine (unless (eqb n 0) 4)) good).1)
+zero_u8_is n good = eqb-true n 0 (unless_fine (eqb n 0) 4 (and_parts (ltb n 256) (is_fine (fault_unless_met (eqb n 0) 4)) good).1)
 
 zero_u16_is : (n : ℕ) → zero_u16.good n ≡ true → n ≡ 0
 unfolding zero_u16 field_fault
-zero_u16_is n good = eqb-true n 0 (unless_fine (eqb n 0) 4 (and_parts (ltb n 65536) (is_fine (unless (eqb n 0) 4)) good).1)
+zero_u16_is n good = eqb-true n 0 (unless_fine (eqb n 0) 4 (and_parts (ltb n 65536) (is_fine (fault_unless_met (eqb n 0) 4)) good).1)
 
-bytes_len : (n : ℕ) (bs : List ℕ) → (contents n).good bs ≡ true → length bs ≡ n
-unfolding contents
-bytes_len n bs good = let c = and_parts ((bytes n).fits bs) true good in eqb-true (length bs) n (and_parts (eqb (length bs) n) (bytes_fit bs) c.0).0
+bytes_len : (n : ℕ) (bs : List ℕ) → (contents_layout n).good bs ≡ true → length bs ≡ n
+unfolding contents_layout
+bytes_len n bs good = let c = and_parts ((bytes_coding n).fits bs) true good in eqb-true (length bs) n (and_parts (eqb (length bs) n) (bytes_fit bs) c.0).0
 
 name_len_is : (before : List ℕ) (n : ℕ) (bs : List ℕ) → (name_bytes before n).good bs ≡ true → length bs ≡ n
 unfolding name_bytes
-name_len_is before n bs good = let c = and_parts ((bytes n).fits bs) (is_fine (name_fault before bs)) good in eqb-true (length bs) n (and_parts (eqb (length bs) n) (bytes_fit bs) c.0).0
+name_len_is before n bs good = let c = and_parts ((bytes_coding n).fits bs) (is_fine (name_fault before bs)) good in eqb-true (length bs) n (and_parts (eqb (length bs) n) (bytes_fit bs) c.0).0
 
 many_count : {S A : Type 0} (l : S → Layout A) (next : S → A → S) (s : S) (n : ℕ) (xs : List A) → good_many l next s n xs ≡ true → n ≡ length xs
 many_count l next s zero [] h = refl
@@ -105,9 +105,9 @@ parameter_rows_laid kind instance =
 parameter_row_is : (kind instance : ℕ) (x : ParameterRow) → (parameter_rows kind instance).good x ≡ true → parameter_row (fields_of_parameter (parameter_of_fields (parameter_fields x))) ≡ x
 unfolding parameter_rows
 parameter_row_is kind instance x good =
-    let a = chain_parts section_field (λ s. chain width_field (λ w. chain (parameter_byte kind instance w) (λ byte. chain (parameter_bit kind) (λ bit. zero_u8)))) x good in
-    let b = chain_parts width_field (λ w. chain (parameter_byte kind instance w) (λ byte. chain (parameter_bit kind) (λ bit. zero_u8))) x.1 a.1 in
-    let c = chain_parts (parameter_byte kind instance x.1.0) (λ byte. chain (parameter_bit kind) (λ bit. zero_u8)) x.1.1 b.1 in
+    let a = chain_parts section_field (λ s. chain_layout width_field (λ w. chain_layout (parameter_byte kind instance w) (λ byte. chain_layout (parameter_bit kind) (λ bit. zero_u8)))) x good in
+    let b = chain_parts width_field (λ w. chain_layout (parameter_byte kind instance w) (λ byte. chain_layout (parameter_bit kind) (λ bit. zero_u8))) x.1 a.1 in
+    let c = chain_parts (parameter_byte kind instance x.1.0) (λ byte. chain_layout (parameter_bit kind) (λ bit. zero_u8)) x.1.1 b.1 in
     let d = chain_parts (parameter_bit kind) (λ bit. zero_u8) x.1.1.1 c.1 in
     ap (λ (z : ℕ). let r : ParameterRow = (x.0, (x.1.0, (x.1.1.0, (x.1.1.1.0, z)))) in r) (sym (zero_u8_is x.1.1.1.1 d.1))
 
@@ -115,20 +115,20 @@ parameter_laid : (kind instance : ℕ) → IsLaidOut ParameterRecord (parameter_
 unfolding parameter_layout
 parameter_laid kind instance = seen_laid (λ r. parameter_of_fields (parameter_fields r)) (λ p. parameter_row (fields_of_parameter p)) (parameter_rows kind instance) (parameter_row_is kind instance) (λ p good. refl) (parameter_rows_laid kind instance)
 
-parameters_laid : (h : Head) → IsLaidOut (List ParameterRecord) (parameters h)
-unfolding parameters
+parameters_laid : (h : Head) → IsLaidOut (List ParameterRecord) (parameters_layout h)
+unfolding parameters_layout
 parameters_laid h = many_laid (λ s. parameter_layout h.kind h.instance_bytes) same_state (λ s. parameter_laid h.kind h.instance_bytes) 0 h.parameter_count
 
 -- ---- code blocks
 
 head_rows_laid : (before : ℕ × ℕ) → IsLaidOut HeadRow (head_rows before)
-unfolding head_rows kind_field parameter_count_layout block_number_layout local_length_layout instance_bytes zero_u16 plain_u16 plain_u32
+unfolding head_rows kind_field parameter_count_layout block_number_layout local_length_layout instance_bytes_layout zero_u16 plain_u16 plain_u32
 head_rows_laid before =
     chain_laid (kind_field before.0) (from_params before) (field_laid u8 _ u8_exact) (λ kind.
     chain_laid (parameter_count_layout kind) _ (field_laid u8 _ u8_exact) (λ params.
     chain_laid (block_number_layout before.0 before.1 kind) _ (field_laid u16 _ u16_exact) (λ number.
     chain_laid (local_length_layout kind) _ (field_laid u16 _ u16_exact) (λ locals.
-    chain_laid (instance_bytes kind) _ (field_laid u16 _ u16_exact) (λ instance.
+    chain_laid (instance_bytes_layout kind) _ (field_laid u16 _ u16_exact) (λ instance.
     chain_laid plain_u16 _ (field_laid u16 no_fault u16_exact) (λ statements.
     chain_laid zero_u16 _ (field_laid u16 _ u16_exact) (λ zero.
     field_laid u32 no_fault u32_exact)))))))
@@ -143,12 +143,12 @@ head_zero before h good = zero_u16_is h.reserved (good_head before h good).zero_
 pub head_kind : (before : ℕ × ℕ) (h : Head) → (head_layout before).good h ≡ true → is_in_range 1 3 h.kind ≡ true
 unfolding kind_field field_fault
 head_kind before h good =
-    let b = and_parts (ltb h.kind 256) (is_fine (unless (is_in_range 1 3 h.kind && leb before.0 h.kind) 4)) (good_head before h good).kind_good in
+    let b = and_parts (ltb h.kind 256) (is_fine (fault_unless_met (is_in_range 1 3 h.kind && leb before.0 h.kind) 4)) (good_head before h good).kind_good in
     (and_parts (is_in_range 1 3 h.kind) (leb before.0 h.kind) (unless_fine _ 4 b.1)).0
 
 lines_laid : (with_code_faults : Bool) (start : ℕ) (h : Head) (ops : List OpData) → IsLaidOut (List ℕ) (lines_layout with_code_faults start h ops)
 unfolding lines_layout line_field
-lines_laid with_code_faults start h ops = checked_laid (start + 8) (only with_code_faults (field_fault (StatementCount (end_marks ops) h.statement_count))) _ (many_laid (line_field with_code_faults) line_after (λ s. field_laid u32 _ u32_exact) 0 h.statement_count)
+lines_laid with_code_faults start h ops = checked_laid (start + 8) (if_checked with_code_faults (field_fault (StatementCount (end_marks ops) h.statement_count))) _ (many_laid (line_field with_code_faults) line_after (λ s. field_laid u32 _ u32_exact) 0 h.statement_count)
 
 code_and_lines_laid : (with_code_faults : Bool) (start : ℕ) (h : Head) → IsLaidOut (List OpData × List ℕ) (code_and_lines with_code_faults start h)
 unfolding code_and_lines
@@ -158,19 +158,19 @@ block_rows_laid : (with_code_faults : Bool) (before : ℕ × ℕ) (start : ℕ) 
 unfolding block_rows
 block_rows_laid with_code_faults before start =
     chain_laid (head_layout before) (behind_head with_code_faults start) (head_laid before) (λ h.
-    chain_laid (parameters h) (λ params. code_and_lines with_code_faults start h) (parameters_laid h) (λ params. code_and_lines_laid with_code_faults start h))
+    chain_laid (parameters_layout h) (λ params. code_and_lines with_code_faults start h) (parameters_laid h) (λ params. code_and_lines_laid with_code_faults start h))
 
 quad : {a b c d x y z w : ℕ} → a ≡ x → b ≡ y → c ≡ z → d ≡ w → ◌≡◌ {A = ℕ × (ℕ × (ℕ × ℕ))} (a, (b, (c, d))) (x, (y, (z, w)))
 quad p q r s = rw (p, q, r, s) refl
 
-params_count : (h : Head) (ps : List ParameterRecord) → (parameters h).good ps ≡ true → h.parameter_count ≡ length ps
-unfolding parameters
+params_count : (h : Head) (ps : List ParameterRecord) → (parameters_layout h).good ps ≡ true → h.parameter_count ≡ length ps
+unfolding parameters_layout
 params_count h ps good = many_count (λ s. parameter_layout h.kind h.instance_bytes) same_state 0 h.parameter_count ps good
 
 lines_count : (with_code_faults : Bool) (start : ℕ) (h : Head) (ops : List OpData) (lines : List ℕ) → (lines_layout with_code_faults start h ops).good lines ≡ true → h.statement_count ≡ length lines
 unfolding lines_layout
 lines_count with_code_faults start h ops lines good =
-    let c = and_parts (is_fine (only with_code_faults (field_fault (StatementCount (end_marks ops) h.statement_count)))) (good_many (line_field with_code_faults) line_after 0 h.statement_count lines) good in
+    let c = and_parts (is_fine (if_checked with_code_faults (field_fault (StatementCount (end_marks ops) h.statement_count)))) (good_many (line_field with_code_faults) line_after 0 h.statement_count lines) good in
     many_count (line_field with_code_faults) line_after 0 h.statement_count lines c.1
 
 code_size : (with_code_faults : Bool) (n : ℕ) (ops : List OpData) → (code_layout with_code_faults n).good ops ≡ true → length (code_bytes ops) ≡ n
@@ -201,28 +201,28 @@ code_block_laid with_code_faults before =
     located_laid (code_block_at with_code_faults before) (λ at b. same_spell with_code_faults before at (row_of_block_parts (parts_of_block b))) (λ at b. same_good with_code_faults before at (row_of_block_parts (parts_of_block b)))
     (λ at. remembered_laid (whole_note at) (plain_block with_code_faults before at) (λ b. refl) (seen_laid (λ r. block_of_parts (parts_of_block_row r)) (λ b. row_of_block_parts (parts_of_block b)) (block_rows with_code_faults before at) (block_row_is with_code_faults before at) (λ b good. refl) (block_rows_laid with_code_faults before at)))
 
-code_blocks_laid : (with_code_faults : Bool) (n : ℕ) → IsLaidOut (List BlockRecord) (code_blocks with_code_faults n)
-unfolding code_blocks
+code_blocks_laid : (with_code_faults : Bool) (n : ℕ) → IsLaidOut (List BlockRecord) (code_blocks_layout with_code_faults n)
+unfolding code_blocks_layout
 code_blocks_laid with_code_faults n = many_laid (code_block_layout with_code_faults) after_block (code_block_laid with_code_faults) (0, 0) n
 
 -- ---- data blocks
 
 abbrev data_from_zero : ℕ → Layout (ℕ × List ℕ)
-data_from_zero n = chain zero_u16 (λ zero. contents n)
+data_from_zero n = chain_layout zero_u16 (λ zero. contents_layout n)
 
 abbrev data_from_len : ℕ → Layout (ℕ × (ℕ × List ℕ))
-data_from_len sum = chain (data_length_layout sum) data_from_zero
+data_from_len sum = chain_layout (data_length_layout sum) data_from_zero
 
 abbrev data_from_instance : ℕ → Layout (ℕ × (ℕ × (ℕ × List ℕ)))
-data_from_instance sum = chain instance_field (λ instance. data_from_len sum)
+data_from_instance sum = chain_layout instance_field (λ instance. data_from_len sum)
 
 data_rows_laid : (before : ℕ × ℕ) → IsLaidOut DataRow (data_rows before)
-unfolding data_rows data_number_layout instance_field data_length_layout zero_u16 contents
+unfolding data_rows data_number_layout instance_field data_length_layout zero_u16 contents_layout
 data_rows_laid before =
     chain_laid (data_number_layout before.0) (λ number. data_from_instance before.1) (field_laid u16 _ u16_exact) (λ number.
     chain_laid instance_field (λ instance. data_from_len before.1) (field_laid u16 _ u16_exact) (λ instance.
     chain_laid (data_length_layout before.1) data_from_zero (field_laid u16 _ u16_exact) (λ n.
-    chain_laid zero_u16 (λ zero. contents n) (field_laid u16 _ u16_exact) (λ zero. field_laid (bytes n) (λ bs. None) (run_exact n)))))
+    chain_laid zero_u16 (λ zero. contents_layout n) (field_laid u16 _ u16_exact) (λ zero. field_laid (bytes_coding n) (λ bs. None) (run_exact n)))))
 
 instance_is : (n : ℕ) → number_of_instance (instance_of_number n) ≡ n
 instance_is zero = refl
@@ -241,7 +241,7 @@ data_row_is before x good =
     let a = chain_parts (data_number_layout before.0) (λ number. data_from_instance before.1) x good in
     let b = chain_parts instance_field (λ instance. data_from_len before.1) x.1 a.1 in
     let c = chain_parts (data_length_layout before.1) data_from_zero x.1.1 b.1 in
-    let d = chain_parts zero_u16 (λ zero. contents x.1.1.0) x.1.1.1 c.1 in
+    let d = chain_parts zero_u16 (λ zero. contents_layout x.1.1.0) x.1.1.1 c.1 in
     ap (λ (z : ℕ × (ℕ × ℕ)). let r : DataRow = (x.0, (z.0, (z.1.0, (z.1.1, x.1.1.1.1)))) in r)
     (triple (instance_is x.1.0) (bytes_len x.1.1.0 x.1.1.1.1 d.1) (sym (zero_u16_is x.1.1.1.0 d.0)))
 
@@ -259,22 +259,22 @@ data_blocks_laid n = remembered_laid AllBlocks (plain_data_blocks n) (λ ds. ref
 -- ---- names
 
 abbrev name_from_byte : ℕ → Layout (ℕ × ℕ)
-name_from_byte w = chain plain_u16 (λ byte. name_bit w)
+name_from_byte w = chain_layout plain_u16 (λ byte. name_bit w)
 
 abbrev name_from_width : Layout (ℕ × (ℕ × ℕ))
-name_from_width = chain width_field name_from_byte
+name_from_width = chain_layout width_field name_from_byte
 
 abbrev name_from_area : Layout (ℕ × (ℕ × (ℕ × ℕ)))
-name_from_area = chain name_area (λ area. name_from_width)
+name_from_area = chain_layout name_area (λ area. name_from_width)
 
 abbrev name_from_bytes : List ℕ → ℕ → Layout (List ℕ × (ℕ × (ℕ × (ℕ × ℕ))))
-name_from_bytes before n = chain (name_bytes before n) (λ name. name_from_area)
+name_from_bytes before n = chain_layout (name_bytes before n) (λ name. name_from_area)
 
 name_rows_laid : (before : List ℕ) → IsLaidOut NameRow (name_rows before)
 unfolding name_rows name_len name_bytes name_area width_field plain_u16 name_bit
 name_rows_laid before =
     chain_laid name_len (name_from_bytes before) (field_laid u8 _ u8_exact) (λ n.
-    chain_laid (name_bytes before n) (λ name. name_from_area) (field_laid (bytes n) _ (run_exact n)) (λ name.
+    chain_laid (name_bytes before n) (λ name. name_from_area) (field_laid (bytes_coding n) _ (run_exact n)) (λ name.
     chain_laid name_area (λ area. name_from_width) (field_laid u8 _ u8_exact) (λ area.
     chain_laid width_field name_from_byte (field_laid u8 _ u8_exact) (λ w.
     chain_laid plain_u16 (λ byte. name_bit w) (field_laid u16 no_fault u16_exact) (λ byte. field_laid u8 _ u8_exact)))))
@@ -286,11 +286,11 @@ pub record NameParts (before : List ℕ) (x : NameRow) : Type 0 where
 
 within_width : (w : ℕ) → width_field.good w ≡ true → is_in_range 1 4 w ≡ true
 unfolding width_field field_fault
-within_width w good = unless_fine (is_in_range 1 4 w) 4 (and_parts (ltb w 256) (is_fine (unless (is_in_range 1 4 w) 4)) good).1
+within_width w good = unless_fine (is_in_range 1 4 w) 4 (and_parts (ltb w 256) (is_fine (fault_unless_met (is_in_range 1 4 w) 4)) good).1
 
 within_area : (a : ℕ) → name_area.good a ≡ true → is_in_range (area_code area.I) (area_code area.M) a ≡ true
 unfolding name_area field_fault
-within_area a good = unless_fine (is_in_range (area_code area.I) (area_code area.M) a) 4 (and_parts (ltb a 256) (is_fine (unless (is_in_range (area_code area.I) (area_code area.M) a) 4)) good).1
+within_area a good = unless_fine (is_in_range (area_code area.I) (area_code area.M) a) 4 (and_parts (ltb a 256) (is_fine (fault_unless_met (is_in_range (area_code area.I) (area_code area.M) a) 4)) good).1
 
 name_parts : (before : List ℕ) (x : NameRow) → (name_rows before).good x ≡ true → NameParts before x
 unfolding name_rows
@@ -308,17 +308,17 @@ name_record_laid : (before : List ℕ) → IsLaidOut NameRecord (name_record bef
 unfolding name_record
 name_record_laid before = seen_laid (λ r. name_of_fields (name_fields r)) (λ n. name_row (fields_of_name n)) (name_rows before) (name_row_is before) (λ n good. refl) (name_rows_laid before)
 
-names_laid : (n : ℕ) → IsLaidOut (List NameRecord) (names n)
-unfolding names
+names_laid : (n : ℕ) → IsLaidOut (List NameRecord) (names_layout n)
+unfolding names_layout
 names_laid n = many_laid name_record after_name name_record_laid [] n
 
 -- ---- all records
 
 abbrev counts_from_names : Layout (ℕ × ℕ)
-counts_from_names = chain plain_u16 (λ names. zero_u16)
+counts_from_names = chain_layout plain_u16 (λ names. zero_u16)
 
 abbrev counts_from_datas : Layout (ℕ × (ℕ × ℕ))
-counts_from_datas = chain data_count (λ datas. counts_from_names)
+counts_from_datas = chain_layout data_count (λ datas. counts_from_names)
 
 count_rows_laid : IsLaidOut CountRow count_rows
 unfolding count_rows plain_u16 data_count zero_u16
@@ -327,11 +327,11 @@ count_rows_laid =
     chain_laid data_count (λ datas. counts_from_names) (field_laid u16 _ u16_exact) (λ datas.
     chain_laid plain_u16 (λ names. zero_u16) (field_laid u16 no_fault u16_exact) (λ names. field_laid u16 _ u16_exact)))
 
-counts_laid : IsLaidOut Counts counts_layout
+counts_laid : IsLaidOut RecordCounts counts_layout
 unfolding counts_layout
 counts_laid = seen_laid counts_of_row row_of_counts count_rows (λ r good. refl) (λ c good. refl) count_rows_laid
 
-counts_zero : (c : Counts) → counts_layout.good c ≡ true → c.reserved ≡ 0
+counts_zero : (c : RecordCounts) → counts_layout.good c ≡ true → c.reserved ≡ 0
 unfolding counts_layout count_rows
 counts_zero c good =
     let row = row_of_counts c in
@@ -340,22 +340,22 @@ counts_zero c good =
     let d = chain_parts plain_u16 (λ names. zero_u16) row.1.1 b.1 in
     zero_u16_is c.reserved d.1
 
-abbrev blocks_and_names : Bool → Counts → Layout (List BlockRecord × (List DataBlock × List NameRecord))
-blocks_and_names with_code_faults c = chain (code_blocks with_code_faults c.code_blocks) (λ blocks. chain (data_blocks_layout c.data_blocks) (λ datas. names c.names))
+abbrev blocks_and_names : Bool → RecordCounts → Layout (List BlockRecord × (List DataBlock × List NameRecord))
+blocks_and_names with_code_faults c = chain_layout (code_blocks_layout with_code_faults c.code_blocks) (λ blocks. chain_layout (data_blocks_layout c.data_blocks) (λ datas. names_layout c.names))
 
 body_rows_laid : (with_code_faults : Bool) → IsLaidOut BodyRow (body_rows with_code_faults)
 unfolding body_rows
 body_rows_laid with_code_faults =
     chain_laid counts_layout (blocks_and_names with_code_faults) counts_laid (λ c.
-    chain_laid (code_blocks with_code_faults c.code_blocks) (λ blocks. chain (data_blocks_layout c.data_blocks) (λ datas. names c.names)) (code_blocks_laid with_code_faults c.code_blocks) (λ blocks.
-    chain_laid (data_blocks_layout c.data_blocks) (λ datas. names c.names) (data_blocks_laid c.data_blocks) (λ datas. names_laid c.names)))
+    chain_laid (code_blocks_layout with_code_faults c.code_blocks) (λ blocks. chain_layout (data_blocks_layout c.data_blocks) (λ datas. names_layout c.names)) (code_blocks_laid with_code_faults c.code_blocks) (λ blocks.
+    chain_laid (data_blocks_layout c.data_blocks) (λ datas. names_layout c.names) (data_blocks_laid c.data_blocks) (λ datas. names_laid c.names)))
 
 -- the parts of records without fault
 pub record GoodRecords (with_code_faults : Bool) (x : BodyParts) : Type 0 where
   pub counts_good : counts_layout.good x.counts ≡ true
-  pub codes_good : (code_blocks with_code_faults x.counts.code_blocks).good x.code_blocks ≡ true
+  pub codes_good : (code_blocks_layout with_code_faults x.counts.code_blocks).good x.code_blocks ≡ true
   pub datas_good : (data_blocks_layout x.counts.data_blocks).good x.data_blocks ≡ true
-  pub names_good : (names x.counts.names).good x.names ≡ true
+  pub names_good : (names_layout x.counts.names).good x.names ≡ true
 
 good_parts : (with_code_faults : Bool) (x : BodyParts) → (body_rows with_code_faults).good (row_of_body_parts x) ≡ true → GoodRecords with_code_faults x
 unfolding body_rows
@@ -363,20 +363,20 @@ good_parts with_code_faults x good =
     let row = row_of_body_parts x in
     let c = x.counts in
     let a = chain_parts counts_layout (blocks_and_names with_code_faults) row good in
-    let b = chain_parts (code_blocks with_code_faults c.code_blocks) (λ blocks. chain (data_blocks_layout c.data_blocks) (λ datas. names c.names)) row.1 a.1 in
-    let d = chain_parts (data_blocks_layout c.data_blocks) (λ datas. names c.names) row.1.1 b.1 in
+    let b = chain_parts (code_blocks_layout with_code_faults c.code_blocks) (λ blocks. chain_layout (data_blocks_layout c.data_blocks) (λ datas. names_layout c.names)) row.1 a.1 in
+    let d = chain_parts (data_blocks_layout c.data_blocks) (λ datas. names_layout c.names) row.1.1 b.1 in
     record { counts_good = a.0; codes_good = b.0; datas_good = d.0; names_good = d.1 }
 
-codes_count : (with_code_faults : Bool) (n : ℕ) (bs : List BlockRecord) → (code_blocks with_code_faults n).good bs ≡ true → n ≡ length bs
-unfolding code_blocks
+codes_count : (with_code_faults : Bool) (n : ℕ) (bs : List BlockRecord) → (code_blocks_layout with_code_faults n).good bs ≡ true → n ≡ length bs
+unfolding code_blocks_layout
 codes_count with_code_faults n bs good = many_count (code_block_layout with_code_faults) after_block (0, 0) n bs good
 
 datas_count : (n : ℕ) (ds : List DataBlock) → (data_blocks_layout n).good ds ≡ true → n ≡ length ds
 unfolding data_blocks_layout
 datas_count n ds good = many_count data_block_layout after_data (0, 0) n ds good
 
-names_count : (n : ℕ) (ns : List NameRecord) → (names n).good ns ≡ true → n ≡ length ns
-unfolding names
+names_count : (n : ℕ) (ns : List NameRecord) → (names_layout n).good ns ≡ true → n ≡ length ns
+unfolding names_layout
 names_count n ns good = many_count name_record after_name [] n ns good
 
 body_row_is : (with_code_faults : Bool) (x : BodyRow) → (body_rows with_code_faults).good x ≡ true → row_of_body_parts (parts_of_records (records_of_parts (parts_of_body_row x))) ≡ x
@@ -386,8 +386,8 @@ body_row_is with_code_faults x good =
     ap (λ (z : CountRow). let r : BodyRow = (counts_of_row z, x.1) in r)
     (quad (sym (codes_count with_code_faults c.code_blocks x.1.0 g.codes_good)) (sym (datas_count c.data_blocks x.1.1.0 g.datas_good)) (sym (names_count c.names x.1.1.1 g.names_good)) (sym (counts_zero c g.counts_good)))
 
-pub records_laid : (with_code_faults : Bool) → IsLaidOut Records (records with_code_faults)
-unfolding records
+pub records_laid : (with_code_faults : Bool) → IsLaidOut Records (records_layout with_code_faults)
+unfolding records_layout
 records_laid with_code_faults = seen_laid (λ r. records_of_parts (parts_of_body_row r)) (λ r. row_of_body_parts (parts_of_records r)) (body_rows with_code_faults) (body_row_is with_code_faults) (λ r good. refl) (body_rows_laid with_code_faults)
 
 -- ---- programs: kinds, widths and areas by their numbers
@@ -463,12 +463,12 @@ back_many l next to from h s (suc n) (y ∷ ys) good =
 param_back : (kind instance : ℕ) (p : ParameterRecord) → (parameter_layout kind instance).good p ≡ true → record_of_param (param_of_record p) ≡ p
 unfolding parameter_layout parameter_rows
 param_back kind instance p good =
-    let a = chain_parts section_field (λ s. chain width_field (λ w. chain (parameter_byte kind instance w) (λ byte. chain (parameter_bit kind) (λ bit. zero_u8)))) (parameter_row (fields_of_parameter p)) good in
-    let b = chain_parts width_field (λ w. chain (parameter_byte kind instance w) (λ byte. chain (parameter_bit kind) (λ bit. zero_u8))) (parameter_row (fields_of_parameter p)).1 a.1 in
+    let a = chain_parts section_field (λ s. chain_layout width_field (λ w. chain_layout (parameter_byte kind instance w) (λ byte. chain_layout (parameter_bit kind) (λ bit. zero_u8)))) (parameter_row (fields_of_parameter p)) good in
+    let b = chain_parts width_field (λ w. chain_layout (parameter_byte kind instance w) (λ byte. chain_layout (parameter_bit kind) (λ bit. zero_u8))) (parameter_row (fields_of_parameter p)).1 a.1 in
     ap (λ (w : ℕ). let r : ParameterRecord = record { section = p.section; width = w; byte = p.byte; bit = p.bit } in r) (width_back p.width (within_width p.width b.0))
 
-params_back : (h : Head) (ps : List ParameterRecord) → (parameters h).good ps ≡ true → map record_of_param (map param_of_record ps) ≡ ps
-unfolding parameters
+params_back : (h : Head) (ps : List ParameterRecord) → (parameters_layout h).good ps ≡ true → map record_of_param (map param_of_record ps) ≡ ps
+unfolding parameters_layout
 params_back h ps good = there_many (λ s. parameter_layout h.kind h.instance_bytes) same_state param_of_record record_of_param (λ s p g. param_back h.kind h.instance_bytes p g) 0 h.parameter_count ps good
 
 params_there : (ps : List Param) → map param_of_record (map record_of_param ps) ≡ ps
@@ -507,41 +507,41 @@ name_there before e good =
     ∙ ap (λ (n : ℕ). let r : NameEntry = record { name = e.name; place = record { area = e.place.area; number = n; byte = e.place.byte; bit = e.place.bit }; width = width_of_number (width_number e.width) } in r) (sym a.0)
     ∙ ap (λ (w : Width). let r : NameEntry = record { name = e.name; place = e.place; width = w } in r) (width_there e.width)
 
-codes_back : (with_code_faults : Bool) (n : ℕ) (bs : List BlockRecord) → (code_blocks with_code_faults n).good bs ≡ true → map record_of_block (map block_of_record bs) ≡ bs
-unfolding code_blocks
+codes_back : (with_code_faults : Bool) (n : ℕ) (bs : List BlockRecord) → (code_blocks_layout with_code_faults n).good bs ≡ true → map record_of_block (map block_of_record bs) ≡ bs
+unfolding code_blocks_layout
 codes_back with_code_faults n bs good = there_many (code_block_layout with_code_faults) after_block block_of_record record_of_block (block_back with_code_faults) (0, 0) n bs good
 
-codes_there : (with_code_faults : Bool) (n : ℕ) (bs : List CodeBlock) → (code_blocks with_code_faults n).good (map record_of_block bs) ≡ true → map block_of_record (map record_of_block bs) ≡ bs
-unfolding code_blocks
+codes_there : (with_code_faults : Bool) (n : ℕ) (bs : List CodeBlock) → (code_blocks_layout with_code_faults n).good (map record_of_block bs) ≡ true → map block_of_record (map record_of_block bs) ≡ bs
+unfolding code_blocks_layout
 codes_there with_code_faults n bs good = back_many (code_block_layout with_code_faults) after_block block_of_record record_of_block (block_there with_code_faults) (0, 0) n bs good
 
-names_back : (n : ℕ) (ns : List NameRecord) → (names n).good ns ≡ true → map name_of_entry (map entry_of_name ns) ≡ ns
-unfolding names
+names_back : (n : ℕ) (ns : List NameRecord) → (names_layout n).good ns ≡ true → map name_of_entry (map entry_of_name ns) ≡ ns
+unfolding names_layout
 names_back n ns good = there_many name_record after_name entry_of_name name_of_entry name_back [] n ns good
 
-names_there : (n : ℕ) (es : List NameEntry) → (names n).good (map name_of_entry es) ≡ true → map entry_of_name (map name_of_entry es) ≡ es
-unfolding names
+names_there : (n : ℕ) (es : List NameEntry) → (names_layout n).good (map name_of_entry es) ≡ true → map entry_of_name (map name_of_entry es) ≡ es
+unfolding names_layout
 names_there n es good = back_many name_record after_name entry_of_name name_of_entry name_there [] n es good
 
-pub good_records : (with_code_faults : Bool) (r : Records) → (records with_code_faults).good r ≡ true → GoodRecords with_code_faults (parts_of_records r)
-unfolding records
+pub good_records : (with_code_faults : Bool) (r : Records) → (records_layout with_code_faults).good r ≡ true → GoodRecords with_code_faults (parts_of_records r)
+unfolding records_layout
 good_records with_code_faults r good = good_parts with_code_faults (parts_of_records r) good
 
-pub records_back : (with_code_faults : Bool) (r : Records) → (records with_code_faults).good r ≡ true → records_of (program_of_records r) ≡ r
+pub records_back : (with_code_faults : Bool) (r : Records) → (records_layout with_code_faults).good r ≡ true → records_of (program_of_records r) ≡ r
 records_back with_code_faults r good =
     let p = good_records with_code_faults r good in
     ap (λ (z : List BlockRecord). let y : Records = record { code_blocks = z; data_blocks = r.data_blocks; names = map name_of_entry (map entry_of_name r.names) } in y) (codes_back with_code_faults (length r.code_blocks) r.code_blocks p.codes_good)
     ∙ ap (λ (z : List NameRecord). let y : Records = record { code_blocks = r.code_blocks; data_blocks = r.data_blocks; names = z } in y) (names_back (length r.names) r.names p.names_good)
 
-records_there : (with_code_faults : Bool) (p : Program) → (records with_code_faults).good (records_of p) ≡ true → program_of_records (records_of p) ≡ p
+records_there : (with_code_faults : Bool) (p : Program) → (records_layout with_code_faults).good (records_of p) ≡ true → program_of_records (records_of p) ≡ p
 records_there with_code_faults p good =
     let q = good_records with_code_faults (records_of p) good in
     ap (λ (z : List CodeBlock). let y : Program = record { code_blocks = z; data_blocks = p.data_blocks; names = map entry_of_name (map name_of_entry p.names) } in y) (codes_there with_code_faults (length (map record_of_block p.code_blocks)) p.code_blocks q.codes_good)
     ∙ ap (λ (z : List NameEntry). let y : Program = record { code_blocks = p.code_blocks; data_blocks = p.data_blocks; names = z } in y) (names_there (length (map name_of_entry p.names)) p.names q.names_good)
 
-pub body_laid : (with_code_faults : Bool) → IsLaidOut Program (body with_code_faults)
-unfolding body
-body_laid with_code_faults = seen_laid program_of_records records_of (records with_code_faults) (records_back with_code_faults) (records_there with_code_faults) (records_laid with_code_faults)
+pub body_laid : (with_code_faults : Bool) → IsLaidOut Program (body_layout with_code_faults)
+unfolding body_layout
+body_laid with_code_faults = seen_laid program_of_records records_of (records_layout with_code_faults) (records_back with_code_faults) (records_there with_code_faults) (records_laid with_code_faults)
 
 -- ---- what is checked changes no byte, and is right where it isn't checked
 
@@ -561,17 +561,17 @@ block_text : (before : ℕ × ℕ) (b : BlockRecord) → (code_block_layout true
 unfolding code_block_layout plain_block block_rows code_and_lines lines_layout
 block_text before b =
     let h = head_of_block b in
-    ap (λ (z : List ℕ). (head_layout before).spell h ++ ((parameters h).spell b.params ++ (z ++ spell_many (line_field true) line_after 0 b.lines))) (code_text h.code_length b.code)
-    ∙ ap (λ (z : List ℕ). (head_layout before).spell h ++ ((parameters h).spell b.params ++ ((code_layout false h.code_length).spell b.code ++ z))) (many_text (line_field true) (line_field false) line_after line_text 0 b.lines)
+    ap (λ (z : List ℕ). (head_layout before).spell h ++ ((parameters_layout h).spell b.params ++ (z ++ spell_many (line_field true) line_after 0 b.lines))) (code_text h.code_length b.code)
+    ∙ ap (λ (z : List ℕ). (head_layout before).spell h ++ ((parameters_layout h).spell b.params ++ ((code_layout false h.code_length).spell b.code ++ z))) (many_text (line_field true) (line_field false) line_after line_text 0 b.lines)
 
-pub true_text : (p : Program) → (body true).spell p ≡ (body false).spell p
-unfolding body records body_rows code_blocks
+pub true_text : (p : Program) → (body_layout true).spell p ≡ (body_layout false).spell p
+unfolding body_layout records_layout body_rows code_blocks_layout
 true_text p =
     let r = records_of p in
     let c = counts_of r in
-    ap (λ (z : List ℕ). counts_layout.spell c ++ (z ++ ((data_blocks_layout c.data_blocks).spell r.data_blocks ++ (names c.names).spell r.names))) (many_text (code_block_layout true) (code_block_layout false) after_block block_text (0, 0) r.code_blocks)
+    ap (λ (z : List ℕ). counts_layout.spell c ++ (z ++ ((data_blocks_layout c.data_blocks).spell r.data_blocks ++ (names_layout c.names).spell r.names))) (many_text (code_block_layout true) (code_block_layout false) after_block block_text (0, 0) r.code_blocks)
 
-pub same_text : (with_code_faults : Bool) (p : Program) → (body with_code_faults).spell p ≡ (body false).spell p
+pub same_text : (with_code_faults : Bool) (p : Program) → (body_layout with_code_faults).spell p ≡ (body_layout false).spell p
 same_text true p = true_text p
 same_text false p = refl
 
@@ -597,39 +597,39 @@ code_weaker n ops h =
 lines_weaker : (h : Head) (ops : List OpData) (lines : List ℕ) → (lines_layout true 0 h ops).good lines ≡ true → (lines_layout false 0 h ops).good lines ≡ true
 unfolding lines_layout
 lines_weaker h ops lines good =
-    let c = and_parts (is_fine (only true (field_fault (StatementCount (end_marks ops) h.statement_count)))) (good_many (line_field true) line_after 0 h.statement_count lines) good in
+    let c = and_parts (is_fine (if_checked true (field_fault (StatementCount (end_marks ops) h.statement_count)))) (good_many (line_field true) line_after 0 h.statement_count lines) good in
     and_from true _ refl (many_weaker (line_field true) (line_field false) line_after line_weaker 0 h.statement_count lines c.1)
 
 parts_good : (before : ℕ × ℕ) (b : BlockRecord) → GoodBlock true before 0 (parts_of_block b) → (code_block_layout false before).good b ≡ true
 unfolding code_block_layout plain_block block_rows code_and_lines
 parts_good before b g =
     let h = head_of_block b in
-    and_from ((head_layout before).good h) _ g.head_good (and_from ((parameters h).good b.params) _ g.params_good (and_from ((code_layout false h.code_length).good b.code) _ (code_weaker h.code_length b.code g.code_good) (lines_weaker h b.code b.lines g.lines_good)))
+    and_from ((head_layout before).good h) _ g.head_good (and_from ((parameters_layout h).good b.params) _ g.params_good (and_from ((code_layout false h.code_length).good b.code) _ (code_weaker h.code_length b.code g.code_good) (lines_weaker h b.code b.lines g.lines_good)))
 
 block_weaker : (before : ℕ × ℕ) (b : BlockRecord) → (code_block_layout true before).good b ≡ true → (code_block_layout false before).good b ≡ true
 block_weaker before b h = parts_good before b (good_block_of true before b h)
 
-codes_weaker : (n : ℕ) (bs : List BlockRecord) → (code_blocks true n).good bs ≡ true → (code_blocks false n).good bs ≡ true
-unfolding code_blocks
+codes_weaker : (n : ℕ) (bs : List BlockRecord) → (code_blocks_layout true n).good bs ≡ true → (code_blocks_layout false n).good bs ≡ true
+unfolding code_blocks_layout
 codes_weaker n bs h = many_weaker (code_block_layout true) (code_block_layout false) after_block block_weaker (0, 0) n bs h
 
 all_good : (x : BodyParts) → GoodRecords true x → (body_rows false).good (row_of_body_parts x) ≡ true
 unfolding body_rows
 all_good x g =
     let c = x.counts in
-    and_from (counts_layout.good c) _ g.counts_good (and_from ((code_blocks false c.code_blocks).good x.code_blocks) _ (codes_weaker c.code_blocks x.code_blocks g.codes_good) (and_from ((data_blocks_layout c.data_blocks).good x.data_blocks) _ g.datas_good g.names_good))
+    and_from (counts_layout.good c) _ g.counts_good (and_from ((code_blocks_layout false c.code_blocks).good x.code_blocks) _ (codes_weaker c.code_blocks x.code_blocks g.codes_good) (and_from ((data_blocks_layout c.data_blocks).good x.data_blocks) _ g.datas_good g.names_good))
 
-pub good_weaker : (p : Program) → (body true).good p ≡ true → (body false).good p ≡ true
-unfolding body records
+pub good_weaker : (p : Program) → (body_layout true).good p ≡ true → (body_layout false).good p ≡ true
+unfolding body_layout records_layout
 good_weaker p h = let x = parts_of_records (records_of p) in all_good x (good_parts true x h)
 
 -- ---- the header
 
 abbrev front_from_profile : ℕ → Layout (ℕ × ℕ)
-front_from_profile version = chain (profile_field version) (λ profile. plain_u32)
+front_from_profile version = chain_layout (profile_field version) (λ profile. plain_u32)
 
 abbrev front_from_version : Layout (ℕ × (ℕ × ℕ))
-front_from_version = chain version_field front_from_profile
+front_from_version = chain_layout version_field front_from_profile
 
 front_rows_laid : IsLaidOut FrontRow front_rows
 unfolding front_rows magic_field version_field profile_field plain_u32
@@ -638,37 +638,37 @@ front_rows_laid =
     chain_laid version_field front_from_profile (field_laid u16 _ u16_exact) (λ version.
     chain_laid (profile_field version) (λ profile. plain_u32) (field_laid u16 _ u16_exact) (λ profile. field_laid u32 no_fault u32_exact)))
 
-pub front_laid : IsLaidOut Front front
-unfolding front
+pub front_laid : IsLaidOut Front front_layout
+unfolding front_layout
 front_laid = seen_laid front_of_row row_of_front front_rows (λ r good. refl) (λ f good. refl) front_rows_laid
 
 total_good : (total : ℕ) → total ≤ 8388608 → plain_u32.good total ≡ true
 unfolding plain_u32
 total_good total le = and_from (ltb total 4294967296) true (lt-ltb total 4294967296 (omega arith)) refl
 
-front_good : (stamp : Stamp) (total : ℕ) → total ≤ 8388608 → front.good (front_of stamp total) ≡ true
-unfolding front front_rows magic_field version_field profile_field field_fault
+front_good : (stamp : Stamp) (total : ℕ) → total ≤ 8388608 → front_layout.good (front_of stamp total) ≡ true
+unfolding front_layout front_rows magic_field version_field profile_field field_fault
 front_good stamps.One total le = and_from true _ refl (and_from true _ refl (and_from true _ refl (total_good total le)))
 front_good (stamps.Two profiles.Small) total le = and_from true _ refl (and_from true _ refl (and_from true _ refl (total_good total le)))
 front_good (stamps.Two profiles.Large) total le = and_from true _ refl (and_from true _ refl (and_from true _ refl (total_good total le)))
 
-front_length : (f : Front) → length (front.spell f) ≡ 12
-unfolding front front_rows magic_field version_field profile_field plain_u32
+front_length : (f : Front) → length (front_layout.spell f) ≡ 12
+unfolding front_layout front_rows magic_field version_field profile_field plain_u32
 front_length f = refl
 
-counts_length : (c : Counts) → length (counts_layout.spell c) ≡ 8
+counts_length : (c : RecordCounts) → length (counts_layout.spell c) ≡ 8
 unfolding counts_layout count_rows plain_u16 data_count zero_u16
 counts_length c = refl
 
 abbrev text_of : Program → List ℕ
-text_of p = (body false).spell p
+text_of p = (body_layout false).spell p
 
 text_long : (p : Program) → 8 ≤ length (text_of p)
-unfolding body records body_rows
+unfolding body_layout records_layout body_rows
 text_long p =
     let r = records_of p in
     let c = counts_of r in
-    omega (arith, counts_length c, length-append (counts_layout.spell c) ((code_blocks false c.code_blocks).spell r.code_blocks ++ ((data_blocks_layout c.data_blocks).spell r.data_blocks ++ (names c.names).spell r.names)))
+    omega (arith, counts_length c, length-append (counts_layout.spell c) ((code_blocks_layout false c.code_blocks).spell r.code_blocks ++ ((data_blocks_layout c.data_blocks).spell r.data_blocks ++ (names_layout c.names).spell r.names)))
 
 -- the stamp of the two fields that a stamp has
 stamp_again : (stamp : Stamp) → stamp_of (version_number stamp) (profile_field_of stamp) ≡ stamp
@@ -683,41 +683,41 @@ abbrev pub Stamped : Type 0
 Stamped = Stamp × Program
 
 abbrev rest_of : Bool → Stamp → ℕ → Cursor → ReadResult Stamped
-rest_of with_code_faults stamp total cur = bind ((body with_code_faults).read (record { at = cur.at; rest = take (total - front_size) cur.rest })) (end_layout stamp)
+rest_of with_code_faults stamp total cur = bind_reading ((body_layout with_code_faults).read (record { at = cur.at; rest = take (total - front_size) cur.rest })) (end_layout stamp)
 
 -- nothing is cut off, and nothing is noted
-cut_finds : (with_code_faults : Bool) (stamp : Stamp) (total : ℕ) (cur : Cursor) (p : Stamped) (end : Cursor) → 20 ≤ total → total ≤ 8388608 → Finds Stamped (rest_of with_code_faults stamp total cur) p end → Finds Stamped (cut with_code_faults stamp total total cur) p end
+cut_finds : (with_code_faults : Bool) (stamp : Stamp) (total : ℕ) (cur : Cursor) (p : Stamped) (end : Cursor) → 20 ≤ total → total ≤ 8388608 → Finds Stamped (rest_of with_code_faults stamp total cur) p end → Finds Stamped (read_cut_off with_code_faults stamp total total cur) p end
 cut_finds with_code_faults stamp total cur p end le most h =
     let no_cut : (ltb total 20 || ltb total total) ≡ false = or_from _ _ (le-ltb total 20 le) (le-ltb total total (omega arith)) in
     let same : eqb total total ≡ true = eq-eqb total total refl in
     let small : ltb 8388608 total ≡ false = le-ltb 8388608 total most in
-    let shape : cut with_code_faults stamp total total cur ≡ rest_of with_code_faults stamp total cur = rw (no_cut, small, same) refl in
+    let shape : read_cut_off with_code_faults stamp total total cur ≡ rest_of with_code_faults stamp total cur = rw (no_cut, small, same) refl in
     subst (λ (z : ReadResult Stamped). Finds Stamped z p end) (sym shape) h
 
-pub image_again : (with_code_faults : Bool) (stamp : Stamp) (p : Program) → (body with_code_faults).good p ≡ true → front_size + length (text_of p) ≤ 8388608 → Finds Stamped (read_by with_code_faults (image stamp p)) (stamp, p) (at_place (front_size + length (text_of p)) [])
+pub image_again : (with_code_faults : Bool) (stamp : Stamp) (p : Program) → (body_layout with_code_faults).good p ≡ true → front_size + length (text_of p) ≤ 8388608 → Finds Stamped (read_by with_code_faults (image stamp p)) (stamp, p) (at_place (front_size + length (text_of p)) [])
 unfolding read_by image
 image_again with_code_faults stamp p good short =
     let text = text_of p in
     let total = front_size + length text in
     let values : Front = front_of stamp total in
-    let all = front.spell values ++ text in
+    let all = front_layout.spell values ++ text in
     let end = at_place total [] in
     let one = front_laid.again values 0 text (front_good stamp total short) in
-    let mid = at_place (0 + length (front.spell values)) text in
+    let mid = at_place (0 + length (front_layout.spell values)) text in
     let mid_is : mid ≡ at_place 12 text = ap (λ (k : ℕ). at_place (0 + k) text) (front_length values) in
-    let one_here : Finds Front (front.read (at_place 0 all)) values (at_place 12 text) = subst (λ (z : Cursor). Finds Front (front.read (at_place 0 all)) values z) mid_is one in
-    let size : length all ≡ total = length-append (front.spell values) text ∙ ap (λ (k : ℕ). k + length text) (front_length values) in
-    let spelled : (body with_code_faults).spell p ≡ text = same_text with_code_faults p in
-    let whole : take (total - front_size) text ≡ (body with_code_faults).spell p ++ [] = ap (λ (z : List ℕ). take (total - front_size) z) (sym (append-nil text)) ∙ take_at text [] (total - front_size) (omega arith) ∙ sym spelled ∙ sym (append-nil ((body with_code_faults).spell p)) in
+    let one_here : Finds Front (front_layout.read (at_place 0 all)) values (at_place 12 text) = subst (λ (z : Cursor). Finds Front (front_layout.read (at_place 0 all)) values z) mid_is one in
+    let size : length all ≡ total = length-append (front_layout.spell values) text ∙ ap (λ (k : ℕ). k + length text) (front_length values) in
+    let spelled : (body_layout with_code_faults).spell p ≡ text = same_text with_code_faults p in
+    let whole : take (total - front_size) text ≡ (body_layout with_code_faults).spell p ++ [] = ap (λ (z : List ℕ). take (total - front_size) z) (sym (append-nil text)) ∙ take_at text [] (total - front_size) (omega arith) ∙ sym spelled ∙ sym (append-nil ((body_layout with_code_faults).spell p)) in
     let two = (body_laid with_code_faults).again p 12 [] good in
-    let two_at : Finds Program ((body with_code_faults).read (at_place 12 ((body with_code_faults).spell p ++ []))) p (at_place (12 + length text) []) = subst (λ (z : List ℕ). Finds Program ((body with_code_faults).read (at_place 12 ((body with_code_faults).spell p ++ []))) p (at_place (12 + length z) [])) spelled two in
-    let two_here : Finds Program ((body with_code_faults).read (at_place 12 (take (total - front_size) text))) p (at_place (12 + length text) []) = subst (λ (z : List ℕ). Finds Program ((body with_code_faults).read (at_place 12 z)) p (at_place (12 + length text) [])) (sym whole) two_at in
+    let two_at : Finds Program ((body_layout with_code_faults).read (at_place 12 ((body_layout with_code_faults).spell p ++ []))) p (at_place (12 + length text) []) = subst (λ (z : List ℕ). Finds Program ((body_layout with_code_faults).read (at_place 12 ((body_layout with_code_faults).spell p ++ []))) p (at_place (12 + length z) [])) spelled two in
+    let two_here : Finds Program ((body_layout with_code_faults).read (at_place 12 (take (total - front_size) text))) p (at_place (12 + length text) []) = subst (λ (z : List ℕ). Finds Program ((body_layout with_code_faults).read (at_place 12 z)) p (at_place (12 + length text) [])) (sym whole) two_at in
     let three : Finds Stamped (end_layout stamp p (at_place (12 + length text) [])) (stamp, p) end = record { found = refl; clean = refl } in
     let inner : Finds Stamped (rest_of with_code_faults stamp total (at_place 12 text)) (stamp, p) end = bind_finds _ (end_layout stamp) p (at_place (12 + length text) []) (stamp, p) end two_here three in
-    let cut_there : Finds Stamped (cut with_code_faults stamp total total (at_place 12 text)) (stamp, p) end = cut_finds with_code_faults stamp total (at_place 12 text) (stamp, p) end (let l = text_long p in omega arith) short inner in
-    let cut_by : Finds Stamped (cut with_code_faults stamp (length all) total (at_place 12 text)) (stamp, p) end = subst (λ (k : ℕ). Finds Stamped (cut with_code_faults stamp k total (at_place 12 text)) (stamp, p) end) (sym size) cut_there in
-    let cut_here : Finds Stamped (cut with_code_faults (stamp_in values) (length all) total (at_place 12 text)) (stamp, p) end = subst (λ (s : Stamp). Finds Stamped (cut with_code_faults s (length all) total (at_place 12 text)) (stamp, p) end) (sym (stamp_again stamp)) cut_by in
-    bind_finds (front.read (at_place 0 all)) (λ f cur. cut with_code_faults (stamp_in f) (length all) f.total_length cur) values (at_place 12 text) (stamp, p) end one_here cut_here
+    let cut_there : Finds Stamped (read_cut_off with_code_faults stamp total total (at_place 12 text)) (stamp, p) end = cut_finds with_code_faults stamp total (at_place 12 text) (stamp, p) end (let l = text_long p in omega arith) short inner in
+    let cut_by : Finds Stamped (read_cut_off with_code_faults stamp (length all) total (at_place 12 text)) (stamp, p) end = subst (λ (k : ℕ). Finds Stamped (read_cut_off with_code_faults stamp k total (at_place 12 text)) (stamp, p) end) (sym size) cut_there in
+    let cut_here : Finds Stamped (read_cut_off with_code_faults (stamp_in values) (length all) total (at_place 12 text)) (stamp, p) end = subst (λ (s : Stamp). Finds Stamped (read_cut_off with_code_faults s (length all) total (at_place 12 text)) (stamp, p) end) (sym (stamp_again stamp)) cut_by in
+    bind_finds (front_layout.read (at_place 0 all)) (λ f cur. read_cut_off with_code_faults (stamp_in f) (length all) f.total_length cur) values (at_place 12 text) (stamp, p) end one_here cut_here
 
 -- every byte string is the image of at most one program, version and profile
 pub image_one : (s t : Stamp) (p q : Program) → IsProgram p → IsProgram q → image s p ≡ image t q → (s ≡ t) × (p ≡ q)
@@ -733,7 +733,7 @@ no_note false at code h = absurd cc
 
 magic_is : (n : ℕ) → magic_field.good n ≡ true → n ≡ 0x53374642
 unfolding magic_field field_fault
-magic_is n good = eqb-true n 0x53374642 (unless_fine _ 1 (and_parts (ltb n 4294967296) (is_fine (unless (eqb n 0x53374642) 1)) good).1)
+magic_is n good = eqb-true n 0x53374642 (unless_fine _ 1 (and_parts (ltb n 4294967296) (is_fine (fault_unless_met (eqb n 0x53374642) 1)) good).1)
 
 -- version and profile without fault are those of their stamp
 record IsStamp (version profile : ℕ) : Type 0 where
@@ -745,13 +745,13 @@ unfolding version_field profile_field field_fault
 stamp_is version profile good fine = by_version version v f
   where
     v : (eqb version 1 || eqb version 2) ≡ true
-    v = unless_fine _ 2 (and_parts (ltb version 65536) (is_fine (unless (eqb version 1 || eqb version 2) 2)) good).1
+    v = unless_fine _ 2 (and_parts (ltb version 65536) (is_fine (fault_unless_met (eqb version 1 || eqb version 2) 2)) good).1
 
     test : ℕ → ℕ → Bool
     test n m = cond (eqb n 2) (is_in_range 1 2 m) (eqb m 0)
 
     f : test version profile ≡ true
-    f = unless_fine (test version profile) 4 (and_parts (ltb profile 65536) (is_fine (unless (test version profile) 4)) fine).1
+    f = unless_fine (test version profile) 4 (and_parts (ltb profile 65536) (is_fine (fault_unless_met (test version profile) 4)) fine).1
 
     by_profile : (m : ℕ) → is_in_range 1 2 m ≡ true → IsStamp 2 m
     by_profile zero h = absurd cc
@@ -774,8 +774,8 @@ record GoodFront (f : Front) : Type 0 where
   magic : f.magic ≡ 0x53374642
   stamp : IsStamp f.version f.profile
 
-good_front : (f : Front) → front.good f ≡ true → GoodFront f
-unfolding front front_rows
+good_front : (f : Front) → front_layout.good f ≡ true → GoodFront f
+unfolding front_layout front_rows
 good_front f good =
     let row = row_of_front f in
     let a = chain_parts magic_field (λ magic. front_from_version) row good in
@@ -789,7 +789,7 @@ front_is f total g t = ap front_of_row (quad g.magic g.stamp.version_is g.stamp.
 pub image_takes : (text : List ℕ) (s : Stamp) (p : Program) (end : Cursor) → IsBytes text → Finds Stamped (read_image text) (s, p) end → (text ≡ image s p) × IsProgram p × IsRight p
 unfolding read_by image
 image_takes text s p end are h =
-    let a = bind_parts (front.read (at_place 0 text)) (λ f cur. cut true (stamp_in f) (length text) f.total_length cur) (s, p) end h in
+    let a = bind_parts (front_layout.read (at_place 0 text)) (λ f cur. read_cut_off true (stamp_in f) (length text) f.total_length cur) (s, p) end h in
     let f = a.first in
     let stamp = stamp_in f in
     let total = f.total_length in
@@ -801,18 +801,18 @@ image_takes text s p end are h =
     let most : total ≤ 8388608 = ltb-false 8388608 total small in
     let n = no_faults (cond (eqb (length text) total) [] (Faulty total 10 ∷ [])) (rest_of true stamp total cur).notes g.clean in
     let size : length text ≡ total = eqb-true _ _ (no_note _ total 10 n.0) in
-    let b = bind_parts ((body true).read (at_place cur.at (take (total - front_size) cur.rest))) (end_layout stamp) (s, p) end (record { found = g.found; clean = n.1 }) in
+    let b = bind_parts ((body_layout true).read (at_place cur.at (take (total - front_size) cur.rest))) (end_layout stamp) (s, p) end (record { found = g.found; clean = n.1 }) in
     let u = (body_laid true).takes (at_place cur.at (take (total - front_size) cur.rest)) b.first b.next (bytes_taken (total - front_size) cur.rest t.text.rest_fits) b.one in
     let made = same_Some ((stamp, b.first), b.next) ((s, p), end) b.two.found in
     let s_is : stamp ≡ s = ap (λ (z : Stamped × Cursor). z.0.0) made in
     let p_is : b.first ≡ p = ap (λ (z : Stamped × Cursor). z.0.1) made in
     let none : b.next.rest ≡ [] = nil_from_length b.next.rest (eqb-true _ _ (no_note _ b.next.at 10 b.two.clean)) in
-    let lengths : length text ≡ 12 + length cur.rest = ap length t.text.parts ∙ length-append (front.spell f) cur.rest ∙ ap (λ (k : ℕ). k + length cur.rest) (front_length f) in
+    let lengths : length text ≡ 12 + length cur.rest = ap length t.text.parts ∙ length-append (front_layout.spell f) cur.rest ∙ ap (λ (k : ℕ). k + length cur.rest) (front_length f) in
     let all : take (total - front_size) cur.rest ≡ cur.rest = ap (λ (z : List ℕ). take (total - front_size) z) (sym (append-nil cur.rest)) ∙ take_at cur.rest [] (total - front_size) (omega (arith, lengths, size)) in
-    let behind : cur.rest ≡ text_of b.first = sym all ∙ u.text.parts ∙ ap (λ (z : List ℕ). (body true).spell b.first ++ z) none ∙ append-nil ((body true).spell b.first) ∙ same_text true b.first in
+    let behind : cur.rest ≡ text_of b.first = sym all ∙ u.text.parts ∙ ap (λ (z : List ℕ). (body_layout true).spell b.first ++ z) none ∙ append-nil ((body_layout true).spell b.first) ∙ same_text true b.first in
     let total_is : total ≡ front_size + length (text_of b.first) = sym size ∙ lengths ∙ ap (λ (z : List ℕ). 12 + length z) behind in
     let values : f ≡ front_of stamp (front_size + length (text_of b.first)) = front_is f (front_size + length (text_of b.first)) fs total_is in
-    let whole : text ≡ image stamp b.first = t.text.parts ∙ ap (λ (z : List ℕ). front.spell f ++ z) behind ∙ ap (λ (z : Front). front.spell z ++ text_of b.first) values in
+    let whole : text ≡ image stamp b.first = t.text.parts ∙ ap (λ (z : List ℕ). front_layout.spell f ++ z) behind ∙ ap (λ (z : Front). front_layout.spell z ++ text_of b.first) values in
     let right : IsProgram b.first × IsRight b.first = (record { good = good_weaker b.first u.good; short = rw (← total_is) most }, u.good) in
     let whole_here : text ≡ image s p = whole ∙ ap (λ (z : Stamp). image z b.first) s_is ∙ ap (λ (z : Program). image s z) p_is in
     let right_here : IsProgram p × IsRight p = subst (λ (z : Program). IsProgram z × IsRight z) p_is right in
@@ -821,7 +821,7 @@ image_takes text s p end are h =
 -- ---- programs again, and their parameters
 
 pub program_again : (p : Program) → IsProgram p → program_of_records (records_of p) ≡ p
-unfolding body
+unfolding body_layout
 program_again p h = records_there false p h.good
 
 block_few : (with_code_faults : Bool) (before : ℕ × ℕ) (b : BlockRecord) → (code_block_layout with_code_faults before).good b ≡ true → length b.params ≤ 60
@@ -835,10 +835,10 @@ blocks_few with_code_faults s (suc n) (b ∷ bs) h =
     let g = and_parts ((code_block_layout with_code_faults s).good b) (good_many (code_block_layout with_code_faults) after_block (after_block s b) n bs) h in
     (block_few with_code_faults s b g.0, blocks_few with_code_faults (after_block s b) n bs g.1)
 
-codes_few : (with_code_faults : Bool) (n : ℕ) (bs : List BlockRecord) → (code_blocks with_code_faults n).good bs ≡ true → AreFew bs
-unfolding code_blocks
+codes_few : (with_code_faults : Bool) (n : ℕ) (bs : List BlockRecord) → (code_blocks_layout with_code_faults n).good bs ≡ true → AreFew bs
+unfolding code_blocks_layout
 codes_few with_code_faults n bs good = blocks_few with_code_faults (0, 0) n bs good
 
 pub program_few : (p : Program) → IsProgram p → AreFew (map record_of_block p.code_blocks)
-unfolding body
+unfolding body_layout
 program_few p h = let q = good_records false (records_of p) h.good in codes_few false (length (map record_of_block p.code_blocks)) (map record_of_block p.code_blocks) q.codes_good

@@ -6,12 +6,12 @@ use Rattle.flat_code.specs.declared.image_fields.OpenBracket.{OpenBracket}
 use Rattle.flat_code.specs.declared.operands.Operand.{Operand}
 use Rattle.flat_code.specs.declared.operands.Operand.TheVariants as operand
 use Rattle.flat_code.specs.Ops.{OpData}
-use Rattle.flat_code.specs.Codes.{size}
+use Rattle.flat_code.specs.Codes.{size_of_op}
 use Rattle.flat_code.specs.Programs.{CodeBlock, Program}
-use Rattle.flat_code.specs.Placed.{Placed, ops_placed, code_places, is_empty_list, bracket_codes, few, most_brackets, StatementSpot, spots, spots_from, spot_at, brackets_after, zones_behind_op, before_next}
+use Rattle.flat_code.specs.Placed.{PlacedOp, ops_placed, code_places, is_empty_list, bracket_codes, codes_of_few_brackets, most_brackets, StatementSpot, statement_spots, spots_from, spot_at, brackets_after, zones_behind_op, before_next}
 use Rattle.flat_code.specs.Kinds.{jump_number}
 use Rattle.flat_code.specs.declared.kinds.JumpOperation.TheVariants as jump
-use Rattle.flat_code.specs.Blocks.{same_codes, are_other, target_fault, is_bad_list, operand_fault, leads}
+use Rattle.flat_code.specs.Blocks.{are_same_codes, are_other_brackets, target_fault, is_bad_list, operand_fault, leads_to_target}
 use Rattle.image_file.specs.Verified.{placed_at, IsVerifiedOp, Lands}
 use Rattle.image_file.proofs.VerifiedLemmas.{chosen, none_if, empty_next, op_long, place_offset, op_none, around_in, brackets_right}
 
@@ -19,12 +19,12 @@ spot_none : (from : ℕ) (begin : Bool) (brackets : List OpenBracket) (zones : L
 spot_none from begin brackets zones [] at lt = refl
 spot_none from begin brackets zones (op ∷ ops) at lt =
     let p = op_long op in
-    by begin (ne_eqb from at (λ e. omega (arith, e, lt))) (spot_none (from + size op) op.last (brackets_after from op.code brackets) (zones_behind_op from op.code zones) ops at (omega (arith, lt, p)))
+    by begin (ne_eqb from at (λ e. omega (arith, e, lt))) (spot_none (from + size_of_op op) op.last (brackets_after from op.code brackets) (zones_behind_op from op.code zones) ops at (omega (arith, lt, p)))
   where
     behind : List StatementSpot
-    behind = spots_from (from + size op) op.last (brackets_after from op.code brackets) (zones_behind_op from op.code zones) ops
+    behind = spots_from (from + size_of_op op) op.last (brackets_after from op.code brackets) (zones_behind_op from op.code zones) ops
 
-    by : (b : Bool) → eqb from at ≡ false → spot_at behind at ≡ None → spot_at (cond b (record { at = from; codes = few brackets; zones = length zones } ∷ behind) behind) at ≡ None
+    by : (b : Bool) → eqb from at ≡ false → spot_at behind at ≡ None → spot_at (cond b (record { at = from; codes = codes_of_few_brackets brackets; zones = length zones } ∷ behind) behind) at ≡ None
     by true f more = rw f more
     by false f more = more
 
@@ -36,35 +36,35 @@ spot_past from begin brackets zones ops at s found = by (cases_lt at from)
     by (inr le) = le
 
 -- a statement of a block as the op that begins it
-record IsSpot (qs : List Placed) (at : ℕ) (s : StatementSpot) : Type 0 where
-  there : Placed
+record IsSpot (qs : List PlacedOp) (at : ℕ) (s : StatementSpot) : Type 0 where
+  there : PlacedOp
   place : placed_at at qs ≡ Some there
   first : is_empty_list there.before ≡ true
-  codes_are : few there.brackets ≡ s.codes
+  codes_are : codes_of_few_brackets there.brackets ≡ s.codes
   zones_are : length there.zones ≡ s.zones
 
 spot_there : (from : ℕ) (brackets : List OpenBracket) (zones : List ℕ) (before ops : List OpData) (at : ℕ) (s : StatementSpot) → spot_at (spots_from from (is_empty_list before) brackets zones ops) at ≡ Some s → IsSpot (ops_placed from brackets zones before ops) at s
 spot_there from brackets zones before [] at s found = absurd cc
-spot_there from brackets zones before (o ∷ ops) at s found = by (is_empty_list before) refl found (λ h. spot_there (from + size o) (brackets_after from o.code brackets) (zones_behind_op from o.code zones) (before_next o before) ops at s (subst (λ (z : Bool). spot_at (spots_from (from + size o) z (brackets_after from o.code brackets) (zones_behind_op from o.code zones) ops) at ≡ Some s) (sym (empty_next o before)) h))
+spot_there from brackets zones before (o ∷ ops) at s found = by (is_empty_list before) refl found (λ h. spot_there (from + size_of_op o) (brackets_after from o.code brackets) (zones_behind_op from o.code zones) (before_next o before) ops at s (subst (λ (z : Bool). spot_at (spots_from (from + size_of_op o) z (brackets_after from o.code brackets) (zones_behind_op from o.code zones) ops) at ≡ Some s) (sym (empty_next o before)) h))
   where
-    here : Placed
+    here : PlacedOp
     here = record { at = from; brackets = brackets; zones = zones; before = before; op = o; rest = ops }
 
     spot : StatementSpot
-    spot = record { at = from; codes = few brackets; zones = length zones }
+    spot = record { at = from; codes = codes_of_few_brackets brackets; zones = length zones }
 
     behind : List StatementSpot
-    behind = spots_from (from + size o) o.last (brackets_after from o.code brackets) (zones_behind_op from o.code zones) ops
+    behind = spots_from (from + size_of_op o) o.last (brackets_after from o.code brackets) (zones_behind_op from o.code zones) ops
 
-    rest : List Placed
-    rest = ops_placed (from + size o) (brackets_after from o.code brackets) (zones_behind_op from o.code zones) (before_next o before) ops
+    rest : List PlacedOp
+    rest = ops_placed (from + size_of_op o) (brackets_after from o.code brackets) (zones_behind_op from o.code zones) (before_next o before) ops
 
     later : IsSpot rest at s → eqb from at ≡ false → IsSpot (here ∷ rest) at s
     later i f = record { there = i.there; place = rw f i.place; first = i.first; codes_are = i.codes_are; zones_are = i.zones_are }
 
     apart : spot_at behind at ≡ Some s → eqb from at ≡ false
     apart h =
-        let past = spot_past (from + size o) o.last (brackets_after from o.code brackets) (zones_behind_op from o.code zones) ops at s h in
+        let past = spot_past (from + size_of_op o) o.last (brackets_after from o.code brackets) (zones_behind_op from o.code zones) ops at s h in
         let p = op_long o in
         ne_eqb from at (λ e. omega (arith, e, past, p))
 
@@ -81,23 +81,23 @@ spot_there from brackets zones before (o ∷ ops) at s found = by (is_empty_list
         (λ f h. later (more h) f)
     by false first e more = later (more e) (apart e)
 
-few_codes : (bs : List OpenBracket) (codes : List ℕ) → few bs ≡ Some codes → bracket_codes bs ≡ codes
+few_codes : (bs : List OpenBracket) (codes : List ℕ) → codes_of_few_brackets bs ≡ Some codes → bracket_codes bs ≡ codes
 few_codes bs codes e = by (leb (length bs) most_brackets) e
   where
     by : (b : Bool) → cond b (Some (bracket_codes bs)) None ≡ Some codes → bracket_codes bs ≡ codes
     by true e = same_Some (bracket_codes bs) codes e
     by false e = absurd cc
 
-same_list : (xs ys : List ℕ) → same_codes xs ys ≡ true → xs ≡ ys
+same_list : (xs ys : List ℕ) → are_same_codes xs ys ≡ true → xs ≡ ys
 same_list [] [] e = refl
 same_list [] (y ∷ ys) e = absurd cc
 same_list (x ∷ xs) [] e = absurd cc
-same_list (x ∷ xs) (y ∷ ys) e = let p = and_parts (eqb x y) (same_codes xs ys) e in rw (eqb-true x y p.0, same_list xs ys p.1) refl
+same_list (x ∷ xs) (y ∷ ys) e = let p = and_parts (eqb x y) (are_same_codes xs ys) e in rw (eqb-true x y p.0, same_list xs ys p.1) refl
 
 -- the brackets at a target
-same_brackets : (codes : List ℕ) (others : Option (List ℕ)) → are_other (Some codes) others ≡ false → others ≡ Some codes
+same_brackets : (codes : List ℕ) (others : Option (List ℕ)) → are_other_brackets (Some codes) others ≡ false → others ≡ Some codes
 same_brackets codes None e = absurd cc
-same_brackets codes (Some others) e = ap (λ (z : List ℕ). Some z) (sym (same_list codes others (not-false (same_codes codes others) e)))
+same_brackets codes (Some others) e = ap (λ (z : List ℕ). Some z) (sym (same_list codes others (not-false (are_same_codes codes others) e)))
 
 -- what stands open at a target
 record HasTarget (codes : List ℕ) (zones : ℕ) (found : Option StatementSpot) : Type 0 where
@@ -108,28 +108,28 @@ record HasTarget (codes : List ℕ) (zones : ℕ) (found : Option StatementSpot)
 
 has_target : (codes : List ℕ) (zones : ℕ) (found : Option StatementSpot) → target_fault (Some codes) zones found ≡ None → HasTarget codes zones found
 has_target codes zones None e = absurd cc
-has_target codes zones (Some s) e = by (are_other (Some codes) s.codes) refl (eqb zones s.zones) refl e
+has_target codes zones (Some s) e = by (are_other_brackets (Some codes) s.codes) refl (eqb zones s.zones) refl e
   where
-    by : (a : Bool) → are_other (Some codes) s.codes ≡ a → (b : Bool) → eqb zones s.zones ≡ b → cond {A = Option ℕ} (a || not b) (Some 8) None ≡ None → HasTarget codes zones (Some s)
+    by : (a : Bool) → are_other_brackets (Some codes) s.codes ≡ a → (b : Bool) → eqb zones s.zones ≡ b → cond {A = Option ℕ} (a || not b) (Some 8) None ≡ None → HasTarget codes zones (Some s)
     by true o b n e = absurd cc
     by false o true n e = record { spot = s; is = refl; same_codes = same_brackets codes s.codes o; same_zones = eqb-true zones s.zones n }
     by false o false n e = absurd cc
 
 -- a jump without fault
-record IsRightJump (p : Program) (b : CodeBlock) (q : Placed) (kind target : ℕ) : Type 0 where
+record IsRightJump (p : Program) (b : CodeBlock) (q : PlacedOp) (kind target : ℕ) : Type 0 where
   list : is_bad_list q kind target ≡ false
-  target_is : target_fault (few q.brackets) (length q.zones) (spot_at (spots b.code) target) ≡ None
+  target_is : target_fault (codes_of_few_brackets q.brackets) (length q.zones) (spot_at (statement_spots b.code) target) ≡ None
 
-right_jump : (p : Program) (b : CodeBlock) (q : Placed) (kind target : ℕ) → IsVerifiedOp p b q → q.op.operand ≡ operand.Jump kind target → IsRightJump p b q kind target
+right_jump : (p : Program) (b : CodeBlock) (q : PlacedOp) (kind target : ℕ) → IsVerifiedOp p b q → q.op.operand ≡ operand.Jump kind target → IsRightJump p b q kind target
 right_jump p b q kind target h is =
-    let none = subst (λ (z : Operand). operand_fault (around_in p b) (spots b.code) q z ≡ None) is (op_none p b q h).operand in
-    let parts = none_if (is_bad_list q kind target) 6 (target_fault (few q.brackets) (length q.zones) (spot_at (spots b.code) target)) none in
+    let none = subst (λ (z : Operand). operand_fault (around_in p b) (statement_spots b.code) q z ≡ None) is (op_none p b q h).operand in
+    let parts = none_if (is_bad_list q kind target) 6 (target_fault (codes_of_few_brackets q.brackets) (length q.zones) (spot_at (statement_spots b.code) target)) none in
     record { list = parts.0; target_is = parts.1 }
 
-pub jump_lands : (p : Program) (b : CodeBlock) (q : Placed) (kind target : ℕ) → IsVerifiedOp p b q → q.op.operand ≡ operand.Jump kind target → Lands b q target
+pub jump_lands : (p : Program) (b : CodeBlock) (q : PlacedOp) (kind target : ℕ) → IsVerifiedOp p b q → q.op.operand ≡ operand.Jump kind target → Lands b q target
 jump_lands p b q kind target h is =
-    let few_here : few q.brackets ≡ Some (bracket_codes q.brackets) = rw (le-leb (length q.brackets) most_brackets (brackets_right p b q h).few) refl in
-    let t = has_target (bracket_codes q.brackets) (length q.zones) (spot_at (spots b.code) target) (ap (λ (z : Option (List ℕ)). target_fault z (length q.zones) (spot_at (spots b.code) target)) (sym few_here) ∙ (right_jump p b q kind target h is).target_is) in
+    let few_here : codes_of_few_brackets q.brackets ≡ Some (bracket_codes q.brackets) = rw (le-leb (length q.brackets) most_brackets (brackets_right p b q h).few) refl in
+    let t = has_target (bracket_codes q.brackets) (length q.zones) (spot_at (statement_spots b.code) target) (ap (λ (z : Option (List ℕ)). target_fault z (length q.zones) (spot_at (statement_spots b.code) target)) (sym few_here) ∙ (right_jump p b q kind target h is).target_is) in
     let s = spot_there 0 [] [] [] b.code target t.spot t.is in
     record {
       there = s.there;
@@ -140,5 +140,5 @@ jump_lands p b q kind target h is =
       same_zones = t.same_zones ∙ sym s.zones_are;
     }
 
-pub list_leads : (p : Program) (b : CodeBlock) (q : Placed) (target : ℕ) → IsVerifiedOp p b q → q.op.operand ≡ operand.Jump (jump_number jump.Jl) target → leads 255 target (q.at + size q.op) q.rest ≡ true
-list_leads p b q target h is = not-false (leads 255 target (q.at + size q.op) q.rest) (right_jump p b q (jump_number jump.Jl) target h is).list
+pub list_leads : (p : Program) (b : CodeBlock) (q : PlacedOp) (target : ℕ) → IsVerifiedOp p b q → q.op.operand ≡ operand.Jump (jump_number jump.Jl) target → leads_to_target 255 target (q.at + size_of_op q.op) q.rest ≡ true
+list_leads p b q target h is = not-false (leads_to_target 255 target (q.at + size_of_op q.op) q.rest) (right_jump p b q (jump_number jump.Jl) target h is).list

@@ -5,7 +5,7 @@ use Rattle.std.proofs.lemmas.Bool.{and_parts, and_from}
 use Rattle.std.proofs.lemmas.Option.{same_Some}
 use Rattle.flat_code.specs.Coding.{Coding}
 use Rattle.flat_code.proofs.CodingLemmas.{IsBytes, Takes, IsExact}
-use Rattle.flat_code.specs.Layout.{Note, Faulty, Whole, AllBlocks, Cursor, ReadResult, Layout, reading_given, go_on, bind, fault_note, is_fine, field_of, field, chain, checked_layout, located_layout, spell_many, good_many, read_many, many, seen_as, noted_layout, faults_in}
+use Rattle.flat_code.specs.Layout.{Note, Faulty, Whole, AllBlocks, Cursor, ReadResult, Layout, reading_given, go_on, bind_reading, fault_note, is_fine, field_of, field_layout, chain_layout, checked_layout, located_layout, spell_many, good_many, read_many, list_layout, seen_as, noted_layout, faults_in}
 
 -- ---- faults of notes
 
@@ -64,14 +64,14 @@ go_parts {A = A} {B = B} notes (Some x) f y end h =
     let p = no_faults notes (f x.0 x.1).notes h.clean in
     record { first = x.0; next = x.1; one = record { found = refl; clean = p.0 }; two = record { found = h.found; clean = p.1 } }
 
-pub bind_parts : {A B : Type 0} (r : ReadResult A) (f : A → Cursor → ReadResult B) (y : B) (end : Cursor) → Finds B (bind r f) y end → Parts A B r f y end
+pub bind_parts : {A B : Type 0} (r : ReadResult A) (f : A → Cursor → ReadResult B) (y : B) (end : Cursor) → Finds B (bind_reading r f) y end → Parts A B r f y end
 bind_parts r f y end h = go_parts r.notes r.found f y end h
 
 -- a reading that found something goes on with it
-pub bind_finds : {A B : Type 0} (r : ReadResult A) (f : A → Cursor → ReadResult B) (x : A) (next : Cursor) (y : B) (end : Cursor) → Finds A r x next → Finds B (f x next) y end → Finds B (bind r f) y end
+pub bind_finds : {A B : Type 0} (r : ReadResult A) (f : A → Cursor → ReadResult B) (x : A) (next : Cursor) (y : B) (end : Cursor) → Finds A r x next → Finds B (f x next) y end → Finds B (bind_reading r f) y end
 bind_finds {A = A} {B = B} r f x next y end one two =
     let go : Option (A × Cursor) → ReadResult B = λ o. go_on r.notes o f in
-    let shape : bind r f ≡ go (Some (x, next)) = ap go one.found in
+    let shape : bind_reading r f ≡ go (Some (x, next)) = ap go one.found in
     subst (λ (z : ReadResult B). Finds B z y end) (sym shape) (record { found = two.found; clean = no_faults_join r.notes (f x next).notes one.clean two.clean })
 
 pub given_finds : {A : Type 0} (x y : A) (cur end : Cursor) → Finds A (reading_given x cur) y end → (x ≡ y) × (cur ≡ end)
@@ -79,17 +79,17 @@ given_finds {A = A} x y cur end h = let p = same_Some (x, cur) (y, end) h.found 
 
 -- ---- fields
 
-field_takes : {A : Type 0} (c : Coding A) (fault_in : A → Option ℕ) → IsExact A c → (cur : Cursor) (o : Option (A × List ℕ)) → c.read cur.rest ≡ o → (x : A) (end : Cursor) → IsBytes cur.rest → Finds A (field_of fault_in cur o) x end → Spells A (field c fault_in) cur x end
+field_takes : {A : Type 0} (c : Coding A) (fault_in : A → Option ℕ) → IsExact A c → (cur : Cursor) (o : Option (A × List ℕ)) → c.read cur.rest ≡ o → (x : A) (end : Cursor) → IsBytes cur.rest → Finds A (field_of fault_in cur o) x end → Spells A (field_layout c fault_in) cur x end
 field_takes {A = A} c fault_in exact cur None e x end are h = let f = h.found in absurd cc
 field_takes {A = A} c fault_in exact cur (Some r) e x end are h =
     let next : Cursor = record { at = cur.at + (length cur.rest - length r.1); rest = r.1 } in
     let p = same_Some (r.0, next) (x, end) h.found in
     let t = exact.takes cur.rest r.0 r.1 are e in
     let fine = noted_fine cur.at (fault_in r.0) h.clean in
-    let here : Spells A (field c fault_in) cur r.0 next = record { text = t.0; good = and_from (c.fits r.0) (is_fine (fault_in r.0)) t.1 fine } in
-    subst (λ (z : A × Cursor). Spells A (field c fault_in) cur z.0 z.1) p here
+    let here : Spells A (field_layout c fault_in) cur r.0 next = record { text = t.0; good = and_from (c.fits r.0) (is_fine (fault_in r.0)) t.1 fine } in
+    subst (λ (z : A × Cursor). Spells A (field_layout c fault_in) cur z.0 z.1) p here
 
-pub field_laid : {A : Type 0} (c : Coding A) (fault_in : A → Option ℕ) → IsExact A c → IsLaidOut A (field c fault_in)
+pub field_laid : {A : Type 0} (c : Coding A) (fault_in : A → Option ℕ) → IsExact A c → IsLaidOut A (field_layout c fault_in)
 field_laid {A = A} c fault_in exact = record {
   again = λ x at rest good.
       let g = and_parts (c.fits x) (is_fine (fault_in x)) good in
@@ -104,7 +104,7 @@ field_laid {A = A} c fault_in exact = record {
 
 -- ---- one behind the other
 
-pub chain_laid : {A B : Type 0} (l : Layout A) (m : A → Layout B) → IsLaidOut A l → ((x : A) → IsLaidOut B (m x)) → IsLaidOut (A × B) (chain l m)
+pub chain_laid : {A B : Type 0} (l : Layout A) (m : A → Layout B) → IsLaidOut A l → ((x : A) → IsLaidOut B (m x)) → IsLaidOut (A × B) (chain_layout l m)
 chain_laid {A = A} {B = B} l m first second = record {
   again = λ x at rest good.
       let g = and_parts (l.good x.0) ((m x.0).good x.1) good in
@@ -116,16 +116,16 @@ chain_laid {A = A} {B = B} l m first second = record {
       let place : (at + length (l.spell x.0)) + length tail ≡ at + length (l.spell x.0 ++ tail) = omega (arith, length-append (l.spell x.0) tail) in
       let three : Finds (A × B) (reading_given (x.0, x.1) (at_place ((at + length (l.spell x.0)) + length tail) rest)) x (at_place (at + length (l.spell x.0 ++ tail)) rest) = record { found = ap (λ (k : ℕ). Some (x, at_place k rest)) place; clean = refl } in
       let inner = bind_finds ((m x.0).read (at_place (at + length (l.spell x.0)) (tail ++ rest))) (λ y end. reading_given (x.0, y) end) x.1 (at_place ((at + length (l.spell x.0)) + length tail) rest) x (at_place (at + length (l.spell x.0 ++ tail)) rest) two three in
-      bind_finds (l.read (at_place at ((l.spell x.0 ++ tail) ++ rest))) (λ a next. bind ((m a).read next) (λ y end. reading_given (a, y) end)) x.0 (at_place (at + length (l.spell x.0)) (tail ++ rest)) x (at_place (at + length (l.spell x.0 ++ tail)) rest) one_here inner;
+      bind_finds (l.read (at_place at ((l.spell x.0 ++ tail) ++ rest))) (λ a next. bind_reading ((m a).read next) (λ y end. reading_given (a, y) end)) x.0 (at_place (at + length (l.spell x.0)) (tail ++ rest)) x (at_place (at + length (l.spell x.0 ++ tail)) rest) one_here inner;
   takes = λ cur x end are h.
-      let p = bind_parts (l.read cur) (λ a next. bind ((m a).read next) (λ y end. reading_given (a, y) end)) x end h in
+      let p = bind_parts (l.read cur) (λ a next. bind_reading ((m a).read next) (λ y end. reading_given (a, y) end)) x end h in
       let q = bind_parts ((m p.first).read p.next) (λ y end. reading_given (p.first, y) end) x end p.two in
       let made = given_finds (p.first, q.first) x q.next end q.two in
       let t = first.takes cur p.first p.next are p.one in
       let u = (second p.first).takes p.next q.first q.next t.text.rest_fits q.one in
       let text : cur.rest ≡ (l.spell p.first ++ (m p.first).spell q.first) ++ q.next.rest = t.text.parts ∙ ap (λ (z : List ℕ). l.spell p.first ++ z) u.text.parts ∙ sym (append_assoc (l.spell p.first) ((m p.first).spell q.first) q.next.rest) in
-      let here : Spells (A × B) (chain l m) cur (p.first, q.first) q.next = record { text = record { parts = text; rest_fits = u.text.rest_fits }; good = and_from (l.good p.first) ((m p.first).good q.first) t.good u.good } in
-      subst (λ (z : A × B). Spells (A × B) (chain l m) cur z end) made.0 (subst (λ (z : Cursor). Spells (A × B) (chain l m) cur (p.first, q.first) z) made.1 here);
+      let here : Spells (A × B) (chain_layout l m) cur (p.first, q.first) q.next = record { text = record { parts = text; rest_fits = u.text.rest_fits }; good = and_from (l.good p.first) ((m p.first).good q.first) t.good u.good } in
+      subst (λ (z : A × B). Spells (A × B) (chain_layout l m) cur z end) made.0 (subst (λ (z : Cursor). Spells (A × B) (chain_layout l m) cur (p.first, q.first) z) made.1 here);
 }
 
 -- ---- a fault that is found only now
@@ -196,23 +196,23 @@ many_again {S = S} {A = A} l next exact (suc n) s (x ∷ xs) at rest good =
     let end = at_place (at + length (front ++ tail)) rest in
     let inner = bind_finds (read_many l next (next s x) n mid) (λ xs end. reading_given (x ∷ xs) end) xs (at_place ((at + length front) + length tail) rest) (x ∷ xs) end two
     (record { found = ap (λ (k : ℕ). Some (x ∷ xs, at_place k rest)) place; clean = refl }) in
-    bind_finds ((l s).read (at_place at ((front ++ tail) ++ rest))) (λ x after. bind (read_many l next (next s x) n after) (λ xs end. reading_given (x ∷ xs) end)) x mid (x ∷ xs) end one_here inner
+    bind_finds ((l s).read (at_place at ((front ++ tail) ++ rest))) (λ x after. bind_reading (read_many l next (next s x) n after) (λ xs end. reading_given (x ∷ xs) end)) x mid (x ∷ xs) end one_here inner
 
-many_takes : {S A : Type 0} (l : S → Layout A) (next : S → A → S) → ((s : S) → IsLaidOut A (l s)) → (n : ℕ) (s : S) (cur : Cursor) (xs : List A) (end : Cursor) → IsBytes cur.rest → Finds (List A) (read_many l next s n cur) xs end → Spells (List A) (many l next s n) cur xs end
+many_takes : {S A : Type 0} (l : S → Layout A) (next : S → A → S) → ((s : S) → IsLaidOut A (l s)) → (n : ℕ) (s : S) (cur : Cursor) (xs : List A) (end : Cursor) → IsBytes cur.rest → Finds (List A) (read_many l next s n cur) xs end → Spells (List A) (list_layout l next s n) cur xs end
 many_takes {S = S} {A = A} l next exact zero s cur xs end are h =
     let made = given_finds [] xs cur end h in
-    subst (λ (z : List A). Spells (List A) (many l next s zero) cur z end) made.0 (subst (λ (z : Cursor). Spells (List A) (many l next s zero) cur [] z) made.1 (record { text = record { parts = refl; rest_fits = are }; good = refl }))
+    subst (λ (z : List A). Spells (List A) (list_layout l next s zero) cur z end) made.0 (subst (λ (z : Cursor). Spells (List A) (list_layout l next s zero) cur [] z) made.1 (record { text = record { parts = refl; rest_fits = are }; good = refl }))
 many_takes {S = S} {A = A} l next exact (suc n) s cur xs end are h =
-    let p = bind_parts ((l s).read cur) (λ x after. bind (read_many l next (next s x) n after) (λ xs end. reading_given (x ∷ xs) end)) xs end h in
+    let p = bind_parts ((l s).read cur) (λ x after. bind_reading (read_many l next (next s x) n after) (λ xs end. reading_given (x ∷ xs) end)) xs end h in
     let q = bind_parts (read_many l next (next s p.first) n p.next) (λ xs end. reading_given (p.first ∷ xs) end) xs end p.two in
     let made = given_finds (p.first ∷ q.first) xs q.next end q.two in
     let t = (exact s).takes cur p.first p.next are p.one in
     let u = many_takes l next exact n (next s p.first) p.next q.first q.next t.text.rest_fits q.one in
     let text : cur.rest ≡ ((l s).spell p.first ++ spell_many l next (next s p.first) q.first) ++ q.next.rest = t.text.parts ∙ ap (λ (z : List ℕ). (l s).spell p.first ++ z) u.text.parts ∙ sym (append_assoc ((l s).spell p.first) (spell_many l next (next s p.first) q.first) q.next.rest) in
-    let here : Spells (List A) (many l next s (suc n)) cur (p.first ∷ q.first) q.next = record { text = record { parts = text; rest_fits = u.text.rest_fits }; good = and_from ((l s).good p.first) (good_many l next (next s p.first) n q.first) t.good u.good } in
-    subst (λ (z : List A). Spells (List A) (many l next s (suc n)) cur z end) made.0 (subst (λ (z : Cursor). Spells (List A) (many l next s (suc n)) cur (p.first ∷ q.first) z) made.1 here)
+    let here : Spells (List A) (list_layout l next s (suc n)) cur (p.first ∷ q.first) q.next = record { text = record { parts = text; rest_fits = u.text.rest_fits }; good = and_from ((l s).good p.first) (good_many l next (next s p.first) n q.first) t.good u.good } in
+    subst (λ (z : List A). Spells (List A) (list_layout l next s (suc n)) cur z end) made.0 (subst (λ (z : Cursor). Spells (List A) (list_layout l next s (suc n)) cur (p.first ∷ q.first) z) made.1 here)
 
-pub many_laid : {S A : Type 0} (l : S → Layout A) (next : S → A → S) → ((s : S) → IsLaidOut A (l s)) → (s : S) (n : ℕ) → IsLaidOut (List A) (many l next s n)
+pub many_laid : {S A : Type 0} (l : S → Layout A) (next : S → A → S) → ((s : S) → IsLaidOut A (l s)) → (s : S) (n : ℕ) → IsLaidOut (List A) (list_layout l next s n)
 many_laid l next exact s n = record { again = many_again l next exact n s; takes = many_takes l next exact n s }
 
 -- ---- a layout that knows where it begins

@@ -11,8 +11,8 @@ use Rattle.flat_code.specs.Records.{BlockRecord, NameRecord}
 use Rattle.flat_code.specs.declared.programs.DataBlock.{DataBlock as Block}
 use Rattle.flat_code.specs.Layout.{Note, Faulty, Whole, AllBlocks, Cursor, faults_in}
 use Rattle.flat_code.specs.Image.{program_of_records, read_image, IsProgram, record_of_block, block_of_record, entry_of_name}
-use Rattle.flat_code.specs.Blocks.{BlockSignature, signature_of, Around, block_faults}
-use Rattle.flat_code.specs.Loading.{around_block, op_faults_of_blocks, lens_of, later, wholes, all_blocks, blocks_of, faults_of, Gives, Verifies}
+use Rattle.flat_code.specs.Blocks.{BlockSignature, signature_of, Environment, block_faults}
+use Rattle.flat_code.specs.Loading.{environment_of_block, op_faults_of_blocks, lens_of, later_data_blocks, whole_blocks, all_blocks, blocks_of, faults_of, GivesProgram, Verifies}
 use Rattle.image_file.specs.declared.faults.LoadFault.{LoadFault}
 use Rattle.image_file.specs.declared.records.Started.{Started}
 use Rattle.image_file.specs.Least.{is_fault_less, fault_of_pair, with_faults}
@@ -32,15 +32,15 @@ use Rattle.image_file.proofs.WholeLemmas.{image_noted, gives_image}
 abbrev Lens : Type 0
 Lens = Option (List (ℕ × ℕ))
 
-abbrev pub around_by : Lens → List BlockSignature → BlockRecord → Around
+abbrev pub around_by : Lens → List BlockSignature → BlockRecord → Environment
 around_by lens signatures b = record { kind = b.kind; local_len = b.local_len; params = b.params; blocks = signatures; data_lens = lens }
 
 pub checked_next : (lens : Lens) (signatures : List BlockSignature) (all : List BlockRecord) (bs : List Started) (i : ℕ) (s : Started) (least mid : Option LoadFault) → i < length bs → s ≡ get_or bs i s → signatures ≡ map signature_of all
     → mid ≡ with_faults least (block_faults (around_by lens signatures s.block) s.start s.block.code) → with_faults mid (op_faults_of_blocks lens all (map started_block (drop (i + 1) bs))) ≡ with_faults least (op_faults_of_blocks lens all (map started_block (drop i bs)))
 checked_next lens signatures all bs i s least mid lt is known m =
-    let here : mid ≡ with_faults least (block_faults (around_block lens all s.block) s.start s.block.code) = m ∙ ap (λ (z : List BlockSignature). with_faults least (block_faults (around_by lens z s.block) s.start s.block.code)) known in
+    let here : mid ≡ with_faults least (block_faults (environment_of_block lens all s.block) s.start s.block.code) = m ∙ ap (λ (z : List BlockSignature). with_faults least (block_faults (around_by lens z s.block) s.start s.block.code)) known in
     ap (λ (z : Option LoadFault). with_faults z (op_faults_of_blocks lens all (map started_block (drop (i + 1) bs)))) here
-    ∙ sym (with_more least (block_faults (around_block lens all s.block) s.start s.block.code) (op_faults_of_blocks lens all (map started_block (drop (i + 1) bs))))
+    ∙ sym (with_more least (block_faults (environment_of_block lens all s.block) s.start s.block.code) (op_faults_of_blocks lens all (map started_block (drop (i + 1) bs))))
     ∙ sym (ap (λ (z : List Started). with_faults least (op_faults_of_blocks lens all (map started_block z))) (drop_next bs i s lt is))
 
 pub checked_done : (lens : Lens) (all : List BlockRecord) (bs : List Started) (i : ℕ) (least : Option LoadFault) → length bs ≤ i → least ≡ with_faults least (op_faults_of_blocks lens all (map started_block (drop i bs)))
@@ -49,23 +49,23 @@ checked_done lens all bs i least le = rw (drop_of_length-le bs {i = i} le) refl
 
 -- ---- what one pass keeps
 
-wholes_kept : (bs : List (ℕ × BlockRecord)) (notes : List Note) → with_wholes bs notes ≡ bs ++ wholes notes
+wholes_kept : (bs : List (ℕ × BlockRecord)) (notes : List Note) → with_wholes bs notes ≡ bs ++ whole_blocks notes
 wholes_kept bs [] = sym (append-nil bs)
 wholes_kept bs (Faulty at code ∷ notes) = wholes_kept bs notes
-wholes_kept bs (Whole start block ∷ notes) = wholes_kept (bs ++ (start, block) ∷ []) notes ∙ append_assoc bs ((start, block) ∷ []) (wholes notes)
+wholes_kept bs (Whole start block ∷ notes) = wholes_kept (bs ++ (start, block) ∷ []) notes ∙ append_assoc bs ((start, block) ∷ []) (whole_blocks notes)
 wholes_kept bs (AllBlocks datas ∷ notes) = wholes_kept bs notes
 
-later_some : (d : Option (List DataBlock)) (l : List DataBlock) (a : Option (List DataBlock)) → later (Some l) a ≡ later d (later (Some l) a)
+later_some : (d : Option (List DataBlock)) (l : List DataBlock) (a : Option (List DataBlock)) → later_data_blocks (Some l) a ≡ later_data_blocks d (later_data_blocks (Some l) a)
 later_some d l None = refl
 later_some d l (Some m) = refl
 
-datas_kept : (d : Option (List DataBlock)) (notes : List Note) → with_all d notes ≡ later d (all_blocks notes)
+datas_kept : (d : Option (List DataBlock)) (notes : List Note) → with_all d notes ≡ later_data_blocks d (all_blocks notes)
 datas_kept d [] = refl
 datas_kept d (Faulty at code ∷ notes) = datas_kept d notes
 datas_kept d (Whole start block ∷ notes) = datas_kept d notes
 datas_kept d (AllBlocks found ∷ notes) = datas_kept (Some found) notes ∙ later_some d found (all_blocks notes)
 
-later_none : (a : Option (List DataBlock)) → later None a ≡ a
+later_none : (a : Option (List DataBlock)) → later_data_blocks None a ≡ a
 later_none None = refl
 later_none (Some l) = refl
 
@@ -75,7 +75,7 @@ empty_log = record { least = None; blocks = []; datas = None }
 -- reading told all that it kept
 record Kept (text : List ℕ) (log : Log) : Type 0 where
   least : log.least ≡ with_faults None (faults_in (read_image text).notes)
-  blocks : log.blocks ≡ wholes (read_image text).notes
+  blocks : log.blocks ≡ whole_blocks (read_image text).notes
   datas : log.datas ≡ all_blocks (read_image text).notes
 
 kept_by : (text : List ℕ) (log : Log) → log ≡ log_after empty_log (read_image text).notes → Kept text log
@@ -117,8 +117,8 @@ least_of found r text result h e =
     let lens : Lens = option_map lens_of (log_of r).datas in
     e ∙ ap (λ (z : Option LoadFault). with_faults z (checked_faults (log_of r))) k.least
     ∙ ap (λ (z : List (ℕ × BlockRecord)). with_faults (with_faults None (faults_in notes)) (op_faults_of_blocks lens (blocks_of z) z)) k.blocks
-    ∙ ap (λ (z : Option (List DataBlock)). with_faults (with_faults None (faults_in notes)) (op_faults_of_blocks (option_map lens_of z) (blocks_of (wholes notes)) (wholes notes))) k.datas
-    ∙ sym (with_more None (faults_in notes) (op_faults_of_blocks (option_map lens_of (all_blocks notes)) (blocks_of (wholes notes)) (wholes notes)))
+    ∙ ap (λ (z : Option (List DataBlock)). with_faults (with_faults None (faults_in notes)) (op_faults_of_blocks (option_map lens_of z) (blocks_of (whole_blocks notes)) (whole_blocks notes))) k.datas
+    ∙ sym (with_more None (faults_in notes) (op_faults_of_blocks (option_map lens_of (all_blocks notes)) (blocks_of (whole_blocks notes)) (whole_blocks notes)))
 
 -- ---- bytes without fault
 
@@ -146,7 +146,7 @@ never_ends text bs ds none h = image_ends text h (fields_clean text none)
 
 -- what the bytes without fault give
 pub record Loads (text : List ℕ) (bs : List (ℕ × BlockRecord)) (stamp : Stamp) (p : Program) : Type 0 where
-  pub gives : Gives text stamp p
+  pub gives : GivesProgram text stamp p
   pub program : IsProgram p
   pub verifies : Verifies p
   pub few : AreFew (blocks_of bs)
@@ -160,7 +160,7 @@ has_datas text bs found are none h =
 pub loads : (text : List ℕ) (bs : List (ℕ × BlockRecord)) (ds : List DataBlock) (stamp : Stamp) (ns : List NameRecord) → IsBytes text → faults_of text ≡ [] → HasFound text bs (Some ds) (Some (stamp, ns)) → Loads text bs stamp (program_from bs ds ns)
 loads text bs ds stamp ns are none h =
     let p = program_of_records h.0 in
-    let gives : Gives text stamp p = record { end = h.1; found = h.2; clean = none } in
+    let gives : GivesProgram text stamp p = record { end = h.1; found = h.2; clean = none } in
     let is = gives_image text stamp p are gives in
     let m = image_noted text stamp p h.1 are h.2 (fields_clean text none) in
     let raws : blocks_of bs ≡ map record_of_block p.code_blocks = ap blocks_of h.4 ∙ m.codes in
@@ -169,7 +169,7 @@ loads text bs ds stamp ns are none h =
     let named : map entry_of_name ns ≡ p.names = ap (map entry_of_name) (sym h.3) in
     let same : p ≡ program_from bs ds ns = sym (programs codes datas named) in
     record {
-      gives = subst (Gives text stamp) same gives;
+      gives = subst (GivesProgram text stamp) same gives;
       program = subst IsProgram same is.program;
       verifies = subst Verifies same is.verifies;
       few = subst AreFew (sym raws) (program_few p is.program);

@@ -7,7 +7,7 @@ use Rattle.std.proofs.lemmas.List.{append-nil}
 use Rattle.std.proofs.lemmas.Option.{same_Some}
 use Rattle.plc_base.proofs.ListLemmas.{drop_next, get_past}
 use Rattle.flat_code.proofs.OpLemmas.{op_again}
-use Rattle.flat_code.specs.Codes.{size, code_bytes, are_ops}
+use Rattle.flat_code.specs.Codes.{size_of_op, code_bytes, are_ops}
 use Rattle.flat_code.specs.Image.{end_marks}
 use Rattle.flat_code.specs.Ops.{OpData, IsOp, is_op, op_at, op_bytes}
 use Rattle.flat_code.specs.Placed.{op_placed, line_placed}
@@ -19,12 +19,12 @@ use Rattle.image_file.proofs.CheckLemmas.{code_len}
 
 -- ---- ops and their bytes
 
-size_is : (op : OpData) → length (op_bytes op) ≡ size op
-unfolding size
+size_is : (op : OpData) → length (op_bytes op) ≡ size_of_op op
+unfolding size_of_op
 size_is op = refl
 
-pub two_bytes : (op : OpData) → 2 ≤ size op
-unfolding size op_bytes
+pub two_bytes : (op : OpData) → 2 ≤ size_of_op op
+unfolding size_of_op op_bytes
 two_bytes op = omega arith
 
 -- a statement takes two bytes at least
@@ -44,12 +44,12 @@ few_statements (op ∷ ops) =
 op_before : (from : ℕ) (ops : List OpData) (at : ℕ) → at < from → op_placed from ops at ≡ None
 op_before from [] at less = refl
 op_before from (op ∷ ops) at less =
-    rw (ne_eqb from at (omega (arith, less))) (op_before (from + size op) ops at (omega (arith, less)))
+    rw (ne_eqb from at (omega (arith, less))) (op_before (from + size_of_op op) ops at (omega (arith, less)))
 
 line_before : (from : ℕ) (begins : Bool) (ops : List OpData) (lines : List ℕ) (at : ℕ) → at < from → line_placed from begins ops lines at ≡ None
 line_before from begins [] lines at less = refl
 line_before from begins (op ∷ ops) lines at less =
-    rw (ne_eqb from at (omega (arith, less))) (line_before (from + size op) op.last ops (cond op.last (drop 1 lines) lines) at (omega (arith, less)))
+    rw (ne_eqb from at (omega (arith, less))) (line_before (from + size_of_op op) op.last ops (cond op.last (drop 1 lines) lines) at (omega (arith, less)))
 
 -- ---- where an offset lies behind the first byte of an op
 
@@ -81,7 +81,7 @@ behind (suc n) i e more =
 -- the op and the offset behind it, where a mark says that one begins
 abbrev pub op_marked : (mark : Option ℕ) → (at : ℕ) → Option (OpData × List ℕ) → Option (OpData × ℕ)
 op_marked None at found = None
-op_marked (Some mark) at found = cond (eqb mark no_index) None (option_map (λ r. (r.0, at + size r.0)) found)
+op_marked (Some mark) at found = cond (eqb mark no_index) None (option_map (λ r. (r.0, at + size_of_op r.0)) found)
 
 -- a mark tells what ops have at an offset, and where it says that an op begins there bytes begin with one
 pub record Tells (mark : Option ℕ) (at : ℕ) (found : Option (OpData × List ℕ)) (placed : Option (OpData × ℕ)) : Type 0 where
@@ -96,7 +96,7 @@ counted : (last : Bool) (n rest : ℕ) → n + (cond last 1 0 + rest) ≡ cond l
 counted true n rest = omega arith
 counted false n rest = omega arith
 
-first_tells : (from n : ℕ) (begins : Bool) (op : OpData) (rest : List ℕ) → IsOp op → n < no_index → Tells (Some (cond begins n inside_mark)) from (op_at (op_bytes op ++ rest)) (Some (op, from + size op))
+first_tells : (from n : ℕ) (begins : Bool) (op : OpData) (rest : List ℕ) → IsOp op → n < no_index → Tells (Some (cond begins n inside_mark)) from (op_at (op_bytes op ++ rest)) (Some (op, from + size_of_op op))
 first_tells from n begins op rest is few =
     rw (op_again op rest is) (record { is = rw (first_mark begins n few) refl; known = λ m same there. refl })
 
@@ -108,27 +108,27 @@ marks_tell from n begins (op ∷ ops) zero are few =
     rw here (rw (eq-eqb from from refl) (first_tells from n begins op (code_bytes ops) parts.0 (omega (arith, few))))
 marks_tell from n begins (op ∷ ops) (suc j) are few =
     rw (ne_eqb from (from + suc j) (omega arith))
-    (by (within (size op - 1) j)
-    (λ i. marks_tell (from + size op) (cond op.last (suc n) n) op.last ops i (and_parts (is_op op.code op.operand) (are_ops ops) are).1
+    (by (within (size_of_op op - 1) j)
+    (λ i. marks_tell (from + size_of_op op) (cond op.last (suc n) n) op.last ops i (and_parts (is_op op.code op.operand) (are_ops ops) are).1
     (subst (λ (k : ℕ). k < no_index) (counted op.last n (end_marks ops)) few)))
   where
     rest : List ℕ
     rest = marks_from (cond op.last (suc n) n) op.last ops
 
-    by : Within (size op - 1) j
-        → ((i : ℕ) → Tells (slice_get rest i) (from + size op + i) (op_at (drop i (code_bytes ops))) (op_placed (from + size op) ops (from + size op + i)))
-        → Tells (slice_get (replicate (size op - 1) no_index ++ rest) j) (from + suc j) (op_at (drop (suc j) (op_bytes op ++ code_bytes ops))) (op_placed (from + size op) ops (from + suc j))
+    by : Within (size_of_op op - 1) j
+        → ((i : ℕ) → Tells (slice_get rest i) (from + size_of_op op + i) (op_at (drop i (code_bytes ops))) (op_placed (from + size_of_op op) ops (from + size_of_op op + i)))
+        → Tells (slice_get (replicate (size_of_op op - 1) no_index ++ rest) j) (from + suc j) (op_at (drop (suc j) (op_bytes op ++ code_bytes ops))) (op_placed (from + size_of_op op) ops (from + suc j))
     by (inl less) next =
-        rw (in_front (size op - 1) j no_index rest less)
+        rw (in_front (size_of_op op - 1) j no_index rest less)
         (record {
-          is = op_before (from + size op) ops (from + suc j) (omega (arith, less, two_bytes op));
+          is = op_before (from + size_of_op op) ops (from + suc j) (omega (arith, less, two_bytes op));
           known = λ m same there. absurd cc;
         })
     by (inr past) next =
         let i : ℕ = past.0 in
-        let there : from + suc j ≡ from + size op + i = omega (arith, past.1, two_bytes op) in
-        let mark : slice_get (replicate (size op - 1) no_index ++ rest) j ≡ slice_get rest i =
-        ap (slice_get (replicate (size op - 1) no_index ++ rest)) past.1 ∙ behind (size op - 1) i no_index rest in
+        let there : from + suc j ≡ from + size_of_op op + i = omega (arith, past.1, two_bytes op) in
+        let mark : slice_get (replicate (size_of_op op - 1) no_index ++ rest) j ≡ slice_get rest i =
+        ap (slice_get (replicate (size_of_op op - 1) no_index ++ rest)) past.1 ∙ behind (size_of_op op - 1) i no_index rest in
         let place : suc j ≡ length (op_bytes op) + i = omega (arith, past.1, two_bytes op, size_is op) in
         let bytes : drop (suc j) (op_bytes op ++ code_bytes ops) ≡ drop i (code_bytes ops) =
         ap (λ (k : ℕ). drop k (op_bytes op ++ code_bytes ops)) place ∙ drop-append-add (op_bytes op) (code_bytes ops) i in
@@ -163,9 +163,9 @@ lines_tell from n begins (op ∷ ops) lines zero few =
     rw (eq-eqb from (from + 0) (omega arith)) (line_here begins n lines few)
 lines_tell from n begins (op ∷ ops) lines (suc j) few =
     rw (ne_eqb from (from + suc j) (omega arith))
-    (by (within (size op - 1) j)
-    (λ i. ap (λ (left : List ℕ). line_placed (from + size op) op.last ops left (from + size op + i)) (lines_left op.last n lines)
-    ∙ lines_tell (from + size op) (cond op.last (suc n) n) op.last ops lines i few))
+    (by (within (size_of_op op - 1) j)
+    (λ i. ap (λ (left : List ℕ). line_placed (from + size_of_op op) op.last ops left (from + size_of_op op + i)) (lines_left op.last n lines)
+    ∙ lines_tell (from + size_of_op op) (cond op.last (suc n) n) op.last ops lines i few))
   where
     rest : List ℕ
     rest = marks_from (cond op.last (suc n) n) op.last ops
@@ -173,17 +173,17 @@ lines_tell from n begins (op ∷ ops) lines (suc j) few =
     left : List ℕ
     left = cond op.last (drop 1 (drop n lines)) (drop n lines)
 
-    by : Within (size op - 1) j
-        → ((i : ℕ) → line_placed (from + size op) op.last ops left (from + size op + i) ≡ line_marked (slice_get rest i) lines)
-        → line_placed (from + size op) op.last ops left (from + suc j) ≡ line_marked (slice_get (replicate (size op - 1) no_index ++ rest) j) lines
+    by : Within (size_of_op op - 1) j
+        → ((i : ℕ) → line_placed (from + size_of_op op) op.last ops left (from + size_of_op op + i) ≡ line_marked (slice_get rest i) lines)
+        → line_placed (from + size_of_op op) op.last ops left (from + suc j) ≡ line_marked (slice_get (replicate (size_of_op op - 1) no_index ++ rest) j) lines
     by (inl less) next =
-        rw (in_front (size op - 1) j no_index rest less)
-        (line_before (from + size op) op.last ops left (from + suc j) (omega (arith, less, two_bytes op)) ∙ sym (get_past lines no_index (omega (arith, few))))
+        rw (in_front (size_of_op op - 1) j no_index rest less)
+        (line_before (from + size_of_op op) op.last ops left (from + suc j) (omega (arith, less, two_bytes op)) ∙ sym (get_past lines no_index (omega (arith, few))))
     by (inr past) next =
         let i : ℕ = past.0 in
-        let there : from + suc j ≡ from + size op + i = omega (arith, past.1, two_bytes op) in
-        let mark : slice_get (replicate (size op - 1) no_index ++ rest) j ≡ slice_get rest i =
-        ap (slice_get (replicate (size op - 1) no_index ++ rest)) past.1 ∙ behind (size op - 1) i no_index rest in
+        let there : from + suc j ≡ from + size_of_op op + i = omega (arith, past.1, two_bytes op) in
+        let mark : slice_get (replicate (size_of_op op - 1) no_index ++ rest) j ≡ slice_get rest i =
+        ap (slice_get (replicate (size_of_op op - 1) no_index ++ rest)) past.1 ∙ behind (size_of_op op - 1) i no_index rest in
         rw mark (rw there (next i))
 
 -- ---- what the readers give
@@ -211,10 +211,10 @@ op_nowhere b bytes marks lines at mark h there is =
 pub op_known : (b : CodeBlock) (bytes marks lines : List ℕ) (at mark : ℕ) → IsInPlace b bytes marks lines → slice_get marks at ≡ Some mark → (mark ≡ no_index → ⊥) → is_some (op_at (drop at bytes)) ≡ true
 op_known b bytes marks lines at mark h there begins = (tells b bytes marks lines at h).known mark there (ne_eqb mark no_index begins)
 
-pub op_there : (b : CodeBlock) (bytes marks lines : List ℕ) (at mark : ℕ) → IsInPlace b bytes marks lines → slice_get marks at ≡ Some mark → (mark ≡ no_index → ⊥) → op_placed 0 b.code at ≡ option_map (λ r. (r.0, at + size r.0)) (op_at (drop at bytes))
+pub op_there : (b : CodeBlock) (bytes marks lines : List ℕ) (at mark : ℕ) → IsInPlace b bytes marks lines → slice_get marks at ≡ Some mark → (mark ≡ no_index → ⊥) → op_placed 0 b.code at ≡ option_map (λ r. (r.0, at + size_of_op r.0)) (op_at (drop at bytes))
 op_there b bytes marks lines at mark h there begins =
     (tells b bytes marks lines at h).is ∙ ap (λ (m : Option ℕ). op_marked m at (op_at (drop at bytes))) there
-    ∙ ap (λ (t : Bool). cond t None (option_map (λ (r : OpData × List ℕ). (r.0, at + size r.0)) (op_at (drop at bytes)))) (ne_eqb mark no_index begins)
+    ∙ ap (λ (t : Bool). cond t None (option_map (λ (r : OpData × List ℕ). (r.0, at + size_of_op r.0)) (op_at (drop at bytes)))) (ne_eqb mark no_index begins)
 
 -- the line of a statement is that of its number
 pub line_by_mark : (b : CodeBlock) (bytes marks lines : List ℕ) (at : ℕ) → IsInPlace b bytes marks lines → option_and_then (λ mark. slice_get lines mark) (slice_get marks at) ≡ line_placed 0 true b.code b.lines at
@@ -259,7 +259,7 @@ pub made_none : (ops : List OpData) (bytes marks : List ℕ) → bytes ≡ [] �
 made_none ops bytes marks b m = rw b (rw m (record { bytes_left = refl; marks_left = refl; ops_left = λ h. h; count = omega arith }))
 
 pub made_more : (ops : List OpData) (i statements next : ℕ) (begins last : Bool) (bytes marks more_bytes more_marks : List ℕ) (mark : ℕ) (op : OpData) → i < length ops → op ≡ get_or ops i op → IsOp op → mark ≡ cond begins statements inside_mark
-    → more_bytes ≡ bytes ++ op_bytes op → more_marks ≡ marks ++ mark ∷ replicate (size op - 1) no_index → last ≡ op.last → next ≡ cond last (suc statements) statements
+    → more_bytes ≡ bytes ++ op_bytes op → more_marks ≡ marks ++ mark ∷ replicate (size_of_op op - 1) no_index → last ≡ op.last → next ≡ cond last (suc statements) statements
     → IsMade ops i statements begins bytes marks → IsMade ops (i + 1) next last more_bytes more_marks
 made_more ops i statements next begins last bytes marks more_bytes more_marks mark op lt is valid mark_is b m l n h =
     let cut : drop i ops ≡ op ∷ drop (i + 1) ops = drop_next ops i op lt is in
@@ -271,10 +271,10 @@ made_more ops i statements next begins last bytes marks more_bytes more_marks ma
           ∙ sym (ap (λ (z : List OpData). bytes ++ code_bytes z) cut) ∙ h.bytes_left;
       marks_left =
           ap (λ (z : List ℕ). z ++ marks_from next last left) m
-          ∙ append_assoc marks (mark ∷ replicate (size op - 1) no_index) (marks_from next last left)
-          ∙ ap (λ (k : ℕ). marks ++ k ∷ (replicate (size op - 1) no_index ++ marks_from next last left)) mark_is
-          ∙ ap (λ (k : ℕ). marks ++ cond begins statements inside_mark ∷ (replicate (size op - 1) no_index ++ marks_from k last left)) number
-          ∙ ap (λ (t : Bool). marks ++ cond begins statements inside_mark ∷ (replicate (size op - 1) no_index ++ marks_from (cond op.last (suc statements) statements) t left)) l
+          ∙ append_assoc marks (mark ∷ replicate (size_of_op op - 1) no_index) (marks_from next last left)
+          ∙ ap (λ (k : ℕ). marks ++ k ∷ (replicate (size_of_op op - 1) no_index ++ marks_from next last left)) mark_is
+          ∙ ap (λ (k : ℕ). marks ++ cond begins statements inside_mark ∷ (replicate (size_of_op op - 1) no_index ++ marks_from k last left)) number
+          ∙ ap (λ (t : Bool). marks ++ cond begins statements inside_mark ∷ (replicate (size_of_op op - 1) no_index ++ marks_from (cond op.last (suc statements) statements) t left)) l
           ∙ sym (ap (λ (z : List OpData). marks ++ marks_from statements begins z) cut) ∙ h.marks_left;
       ops_left = λ are. h.ops_left (ap are_ops cut ∙ and_from (is_op op.code op.operand) (are_ops left) valid are);
       count = more op.last number (ap end_marks cut);
@@ -314,9 +314,9 @@ placed_behind from [] rest = rw (from_zero from) refl
     from_zero : (k : ℕ) → k + 0 ≡ k
     from_zero k = omega arith
 placed_behind from (op ∷ front) rest =
-    let end : from + length (code_bytes (op ∷ front)) ≡ from + size op + length (code_bytes front) = omega (arith, code_len op front) in
+    let end : from + length (code_bytes (op ∷ front)) ≡ from + size_of_op op + length (code_bytes front) = omega (arith, code_len op front) in
     rw (ne_eqb from (from + length (code_bytes (op ∷ front))) (omega (arith, code_len op front, two_bytes op)))
-    (rw end (placed_behind (from + size op) front rest))
+    (rw end (placed_behind (from + size_of_op op) front rest))
 
 bytes_long : (front rest : List OpData) → length (code_bytes (front ++ rest)) ≡ length (code_bytes front) + length (code_bytes rest)
 bytes_long [] rest = omega arith
@@ -334,10 +334,10 @@ front_more ops all now at next op found is h = by h.rest refl (sym (placed_at op
     by : (rest : List OpData) → h.rest ≡ rest → op_placed at rest at ≡ Some (op, next) → IsFront now all next × (at < next) × (next ≤ length (code_bytes all))
     by [] e there = absurd cc
     by (o ∷ rest) e there =
-        let here : ◌≡◌ {A = Option (OpData × ℕ)} (Some (o, at + size o)) (Some (op, next)) = sym (rw (eq-eqb at at refl) refl) ∙ there in
-        let pair = same_Some (o, at + size o) (op, next) here in
+        let here : ◌≡◌ {A = Option (OpData × ℕ)} (Some (o, at + size_of_op o)) (Some (op, next)) = sym (rw (eq-eqb at at refl) refl) ∙ there in
+        let pair = same_Some (o, at + size_of_op o) (op, next) here in
         let op_is : o ≡ op = ap (λ (z : OpData × ℕ). z.0) pair in
-        let next_is : at + size o ≡ next = ap (λ (z : OpData × ℕ). z.1) pair in
+        let next_is : at + size_of_op o ≡ next = ap (λ (z : OpData × ℕ). z.1) pair in
         let all_is : ops ++ o ∷ rest ≡ all = ap (λ (z : List OpData). ops ++ z) (sym e) ∙ h.whole in
         let end : length (code_bytes (ops ++ o ∷ [])) ≡ length (code_bytes ops) + length (code_bytes (o ∷ [])) = bytes_long ops (o ∷ []) in
         let one = code_len o [] in
@@ -361,5 +361,5 @@ front_all ops all at none h = by h.rest refl (sym (placed_at ops all at h) ∙ n
     by : (rest : List OpData) → h.rest ≡ rest → op_placed at rest at ≡ None → ops ≡ all
     by [] e there = sym (append-nil ops) ∙ ap (λ (z : List OpData). ops ++ z) (sym e) ∙ h.whole
     by (o ∷ rest) e there =
-        let met : ◌≡◌ {A = Option (OpData × ℕ)} None (Some (o, at + size o)) = sym there ∙ rw (eq-eqb at at refl) refl in
+        let met : ◌≡◌ {A = Option (OpData × ℕ)} None (Some (o, at + size_of_op o)) = sym there ∙ rw (eq-eqb at at refl) refl in
         absurd cc

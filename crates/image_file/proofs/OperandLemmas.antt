@@ -21,8 +21,8 @@ use Rattle.flat_code.specs.Programs.{CodeBlock, Program}
 use Rattle.flat_code.specs.Image.{record_of_param, record_of_block}
 use Rattle.flat_code.specs.Loading.{lens_of}
 use Rattle.flat_code.specs.Table.{takes_of, has_memory_width}
-use Rattle.flat_code.specs.Placed.{Placed, spots, begins, last_op}
-use Rattle.flat_code.specs.Blocks.{signature_of, CalleeSeen, block_with, callee, is_odd_bit, is_past_locals, is_bad_place, lacks_width, writes_operand, parameter_meant, lacks_own, is_in_parameter, is_in_db, is_above, pass_before, is_stray_pass, is_bad_actual, misfits_index, misfits_callee, misfits_call, are_passed, is_bad_instance, is_bad_call, seven_if, operand_fault, call_fault_among}
+use Rattle.flat_code.specs.Placed.{PlacedOp, statement_spots, begins_its_statement, last_op}
+use Rattle.flat_code.specs.Blocks.{signature_of, CalleeSeen, block_with, callee_among, is_odd_bit, is_past_locals, is_bad_place, lacks_width, writes_operand, parameter_meant, lacks_own_parameter, is_in_parameter, is_in_db, is_above, pass_before, is_stray_pass, is_bad_actual, misfits_index, misfits_callee, misfits_call, are_all_passed, is_bad_instance, is_bad_call, seven_if, operand_fault, call_fault_among}
 use Rattle.image_file.specs.Readers.{is_same_id, block_by_id}
 use Rattle.image_file.specs.Verified.{IsVerifiedOp, LiesWithin, HasParam, FitsOperand, FitsPassed, FitsPrepared, block_signatures, FitsCall, FitsParameter, IsCalledBlock}
 use Rattle.image_file.proofs.ImageLemmas.{width_there}
@@ -60,10 +60,10 @@ record Has (b : CodeBlock) (index : ℕ) (w : Width) (own : Option ParameterReco
   has : HasParam b index w param
   own_is : own ≡ Some (record_of_param param)
 
-has_param : (p : Program) (b : CodeBlock) (index : ℕ) (w : Width) → lacks_own (parameter_meant (around_in p b) index) w ≡ false → Has b index w (parameter_meant (around_in p b) index)
+has_param : (p : Program) (b : CodeBlock) (index : ℕ) (w : Width) → lacks_own_parameter (parameter_meant (around_in p b) index) w ≡ false → Has b index w (parameter_meant (around_in p b) index)
 has_param p b index w e = by_kind (eqb (kind_number b.id.kind) 2) refl e
   where
-    by_param : (o : Option Param) → slice_get b.params index ≡ o → eqb (kind_number b.id.kind) 2 ≡ true → lacks_own (option_map record_of_param o) w ≡ false → Has b index w (option_map record_of_param o)
+    by_param : (o : Option Param) → slice_get b.params index ≡ o → eqb (kind_number b.id.kind) 2 ≡ true → lacks_own_parameter (option_map record_of_param o) w ≡ false → Has b index w (option_map record_of_param o)
     by_param None is kind l = absurd cc
     by_param (Some param) is kind l =
         let same = eqb-true (width_number param.width) (width_number w) (not-false (eqb (width_number param.width) (width_number w)) l) in
@@ -73,16 +73,16 @@ has_param p b index w e = by_kind (eqb (kind_number b.id.kind) 2) refl e
           own_is = refl;
         }
 
-    by_kind : (k : Bool) → eqb (kind_number b.id.kind) 2 ≡ k → lacks_own (cond k (slice_get (map record_of_param b.params) index) None) w ≡ false → Has b index w (cond k (slice_get (map record_of_param b.params) index) None)
+    by_kind : (k : Bool) → eqb (kind_number b.id.kind) 2 ≡ k → lacks_own_parameter (cond k (slice_get (map record_of_param b.params) index) None) w ≡ false → Has b index w (cond k (slice_get (map record_of_param b.params) index) None)
     by_kind false kind l = absurd cc
     by_kind true kind l =
         let there = slice_get-map record_of_param b.params index in
-        subst (λ (z : Option ParameterRecord). Has b index w z) (sym there) (by_param (slice_get b.params index) refl kind (subst (λ (z : Option ParameterRecord). lacks_own z w ≡ false) there l))
+        subst (λ (z : Option ParameterRecord). Has b index w z) (sym there) (by_param (slice_get b.params index) refl kind (subst (λ (z : Option ParameterRecord). lacks_own_parameter z w ≡ false) there l))
 
 not_written : (code section : ℕ) → (writes_operand code && eqb section 1) ≡ false → writes_operand code ≡ true → section ≡ 1 → ⊥
 not_written code section e w is = let f : true ≡ false = sym (rw (w, eq-eqb section 1 is) refl) ∙ e in absurd cc
 
-fits_operand : (p : Program) (b : CodeBlock) (q : Placed) (o : Operand) → operand_fault (around_in p b) (spots b.code) q o ≡ None → FitsOperand b q.op o
+fits_operand : (p : Program) (b : CodeBlock) (q : PlacedOp) (o : Operand) → operand_fault (around_in p b) (statement_spots b.code) q o ≡ None → FitsOperand b q.op o
 fits_operand p b q (operand.Direct a w byte bit) e =
     let s = or_parts (lacks_width q.op w) (is_bad_place (around_in p b) a w byte bit) (seven_none _ e) in
     let f = fits_place p b a w byte bit s.1 in
@@ -91,8 +91,8 @@ fits_operand p b q (operand.ByMemory a w from byte) e = not-false (has_memory_wi
 fits_operand p b q (operand.ByRegister a w register bits) e = not-false (has_memory_width (takes_of q.op.code) w) (seven_none _ e)
 fits_operand p b q (operand.Parameter index w) e =
     let own = parameter_meant (around_in p b) index in
-    let s = or_parts (lacks_width q.op w || lacks_own own w) (writes_operand q.op.code && is_in_parameter own) (seven_none _ e) in
-    let t = or_parts (lacks_width q.op w) (lacks_own own w) s.0 in
+    let s = or_parts (lacks_width q.op w || lacks_own_parameter own w) (writes_operand q.op.code && is_in_parameter own) (seven_none _ e) in
+    let t = or_parts (lacks_width q.op w) (lacks_own_parameter own w) s.0 in
     let h = has_param p b index w t.1 in
     (not-false (has_memory_width (takes_of q.op.code) w) t.0, h.param, h.has, not_written q.op.code h.param.section (ap (λ (z : Option ParameterRecord). writes_operand q.op.code && is_in_parameter z) (sym h.own_is) ∙ s.1))
 fits_operand p b q operand.Nothing e = tt
@@ -107,7 +107,7 @@ fits_operand p b q (operand.Called kind number instance) e = tt
 fits_operand p b q (operand.OpenBlock register number) e = tt
 fits_operand p b q (operand.OpenBy register from byte) e = tt
 
-pub operand_fits : (p : Program) (b : CodeBlock) (q : Placed) → IsVerifiedOp p b q → FitsOperand b q.op q.op.operand
+pub operand_fits : (p : Program) (b : CodeBlock) (q : PlacedOp) → IsVerifiedOp p b q → FitsOperand b q.op q.op.operand
 operand_fits p b q h = fits_operand p b q q.op.operand (op_none p b q h).operand
 
 -- ---- USEDB and PASS
@@ -124,10 +124,10 @@ fits_passed p b (passed.InBlock number area.M w byte bit) e = absurd cc
 fits_passed p b (passed.InBlock number area.Di w byte bit) e = absurd cc
 fits_passed p b (passed.InBlock number area.L w byte bit) e = absurd cc
 
-fits_prepared : (p : Program) (b : CodeBlock) (q : Placed) (o : Operand) → operand_fault (around_in p b) (spots b.code) q o ≡ None → FitsPrepared b q o
+fits_prepared : (p : Program) (b : CodeBlock) (q : PlacedOp) (o : Operand) → operand_fault (around_in p b) (statement_spots b.code) q o ≡ None → FitsPrepared b q o
 fits_prepared p b q (operand.UseDb number) e =
-    let s = or_parts (not (begins q)) (not (is_in_db (last_op q).operand)) (seven_none _ e) in
-    (not-false (begins q) s.0, not-false (is_in_db (last_op q).operand) s.1)
+    let s = or_parts (not (begins_its_statement q)) (not (is_in_db (last_op q).operand)) (seven_none _ e) in
+    (not-false (begins_its_statement q) s.0, not-false (is_in_db (last_op q).operand) s.1)
 fits_prepared p b q (operand.Pass index actual) e =
     let s = or_parts (is_stray_pass q index) (is_bad_actual (around_in p b) actual) (seven_none _ e) in
     let t = or_parts (not (eqb (last_op q).code 0x78)) (not (is_above index (pass_before None q.before))) s.0 in
@@ -146,18 +146,18 @@ fits_prepared p b q (operand.Called kind number instance) e = tt
 fits_prepared p b q (operand.OpenBlock register number) e = tt
 fits_prepared p b q (operand.OpenBy register from byte) e = tt
 
-pub prepared_fits : (p : Program) (b : CodeBlock) (q : Placed) → IsVerifiedOp p b q → FitsPrepared b q q.op.operand
+pub prepared_fits : (p : Program) (b : CodeBlock) (q : PlacedOp) → IsVerifiedOp p b q → FitsPrepared b q q.op.operand
 prepared_fits p b q h = fits_prepared p b q q.op.operand (op_none p b q h).operand
 
 -- ---- calls
 
-among : (p : Program) (b : CodeBlock) (q : Placed) (o : Operand) → IsVerifiedOp p b q → q.op.operand ≡ o → call_fault_among (around_in p b) (lens_of p.data_blocks) q o ≡ None
+among : (p : Program) (b : CodeBlock) (q : PlacedOp) (o : Operand) → IsVerifiedOp p b q → q.op.operand ≡ o → call_fault_among (around_in p b) (lens_of p.data_blocks) q o ≡ None
 among p b q o h is = subst (λ (z : Operand). call_fault_among (around_in p b) (lens_of p.data_blocks) q z ≡ None) is (op_none p b q h).call
 
-fits_call : (p : Program) (q : Placed) (kind number instance : ℕ) (found : Option CalleeSeen) → callee (block_signatures p) kind number ≡ found → is_bad_call (lens_of p.data_blocks) found instance q.before ≡ false → FitsCall p q kind number instance
+fits_call : (p : Program) (q : PlacedOp) (kind number instance : ℕ) (found : Option CalleeSeen) → callee_among (block_signatures p) kind number ≡ found → is_bad_call (lens_of p.data_blocks) found instance q.before ≡ false → FitsCall p q kind number instance
 fits_call p q kind number instance None is e = absurd cc
 fits_call p q kind number instance (Some s) is e =
-    let o = or_parts (not (eqb s.0 3) && not (are_passed 0 s.2 q.before)) (is_bad_instance (lens_of p.data_blocks) s instance) e in
+    let o = or_parts (not (eqb s.0 3) && not (are_all_passed 0 s.2 q.before)) (is_bad_instance (lens_of p.data_blocks) s instance) e in
     record {
       called = s;
       there = is;
@@ -165,22 +165,22 @@ fits_call p q kind number instance (Some s) is e =
       instance_fits = o.1;
     }
   where
-    passed_all : eqb s.0 3 ≡ false → (not (eqb s.0 3) && not (are_passed 0 s.2 q.before)) ≡ false → are_passed 0 s.2 q.before ≡ true
-    passed_all f e = not-false (are_passed 0 s.2 q.before) (rw f at e)
+    passed_all : eqb s.0 3 ≡ false → (not (eqb s.0 3) && not (are_all_passed 0 s.2 q.before)) ≡ false → are_all_passed 0 s.2 q.before ≡ true
+    passed_all f e = not-false (are_all_passed 0 s.2 q.before) (rw f at e)
 
-pub call_fits : (p : Program) (b : CodeBlock) (q : Placed) (kind number instance : ℕ) → IsVerifiedOp p b q → q.op.operand ≡ operand.Called kind number instance → FitsCall p q kind number instance
-call_fits p b q kind number instance h is = fits_call p q kind number instance (callee (block_signatures p) kind number) refl (seven_none _ (among p b q (operand.Called kind number instance) h is))
+pub call_fits : (p : Program) (b : CodeBlock) (q : PlacedOp) (kind number instance : ℕ) → IsVerifiedOp p b q → q.op.operand ≡ operand.Called kind number instance → FitsCall p q kind number instance
+call_fits p b q kind number instance h is = fits_call p q kind number instance (callee_among (block_signatures p) kind number) refl (seven_none _ (among p b q (operand.Called kind number instance) h is))
 
 fits_index : (p : Program) (b : CodeBlock) (called : CalleeSeen) (index : ℕ) (actual : Passed) (o : Option ParameterRecord) → slice_get called.2 index ≡ o → misfits_index (around_in p b) o actual ≡ false → FitsParameter p b called index actual
 fits_index p b called index actual None is e = absurd cc
 fits_index p b called index actual (Some parameter) is e = record { parameter = parameter; there = is; fits = e }
 
-pub passed_fits : (p : Program) (b : CodeBlock) (q : Placed) (index : ℕ) (actual : Passed) (kind number instance : ℕ) (called : CalleeSeen) → IsVerifiedOp p b q → q.op.operand ≡ operand.Pass index actual → (last_op q).operand ≡ operand.Called kind number instance → callee (block_signatures p) kind number ≡ Some called → FitsParameter p b called index actual
+pub passed_fits : (p : Program) (b : CodeBlock) (q : PlacedOp) (index : ℕ) (actual : Passed) (kind number instance : ℕ) (called : CalleeSeen) → IsVerifiedOp p b q → q.op.operand ≡ operand.Pass index actual → (last_op q).operand ≡ operand.Called kind number instance → callee_among (block_signatures p) kind number ≡ Some called → FitsParameter p b called index actual
 passed_fits p b q index actual kind number instance called h is last there =
-    let code = (fits_prepared p b q (operand.Pass index actual) (subst (λ (z : Operand). operand_fault (around_in p b) (spots b.code) q z ≡ None) is (op_none p b q h).operand)).0 in
+    let code = (fits_prepared p b q (operand.Pass index actual) (subst (λ (z : Operand). operand_fault (around_in p b) (statement_spots b.code) q z ≡ None) is (op_none p b q h).operand)).0 in
     let bad = seven_none _ (among p b q (operand.Pass index actual) h is) in
     let here : misfits_call (around_in p b) (last_op q).operand index actual ≡ false = rw (eq-eqb (last_op q).code 0x78 code) at bad in
-    let whom : misfits_callee (around_in p b) (callee (block_signatures p) kind number) index actual ≡ false = subst (λ (z : Operand). misfits_call (around_in p b) z index actual ≡ false) last here in
+    let whom : misfits_callee (around_in p b) (callee_among (block_signatures p) kind number) index actual ≡ false = subst (λ (z : Operand). misfits_call (around_in p b) z index actual ≡ false) last here in
     fits_index p b called index actual (slice_get called.2 index) refl (subst (λ (z : Option CalleeSeen). misfits_callee (around_in p b) z index actual ≡ false) there whom)
 
 -- what is called among blocks
@@ -222,14 +222,14 @@ function_blocks_agree kinds.Db = refl
 function_blocks_agree kinds.Sfc = refl
 function_blocks_agree kinds.Udt = refl
 
-function_there : (p : Program) (number : ℕ) (called : CalleeSeen) → callee (block_signatures p) 2 number ≡ Some called → IsCalledBlock p 2 number called
-unfolding callee
+function_there : (p : Program) (number : ℕ) (called : CalleeSeen) → callee_among (block_signatures p) 2 number ≡ Some called → IsCalledBlock p 2 number called
+unfolding callee_among
 function_there p number called e = let f = found_in p.code_blocks (record { kind = kinds.Fc; number = number }) 2 called functions_agree e in record { block = f.block; there = f.there; same = f.same }
 
-function_block_there : (p : Program) (number : ℕ) (called : CalleeSeen) → callee (block_signatures p) 3 number ≡ Some called → IsCalledBlock p 3 number called
-unfolding callee
+function_block_there : (p : Program) (number : ℕ) (called : CalleeSeen) → callee_among (block_signatures p) 3 number ≡ Some called → IsCalledBlock p 3 number called
+unfolding callee_among
 function_block_there p number called e = let f = found_in p.code_blocks (record { kind = kinds.Fb; number = number }) 3 called function_blocks_agree e in record { block = f.block; there = f.there; same = f.same }
 
-pub called_there : (p : Program) (kind number : ℕ) (called : CalleeSeen) → (kind ≡ 2) ⊎ (kind ≡ 3) → callee (block_signatures p) kind number ≡ Some called → IsCalledBlock p kind number called
-called_there p kind number called (inl is) e = subst (λ (k : ℕ). IsCalledBlock p k number called) (sym is) (function_there p number called (subst (λ (k : ℕ). callee (block_signatures p) k number ≡ Some called) is e))
-called_there p kind number called (inr is) e = subst (λ (k : ℕ). IsCalledBlock p k number called) (sym is) (function_block_there p number called (subst (λ (k : ℕ). callee (block_signatures p) k number ≡ Some called) is e))
+pub called_there : (p : Program) (kind number : ℕ) (called : CalleeSeen) → (kind ≡ 2) ⊎ (kind ≡ 3) → callee_among (block_signatures p) kind number ≡ Some called → IsCalledBlock p kind number called
+called_there p kind number called (inl is) e = subst (λ (k : ℕ). IsCalledBlock p k number called) (sym is) (function_there p number called (subst (λ (k : ℕ). callee_among (block_signatures p) k number ≡ Some called) is e))
+called_there p kind number called (inr is) e = subst (λ (k : ℕ). IsCalledBlock p k number called) (sym is) (function_block_there p number called (subst (λ (k : ℕ). callee_among (block_signatures p) k number ≡ Some called) is e))

@@ -6,12 +6,12 @@ use Rattle.std.proofs.lemmas.List.{take-append-drop}
 use Rattle.plc_base.proofs.ListLemmas.{drop_next, nil_parts}
 use Rattle.flat_code.specs.declared.image_fields.Field.TheVariants.{StatementCount, Line}
 use Rattle.flat_code.specs.Ops.{OpData}
-use Rattle.flat_code.specs.Codes.{size, are_ops, code_bytes, code_fault, code_layout, ends_by_be, is_nowhere, last_place, overlong, stop_at}
-use Rattle.flat_code.specs.Blocks.{Around, BlockSignature, signature_of, at_offset, block_faults}
+use Rattle.flat_code.specs.Codes.{size_of_op, are_ops, code_bytes, code_fault, code_layout, ends_by_be, is_nowhere, last_place, overlong_statement, stop_at}
+use Rattle.flat_code.specs.Blocks.{Environment, BlockSignature, signature_of, at_offset, block_faults}
 use Rattle.flat_code.specs.Faults.{field_fault}
-use Rattle.flat_code.specs.Image.{end_marks, head_layout, head_of_block, parts_of_block, parameters, line_field, line_after, lines_layout, code_and_lines, block_rows, plain_block, code_block_layout, after_block, code_blocks, data_blocks_layout, counts_layout, parts_of_records, row_of_body_parts, body_rows, records, records_of, record_of_block, body, IsProgram, IsRight}
+use Rattle.flat_code.specs.Image.{end_marks, head_layout, head_of_block, parts_of_block, parameters_layout, line_field, line_after, lines_layout, code_and_lines, block_rows, plain_block, code_block_layout, after_block, code_blocks_layout, data_blocks_layout, counts_layout, parts_of_records, row_of_body_parts, body_rows, records_layout, records_of, record_of_block, body_layout, IsProgram, IsRight}
 use Rattle.flat_code.specs.Layout.{good_many, is_fine}
-use Rattle.flat_code.specs.Loading.{lens_of, around_block, AreVerified, Verifies}
+use Rattle.flat_code.specs.Loading.{lens_of, environment_of_block, AreVerified, Verifies}
 use Rattle.flat_code.specs.Programs.{CodeBlock, Program}
 use Rattle.flat_code.specs.Records.{BlockRecord}
 use Rattle.flat_code.proofs.PartLemmas.{GoodBlock}
@@ -27,13 +27,13 @@ use Rattle.image_file.proofs.RunLemmas.{with_more}
 
 -- ---- fault 5
 
-pub overlong_here : (count at i : ℕ) (ops : List OpData) (op : OpData) → i < length ops → op ≡ get_or ops i op → count ≡ 64 → Some at ≡ overlong count at (drop i ops)
+pub overlong_here : (count at i : ℕ) (ops : List OpData) (op : OpData) → i < length ops → op ≡ get_or ops i op → count ≡ 64 → Some at ≡ overlong_statement count at (drop i ops)
 overlong_here count at i ops op lt is full = rw (drop_next ops i op lt is, full) refl
 
-pub overlong_next : (count after at end i : ℕ) (ops : List OpData) (op : OpData) → i < length ops → op ≡ get_or ops i op → (count ≡ 64 → ⊥) → after ≡ cond op.last 0 (suc count) → end ≡ at + size op → overlong after end (drop (i + 1) ops) ≡ overlong count at (drop i ops)
+pub overlong_next : (count after at end i : ℕ) (ops : List OpData) (op : OpData) → i < length ops → op ≡ get_or ops i op → (count ≡ 64 → ⊥) → after ≡ cond op.last 0 (suc count) → end ≡ at + size_of_op op → overlong_statement after end (drop (i + 1) ops) ≡ overlong_statement count at (drop i ops)
 overlong_next count after at end i ops op lt is few after_is end_is = rw (drop_next ops i op lt is, ne_eqb count 64 few, after_is, end_is) refl
 
-pub overlong_done : (count at i : ℕ) (ops : List OpData) → length ops ≤ i → None ≡ overlong count at (drop i ops)
+pub overlong_done : (count at i : ℕ) (ops : List OpData) → length ops ≤ i → None ≡ overlong_statement count at (drop i ops)
 overlong_done count at i ops le = rw (drop_of_length-le ops {i = i} le) refl
 
 pub count_few : (count after : ℕ) (last : Bool) → (count ≡ 64 → ⊥) → count ≤ 64 → after ≡ cond last 0 (suc count) → after ≤ 64
@@ -82,11 +82,11 @@ lines_done least before i lines le = rw (drop_of_length-le lines {i = i} le) ref
 
 -- ---- the least fault of a block
 
-pub coded : (at : ℕ) (around : Around) (b : BlockRecord) → code_fault b.code ≡ Some at → Some (record { at = at; code = 5 }) ≡ with_faults None (faults_of_block around b)
+pub coded : (at : ℕ) (around : Environment) (b : BlockRecord) → code_fault b.code ≡ Some at → Some (record { at = at; code = 5 }) ≡ with_faults None (faults_of_block around b)
 unfolding with_faults
 coded at around b e = rw e refl
 
-pub uncoded : (first second last : Option LoadFault) (around : Around) (b : BlockRecord) → code_fault b.code ≡ None → first ≡ with_faults None (count_faults b) → second ≡ with_faults first (line_faults 0 b.lines) → last ≡ with_faults second (block_faults around 0 b.code) → last ≡ with_faults None (faults_of_block around b)
+pub uncoded : (first second last : Option LoadFault) (around : Environment) (b : BlockRecord) → code_fault b.code ≡ None → first ≡ with_faults None (count_faults b) → second ≡ with_faults first (line_faults 0 b.lines) → last ≡ with_faults second (block_faults around 0 b.code) → last ≡ with_faults None (faults_of_block around b)
 uncoded first second last around b none one two three =
     let lines = line_faults 0 b.lines in
     let ops = block_faults around 0 b.code in
@@ -108,15 +108,15 @@ decides : (b : CodeBlock) (f : LoadFault) (fs : List (ℕ × ℕ)) (Later : Type
 decides b f [] Later least = absurd least.one
 decides b f (g ∷ gs) Later least = (refl, least)
 
-pub found_here : (lens : Lens) (all : List BlockRecord) (bs rest tail : List CodeBlock) (b : CodeBlock) (f : LoadFault) → rest ≡ b ∷ tail → Some f ≡ with_faults None (faults_of_block (around_block lens all (record_of_block b)) (record_of_block b)) → Passed lens all bs rest → IsFirstOf lens all bs (record { block = b.id; at = f.at; code = f.code })
+pub found_here : (lens : Lens) (all : List BlockRecord) (bs rest tail : List CodeBlock) (b : CodeBlock) (f : LoadFault) → rest ≡ b ∷ tail → Some f ≡ with_faults None (faults_of_block (environment_of_block lens all (record_of_block b)) (record_of_block b)) → Passed lens all bs rest → IsFirstOf lens all bs (record { block = b.id; at = f.at; code = f.code })
 found_here lens all bs rest tail b f shape e passed =
     let fault : VerifyFault = record { block = b.id; at = f.at; code = f.code } in
-    let fs = faults_of_block (around_block lens all (record_of_block b)) (record_of_block b) in
+    let fs = faults_of_block (environment_of_block lens all (record_of_block b)) (record_of_block b) in
     passed.later fault (subst (λ (z : List CodeBlock). IsFirstOf lens all z fault) (sym shape) (decides b f fs (IsFirstOf lens all tail fault) (kept_is_least fs f (sym e))))
 
-pub passes : (lens : Lens) (all : List BlockRecord) (bs rest tail : List CodeBlock) (b : CodeBlock) → rest ≡ b ∷ tail → None ≡ with_faults None (faults_of_block (around_block lens all (record_of_block b)) (record_of_block b)) → Passed lens all bs rest → Passed lens all bs tail
+pub passes : (lens : Lens) (all : List BlockRecord) (bs rest tail : List CodeBlock) (b : CodeBlock) → rest ≡ b ∷ tail → None ≡ with_faults None (faults_of_block (environment_of_block lens all (record_of_block b)) (record_of_block b)) → Passed lens all bs rest → Passed lens all bs tail
 passes lens all bs rest tail b shape e passed =
-    let fs = faults_of_block (around_block lens all (record_of_block b)) (record_of_block b) in
+    let fs = faults_of_block (environment_of_block lens all (record_of_block b)) (record_of_block b) in
     let none : fs ≡ [] = none_left fs (sym e) in
     record {
       later = λ f h. passed.later f (subst (λ (z : List CodeBlock). IsFirstOf lens all z f) (sym shape) (subst (λ (z : List (ℕ × ℕ)). DecidesFor b.id f z (IsFirstOf lens all tail f)) (sym none) h));
@@ -132,24 +132,24 @@ passed_all lens all bs i le passed = passed.clean (subst (λ (z : List CodeBlock
 -- what is found of a block by its place among the signatures of all
 pub in_its_place : (lens : Lens) (signatures : List BlockSignature) (bs : List CodeBlock) (b : CodeBlock) (found wanted : Option LoadFault) → signatures ≡ map signature_of (map record_of_block bs)
     → found ≡ with_faults None (faults_of_block (record { kind = (record_of_block b).kind; local_len = b.local_len; params = (record_of_block b).params; blocks = signatures; data_lens = lens }) (record_of_block b))
-    → found ≡ wanted → wanted ≡ with_faults None (faults_of_block (around_block lens (map record_of_block bs) (record_of_block b)) (record_of_block b))
+    → found ≡ wanted → wanted ≡ with_faults None (faults_of_block (environment_of_block lens (map record_of_block bs) (record_of_block b)) (record_of_block b))
 in_its_place lens signatures bs b found wanted all e is =
     sym is ∙ e ∙ ap (λ (z : List BlockSignature). with_faults None (faults_of_block (record { kind = (record_of_block b).kind; local_len = b.local_len; params = (record_of_block b).params; blocks = z; data_lens = lens }) (record_of_block b))) all
 
 -- ---- a program without faults verifies
 
-no_fives : (o : Option ℕ) (around : Around) (b : BlockRecord) → faults_unless o around b ≡ [] → o ≡ None
+no_fives : (o : Option ℕ) (around : Environment) (b : BlockRecord) → faults_unless o around b ≡ [] → o ≡ None
 no_fives None around b e = refl
 no_fives (Some at) around b e = absurd cc
 
 -- what a block without faults says
-pub record Clean (around : Around) (b : BlockRecord) : Type 0 where
+pub record Clean (around : Environment) (b : BlockRecord) : Type 0 where
   pub code : code_fault b.code ≡ None
   pub count : count_faults b ≡ []
   pub lines : line_faults 0 b.lines ≡ []
   pub ops : block_faults around 0 b.code ≡ []
 
-clean_parts : (around : Around) (b : BlockRecord) → faults_of_block around b ≡ [] → Clean around b
+clean_parts : (around : Environment) (b : BlockRecord) → faults_of_block around b ≡ [] → Clean around b
 clean_parts around b e =
     let none = no_fives (code_fault b.code) around b e in
     let all : count_faults b ++ line_faults 0 b.lines ++ block_faults around 0 b.code ≡ [] = ap (λ (z : Option ℕ). faults_unless z around b) (sym none) ∙ e in
@@ -157,7 +157,7 @@ clean_parts around b e =
     let c = nil_parts (count_faults b) (line_faults 0 b.lines) a.0 in
     record { code = none; count = c.0; lines = c.1; ops = a.1 }
 
-pub clean_from : (around : Around) (b : BlockRecord) → Clean around b → faults_of_block around b ≡ []
+pub clean_from : (around : Environment) (b : BlockRecord) → Clean around b → faults_of_block around b ≡ []
 clean_from around b h = rw (h.code, h.count, h.lines, h.ops) refl
 
 pub is_whole : (o : Option ℕ) → o ≡ None → is_nowhere o ≡ true
@@ -166,7 +166,7 @@ is_whole (Some at) e = absurd cc
 
 clean_whole : (lens : Lens) (all : List BlockRecord) (bs : List CodeBlock) → AreClean lens all bs → are_whole (map record_of_block bs) ≡ true
 clean_whole lens all [] h = refl
-clean_whole lens all (b ∷ bs) h = and_from _ _ (is_whole (code_fault b.code) (clean_parts (around_block lens all (record_of_block b)) (record_of_block b) h.0).code) (clean_whole lens all bs h.1)
+clean_whole lens all (b ∷ bs) h = and_from _ _ (is_whole (code_fault b.code) (clean_parts (environment_of_block lens all (record_of_block b)) (record_of_block b) h.0).code) (clean_whole lens all bs h.1)
 
 fine : (o : Option ℕ) → at_offset 0 o ≡ [] → is_fine o ≡ true
 fine None e = refl
@@ -198,12 +198,12 @@ lines_of_right b h count lines =
     let g = and_parts true (good_many (line_field false) line_after 0 (length b.lines) b.lines) h in
     and_from (is_fine f) (good_many (line_field true) line_after 0 (length b.lines) b.lines) (fine f count) (lines_right (length b.lines) 0 b.lines g.1 lines)
 
-parts_right : (before : ℕ × ℕ) (around : Around) (b : BlockRecord) → GoodBlock false before 0 (parts_of_block b) → Clean around b → (code_block_layout true before).good b ≡ true
+parts_right : (before : ℕ × ℕ) (around : Environment) (b : BlockRecord) → GoodBlock false before 0 (parts_of_block b) → Clean around b → (code_block_layout true before).good b ≡ true
 unfolding code_block_layout plain_block block_rows code_and_lines
 parts_right before around b p h =
     let x = head_of_block b in
     and_from ((head_layout before).good x) _ p.head_good
-    (and_from ((parameters x).good b.params) _ p.params_good
+    (and_from ((parameters_layout x).good b.params) _ p.params_good
     (and_from ((code_layout true x.code_length).good b.code) ((lines_layout true 0 x b.code).good b.lines) (code_right x.code_length b.code p.code_good h.code) (lines_of_right b p.lines_good h.count h.lines)))
 
 blocks_right : (lens : Lens) (all : List BlockRecord) (s : ℕ × ℕ) (n : ℕ) (bs : List CodeBlock) → good_many (code_block_layout false) after_block s n (map record_of_block bs) ≡ true → AreClean lens all bs → good_many (code_block_layout true) after_block s n (map record_of_block bs) ≡ true
@@ -212,12 +212,12 @@ blocks_right lens all s zero (b ∷ bs) h clean = absurd cc
 blocks_right lens all s (suc n) [] h clean = absurd cc
 blocks_right lens all s (suc n) (b ∷ bs) h clean =
     let r = record_of_block b in
-    let a = around_block lens all r in
+    let a = environment_of_block lens all r in
     let g = and_parts ((code_block_layout false s).good r) (good_many (code_block_layout false) after_block (after_block s r) n (map record_of_block bs)) h in
     and_from _ _ (parts_right s a r (good_block_of false s r g.0) (clean_parts a r clean.0)) (blocks_right lens all (after_block s r) n bs g.1 clean.1)
 
-codes_right : (lens : Lens) (all : List BlockRecord) (n : ℕ) (bs : List CodeBlock) → (code_blocks false n).good (map record_of_block bs) ≡ true → AreClean lens all bs → (code_blocks true n).good (map record_of_block bs) ≡ true
-unfolding code_blocks
+codes_right : (lens : Lens) (all : List BlockRecord) (n : ℕ) (bs : List CodeBlock) → (code_blocks_layout false n).good (map record_of_block bs) ≡ true → AreClean lens all bs → (code_blocks_layout true n).good (map record_of_block bs) ≡ true
+unfolding code_blocks_layout
 codes_right lens all n bs h clean = blocks_right lens all (0, 0) n bs h clean
 
 right_by : (p : Program) (lens : Lens) (all : List BlockRecord) → GoodRecords false (parts_of_records (records_of p)) → AreClean lens all p.code_blocks → (body_rows true).good (row_of_body_parts (parts_of_records (records_of p))) ≡ true
@@ -226,16 +226,16 @@ right_by p lens all q clean =
     let x = parts_of_records (records_of p) in
     let c = x.counts in
     and_from (counts_layout.good c) _ q.counts_good
-    (and_from ((code_blocks true c.code_blocks).good x.code_blocks) _ (codes_right lens all c.code_blocks p.code_blocks q.codes_good clean)
+    (and_from ((code_blocks_layout true c.code_blocks).good x.code_blocks) _ (codes_right lens all c.code_blocks p.code_blocks q.codes_good clean)
     (and_from ((data_blocks_layout c.data_blocks).good x.data_blocks) _ q.datas_good q.names_good))
 
 right : (p : Program) → IsProgram p → IsClean p → IsRight p
-unfolding body records
+unfolding body_layout records_layout
 right p h clean = right_by p (lens_checked p) (map record_of_block p.code_blocks) (good_records false (records_of p) h.good) clean
 
 ops_verified : (lens : List (ℕ × ℕ)) (all : List BlockRecord) (bs : List CodeBlock) → AreClean (Some lens) all bs → AreVerified lens all (map record_of_block bs)
 ops_verified lens all [] h = tt
-ops_verified lens all (b ∷ bs) h = ((clean_parts (around_block (Some lens) all (record_of_block b)) (record_of_block b) h.0).ops, ops_verified lens all bs h.1)
+ops_verified lens all (b ∷ bs) h = ((clean_parts (environment_of_block (Some lens) all (record_of_block b)) (record_of_block b) h.0).ops, ops_verified lens all bs h.1)
 
 pub lens_are : (p : Program) → are_whole (map record_of_block p.code_blocks) ≡ true → lens_checked p ≡ Some (lens_of p.data_blocks)
 lens_are p e = ap (λ (z : Bool). lens_where z p.data_blocks) e

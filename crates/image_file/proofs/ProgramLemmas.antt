@@ -9,16 +9,16 @@ use Rattle.plc_base.specs.Kinds.{kind_number, kind_order}
 use Rattle.plc_base.specs.declared.blocks.BlockId.{BlockId}
 use Rattle.plc_base.specs.declared.blocks.BlockKind.{BlockKind}
 use Rattle.plc_base.specs.declared.blocks.BlockKind.TheVariants as kinds
-use Rattle.flat_code.specs.Faults.{field_fault, unless, is_in_range, is_existing_ob, has_number}
-use Rattle.flat_code.specs.Layout.{is_fine, chain, good_many}
-use Rattle.flat_code.specs.Codes.{size, code_bytes, code_layout, are_ops, ends_by_be, overlong, first_found, is_nowhere, last_place, stop_at, only}
+use Rattle.flat_code.specs.Faults.{field_fault, fault_unless_met, is_in_range, is_existing_ob, has_number}
+use Rattle.flat_code.specs.Layout.{is_fine, chain_layout, good_many}
+use Rattle.flat_code.specs.Codes.{size_of_op, code_bytes, code_layout, are_ops, ends_by_be, overlong_statement, first_found, is_nowhere, last_place, stop_at, if_checked}
 use Rattle.flat_code.specs.declared.image_fields.Field.TheVariants.{StatementCount}
 use Rattle.flat_code.specs.Ops.{OpData, is_op}
 use Rattle.flat_code.specs.Programs.{CodeBlock, Program}
 use Rattle.flat_code.specs.declared.programs.Param.{Param}
-use Rattle.flat_code.specs.Image.{plain_u16, zero_u16, parameter_count_layout, block_number_layout, local_length_layout, Head, head_layout, head_of_block, Counts, row_of_counts, count_rows, counts_layout, counts_of, data_count, code_block_layout, code_blocks, after_block, records_of, body, record_of_block, IsProgram, IsRight, end_marks, lines_layout, line_field, line_after, record_of_param}
+use Rattle.flat_code.specs.Image.{plain_u16, zero_u16, parameter_count_layout, block_number_layout, local_length_layout, Head, head_layout, head_of_block, RecordCounts, row_of_counts, count_rows, counts_layout, counts_of, data_count, code_block_layout, code_blocks_layout, after_block, records_of, body_layout, record_of_block, IsProgram, IsRight, end_marks, lines_layout, line_field, line_after, record_of_param}
 use Rattle.flat_code.specs.declared.image_fields.OpenBracket.{OpenBracket}
-use Rattle.flat_code.specs.Placed.{Placed, ops_placed, code_places, brackets_after, zones_behind_op, before_next}
+use Rattle.flat_code.specs.Placed.{PlacedOp, ops_placed, code_places, brackets_after, zones_behind_op, before_next}
 use Rattle.flat_code.proofs.PartLemmas.{all_of_blocks, chain_parts, dword_fits, good_head, unless_fine, word_fits}
 use Rattle.image_file.specs.Verified.{placed_at, BlockBegins, BlockIsRight}
 use Rattle.image_file.specs.Readers.{is_same_id, block_by_id}
@@ -44,7 +44,7 @@ head_small before h good =
     let parts = good_head before h good in
     let n = h.number in
     let rises = not (eqb h.kind before.0) || ltb before.1 n in
-    let fine = and_parts (ltb n 65536) (is_fine (unless (has_number h.kind n && rises) 4)) parts.number_good in
+    let fine = and_parts (ltb n 65536) (is_fine (fault_unless_met (has_number h.kind n && rises) 4)) parts.number_good in
     let right = and_parts (has_number h.kind n) rises (unless_fine (has_number h.kind n && rises) 4 fine.1) in
     record {
       number = number_small (eqb h.kind 1) n right.0;
@@ -84,20 +84,20 @@ blocks_room with_code_faults s (suc n) (b ∷ bs) h =
       slots = (has_slot b kind small.number, more.slots);
     }
 
-codes_room : (with_code_faults : Bool) (n : ℕ) (bs : List CodeBlock) → (code_blocks with_code_faults n).good (map record_of_block bs) ≡ true → HasRoom bs
-unfolding code_blocks
+codes_room : (with_code_faults : Bool) (n : ℕ) (bs : List CodeBlock) → (code_blocks_layout with_code_faults n).good (map record_of_block bs) ≡ true → HasRoom bs
+unfolding code_blocks_layout
 codes_room with_code_faults n bs good = blocks_room with_code_faults (0, 0) n bs good
 
 pub program_room : (p : Program) → IsProgram p → HasRoom p.code_blocks
-unfolding body
+unfolding body_layout
 program_room p h = let q = good_records false (records_of p) h.good in codes_room false (length (map record_of_block p.code_blocks)) p.code_blocks q.codes_good
 
-count_small : (c : Counts) → counts_layout.good c ≡ true → c.code_blocks < 65536
+count_small : (c : RecordCounts) → counts_layout.good c ≡ true → c.code_blocks < 65536
 unfolding counts_layout count_rows
-count_small c good = word_fits c.code_blocks (chain_parts plain_u16 (λ codes. chain data_count (λ datas. chain plain_u16 (λ names. zero_u16))) (row_of_counts c) good).0
+count_small c good = word_fits c.code_blocks (chain_parts plain_u16 (λ codes. chain_layout data_count (λ datas. chain_layout plain_u16 (λ names. zero_u16))) (row_of_counts c) good).0
 
 pub program_count : (p : Program) → IsProgram p → length p.code_blocks ≤ 0xFFFF
-unfolding body
+unfolding body_layout
 program_count p h =
     let q = good_records false (records_of p) h.good in
     let small = count_small (counts_of (records_of p)) q.counts_good in
@@ -107,7 +107,7 @@ program_count p h =
 
 pub record IsRightCode (b : CodeBlock) : Type 0 where
   pub ended : ends_by_be b.code ≡ true
-  pub few : overlong 0 0 b.code ≡ None
+  pub few : overlong_statement 0 0 b.code ≡ None
   pub marks : end_marks b.code ≡ length b.lines
   pub ops : are_ops b.code ≡ true
   pub room : b.local_len ≤ 1024
@@ -121,12 +121,12 @@ stops_nowhere None last true h = (refl, refl)
 stops_nowhere None last false h = absurd cc
 stops_nowhere (Some at) last ended h = absurd cc
 
-code_right : (n : ℕ) (ops : List OpData) → (code_layout true n).good ops ≡ true → (overlong 0 0 ops ≡ None) × (ends_by_be ops ≡ true) × (are_ops ops ≡ true)
+code_right : (n : ℕ) (ops : List OpData) → (code_layout true n).good ops ≡ true → (overlong_statement 0 0 ops ≡ None) × (ends_by_be ops ≡ true) × (are_ops ops ≡ true)
 unfolding code_layout
 code_right n ops h =
     let a = and_parts (are_ops ops && is_nowhere (stop_at true ops [])) (eqb (length (code_bytes ops)) n) h in
     let b = and_parts (are_ops ops) (is_nowhere (stop_at true ops [])) a.0 in
-    let stops = stops_nowhere (overlong 0 0 ops) (last_place 0 ops) (ends_by_be ops) b.1 in
+    let stops = stops_nowhere (overlong_statement 0 0 ops) (last_place 0 ops) (ends_by_be ops) b.1 in
     (stops.0, stops.1, b.0)
 
 -- no parameters, and room for the start information
@@ -141,7 +141,7 @@ unfolding local_length_layout field_fault
 locals_right before h good =
     let bytes = h.local_bytes in
     let has_room = not (eqb h.kind 1) || leb 20 bytes in
-    let long = and_parts (ltb bytes 65536) (is_fine (unless (leb bytes 1024 && has_room) 4)) (good_head before h good).locals_good in
+    let long = and_parts (ltb bytes 65536) (is_fine (fault_unless_met (leb bytes 1024 && has_room) 4)) (good_head before h good).locals_good in
     leb-true bytes 1024 (and_parts (leb bytes 1024) has_room (unless_fine (leb bytes 1024 && has_room) 4 long.1)).0
 
 ob_right : (before : ℕ × ℕ) (h : Head) → (head_layout before).good h ≡ true → h.kind ≡ kind_number kinds.Ob → (h.parameter_count ≡ 0) × (20 ≤ h.local_bytes)
@@ -152,8 +152,8 @@ ob_right before h good is =
     let bytes = h.local_bytes in
     let no_params = not (eqb h.kind 1) || eqb count 0 in
     let has_room = not (eqb h.kind 1) || leb 20 bytes in
-    let few = and_parts (ltb count 256) (is_fine (unless (leb count 60 && no_params) 4)) parts.params_good in
-    let long = and_parts (ltb bytes 65536) (is_fine (unless (leb bytes 1024 && has_room) 4)) parts.locals_good in (
+    let few = and_parts (ltb count 256) (is_fine (fault_unless_met (leb count 60 && no_params) 4)) parts.params_good in
+    let long = and_parts (ltb bytes 65536) (is_fine (fault_unless_met (leb bytes 1024 && has_room) 4)) parts.locals_good in (
       none_if_ob h.kind count is (and_parts (leb count 60) no_params (unless_fine (leb count 60 && no_params) 4 few.1)).1,
       room_if_ob h.kind bytes is (and_parts (leb bytes 1024) has_room (unless_fine (leb bytes 1024 && has_room) 4 long.1)).1,
     )
@@ -170,7 +170,7 @@ ob_block s b good is =
 lines_right : (start : ℕ) (h : Head) (ops : List OpData) (lines : List ℕ) → (lines_layout true start h ops).good lines ≡ true → end_marks ops ≡ h.statement_count
 unfolding lines_layout field_fault
 lines_right start h ops lines good =
-    let c = and_parts (is_fine (only true (field_fault (StatementCount (end_marks ops) h.statement_count)))) (good_many (line_field true) line_after 0 h.statement_count lines) good in
+    let c = and_parts (is_fine (if_checked true (field_fault (StatementCount (end_marks ops) h.statement_count)))) (good_many (line_field true) line_after 0 h.statement_count lines) good in
     eqb-true (end_marks ops) h.statement_count (unless_fine (eqb (end_marks ops) h.statement_count) 9 c.0)
 
 right_code : (s : ℕ × ℕ) (b : CodeBlock) → (code_block_layout true s).good (record_of_block b) ≡ true → IsRightCode b
@@ -182,7 +182,7 @@ right_code s b good =
     record { ended = c.1; few = c.0; ops = c.2; room = locals_right s h p.head_good; organization = λ is. ob_block s b p.head_good is; marks = lines_right 0 h b.code b.lines p.lines_good }
 
 pub program_right : (p : Program) → IsRight p → AreRight p.code_blocks
-unfolding body
+unfolding body_layout
 program_right p h = let q = good_records true (records_of p) h in all_of_blocks true IsRightCode right_code (length (map record_of_block p.code_blocks)) p.code_blocks q.codes_good
 
 pub right_at : (bs : List CodeBlock) (b : CodeBlock) (id : BlockId) → AreRight bs → block_by_id id bs ≡ Some b → IsRightCode b
@@ -195,26 +195,26 @@ right_at (c ∷ bs) b id h found = by (is_same_id c.id id) found (λ e. right_at
 
 -- ---- the ops and the beginning of a block
 
-pub op_right : (from : ℕ) (brackets : List OpenBracket) (zones : List ℕ) (before ops : List OpData) (at : ℕ) (q : Placed) → are_ops ops ≡ true → placed_at at (ops_placed from brackets zones before ops) ≡ Some q → is_op q.op.code q.op.operand ≡ true
+pub op_right : (from : ℕ) (brackets : List OpenBracket) (zones : List ℕ) (before ops : List OpData) (at : ℕ) (q : PlacedOp) → are_ops ops ≡ true → placed_at at (ops_placed from brackets zones before ops) ≡ Some q → is_op q.op.code q.op.operand ≡ true
 op_right from brackets zones before [] at q right found = absurd cc
 op_right from brackets zones before (o ∷ ops) at q right found =
     let parts = and_parts (is_op o.code o.operand) (are_ops ops) right in
-    by (eqb from at) found parts.0 (λ e. op_right (from + size o) (brackets_after from o.code brackets) (zones_behind_op from o.code zones) (before_next o before) ops at q parts.1 e)
+    by (eqb from at) found parts.0 (λ e. op_right (from + size_of_op o) (brackets_after from o.code brackets) (zones_behind_op from o.code zones) (before_next o before) ops at q parts.1 e)
   where
-    here : Placed
+    here : PlacedOp
     here = record { at = from; brackets = brackets; zones = zones; before = before; op = o; rest = ops }
 
-    behind : Option Placed
-    behind = placed_at at (ops_placed (from + size o) (brackets_after from o.code brackets) (zones_behind_op from o.code zones) (before_next o before) ops)
+    behind : Option PlacedOp
+    behind = placed_at at (ops_placed (from + size_of_op o) (brackets_after from o.code brackets) (zones_behind_op from o.code zones) (before_next o before) ops)
 
     by : (t : Bool) → cond t (Some here) behind ≡ Some q → is_op o.code o.operand ≡ true → (behind ≡ Some q → is_op q.op.code q.op.operand ≡ true) → is_op q.op.code q.op.operand ≡ true
-    by true e is more = subst (λ (z : Placed). is_op z.op.code z.op.operand ≡ true) (same_Some here q e) is
+    by true e is more = subst (λ (z : PlacedOp). is_op z.op.code z.op.operand ≡ true) (same_Some here q e) is
     by false e is more = more e
 
 pub code_begins : (b : CodeBlock) (ops : List OpData) → b.code ≡ ops → ends_by_be ops ≡ true → BlockBegins b
 code_begins b [] is ended = absurd cc
 code_begins b (o ∷ ops) is ended =
-    let first : Placed = record { at = 0; brackets = []; zones = []; before = []; op = o; rest = ops } in
+    let first : PlacedOp = record { at = 0; brackets = []; zones = []; before = []; op = o; rest = ops } in
     let there : placed_at 0 (code_places b.code) ≡ Some first = rw is refl in
     record { first = first; place = there; offset = refl; statement = refl; closed = refl; no_zones = refl }
 

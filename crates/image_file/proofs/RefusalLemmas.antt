@@ -8,9 +8,9 @@ use Rattle.flat_code.specs.Ops.{OpData}
 use Rattle.flat_code.specs.Codes.{are_ops, code_bytes, code_fault, code_layout, is_nowhere}
 use Rattle.flat_code.specs.Blocks.{at_offset}
 use Rattle.flat_code.specs.Faults.{field_fault}
-use Rattle.flat_code.specs.Image.{end_marks, head_of_block, line_field, line_after, lines_layout, code_block_layout, records_of, record_of_block, body, image, IsProgram, IsRight}
+use Rattle.flat_code.specs.Image.{end_marks, head_of_block, line_field, line_after, lines_layout, code_block_layout, records_of, record_of_block, body_layout, image, IsProgram, IsRight}
 use Rattle.flat_code.specs.Layout.{good_many, is_fine}
-use Rattle.flat_code.specs.Loading.{lens_of, around_block, AreVerified, Verifies, faults_of}
+use Rattle.flat_code.specs.Loading.{lens_of, environment_of_block, AreVerified, Verifies, faults_of}
 use Rattle.flat_code.specs.Programs.{CodeBlock, Program}
 use Rattle.flat_code.specs.Stamps.{profile_of}
 use Rattle.flat_code.specs.declared.stamps.Stamp.{Stamp}
@@ -81,7 +81,7 @@ block_right before block h =
     record { code = code_clean (length (code_bytes b.code)) b.code p.code_good; count = l.0; lines = l.1 }
 
 program_right : (p : Program) → IsRight p → AreRight p.code_blocks
-unfolding body
+unfolding body_layout
 program_right p h = all_of_blocks true IsRightBlock block_right (length (map record_of_block p.code_blocks)) p.code_blocks (good_records true (records_of p) h).codes_good
 
 right_whole : (bs : List CodeBlock) → AreRight bs → are_whole (map record_of_block bs) ≡ true
@@ -92,7 +92,7 @@ ops_clean : (lens : List (ℕ × ℕ)) (all : List BlockRecord) (bs : List CodeB
 ops_clean lens all [] h v = tt
 ops_clean lens all (b ∷ bs) h v =
     let r = record_of_block b in
-    (clean_from (around_block (Some lens) all r) r (record { code = h.0.code; count = h.0.count; lines = h.0.lines; ops = v.0 }), ops_clean lens all bs h.1 v.1)
+    (clean_from (environment_of_block (Some lens) all r) r (record { code = h.0.code; count = h.0.count; lines = h.0.lines; ops = v.0 }), ops_clean lens all bs h.1 v.1)
 
 verified_clean : (p : Program) → Verifies p → IsClean p
 verified_clean p v =
@@ -108,7 +108,7 @@ decides_not id f (g ∷ gs) Later e never h = absurd cc
 
 clean_never : (lens : Lens) (all : List BlockRecord) (bs : List CodeBlock) (f : VerifyFault) → AreClean lens all bs → IsFirstOf lens all bs f → ⊥
 clean_never lens all [] f clean h = h
-clean_never lens all (b ∷ bs) f clean h = decides_not b.id f (faults_of_block (around_block lens all (record_of_block b)) (record_of_block b)) (IsFirstOf lens all bs f) clean.0 (λ later. clean_never lens all bs f clean.1 later) h
+clean_never lens all (b ∷ bs) f clean h = decides_not b.id f (faults_of_block (environment_of_block lens all (record_of_block b)) (record_of_block b)) (IsFirstOf lens all bs f) clean.0 (λ later. clean_never lens all bs f clean.1 later) h
 
 never : (p : Program) → Verifies p → (f : VerifyFault) → IsFaultOf p f → ⊥
 unfolding IsFaultOf
@@ -125,7 +125,7 @@ decide id (g ∷ gs) Clean Later others = let l = least_of g gs (with_faults Non
 
 clean_or_not : (lens : Lens) (all : List BlockRecord) (bs : List CodeBlock) → AreClean lens all bs ⊎ ((f : VerifyFault) × IsFirstOf lens all bs f)
 clean_or_not lens all [] = inl tt
-clean_or_not lens all (b ∷ bs) = decide b.id (faults_of_block (around_block lens all (record_of_block b)) (record_of_block b)) (AreClean lens all bs) (λ f. IsFirstOf lens all bs f) (clean_or_not lens all bs)
+clean_or_not lens all (b ∷ bs) = decide b.id (faults_of_block (environment_of_block lens all (record_of_block b)) (record_of_block b)) (AreClean lens all bs) (λ f. IsFirstOf lens all bs f) (clean_or_not lens all bs)
 
 either : (p : Program) → IsProgram p → AreClean (lens_checked p) (map record_of_block p.code_blocks) p.code_blocks ⊎ ((f : VerifyFault) × IsFirstOf (lens_checked p) (map record_of_block p.code_blocks) p.code_blocks f) → Verifies p ⊎ ((f : VerifyFault) × IsFaultOf p f)
 unfolding IsFaultOf
@@ -158,7 +158,7 @@ decided_one id f g (x ∷ xs) Later Other same a b =
 first_one : (lens : Lens) (all : List BlockRecord) (bs : List CodeBlock) (f g : VerifyFault) → IsFirstOf lens all bs f → IsFirstOf lens all bs g → f ≡ g
 first_one lens all [] f g a b = absurd a
 first_one lens all (c ∷ cs) f g a b =
-    decided_one c.id f g (faults_of_block (around_block lens all (record_of_block c)) (record_of_block c)) (IsFirstOf lens all cs f) (IsFirstOf lens all cs g) (λ x y. first_one lens all cs f g x y) a b
+    decided_one c.id f g (faults_of_block (environment_of_block lens all (record_of_block c)) (record_of_block c)) (IsFirstOf lens all cs f) (IsFirstOf lens all cs g) (λ x y. first_one lens all cs f g x y) a b
 
 pub fault_is_one : (p : Program) (f g : VerifyFault) → IsFaultOf p f → IsFaultOf p g → f ≡ g
 unfolding IsFaultOf

@@ -2,7 +2,7 @@
 use Rattle.std.proofs.Common.{◌≡◌, ℕ, suc, ◌+◌, ◌-◌, ◌<◌, ◌≤◌, List, [], ◌∷◌, ◌++◌, map, Option, Some, None, Err, refl, sym, ap, ◌∙◌, append_assoc, arith, true}
 use Rattle.std.proofs.lemmas.List.{append-nil, map-append}
 use Rattle.flat_code.specs.Image.{code_block_at, plain_block, code_block_layout, whole_note, after_block}
-use Rattle.flat_code.specs.Layout.{Note, Faulty, Whole, AllBlocks, Cursor, ReadResult, Layout, reading_ended, reading_given, go_on, bind, chain, checked_layout, located_layout, seen_as, noted_layout, fault_note, read_many, many, faults_in}
+use Rattle.flat_code.specs.Layout.{Note, Faulty, Whole, AllBlocks, Cursor, ReadResult, Layout, reading_ended, reading_given, go_on, bind_reading, chain_layout, checked_layout, located_layout, seen_as, noted_layout, fault_note, read_many, list_layout, faults_in}
 use Rattle.flat_code.specs.Programs.{DataBlock}
 use Rattle.flat_code.specs.Records.{BlockRecord}
 use Rattle.image_file.specs.declared.faults.LoadFault.{LoadFault}
@@ -52,17 +52,17 @@ go_runs {A = A} {B = B} notes (Some x) f g least h =
     ∙ h x.0 x.1 (log_after least notes)
 
 pub run_chain : {A B : Type 0} (l : Layout A) (m : A → Layout B) (cur : Cursor) (least : Log)
-    → run_layout (chain l m) cur least ≡ then_run (run_layout l cur least) (λ x next mid. then_run (run_layout (m x) next mid) (λ y end last. Goes (x, y) end last))
+    → run_layout (chain_layout l m) cur least ≡ then_run (run_layout l cur least) (λ x next mid. then_run (run_layout (m x) next mid) (λ y end last. Goes (x, y) end last))
 unfolding run_layout ran_of log_after with_faults
 run_chain {A = A} {B = B} l m cur least =
-    go_runs (l.read cur).notes (l.read cur).found (λ x next. bind ((m x).read next) (λ y end. reading_given (x, y) end)) (λ x next mid. then_run (run_layout (m x) next mid) (λ y end last. Goes (x, y) end last)) least
+    go_runs (l.read cur).notes (l.read cur).found (λ x next. bind_reading ((m x).read next) (λ y end. reading_given (x, y) end)) (λ x next mid. then_run (run_layout (m x) next mid) (λ y end last. Goes (x, y) end last)) least
     (λ x next mid. go_runs ((m x).read next).notes ((m x).read next).found (λ y end. reading_given (x, y) end) (λ y end last. Goes (x, y) end last) mid (λ y end last. refl))
 
 pub run_more : {S A : Type 0} (l : S → Layout A) (next : S → A → S) (s : S) (n : ℕ) (cur : Cursor) (least : Log)
-    → run_layout (many l next s (suc n)) cur least ≡ then_run (run_layout (l s) cur least) (λ x at mid. then_run (run_layout (many l next (next s x) n) at mid) (λ xs end last. Goes (x ∷ xs) end last))
+    → run_layout (list_layout l next s (suc n)) cur least ≡ then_run (run_layout (l s) cur least) (λ x at mid. then_run (run_layout (list_layout l next (next s x) n) at mid) (λ xs end last. Goes (x ∷ xs) end last))
 unfolding run_layout ran_of log_after with_faults
 run_more {S = S} {A = A} l next s n cur least =
-    go_runs ((l s).read cur).notes ((l s).read cur).found (λ x after. bind (read_many l next (next s x) n after) (λ xs end. reading_given (x ∷ xs) end)) (λ x at mid. then_run (run_layout (many l next (next s x) n) at mid) (λ xs end last. Goes (x ∷ xs) end last)) least
+    go_runs ((l s).read cur).notes ((l s).read cur).found (λ x after. bind_reading (read_many l next (next s x) n after) (λ xs end. reading_given (x ∷ xs) end)) (λ x at mid. then_run (run_layout (list_layout l next (next s x) n) at mid) (λ xs end last. Goes (x ∷ xs) end last)) least
     (λ x after mid. go_runs (read_many l next (next s x) n after).notes (read_many l next (next s x) n after).found (λ xs end. reading_given (x ∷ xs) end) (λ xs end last. Goes (x ∷ xs) end last) mid (λ xs end last. refl))
 
 -- a step of a loop over many
@@ -71,29 +71,29 @@ fronts {A = A} xs x (Goes ys cur least) = ap (λ (z : List A). Goes z cur least)
 fronts {A = A} xs x (Stops least) = refl
 
 pub more_goes : {S A : Type 0} (l : S → Layout A) (next : S → A → S) (s : S) (count i : ℕ) (cur : Cursor) (least : Log) (xs : List A) (x : A) (after : Cursor) (mid : Log) (all : Ran (List A))
-    → i < count → Goes x after mid ≡ run_layout (l s) cur least → with_front xs (run_layout (many l next s (count - i)) cur least) ≡ all → with_front (xs ++ x ∷ []) (run_layout (many l next (next s x) (count - (i + 1))) after mid) ≡ all
+    → i < count → Goes x after mid ≡ run_layout (l s) cur least → with_front xs (run_layout (list_layout l next s (count - i)) cur least) ≡ all → with_front (xs ++ x ∷ []) (run_layout (list_layout l next (next s x) (count - (i + 1))) after mid) ≡ all
 more_goes {S = S} {A = A} l next s count i cur least xs x after mid all lt one so_far =
     let k : count - i ≡ suc (count - (i + 1)) = omega arith in
-    let step : run_layout (many l next s (count - i)) cur least ≡ then_run (run_layout (many l next (next s x) (count - (i + 1))) after mid) (λ ys end last. Goes (x ∷ ys) end last) =
-    ap (λ (n : ℕ). run_layout (many l next s n) cur least) k ∙ run_more l next s (count - (i + 1)) cur least
-    ∙ ap (λ (r : Ran A). then_run r (λ y at m. then_run (run_layout (many l next (next s y) (count - (i + 1))) at m) (λ ys end last. Goes (y ∷ ys) end last))) (sym one) in
-    sym (fronts xs x (run_layout (many l next (next s x) (count - (i + 1))) after mid)) ∙ sym (ap (with_front xs) step) ∙ so_far
+    let step : run_layout (list_layout l next s (count - i)) cur least ≡ then_run (run_layout (list_layout l next (next s x) (count - (i + 1))) after mid) (λ ys end last. Goes (x ∷ ys) end last) =
+    ap (λ (n : ℕ). run_layout (list_layout l next s n) cur least) k ∙ run_more l next s (count - (i + 1)) cur least
+    ∙ ap (λ (r : Ran A). then_run r (λ y at m. then_run (run_layout (list_layout l next (next s y) (count - (i + 1))) at m) (λ ys end last. Goes (y ∷ ys) end last))) (sym one) in
+    sym (fronts xs x (run_layout (list_layout l next (next s x) (count - (i + 1))) after mid)) ∙ sym (ap (with_front xs) step) ∙ so_far
 
 pub more_stops : {S A : Type 0} (l : S → Layout A) (next : S → A → S) (s : S) (count i : ℕ) (cur : Cursor) (least mid : Log) (xs : List A) (all : Ran (List A))
-    → i < count → ◌≡◌ {A = Ran A} (Stops mid) (run_layout (l s) cur least) → with_front xs (run_layout (many l next s (count - i)) cur least) ≡ all → Stops mid ≡ all
+    → i < count → ◌≡◌ {A = Ran A} (Stops mid) (run_layout (l s) cur least) → with_front xs (run_layout (list_layout l next s (count - i)) cur least) ≡ all → Stops mid ≡ all
 more_stops {S = S} {A = A} l next s count i cur least mid xs all lt one so_far =
     let k : count - i ≡ suc (count - (i + 1)) = omega arith in
-    let step : run_layout (many l next s (count - i)) cur least ≡ Stops mid =
-    ap (λ (n : ℕ). run_layout (many l next s n) cur least) k ∙ run_more l next s (count - (i + 1)) cur least
-    ∙ ap (λ (r : Ran A). then_run r (λ y at m. then_run (run_layout (many l next (next s y) (count - (i + 1))) at m) (λ ys end last. Goes (y ∷ ys) end last))) (sym one) in
+    let step : run_layout (list_layout l next s (count - i)) cur least ≡ Stops mid =
+    ap (λ (n : ℕ). run_layout (list_layout l next s n) cur least) k ∙ run_more l next s (count - (i + 1)) cur least
+    ∙ ap (λ (r : Ran A). then_run r (λ y at m. then_run (run_layout (list_layout l next (next s y) (count - (i + 1))) at m) (λ ys end last. Goes (y ∷ ys) end last))) (sym one) in
     sym (ap (with_front xs) step) ∙ so_far
 
 pub more_done : {S A : Type 0} (l : S → Layout A) (next : S → A → S) (s : S) (count i : ℕ) (cur : Cursor) (least : Log) (xs : List A) (all : Ran (List A))
-    → count ≤ i → with_front xs (run_layout (many l next s (count - i)) cur least) ≡ all → Goes xs cur least ≡ all
+    → count ≤ i → with_front xs (run_layout (list_layout l next s (count - i)) cur least) ≡ all → Goes xs cur least ≡ all
 unfolding run_layout log_after with_faults
 more_done {S = S} {A = A} l next s count i cur least xs all le so_far =
     let k : count - i ≡ 0 = omega arith in
-    sym (ap (λ (n : ℕ). with_front xs (run_layout (many l next s n) cur least)) k ∙ ap (λ (z : List A). Goes z cur least) (append-nil xs)) ∙ so_far
+    sym (ap (λ (n : ℕ). with_front xs (run_layout (list_layout l next s n) cur least)) k ∙ ap (λ (z : List A). Goes z cur least) (append-nil xs)) ∙ so_far
 
 -- ---- the other layouts in one pass
 
@@ -144,30 +144,30 @@ front_nil : {A : Type 0} (r : Ran (List A)) → with_front [] r ≡ r
 front_nil (Goes xs cur log) = refl
 front_nil (Stops log) = refl
 
-pub more_starts : {S A : Type 0} (l : S → Layout A) (next : S → A → S) (s : S) (count : ℕ) (cur : Cursor) (log : Log) → with_front [] (run_layout (many l next s (count - 0)) cur log) ≡ run_layout (many l next s count) cur log
-more_starts {S = S} {A = A} l next s count cur log = ap (λ (n : ℕ). with_front [] (run_layout (many l next s n) cur log)) (omega arith) ∙ front_nil (run_layout (many l next s count) cur log)
+pub more_starts : {S A : Type 0} (l : S → Layout A) (next : S → A → S) (s : S) (count : ℕ) (cur : Cursor) (log : Log) → with_front [] (run_layout (list_layout l next s (count - 0)) cur log) ≡ run_layout (list_layout l next s count) cur log
+more_starts {S = S} {A = A} l next s count cur log = ap (λ (n : ℕ). with_front [] (run_layout (list_layout l next s n) cur log)) (omega arith) ∙ front_nil (run_layout (list_layout l next s count) cur log)
 
 pub sees_stops : {S A X Y : Type 0} (view : X → A) (views : Y → List A) (e : Stop) (r : Reader) (l : S → Layout A) (next : S → A → S) (s : S) (count i : ℕ) (cur : Cursor) (log : Log) (xs : List A) (all : Ran (List A))
-    → i < count → Sees view (Err e) r (run_layout (l s) cur log) → with_front xs (run_layout (many l next s (count - i)) cur log) ≡ all → Sees views (Err e) r all
+    → i < count → Sees view (Err e) r (run_layout (l s) cur log) → with_front xs (run_layout (list_layout l next s (count - i)) cur log) ≡ all → Sees views (Err e) r all
 sees_stops view views stop.AtFault r l next s count i cur log xs all lt h so_far = more_stops l next s count i cur log (log_of r) xs all lt h so_far
 sees_stops view views stop.NoMemory r l next s count i cur log xs all lt h so_far = tt
 
 pub blocks_stop : (e : Stop) (r : Reader) (s : ℕ × ℕ) (count i : ℕ) (cur : Cursor) (log : Log) (xs : List BlockRecord) (all : Ran (List BlockRecord))
-    → i < count → SeesBlock (Err e) r (run_layout (code_block_layout true s) cur log) → with_front xs (run_layout (many (code_block_layout true) after_block s (count - i)) cur log) ≡ all → SeesBlocks (Err e) r all
+    → i < count → SeesBlock (Err e) r (run_layout (code_block_layout true s) cur log) → with_front xs (run_layout (list_layout (code_block_layout true) after_block s (count - i)) cur log) ≡ all → SeesBlocks (Err e) r all
 blocks_stop stop.AtFault r s count i cur log xs all lt h so_far = more_stops (code_block_layout true) after_block s count i cur log (log_of r) xs all lt h so_far
 blocks_stop stop.NoMemory r s count i cur log xs all lt h so_far = tt
 
 -- ---- what a chain comes to, by what its parts come to
 
-pub chain_goes : {A B : Type 0} (l : Layout A) (m : A → Layout B) (x : A) (y : B) (next end cur : Cursor) (mid last log : Log) → Goes x next mid ≡ run_layout l cur log → Goes y end last ≡ run_layout (m x) next mid → Goes (x, y) end last ≡ run_layout (chain l m) cur log
+pub chain_goes : {A B : Type 0} (l : Layout A) (m : A → Layout B) (x : A) (y : B) (next end cur : Cursor) (mid last log : Log) → Goes x next mid ≡ run_layout l cur log → Goes y end last ≡ run_layout (m x) next mid → Goes (x, y) end last ≡ run_layout (chain_layout l m) cur log
 chain_goes {A = A} {B = B} l m x y next end cur mid last log p q =
     sym (run_chain l m cur log ∙ sym (ap (λ (r : Ran A). then_run r (λ x next mid. then_run (run_layout (m x) next mid) (λ y end last. Goes (x, y) end last))) p) ∙ sym (ap (λ (r : Ran B). then_run r (λ y end last. Goes (x, y) end last)) q))
 
-pub chain_ends : {A B : Type 0} (l : Layout A) (m : A → Layout B) (cur : Cursor) (mid log : Log) → ◌≡◌ {A = Ran A} (Stops mid) (run_layout l cur log) → ◌≡◌ {A = Ran (A × B)} (Stops mid) (run_layout (chain l m) cur log)
+pub chain_ends : {A B : Type 0} (l : Layout A) (m : A → Layout B) (cur : Cursor) (mid log : Log) → ◌≡◌ {A = Ran A} (Stops mid) (run_layout l cur log) → ◌≡◌ {A = Ran (A × B)} (Stops mid) (run_layout (chain_layout l m) cur log)
 chain_ends {A = A} {B = B} l m cur mid log p =
     sym (run_chain l m cur log ∙ sym (ap (λ (r : Ran A). then_run r (λ x next mid. then_run (run_layout (m x) next mid) (λ y end last. Goes (x, y) end last))) p))
 
-pub chain_breaks : {A B : Type 0} (l : Layout A) (m : A → Layout B) (x : A) (next cur : Cursor) (mid last log : Log) → Goes x next mid ≡ run_layout l cur log → ◌≡◌ {A = Ran B} (Stops last) (run_layout (m x) next mid) → ◌≡◌ {A = Ran (A × B)} (Stops last) (run_layout (chain l m) cur log)
+pub chain_breaks : {A B : Type 0} (l : Layout A) (m : A → Layout B) (x : A) (next cur : Cursor) (mid last log : Log) → Goes x next mid ≡ run_layout l cur log → ◌≡◌ {A = Ran B} (Stops last) (run_layout (m x) next mid) → ◌≡◌ {A = Ran (A × B)} (Stops last) (run_layout (chain_layout l m) cur log)
 chain_breaks {A = A} {B = B} l m x next cur mid last log p q =
     sym (run_chain l m cur log ∙ sym (ap (λ (r : Ran A). then_run r (λ x next mid. then_run (run_layout (m x) next mid) (λ y end last. Goes (x, y) end last))) p) ∙ sym (ap (λ (r : Ran B). then_run r (λ y end last. Goes (x, y) end last)) q))
 
@@ -177,7 +177,7 @@ seen_goes {A = A} {B = B} to from l x end cur mid log p = sym (run_seen to from 
 pub seen_ends : {A B : Type 0} (to : A → B) (from : B → A) (l : Layout A) (cur : Cursor) (mid log : Log) → ◌≡◌ {A = Ran A} (Stops mid) (run_layout l cur log) → ◌≡◌ {A = Ran B} (Stops mid) (run_layout (seen_as to from l) cur log)
 seen_ends {A = A} {B = B} to from l cur mid log p = sym (run_seen to from l cur log ∙ sym (ap (λ (r : Ran A). then_run r (λ x end mid. Goes (to x) end mid)) p))
 
-pub go_read : {A B : Type 0} (r : ReadResult A) (f : A → Cursor → ReadResult B) (log : Log) → run_of_read (bind r f) log ≡ then_run (run_of_read r log) (λ x cur mid. run_of_read (f x cur) mid)
+pub go_read : {A B : Type 0} (r : ReadResult A) (f : A → Cursor → ReadResult B) (log : Log) → run_of_read (bind_reading r f) log ≡ then_run (run_of_read r log) (λ x cur mid. run_of_read (f x cur) mid)
 unfolding run_of_read ran_of
 go_read {A = A} {B = B} r f log = go_runs r.notes r.found f (λ x cur mid. run_of_read (f x cur) mid) log (λ x cur mid. refl)
 

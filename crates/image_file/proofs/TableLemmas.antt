@@ -6,10 +6,10 @@ use Rattle.std.proofs.lemmas.Option.{slice_get-get_or}
 use Rattle.std.proofs.Math.ListN.{drop_of_length-le}
 use Rattle.plc_base.proofs.ListLemmas.{get_past}
 use Rattle.flat_code.specs.Ops.{OpData}
-use Rattle.flat_code.specs.Codes.{size, code_bytes}
+use Rattle.flat_code.specs.Codes.{size_of_op, code_bytes}
 use Rattle.flat_code.specs.declared.image_fields.OpenBracket.{OpenBracket}
 use Rattle.flat_code.specs.Blocks.{BlockSignature, block_with, length_of_data}
-use Rattle.flat_code.specs.Placed.{StatementSpot, spots, spots_from, spot_at, few, brackets_after, zones_behind_op}
+use Rattle.flat_code.specs.Placed.{StatementSpot, statement_spots, spots_from, spot_at, codes_of_few_brackets, brackets_after, zones_behind_op}
 use Rattle.image_file.specs.Tables.{start_index, no_index, table_entry, IsTableOf, FindsStatements, FindsLens, call_key, signature_callee, found_callee, FindsCallees}
 use Rattle.image_file.proofs.CheckLemmas.{code_len}
 use Rattle.image_file.proofs.MarkLemmas.{two_bytes}
@@ -94,16 +94,16 @@ spots_end from begin brackets zones [] at past = refl
 spots_end from begin brackets zones (op ∷ ops) at past =
     let len = code_len op ops in
     let p = two_bytes op in
-    by begin (ne_eqb from at (λ e. omega (arith, e, p, len, past))) (spots_end (from + size op) op.last (brackets_after from op.code brackets) (zones_behind_op from op.code zones) ops at (omega (arith, len, past)))
+    by begin (ne_eqb from at (λ e. omega (arith, e, p, len, past))) (spots_end (from + size_of_op op) op.last (brackets_after from op.code brackets) (zones_behind_op from op.code zones) ops at (omega (arith, len, past)))
   where
     behind : List StatementSpot
-    behind = spots_from (from + size op) op.last (brackets_after from op.code brackets) (zones_behind_op from op.code zones) ops
+    behind = spots_from (from + size_of_op op) op.last (brackets_after from op.code brackets) (zones_behind_op from op.code zones) ops
 
-    by : (b : Bool) → eqb from at ≡ false → spot_at behind at ≡ None → spot_at (cond b (record { at = from; codes = few brackets; zones = length zones } ∷ behind) behind) at ≡ None
+    by : (b : Bool) → eqb from at ≡ false → spot_at behind at ≡ None → spot_at (cond b (record { at = from; codes = codes_of_few_brackets brackets; zones = length zones } ∷ behind) behind) at ≡ None
     by true f more = rw f more
     by false f more = more
 
-pub finds_statements : (ops : List OpData) (ss : List StatementSpot) (keys : List ℕ) (len : ℕ) (table : List ℕ) → ss ≡ spots ops → keys ≡ map (λ z. z.at) ss → len ≡ length (code_bytes ops) → IsTableOf keys len table → FindsStatements ss table
+pub finds_statements : (ops : List OpData) (ss : List StatementSpot) (keys : List ℕ) (len : ℕ) (table : List ℕ) → ss ≡ statement_spots ops → keys ≡ map (λ z. z.at) ss → len ≡ length (code_bytes ops) → IsTableOf keys len table → FindsStatements ss table
 finds_statements ops ss keys len table is keys_is len_is t at = by (cases_lt at len)
   where
     by : (at < len) ⊎ (len ≤ at) → option_and_then (λ place. slice_get ss place) (slice_get table at) ≡ spot_at ss at

@@ -10,13 +10,13 @@ use Rattle.flat_code.specs.Programs.{DataBlock, Program}
 use Rattle.flat_code.specs.declared.stamps.Stamp.{Stamp}
 use Rattle.flat_code.specs.Records.{BlockRecord, NameRecord, Records}
 use Rattle.flat_code.specs.declared.image_fields.ParameterRecord.{ParameterRecord}
-use Rattle.flat_code.specs.Layout.{Note, Faulty, Whole, AllBlocks, Cursor, ReadResult, Layout, reading_ended, reading_given, go_on, bind, fault_note, field_of, field, chain, checked_layout, located_layout, read_many, many, seen_as, noted_layout, faults_in}
+use Rattle.flat_code.specs.Layout.{Note, Faulty, Whole, AllBlocks, Cursor, ReadResult, Layout, reading_ended, reading_given, go_on, bind_reading, fault_note, field_of, field_layout, chain_layout, checked_layout, located_layout, read_many, list_layout, seen_as, noted_layout, faults_in}
 use Rattle.flat_code.specs.Codes.{ops_from, stop_at, read_ops, read_code, code_layout}
-use Rattle.flat_code.specs.Image.{no_fault, plain_u16, plain_u32, zero_u8, zero_u16, width_field, bytes, section_field, parameter_byte, parameter_bit, parameter_rows, parameter_fields, parameter_row, parameter_of_fields, fields_of_parameter, parameter_layout, kind_field, parameter_count_layout, block_number_layout, local_length_layout, instance_bytes, Head, head_of_row, row_of_head, head_rows, head_layout, same_state, parameters, line_after, line_field, lines_layout, code_and_lines, BlockRow, parts_of_block_row, row_of_block_parts, block_rows, block_of_parts, parts_of_block, plain_block, whole_note, code_block_at, code_block_layout, after_block, data_number_layout, instance_field, data_length_layout, contents, data_rows, data_fields, data_row, data_of_fields, fields_of_data, data_block_layout, after_data, name_len, name_bytes, name_area, name_bit, name_rows, name_fields, name_row, name_of_fields, fields_of_name, name_record, after_name, data_count, Counts, counts_of_row, row_of_counts, count_rows, counts_layout, code_blocks, plain_data_blocks, data_blocks_layout, names, BodyRow, parts_of_body_row, row_of_body_parts, body_rows, records_of_parts, parts_of_records, records, record_of_block, program_of_records, records_of, body, magic_field, version_field, profile_field, Front, front_of_row, row_of_front, front_rows, front, front_size, stamp_in, end_layout, cut, read_by, read_image}
+use Rattle.flat_code.specs.Image.{no_fault, plain_u16, plain_u32, zero_u8, zero_u16, width_field, bytes_coding, section_field, parameter_byte, parameter_bit, parameter_rows, parameter_fields, parameter_row, parameter_of_fields, fields_of_parameter, parameter_layout, kind_field, parameter_count_layout, block_number_layout, local_length_layout, instance_bytes_layout, Head, head_of_row, row_of_head, head_rows, head_layout, same_state, parameters_layout, line_after, line_field, lines_layout, code_and_lines, BlockRow, parts_of_block_row, row_of_block_parts, block_rows, block_of_parts, parts_of_block, plain_block, whole_note, code_block_at, code_block_layout, after_block, data_number_layout, instance_field, data_length_layout, contents_layout, data_rows, data_fields, data_row, data_of_fields, fields_of_data, data_block_layout, after_data, name_len, name_bytes, name_area, name_bit, name_rows, name_fields, name_row, name_of_fields, fields_of_name, name_record, after_name, data_count, RecordCounts, counts_of_row, row_of_counts, count_rows, counts_layout, code_blocks_layout, plain_data_blocks, data_blocks_layout, names_layout, BodyRow, parts_of_body_row, row_of_body_parts, body_rows, records_of_parts, parts_of_records, records_layout, record_of_block, program_of_records, records_of, body_layout, magic_field, version_field, profile_field, Front, front_of_row, row_of_front, front_rows, front_layout, front_size, stamp_in, end_layout, read_cut_off, read_by, read_image}
 use Rattle.flat_code.specs.declared.image_fields.OpenBracket.{OpenBracket}
-use Rattle.flat_code.specs.Placed.{Placed, StatementSpot, spots, code_places, open_behind, zones_left}
-use Rattle.flat_code.specs.Blocks.{Around, operand_fault, call_fault, mark_fault, bracket_fault, zone_fault, at_offset, op_faults, faults_over, open_faults, open_zone_faults, block_faults}
-use Rattle.flat_code.specs.Loading.{lens_of, later, around_block, wholes, all_blocks, blocks_of, op_faults_of_blocks, faults_of, Gives, AreVerified, IsLoadable}
+use Rattle.flat_code.specs.Placed.{PlacedOp, StatementSpot, statement_spots, code_places, open_behind, zones_left}
+use Rattle.flat_code.specs.Blocks.{Environment, operand_fault, call_fault, mark_fault, bracket_fault, zone_fault, at_offset, op_faults, faults_over, open_faults, open_zone_faults, block_faults}
+use Rattle.flat_code.specs.Loading.{lens_of, later_data_blocks, environment_of_block, whole_blocks, all_blocks, blocks_of, op_faults_of_blocks, faults_of, GivesProgram, AreVerified, IsLoadable}
 use Rattle.flat_code.proofs.CodingLemmas.{IsBytes}
 use Rattle.image_file.proofs.LayoutLemmas.{at_place, no_faults}
 use Rattle.image_file.proofs.ImageLemmas.{image_again, image_takes, records_back, records_laid, front_laid, bytes_taken, Stamped}
@@ -29,36 +29,36 @@ abbrev Told : Type 0
 Told = List BlockRecord × Lens
 
 join : Told → Told → Told
-join a b = (a.0 ++ b.0, later a.1 b.1)
+join a b = (a.0 ++ b.0, later_data_blocks a.1 b.1)
 
 nothing : Told
 nothing = ([], None)
 
 told_in : List Note → Told
-told_in notes = (blocks_of (wholes notes), all_blocks notes)
+told_in notes = (blocks_of (whole_blocks notes), all_blocks notes)
 
 pairs : {a b : List BlockRecord} {x y : Lens} → a ≡ b → x ≡ y → ◌≡◌ {A = Told} (a, x) (b, y)
 pairs p q = rw (p, q) refl
 
-wholes-append : (a b : List Note) → blocks_of (wholes (a ++ b)) ≡ blocks_of (wholes a) ++ blocks_of (wholes b)
+wholes-append : (a b : List Note) → blocks_of (whole_blocks (a ++ b)) ≡ blocks_of (whole_blocks a) ++ blocks_of (whole_blocks b)
 wholes-append [] b = refl
 wholes-append (Faulty at code ∷ a) b = wholes-append a b
 wholes-append (Whole start block ∷ a) b = ap (λ (z : List BlockRecord). block ∷ z) (wholes-append a b)
 wholes-append (AllBlocks blocks ∷ a) b = wholes-append a b
 
-later-assoc : (a b c : Lens) → later a (later b c) ≡ later (later a b) c
+later-assoc : (a b c : Lens) → later_data_blocks a (later_data_blocks b c) ≡ later_data_blocks (later_data_blocks a b) c
 later-assoc a b None = refl
 later-assoc a b (Some lens) = refl
 
-later-none : (a : Lens) → later None a ≡ a
+later-none : (a : Lens) → later_data_blocks None a ≡ a
 later-none None = refl
 later-none (Some lens) = refl
 
-all-append : (a b : List Note) → all_blocks (a ++ b) ≡ later (all_blocks a) (all_blocks b)
+all-append : (a b : List Note) → all_blocks (a ++ b) ≡ later_data_blocks (all_blocks a) (all_blocks b)
 all-append [] b = sym (later-none (all_blocks b))
 all-append (Faulty at code ∷ a) b = all-append a b
 all-append (Whole start block ∷ a) b = all-append a b
-all-append (AllBlocks blocks ∷ a) b = ap (later (Some blocks)) (all-append a b) ∙ later-assoc (Some blocks) (all_blocks a) (all_blocks b)
+all-append (AllBlocks blocks ∷ a) b = ap (later_data_blocks (Some blocks)) (all-append a b) ∙ later-assoc (Some blocks) (all_blocks a) (all_blocks b)
 
 told-append : (a b : List Note) → told_in (a ++ b) ≡ join (told_in a) (told_in b)
 unfolding told_in join
@@ -104,32 +104,32 @@ record Steps (A B : Type 0) (r : ReadResult A) (f : A → Cursor → ReadResult 
   next : Cursor
   one : r.found ≡ Some (first, next)
   two : (f first next).found ≡ Some (y, end)
-  are : (bind r f).notes ≡ r.notes ++ (f first next).notes
-  notes : told_in (bind r f).notes ≡ join (told_in r.notes) (told_in (f first next).notes)
+  are : (bind_reading r f).notes ≡ r.notes ++ (f first next).notes
+  notes : told_in (bind_reading r f).notes ≡ join (told_in r.notes) (told_in (f first next).notes)
 
 go_steps : {A B : Type 0} (notes : List Note) (o : Option (A × Cursor)) (f : A → Cursor → ReadResult B) (y : B) (end : Cursor) → (go_on notes o f).found ≡ Some (y, end) → Steps A B (record { notes = notes; found = o }) f y end
 go_steps {A = A} {B = B} notes None f y end e = absurd cc
 go_steps {A = A} {B = B} notes (Some x) f y end e = record { first = x.0; next = x.1; one = refl; two = e; are = refl; notes = told-append notes (f x.0 x.1).notes }
 
-steps : {A B : Type 0} (r : ReadResult A) (f : A → Cursor → ReadResult B) (y : B) (end : Cursor) → (bind r f).found ≡ Some (y, end) → Steps A B r f y end
+steps : {A B : Type 0} (r : ReadResult A) (f : A → Cursor → ReadResult B) (y : B) (end : Cursor) → (bind_reading r f).found ≡ Some (y, end) → Steps A B r f y end
 steps r f y end e = go_steps r.notes r.found f y end e
 
 field_of_notes : {A : Type 0} (fault_in : A → Option ℕ) (cur : Cursor) (o : Option (A × List ℕ)) (x : A) (end : Cursor) → (field_of fault_in cur o).found ≡ Some (x, end) → told_in (field_of fault_in cur o).notes ≡ nothing
 field_of_notes {A = A} fault_in cur None x end h = absurd cc
 field_of_notes {A = A} fault_in cur (Some r) x end h = none_noted cur.at (fault_in r.0)
 
-field_notes : {A : Type 0} (c : Coding A) (fault_in : A → Option ℕ) → Notes A (field c fault_in) (λ x. nothing)
+field_notes : {A : Type 0} (c : Coding A) (fault_in : A → Option ℕ) → Notes A (field_layout c fault_in) (λ x. nothing)
 field_notes {A = A} c fault_in = record { says = λ cur x end e. field_of_notes fault_in cur (c.read cur.rest) x end e }
 
-chain_notes : {A B : Type 0} (l : Layout A) (m : A → Layout B) (v : A → Told) (w : A → B → Told) → Notes A l v → ((x : A) → Notes B (m x) (w x)) → Notes (A × B) (chain l m) (λ x. join (v x.0) (w x.0 x.1))
+chain_notes : {A B : Type 0} (l : Layout A) (m : A → Layout B) (v : A → Told) (w : A → B → Told) → Notes A l v → ((x : A) → Notes B (m x) (w x)) → Notes (A × B) (chain_layout l m) (λ x. join (v x.0) (w x.0 x.1))
 chain_notes {A = A} {B = B} l m v w p q = record {
   says = λ cur x end e.
-      let a = steps (l.read cur) (λ x next. bind ((m x).read next) (λ y end. reading_given (x, y) end)) x end e in
+      let a = steps (l.read cur) (λ x next. bind_reading ((m x).read next) (λ y end. reading_given (x, y) end)) x end e in
       let b = steps ((m a.first).read a.next) (λ y end. reading_given (a.first, y) end) x end a.two in
       let made = same_Some ((a.first, b.first), b.next) (x, end) b.two in
       let x_is = ap (λ (z : (A × B) × Cursor). z.0) made in
       let inner = b.notes ∙ ap (λ (z : Told). join (told_in ((m a.first).read a.next).notes) z) none_at_all ∙ join-nothing (told_in ((m a.first).read a.next).notes) ∙ (q a.first).says a.next b.first b.next b.one in
-      a.notes ∙ ap (λ (z : Told). join z (told_in (bind {B = A × B} ((m a.first).read a.next) (λ y end. reading_given (a.first, y) end)).notes)) (p.says cur a.first a.next a.one)
+      a.notes ∙ ap (λ (z : Told). join z (told_in (bind_reading {B = A × B} ((m a.first).read a.next) (λ y end. reading_given (a.first, y) end)).notes)) (p.says cur a.first a.next a.one)
       ∙ ap (λ (z : Told). join (v a.first) z) inner ∙ ap (λ (z : A × B). join (v z.0) (w z.0 z.1)) x_is;
 }
 
@@ -163,30 +163,30 @@ many_says : {S A : Type 0} (l : S → Layout A) (next : S → A → S) (v : A �
 unfolding all_of
 many_says {S = S} {A = A} l next v p s zero cur xs end e = let made = same_Some ([], cur) (xs, end) e in none_at_all ∙ ap (λ (z : List A × Cursor). all_of v z.0) made
 many_says {S = S} {A = A} l next v p s (suc n) cur xs end e =
-    let a = steps ((l s).read cur) (λ x after. bind (read_many l next (next s x) n after) (λ xs end. reading_given (x ∷ xs) end)) xs end e in
+    let a = steps ((l s).read cur) (λ x after. bind_reading (read_many l next (next s x) n after) (λ xs end. reading_given (x ∷ xs) end)) xs end e in
     let b = steps (read_many l next (next s a.first) n a.next) (λ xs end. reading_given (a.first ∷ xs) end) xs end a.two in
     let made = same_Some (a.first ∷ b.first, b.next) (xs, end) b.two in
     let inner = b.notes ∙ ap (λ (z : Told). join (told_in (read_many l next (next s a.first) n a.next).notes) z) none_at_all ∙ join-nothing (told_in (read_many l next (next s a.first) n a.next).notes) ∙ many_says l next v p (next s a.first) n a.next b.first b.next b.one in
-    a.notes ∙ ap (λ (z : Told). join z (told_in (bind (read_many l next (next s a.first) n a.next) (λ xs end. reading_given (a.first ∷ xs) end)).notes)) ((p s).says cur a.first a.next a.one)
+    a.notes ∙ ap (λ (z : Told). join z (told_in (bind_reading (read_many l next (next s a.first) n a.next) (λ xs end. reading_given (a.first ∷ xs) end)).notes)) ((p s).says cur a.first a.next a.one)
     ∙ ap (λ (z : Told). join (v a.first) z) inner ∙ ap (λ (z : List A × Cursor). all_of v z.0) made
 
-many_notes : {S A : Type 0} (l : S → Layout A) (next : S → A → S) (v : A → Told) → ((s : S) → Notes A (l s) v) → (s : S) (n : ℕ) → Notes (List A) (many l next s n) (all_of v)
+many_notes : {S A : Type 0} (l : S → Layout A) (next : S → A → S) (v : A → Told) → ((s : S) → Notes A (l s) v) → (s : S) (n : ℕ) → Notes (List A) (list_layout l next s n) (all_of v)
 many_notes l next v p s n = record { says = many_says l next v p s n }
 
 -- layouts that note no block
 weaker : {A : Type 0} (l : Layout A) (v w : A → Told) → ((x : A) → v x ≡ w x) → Notes A l v → Notes A l w
 weaker {A = A} l v w same p = record { says = λ cur x end e. p.says cur x end e ∙ same x }
 
-chain_none : {A B : Type 0} (l : Layout A) (m : A → Layout B) → Notes A l (λ x. nothing) → ((x : A) → Notes B (m x) (λ y. nothing)) → Notes (A × B) (chain l m) (λ x. nothing)
-chain_none {A = A} {B = B} l m p q = weaker (chain l m) (λ x. join nothing nothing) (λ x. nothing) (λ x. nothing-join nothing) (chain_notes l m (λ x. nothing) (λ x y. nothing) p q)
+chain_none : {A B : Type 0} (l : Layout A) (m : A → Layout B) → Notes A l (λ x. nothing) → ((x : A) → Notes B (m x) (λ y. nothing)) → Notes (A × B) (chain_layout l m) (λ x. nothing)
+chain_none {A = A} {B = B} l m p q = weaker (chain_layout l m) (λ x. join nothing nothing) (λ x. nothing) (λ x. nothing-join nothing) (chain_notes l m (λ x. nothing) (λ x y. nothing) p q)
 
 all_none : {A : Type 0} (xs : List A) → all_of (λ x. nothing) xs ≡ nothing
 unfolding all_of
 all_none [] = refl
 all_none (x ∷ xs) = nothing-join (all_of (λ x. nothing) xs) ∙ all_none xs
 
-many_none : {S A : Type 0} (l : S → Layout A) (next : S → A → S) → ((s : S) → Notes A (l s) (λ x. nothing)) → (s : S) (n : ℕ) → Notes (List A) (many l next s n) (λ xs. nothing)
-many_none l next p s n = weaker (many l next s n) (all_of (λ x. nothing)) (λ xs. nothing) (λ xs. all_none xs) (many_notes l next (λ x. nothing) p s n)
+many_none : {S A : Type 0} (l : S → Layout A) (next : S → A → S) → ((s : S) → Notes A (l s) (λ x. nothing)) → (s : S) (n : ℕ) → Notes (List A) (list_layout l next s n) (λ xs. nothing)
+many_none l next p s n = weaker (list_layout l next s n) (all_of (λ x. nothing)) (λ xs. nothing) (λ xs. all_none xs) (many_notes l next (λ x. nothing) p s n)
 
 cond_found : {A : Type 0} (b : Bool) (x y : ReadResult A) (v : A) (end : Cursor) (t : Told) → (cond b x y).found ≡ Some (v, end) → (x.found ≡ Some (v, end) → told_in x.notes ≡ t) → (y.found ≡ Some (v, end) → told_in y.notes ≡ t) → told_in (cond b x y).notes ≡ t
 cond_found true x y v end t e f g = f e
@@ -214,30 +214,30 @@ parameter_notes kind instance =
     chain_none (parameter_byte kind instance w) _ (field_notes u16 _) (λ byte.
     chain_none (parameter_bit kind) _ (field_notes u8 _) (λ bit. field_notes u8 _)))))
 
-parameters_notes : (h : Head) → Notes (List ParameterRecord) (parameters h) (λ ps. nothing)
-unfolding parameters
+parameters_notes : (h : Head) → Notes (List ParameterRecord) (parameters_layout h) (λ ps. nothing)
+unfolding parameters_layout
 parameters_notes h = many_none (λ s. parameter_layout h.kind h.instance_bytes) same_state (λ s. parameter_notes h.kind h.instance_bytes) 0 h.parameter_count
 
 head_notes : (before : ℕ × ℕ) → Notes Head (head_layout before) (λ h. nothing)
-unfolding head_layout head_rows kind_field parameter_count_layout block_number_layout local_length_layout instance_bytes zero_u16 plain_u16 plain_u32
+unfolding head_layout head_rows kind_field parameter_count_layout block_number_layout local_length_layout instance_bytes_layout zero_u16 plain_u16 plain_u32
 head_notes before = seen_notes head_of_row row_of_head (head_rows before) (λ r. nothing) (λ h. nothing) (λ r. refl)
     (chain_none (kind_field before.0) _ (field_notes u8 _) (λ kind.
     chain_none (parameter_count_layout kind) _ (field_notes u8 _) (λ params.
     chain_none (block_number_layout before.0 before.1 kind) _ (field_notes u16 _) (λ number.
     chain_none (local_length_layout kind) _ (field_notes u16 _) (λ locals.
-    chain_none (instance_bytes kind) _ (field_notes u16 _) (λ instance.
+    chain_none (instance_bytes_layout kind) _ (field_notes u16 _) (λ instance.
     chain_none plain_u16 _ (field_notes u16 no_fault) (λ statements.
     chain_none zero_u16 _ (field_notes u16 _) (λ zero. field_notes u32 no_fault))))))))
 
 lines_notes : (start : ℕ) (h : Head) (ops : List OpData) → Notes (List ℕ) (lines_layout true start h ops) (λ x. nothing)
 unfolding lines_layout line_field
-lines_notes start h ops = checked_notes (start + 8) _ (many (line_field true) line_after 0 h.statement_count) (λ x. nothing) (many_none (line_field true) line_after (λ s. field_notes u32 _) 0 h.statement_count)
+lines_notes start h ops = checked_notes (start + 8) _ (list_layout (line_field true) line_after 0 h.statement_count) (λ x. nothing) (many_none (line_field true) line_after (λ s. field_notes u32 _) 0 h.statement_count)
 
 block_rows_notes : (before : ℕ × ℕ) (at : ℕ) → Notes BlockRow (block_rows true before at) (λ r. nothing)
 unfolding block_rows code_and_lines
 block_rows_notes before at =
     chain_none (head_layout before) _ (head_notes before) (λ h.
-    chain_none (parameters h) (λ params. code_and_lines true at h) (parameters_notes h) (λ params.
+    chain_none (parameters_layout h) (λ params. code_and_lines true at h) (parameters_notes h) (λ params.
     chain_none (code_layout true h.code_length) (lines_layout true at h) (code_notes h.code_length) (lines_notes at h)))
 
 code_block_notes : (before : ℕ × ℕ) → Notes BlockRecord (code_block_layout true before) one
@@ -247,22 +247,22 @@ code_block_notes before = located_notes (code_block_at true before) one (λ at. 
 singles : (bs : List BlockRecord) → all_of one bs ≡ (bs, None)
 unfolding all_of one join nothing
 singles [] = refl
-singles (b ∷ bs) = ap (λ (z : Told). let y : Told = (b ∷ z.0, later None z.1) in y) (singles bs)
+singles (b ∷ bs) = ap (λ (z : Told). let y : Told = (b ∷ z.0, later_data_blocks None z.1) in y) (singles bs)
 
 abbrev codes_told : List BlockRecord → Told
 codes_told bs = (bs, None)
 
-code_blocks_notes : (n : ℕ) → Notes (List BlockRecord) (code_blocks true n) codes_told
-unfolding code_blocks
-code_blocks_notes n = weaker (many (code_block_layout true) after_block (0, 0) n) (all_of one) codes_told singles (many_notes (code_block_layout true) after_block one code_block_notes (0, 0) n)
+code_blocks_notes : (n : ℕ) → Notes (List BlockRecord) (code_blocks_layout true n) codes_told
+unfolding code_blocks_layout
+code_blocks_notes n = weaker (list_layout (code_block_layout true) after_block (0, 0) n) (all_of one) codes_told singles (many_notes (code_block_layout true) after_block one code_block_notes (0, 0) n)
 
 data_notes : (before : ℕ × ℕ) → Notes DataBlock (data_block_layout before) (λ d. nothing)
-unfolding data_block_layout data_rows data_number_layout instance_field data_length_layout zero_u16 contents
+unfolding data_block_layout data_rows data_number_layout instance_field data_length_layout zero_u16 contents_layout
 data_notes before = seen_notes (λ r. data_of_fields (data_fields r)) (λ d. data_row (fields_of_data d)) (data_rows before) (λ x. nothing) (λ d. nothing) (λ x. refl)
     (chain_none (data_number_layout before.0) _ (field_notes u16 _) (λ number.
     chain_none instance_field _ (field_notes u16 _) (λ instance.
     chain_none (data_length_layout before.1) _ (field_notes u16 _) (λ n.
-    chain_none zero_u16 (λ zero. contents n) (field_notes u16 _) (λ zero. field_notes (bytes n) (λ bs. None))))))
+    chain_none zero_u16 (λ zero. contents_layout n) (field_notes u16 _) (λ zero. field_notes (bytes_coding n) (λ bs. None))))))
 
 data_blocks_notes : (n : ℕ) → Notes (List DataBlock) (data_blocks_layout n) all_told
 unfolding data_blocks_layout
@@ -272,16 +272,16 @@ name_notes : (before : List ℕ) → Notes NameRecord (name_record before) (λ n
 unfolding name_record name_rows name_len name_bytes name_area width_field plain_u16 name_bit
 name_notes before = seen_notes (λ r. name_of_fields (name_fields r)) (λ n. name_row (fields_of_name n)) (name_rows before) (λ x. nothing) (λ n. nothing) (λ x. refl)
     (chain_none name_len _ (field_notes u8 _) (λ n.
-    chain_none (name_bytes before n) _ (field_notes (bytes n) _) (λ name.
+    chain_none (name_bytes before n) _ (field_notes (bytes_coding n) _) (λ name.
     chain_none name_area _ (field_notes u8 _) (λ area.
     chain_none width_field _ (field_notes u8 _) (λ w.
     chain_none plain_u16 (λ byte. name_bit w) (field_notes u16 no_fault) (λ byte. field_notes u8 _))))))
 
-names_notes : (n : ℕ) → Notes (List NameRecord) (names n) (λ ns. nothing)
-unfolding names
+names_notes : (n : ℕ) → Notes (List NameRecord) (names_layout n) (λ ns. nothing)
+unfolding names_layout
 names_notes n = many_none name_record after_name name_notes [] n
 
-counts_notes : Notes Counts counts_layout (λ c. nothing)
+counts_notes : Notes RecordCounts counts_layout (λ c. nothing)
 unfolding counts_layout count_rows plain_u16 data_count zero_u16
 counts_notes = seen_notes counts_of_row row_of_counts count_rows (λ r. nothing) (λ c. nothing) (λ r. refl)
     (chain_none plain_u16 _ (field_notes u16 no_fault) (λ codes.
@@ -297,9 +297,9 @@ blocks_and_names x = join (codes_told x.0) (datas_and_names x.1)
 body_rows_notes : Notes BodyRow (body_rows true) (λ r. join nothing (blocks_and_names r.1))
 unfolding body_rows
 body_rows_notes =
-    chain_notes counts_layout (λ c. chain (code_blocks true c.code_blocks) (λ blocks. chain (data_blocks_layout c.data_blocks) (λ datas. names c.names))) (λ c. nothing) (λ c. blocks_and_names) counts_notes (λ c.
-    chain_notes (code_blocks true c.code_blocks) (λ blocks. chain (data_blocks_layout c.data_blocks) (λ datas. names c.names)) codes_told (λ bs. datas_and_names) (code_blocks_notes c.code_blocks) (λ blocks.
-    chain_notes (data_blocks_layout c.data_blocks) (λ datas. names c.names) all_told (λ ds ns. nothing) (data_blocks_notes c.data_blocks) (λ datas. names_notes c.names)))
+    chain_notes counts_layout (λ c. chain_layout (code_blocks_layout true c.code_blocks) (λ blocks. chain_layout (data_blocks_layout c.data_blocks) (λ datas. names_layout c.names))) (λ c. nothing) (λ c. blocks_and_names) counts_notes (λ c.
+    chain_notes (code_blocks_layout true c.code_blocks) (λ blocks. chain_layout (data_blocks_layout c.data_blocks) (λ datas. names_layout c.names)) codes_told (λ bs. datas_and_names) (code_blocks_notes c.code_blocks) (λ blocks.
+    chain_notes (data_blocks_layout c.data_blocks) (λ datas. names_layout c.names) all_told (λ ds ns. nothing) (data_blocks_notes c.data_blocks) (λ datas. names_notes c.names)))
 
 -- all blocks of records
 told_of : Records → Told
@@ -309,12 +309,12 @@ records_told : (x : BodyRow) → join nothing (blocks_and_names x.1) ≡ told_of
 unfolding join nothing all_told told_of
 records_told x = pairs (append-nil x.1.0) refl
 
-records_notes : Notes Records (records true) told_of
-unfolding records
+records_notes : Notes Records (records_layout true) told_of
+unfolding records_layout
 records_notes = seen_notes (λ r. records_of_parts (parts_of_body_row r)) (λ r. row_of_body_parts (parts_of_records r)) (body_rows true) (λ r. join nothing (blocks_and_names r.1)) told_of records_told body_rows_notes
 
-front_notes : Notes Front front (λ f. nothing)
-unfolding front front_rows magic_field version_field profile_field plain_u32
+front_notes : Notes Front front_layout (λ f. nothing)
+unfolding front_layout front_rows magic_field version_field profile_field plain_u32
 front_notes = seen_notes front_of_row row_of_front front_rows (λ r. nothing) (λ f. nothing) (λ r. refl)
     (chain_none magic_field _ (field_notes u32 _) (λ magic.
     chain_none version_field _ (field_notes u16 _) (λ version.
@@ -326,27 +326,27 @@ cond_note true at code = refl
 cond_note false at code = refl
 
 abbrev are_good : Records → Type 0
-are_good r = (records true).good r ≡ true
+are_good r = (records_layout true).good r ≡ true
 
 -- the records that were found without fault
 record FromRecords (p : Program) (notes : List Note) : Type 0 where
   records : Records
-  program : program_of_records records ≡ p
-  good : are_good records
-  told : told_in notes ≡ told_of records
+  program : program_of_records records_layout ≡ p
+  good : are_good records_layout
+  told : told_in notes ≡ told_of records_layout
 
-body_from : (cur : Cursor) (p : Program) (end : Cursor) → IsBytes cur.rest → ((body true).read cur).found ≡ Some (p, end) → faults_in ((body true).read cur).notes ≡ [] → FromRecords p ((body true).read cur).notes
-unfolding body
+body_from : (cur : Cursor) (p : Program) (end : Cursor) → IsBytes cur.rest → ((body_layout true).read cur).found ≡ Some (p, end) → faults_in ((body_layout true).read cur).notes ≡ [] → FromRecords p ((body_layout true).read cur).notes
+unfolding body_layout
 body_from cur p end are e clean =
-    let a = steps ((records true).read cur) (λ x end. reading_given (program_of_records x) end) p end e in
+    let a = steps ((records_layout true).read cur) (λ x end. reading_given (program_of_records x) end) p end e in
     let made = same_Some (program_of_records a.first, a.next) (p, end) a.two in
-    let c = no_faults ((records true).read cur).notes [] (sym (ap faults_in a.are) ∙ clean) in
+    let c = no_faults ((records_layout true).read cur).notes [] (sym (ap faults_in a.are) ∙ clean) in
     let t = (records_laid true).takes cur a.first a.next are (record { found = a.one; clean = c.0 }) in
     record {
       records = a.first;
       program = ap (λ (z : Program × Cursor). z.0) made;
       good = t.good;
-      told = a.notes ∙ ap (λ (z : Told). join (told_in ((records true).read cur).notes) z) none_at_all ∙ join-nothing (told_in ((records true).read cur).notes) ∙ records_notes.says cur a.first a.next a.one;
+      told = a.notes ∙ ap (λ (z : Told). join (told_in ((records_layout true).read cur).notes) z) none_at_all ∙ join-nothing (told_in ((records_layout true).read cur).notes) ∙ records_notes.says cur a.first a.next a.one;
     }
 
 abbrev cut_cursor : ℕ → Cursor → Cursor
@@ -354,25 +354,25 @@ cut_cursor total cur = record { at = cur.at; rest = take (total - front_size) cu
 
 abbrev cut_inner : Stamp → List ℕ → ℕ → Cursor → ReadResult Stamped
 cut_inner stamp text total cur = record {
-  notes = cond (eqb (length text) total) [] (Faulty total 10 ∷ []) ++ (bind ((body true).read (cut_cursor total cur)) (end_layout stamp)).notes;
-  found = (bind ((body true).read (cut_cursor total cur)) (end_layout stamp)).found;
+  notes = cond (eqb (length text) total) [] (Faulty total 10 ∷ []) ++ (bind_reading ((body_layout true).read (cut_cursor total cur)) (end_layout stamp)).notes;
+  found = (bind_reading ((body_layout true).read (cut_cursor total cur)) (end_layout stamp)).found;
 }
 
 inner_from : (stamp : Stamp) (text : List ℕ) (total : ℕ) (cur : Cursor) (p : Stamped) (end : Cursor) → IsBytes cur.rest → (cut_inner stamp text total cur).found ≡ Some (p, end) → faults_in (cut_inner stamp text total cur).notes ≡ [] → FromRecords p.1 (cut_inner stamp text total cur).notes
 inner_from stamp text total cur p end are e clean =
-    let inner = (body true).read (cut_cursor total cur) in
+    let inner = (body_layout true).read (cut_cursor total cur) in
     let a = steps inner (end_layout stamp) p end e in
     let made = same_Some ((stamp, a.first), a.next) (p, end) a.two in
-    let c = no_faults (cond (eqb (length text) total) [] (Faulty total 10 ∷ [])) (bind inner (end_layout stamp)).notes clean in
+    let c = no_faults (cond (eqb (length text) total) [] (Faulty total 10 ∷ [])) (bind_reading inner (end_layout stamp)).notes clean in
     let d = no_faults inner.notes (end_layout stamp a.first a.next).notes (sym (ap faults_in a.are) ∙ c.1) in
     let f = body_from (cut_cursor total cur) a.first a.next (bytes_taken (total - front_size) cur.rest are) a.one d.0 in
     record {
       records = f.records;
       program = f.program ∙ ap (λ (z : Stamped × Cursor). z.0.1) made;
       good = f.good;
-      told = told-append (cond (eqb (length text) total) [] (Faulty total 10 ∷ [])) (bind inner (end_layout stamp)).notes
-          ∙ ap (λ (z : Told). join z (told_in (bind inner (end_layout stamp)).notes)) (cond_note (eqb (length text) total) total 10)
-          ∙ nothing-join (told_in (bind inner (end_layout stamp)).notes)
+      told = told-append (cond (eqb (length text) total) [] (Faulty total 10 ∷ [])) (bind_reading inner (end_layout stamp)).notes
+          ∙ ap (λ (z : Told). join z (told_in (bind_reading inner (end_layout stamp)).notes)) (cond_note (eqb (length text) total) total 10)
+          ∙ nothing-join (told_in (bind_reading inner (end_layout stamp)).notes)
           ∙ a.notes ∙ ap (λ (z : Told). join (told_in inner.notes) z) (cond_note (eqb (length a.next.rest) 0) a.next.at 10) ∙ join-nothing (told_in inner.notes)
           ∙ f.told;
     }
@@ -385,22 +385,22 @@ cut_from stamp text total cur p end false false are e clean = inner_from stamp t
 image_from : (text : List ℕ) (p : Stamped) (end : Cursor) → IsBytes text → (read_image text).found ≡ Some (p, end) → faults_in (read_image text).notes ≡ [] → FromRecords p.1 (read_image text).notes
 unfolding read_by
 image_from text p end are e clean =
-    let a = steps (front.read (at_place 0 text)) (λ f cur. cut true (stamp_in f) (length text) f.total_length cur) p end e in
+    let a = steps (front_layout.read (at_place 0 text)) (λ f cur. read_cut_off true (stamp_in f) (length text) f.total_length cur) p end e in
     let stamp = stamp_in a.first in
     let total = a.first.total_length in
-    let c = no_faults (front.read (at_place 0 text)).notes (cut true stamp (length text) total a.next).notes (sym (ap faults_in a.are) ∙ clean) in
+    let c = no_faults (front_layout.read (at_place 0 text)).notes (read_cut_off true stamp (length text) total a.next).notes (sym (ap faults_in a.are) ∙ clean) in
     let t = front_laid.takes (at_place 0 text) a.first a.next are (record { found = a.one; clean = c.0 }) in
     let f = cut_from stamp text total a.next p end (ltb total 20 || ltb (length text) total) (ltb 8388608 total) t.text.rest_fits a.two c.1 in
     record {
       records = f.records;
       program = f.program;
       good = f.good;
-      told = a.notes ∙ ap (λ (z : Told). join z (told_in (cut true stamp (length text) total a.next).notes)) (front_notes.says (at_place 0 text) a.first a.next a.one) ∙ nothing-join (told_in (cut true stamp (length text) total a.next).notes) ∙ f.told;
+      told = a.notes ∙ ap (λ (z : Told). join z (told_in (read_cut_off true stamp (length text) total a.next).notes)) (front_notes.says (at_place 0 text) a.first a.next a.one) ∙ nothing-join (told_in (read_cut_off true stamp (length text) total a.next).notes) ∙ f.told;
     }
 
 -- what reading without fault noted, by the program
 pub record Noted (p : Program) (notes : List Note) : Type 0 where
-  pub codes : blocks_of (wholes notes) ≡ map record_of_block p.code_blocks
+  pub codes : blocks_of (whole_blocks notes) ≡ map record_of_block p.code_blocks
   pub datas : all_blocks notes ≡ Some p.data_blocks
 
 pub image_noted : (text : List ℕ) (stamp : Stamp) (p : Program) (end : Cursor) → IsBytes text → (read_image text).found ≡ Some ((stamp, p), end) → faults_in (read_image text).notes ≡ [] → Noted p (read_image text).notes
@@ -422,7 +422,7 @@ elsewhere : (at other : ℕ) (o : Option ℕ) → at_offset at o ≡ [] → at_o
 elsewhere at other None e = refl
 elsewhere at other (Some code) e = absurd cc
 
-op_moved : (around : Around) (ps : List StatementSpot) (start other : ℕ) (p : Placed) → op_faults around ps start p ≡ [] → op_faults around ps other p ≡ []
+op_moved : (around : Environment) (ps : List StatementSpot) (start other : ℕ) (p : PlacedOp) → op_faults around ps start p ≡ [] → op_faults around ps other p ≡ []
 unfolding op_faults
 op_moved around ps start other p e =
     let at = start + p.at in
@@ -438,7 +438,7 @@ op_moved around ps start other p e =
     let l = nil_parts a b m.0 in
     nil_join (nil_join (nil_join (nil_join (elsewhere at to (operand_fault around ps p p.op.operand) l.0) (elsewhere at to (call_fault around around.data_lens p) l.1)) (elsewhere at to (mark_fault p.op) m.1)) (elsewhere at to (bracket_fault p.op.code p.brackets) n.1)) (elsewhere at to (zone_fault p.op.code p.zones) o.1)
 
-over_moved : (around : Around) (ps : List StatementSpot) (start other : ℕ) (rest : List Placed) → faults_over around ps start rest ≡ [] → faults_over around ps other rest ≡ []
+over_moved : (around : Environment) (ps : List StatementSpot) (start other : ℕ) (rest : List PlacedOp) → faults_over around ps start rest ≡ [] → faults_over around ps other rest ≡ []
 over_moved around ps start other [] e = refl
 over_moved around ps start other (p ∷ rest) e =
     let n = nil_parts (op_faults around ps start p) (faults_over around ps start rest) e in
@@ -453,47 +453,47 @@ open_zones_moved start other [] e = refl
 open_zones_moved start other (at ∷ zones) e = absurd cc
 
 -- where a block begins doesn't matter for whether it has a fault
-pub moved : (around : Around) (start other : ℕ) (ops : List OpData) → block_faults around start ops ≡ [] → block_faults around other ops ≡ []
+pub moved : (around : Environment) (start other : ℕ) (ops : List OpData) → block_faults around start ops ≡ [] → block_faults around other ops ≡ []
 unfolding block_faults
 moved around start other ops e =
-    let m = nil_parts (faults_over around (spots ops) start (code_places ops) ++ open_faults start (open_behind 0 [] ops)) (open_zone_faults start (zones_left 0 [] ops)) e in
-    let n = nil_parts (faults_over around (spots ops) start (code_places ops)) (open_faults start (open_behind 0 [] ops)) m.0 in
-    nil_join (nil_join (over_moved around (spots ops) start other (code_places ops) n.0) (open_moved start other (open_behind 0 [] ops) n.1)) (open_zones_moved start other (zones_left 0 [] ops) m.1)
+    let m = nil_parts (faults_over around (statement_spots ops) start (code_places ops) ++ open_faults start (open_behind 0 [] ops)) (open_zone_faults start (zones_left 0 [] ops)) e in
+    let n = nil_parts (faults_over around (statement_spots ops) start (code_places ops)) (open_faults start (open_behind 0 [] ops)) m.0 in
+    nil_join (nil_join (over_moved around (statement_spots ops) start other (code_places ops) n.0) (open_moved start other (open_behind 0 [] ops) n.1)) (open_zones_moved start other (zones_left 0 [] ops) m.1)
 
 verified : (lens : List (ℕ × ℕ)) (all : List BlockRecord) (bs : List (ℕ × BlockRecord)) → op_faults_of_blocks (Some lens) all bs ≡ [] → AreVerified lens all (blocks_of bs)
 verified lens all [] e = tt
 verified lens all (b ∷ bs) e =
-    let n = nil_parts (block_faults (around_block (Some lens) all b.1) b.0 b.1.code) (op_faults_of_blocks (Some lens) all bs) e in
-    (moved (around_block (Some lens) all b.1) b.0 0 b.1.code n.0, verified lens all bs n.1)
+    let n = nil_parts (block_faults (environment_of_block (Some lens) all b.1) b.0 b.1.code) (op_faults_of_blocks (Some lens) all bs) e in
+    (moved (environment_of_block (Some lens) all b.1) b.0 0 b.1.code n.0, verified lens all bs n.1)
 
 unchecked : (lens : List (ℕ × ℕ)) (all : List BlockRecord) (bs : List (ℕ × BlockRecord)) → AreVerified lens all (blocks_of bs) → op_faults_of_blocks (Some lens) all bs ≡ []
 unchecked lens all [] h = refl
-unchecked lens all (b ∷ bs) h = nil_join (moved (around_block (Some lens) all b.1) 0 b.0 b.1.code h.0) (unchecked lens all bs h.1)
+unchecked lens all (b ∷ bs) h = nil_join (moved (environment_of_block (Some lens) all b.1) 0 b.0 b.1.code h.0) (unchecked lens all bs h.1)
 
-pub gives_image : (text : List ℕ) (stamp : Stamp) (p : Program) → IsBytes text → Gives text stamp p → IsLoadable text stamp p
+pub gives_image : (text : List ℕ) (stamp : Stamp) (p : Program) → IsBytes text → GivesProgram text stamp p → IsLoadable text stamp p
 unfolding faults_of
 gives_image text stamp p are g =
     let notes = (read_image text).notes in
-    let n = nil_parts (faults_in notes) (op_faults_of_blocks (option_map lens_of (all_blocks notes)) (blocks_of (wholes notes)) (wholes notes)) g.clean in
+    let n = nil_parts (faults_in notes) (op_faults_of_blocks (option_map lens_of (all_blocks notes)) (blocks_of (whole_blocks notes)) (whole_blocks notes)) g.clean in
     let t = image_takes text stamp p g.end are (record { found = g.found; clean = n.0 }) in
     let m = image_noted text stamp p g.end are g.found n.0 in
-    let no_block_faults : op_faults_of_blocks (Some (lens_of p.data_blocks)) (blocks_of (wholes notes)) (wholes notes) ≡ [] = ap (λ (z : Option (List DataBlock)). op_faults_of_blocks (option_map lens_of z) (blocks_of (wholes notes)) (wholes notes)) (sym m.datas) ∙ n.1 in
-    let v = verified (lens_of p.data_blocks) (blocks_of (wholes notes)) (wholes notes) no_block_faults in
+    let no_block_faults : op_faults_of_blocks (Some (lens_of p.data_blocks)) (blocks_of (whole_blocks notes)) (whole_blocks notes) ≡ [] = ap (λ (z : Option (List DataBlock)). op_faults_of_blocks (option_map lens_of z) (blocks_of (whole_blocks notes)) (whole_blocks notes)) (sym m.datas) ∙ n.1 in
+    let v = verified (lens_of p.data_blocks) (blocks_of (whole_blocks notes)) (whole_blocks notes) no_block_faults in
     record {
       spelled = t.0;
       program = t.1;
       verifies = record { right = t.2; blocks = subst (λ (z : List BlockRecord). AreVerified (lens_of p.data_blocks) z z) m.codes v };
     }
 
-pub image_gives : (text : List ℕ) (stamp : Stamp) (p : Program) → IsBytes text → IsLoadable text stamp p → Gives text stamp p
+pub image_gives : (text : List ℕ) (stamp : Stamp) (p : Program) → IsBytes text → IsLoadable text stamp p → GivesProgram text stamp p
 unfolding faults_of
 image_gives text stamp p are h =
     let is = image_again true stamp p h.verifies.right h.program.short in
-    let end : Cursor = at_place (front_size + length ((body false).spell p)) [] in
+    let end : Cursor = at_place (front_size + length ((body_layout false).spell p)) [] in
     let notes = (read_image text).notes in
     let found : (read_image text).found ≡ Some ((stamp, p), end) = ap (λ (z : List ℕ). (read_image z).found) h.spelled ∙ is.found in
     let clean : faults_in notes ≡ [] = ap (λ (z : List ℕ). faults_in (read_image z).notes) h.spelled ∙ is.clean in
     let m = image_noted text stamp p end are found clean in
-    let v : AreVerified (lens_of p.data_blocks) (blocks_of (wholes notes)) (blocks_of (wholes notes)) = subst (λ (z : List BlockRecord). AreVerified (lens_of p.data_blocks) z z) (sym m.codes) h.verifies.blocks in
-    let no_block_faults : op_faults_of_blocks (option_map lens_of (all_blocks notes)) (blocks_of (wholes notes)) (wholes notes) ≡ [] = ap (λ (z : Option (List DataBlock)). op_faults_of_blocks (option_map lens_of z) (blocks_of (wholes notes)) (wholes notes)) m.datas ∙ unchecked (lens_of p.data_blocks) (blocks_of (wholes notes)) (wholes notes) v in
+    let v : AreVerified (lens_of p.data_blocks) (blocks_of (whole_blocks notes)) (blocks_of (whole_blocks notes)) = subst (λ (z : List BlockRecord). AreVerified (lens_of p.data_blocks) z z) (sym m.codes) h.verifies.blocks in
+    let no_block_faults : op_faults_of_blocks (option_map lens_of (all_blocks notes)) (blocks_of (whole_blocks notes)) (whole_blocks notes) ≡ [] = ap (λ (z : Option (List DataBlock)). op_faults_of_blocks (option_map lens_of z) (blocks_of (whole_blocks notes)) (whole_blocks notes)) m.datas ∙ unchecked (lens_of p.data_blocks) (blocks_of (whole_blocks notes)) (whole_blocks notes) v in
     record { end = end; found = found; clean = nil_join clean no_block_faults }

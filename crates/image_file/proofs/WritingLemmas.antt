@@ -2,7 +2,7 @@
 use Rattle.std.proofs.Common.{◌≡◌, ℕ, false, List, [], ◌∷◌, ◌++◌, refl, sym, ap, subst, ◌∙◌, append_assoc}
 use Rattle.std.specs.Int.{w32, to_be_bytes}
 use Rattle.flat_code.specs.Codes.{code_bytes, code_layout}
-use Rattle.flat_code.specs.Image.{parameter_byte, parameter_bit, parameter_rows, parameter_layout, same_state, kind_field, block_number_layout, head_rows, head_layout, head_of_block, parameters, line_field, line_after, lines_layout, code_and_lines, block_rows, plain_block, code_block_layout, after_block, data_number_layout, data_length_layout, data_rows, data_block_layout, after_data, name_bytes, name_rows, name_record, after_name, names, counts_layout, counts_of, code_blocks, data_blocks_layout, body_rows, records_of, records, body}
+use Rattle.flat_code.specs.Image.{parameter_byte, parameter_bit, parameter_rows, parameter_layout, same_state, kind_field, block_number_layout, head_rows, head_layout, head_of_block, parameters_layout, line_field, line_after, lines_layout, code_and_lines, block_rows, plain_block, code_block_layout, after_block, data_number_layout, data_length_layout, data_rows, data_block_layout, after_data, name_bytes, name_rows, name_record, after_name, names_layout, counts_layout, counts_of, code_blocks_layout, data_blocks_layout, body_rows, records_of, records_layout, body_layout}
 use Rattle.flat_code.specs.Layout.{Layout, spell_many}
 use Rattle.flat_code.specs.Programs.{Program}
 use Rattle.flat_code.specs.Records.{BlockRecord}
@@ -61,12 +61,12 @@ four_put out a b c d w x y v p q r s =
     ∙ ap (λ (z : List ℕ). out ++ z) (append_assoc w (x ++ y) v ∙ ap (λ (z : List ℕ). w ++ z) (append_assoc x y v))
 
 pub block_spelled : (b : BlockRecord) → (head_layout (0, 0)).spell (head_of_block b) ++ (spell_many (λ s. parameter_layout 0 0) same_state 0 b.params ++ (code_bytes b.code ++ spell_many (line_field false) line_after 0 b.lines)) ≡ (code_block_layout false (0, 0)).spell b
-unfolding code_block_layout plain_block block_rows code_and_lines lines_layout code_layout parameters
+unfolding code_block_layout plain_block block_rows code_and_lines lines_layout code_layout parameters_layout
 block_spelled b =
     let h = head_of_block b in
     ap (λ (z : List ℕ). (head_layout (0, 0)).spell h ++ (z ++ (code_bytes b.code ++ spell_many (line_field false) line_after 0 b.lines)))
     (many_text (λ s. parameter_layout 0 0) (λ s. parameter_layout h.kind h.instance_bytes) same_state (same_parameter h.kind h.instance_bytes) 0 b.params)
 
-pub body_spelled : (p : Program) → counts_layout.spell (counts_of (records_of p)) ++ (spell_many (code_block_layout false) after_block (0, 0) (records_of p).code_blocks ++ (spell_many data_block_layout after_data (0, 0) p.data_blocks ++ spell_many name_record after_name [] (records_of p).names)) ≡ (body false).spell p
-unfolding body records body_rows code_blocks data_blocks_layout names
+pub body_spelled : (p : Program) → counts_layout.spell (counts_of (records_of p)) ++ (spell_many (code_block_layout false) after_block (0, 0) (records_of p).code_blocks ++ (spell_many data_block_layout after_data (0, 0) p.data_blocks ++ spell_many name_record after_name [] (records_of p).names)) ≡ (body_layout false).spell p
+unfolding body_layout records_layout body_rows code_blocks_layout data_blocks_layout names_layout
 body_spelled p = refl

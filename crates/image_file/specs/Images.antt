@@ -2,7 +2,7 @@
 use Rattle.std.specs.Prelude.{◌≡◌, ℕ, List, Result, Ok, Err}
 use Rattle.flat_code.specs.declared.stamps.Stamp.{Stamp}
 use Rattle.flat_code.specs.Image.{image}
-use Rattle.flat_code.specs.Loading.{faults_of, Gives, Verifies}
+use Rattle.flat_code.specs.Loading.{faults_of, GivesProgram, Verifies}
 use Rattle.flat_code.specs.Programs.{Program}
 use Rattle.flat_code.specs.Stamps.{profile_of}
 use Rattle.image_file.specs.declared.refusing.LoadError.{LoadError}
@@ -15,7 +15,7 @@ pub record IsImageOf (bytes : List ℕ) (l : LoadedProgram) : Type 0 where
   -- the version and profile of the image
   pub stamp : Stamp
   -- the bytes give the program
-  pub given : Gives bytes stamp l.program
+  pub given : GivesProgram bytes stamp l.program
   -- the profile is that of the version, or the one that it names
   pub profile : l.profile ≡ profile_of stamp
 

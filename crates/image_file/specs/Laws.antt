@@ -2,7 +2,7 @@
 use Rattle.std.specs.Prelude.{◌≡◌, ◌<◌, ◌⊎◌, ℕ, List, [], get_or, Some, None}
 use Rattle.flat_code.specs.Layout.{Cursor, faults_in}
 use Rattle.flat_code.specs.Programs.{Program}
-use Rattle.flat_code.specs.Loading.{Gives, IsLoadable, Verifies}
+use Rattle.flat_code.specs.Loading.{GivesProgram, IsLoadable, Verifies}
 use Rattle.flat_code.specs.declared.stamps.Stamp.{Stamp}
 use Rattle.image_file.specs.declared.faults.LoadFault.{LoadFault}
 use Rattle.image_file.specs.declared.faults.VerifyFault.{VerifyFault}
@@ -34,7 +34,7 @@ ReadingsAreImages =
 abbrev pub GivesExactlyImages : Type 0
 GivesExactlyImages =
     (bytes : List ℕ) (s : Stamp) (p : Program) → ((i : ℕ) → get_or bytes i 0 < 256)
-    → (Gives bytes s p → IsLoadable bytes s p) × (IsLoadable bytes s p → Gives bytes s p)
+    → (GivesProgram bytes s p → IsLoadable bytes s p) × (IsLoadable bytes s p → GivesProgram bytes s p)
 
 -- the fault that one pass keeps is the least of all
 abbrev pub KeptIsLeast : Type 0

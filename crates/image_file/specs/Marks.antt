@@ -1,6 +1,6 @@
 -- The code of a block in place: its bytes, and by offset what begins there.
 use Rattle.std.specs.Prelude.{◌≡◌, ℕ, suc, ◌-◌, Bool, true, if◌then◌else◌, List, [], ◌∷◌, ◌++◌, length, replicate}
-use Rattle.flat_code.specs.Codes.{size, code_bytes, ops_from, are_ops}
+use Rattle.flat_code.specs.Codes.{size_of_op, code_bytes, ops_from, are_ops}
 use Rattle.flat_code.specs.Ops.{OpData}
 use Rattle.flat_code.specs.Programs.{CodeBlock}
 use Rattle.image_file.specs.Tables.{no_index, HasSmallCode}
@@ -20,7 +20,7 @@ abbrev pub marks_from : (n : ℕ) → (begins : Bool) → List OpData → List �
 marks_from n begins [] = []
 marks_from n begins (op ∷ ops) =
     (if begins then n else inside_mark)
-    ∷ (replicate (size op - 1) no_index ++ marks_from (if op.last then suc n else n) op.last ops)
+    ∷ (replicate (size_of_op op - 1) no_index ++ marks_from (if op.last then suc n else n) op.last ops)
 
 -- the code of a block stands in bytes, with their marks and the lines of its statements
 pub record IsInPlace (b : CodeBlock) (bytes marks lines : List ℕ) : Type 0 where

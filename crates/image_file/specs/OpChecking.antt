@@ -4,14 +4,14 @@ use Rattle.std.specs.Option.{option_map}
 use Rattle.std.specs.Borrow.{Bor}
 use Rattle.flat_code.specs.declared.image_fields.OpenBracket.{OpenBracket}
 use Rattle.flat_code.specs.declared.image_fields.ParameterRecord.{ParameterRecord}
-use Rattle.flat_code.specs.Blocks.{Around, CalleeSeen}
+use Rattle.flat_code.specs.Blocks.{Environment, CalleeSeen}
 use Rattle.flat_code.specs.Ops.{OpData}
-use Rattle.flat_code.specs.Placed.{Placed}
+use Rattle.flat_code.specs.Placed.{PlacedOp}
 use Rattle.image_file.specs.declared.surroundings.Surroundings.{Surroundings}
 use Rattle.image_file.specs.declared.verifying.Place.{Place}
 
 -- what the faults of a block depend on besides its ops, by the record of the code
-abbrev pub around_of : Surroundings → Around
+abbrev pub around_of : Surroundings → Environment
 around_of s = record { kind = s.kind; local_len = s.local_len; params = s.params.now; blocks = s.blocks.now; data_lens = option_map (λ d. d.now) s.data_lens }
 
 -- what is called, by its kind, its instance bytes and its parameters as the code finds them
@@ -29,5 +29,5 @@ ZonesUpTo n [] = Unit {0}
 ZonesUpTo n (at ∷ zones) = (at ≤ n) × ZonesUpTo n zones
 
 -- an op in its place
-abbrev pub placed_of : OpData → Place → Placed
+abbrev pub placed_of : OpData → Place → PlacedOp
 placed_of op p = record { at = p.at; brackets = p.brackets.now; zones = p.zones.now; before = p.before.now; op = op; rest = p.rest.now }

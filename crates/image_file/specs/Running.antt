@@ -7,9 +7,9 @@ use Rattle.flat_code.specs.Faults.{field_fault}
 use Rattle.flat_code.specs.Layout.{Note, Faulty, Whole, AllBlocks, Cursor, ReadResult, Layout, fault_note, faults_in}
 use Rattle.flat_code.specs.Records.{BlockRecord, NameRecord, Records}
 use Rattle.flat_code.specs.Programs.{DataBlock, Program}
-use Rattle.flat_code.specs.Image.{Head, Counts, Front, program_of_records, read_image}
+use Rattle.flat_code.specs.Image.{Head, RecordCounts, Front, program_of_records, read_image}
 use Rattle.flat_code.specs.declared.stamps.Stamp.{Stamp}
-use Rattle.flat_code.specs.Loading.{lens_of, wholes, all_blocks, blocks_of, op_faults_of_blocks, faults_of}
+use Rattle.flat_code.specs.Loading.{lens_of, whole_blocks, all_blocks, blocks_of, op_faults_of_blocks, faults_of}
 use Rattle.image_file.specs.declared.faults.LoadFault.{LoadFault}
 use Rattle.image_file.specs.declared.loading.ImageRead.{ImageRead}
 use Rattle.image_file.specs.declared.loading.CheckResult.{CheckResult}
@@ -142,7 +142,7 @@ SeesDatas (Err stop.AtFault) r all = Stops (log_of r) ≡ all
 SeesDatas (Err stop.NoMemory) r all = Unit {0}
 
 -- the counts of code blocks, data blocks and names, and the reserved field behind them
-abbrev pub counts_values : CountsRead → Counts
+abbrev pub counts_values : CountsRead → RecordCounts
 counts_values c = record { code_blocks = c.code_blocks; data_blocks = c.data_blocks; names = c.names; reserved = c.reserved }
 
 -- all records were read; the names are answered, the blocks are kept
@@ -178,7 +178,7 @@ SeesImage (Err stop.NoMemory) r all = Unit {0}
 -- what was kept is what bytes hold, as far as they could be read
 abbrev pub HasFound : List ℕ → List (ℕ × BlockRecord) → Option (List DataBlock) → Option (Stamp × List NameRecord) → Type 0
 HasFound text blocks datas None = (read_image text).found ≡ None
-HasFound text blocks datas (Some found) = (x : Records) × (end : Cursor) × ((read_image text).found ≡ Some ((found.0, program_of_records x), end)) × (x.names ≡ found.1) × (blocks ≡ wholes (read_image text).notes) × (datas ≡ all_blocks (read_image text).notes)
+HasFound text blocks datas (Some found) = (x : Records) × (end : Cursor) × ((read_image text).found ≡ Some ((found.0, program_of_records x), end)) × (x.names ≡ found.1) × (blocks ≡ whole_blocks (read_image text).notes) × (datas ≡ all_blocks (read_image text).notes)
 
 -- the faults of the ops of the blocks that were read, by what one pass keeps
 abbrev pub checked_faults : Log → List (ℕ × ℕ)

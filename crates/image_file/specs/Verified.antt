@@ -21,23 +21,23 @@ use Rattle.flat_code.specs.declared.operations.EndOperation.TheVariants as ends
 use Rattle.flat_code.specs.declared.operations.Operation.TheVariants as operation
 use Rattle.flat_code.specs.declared.operations.RelayOperation.TheVariants as relay
 use Rattle.flat_code.specs.Ops.{OpData, is_op}
-use Rattle.flat_code.specs.Codes.{size}
+use Rattle.flat_code.specs.Codes.{size_of_op}
 use Rattle.flat_code.specs.Programs.{CodeBlock, Program}
 use Rattle.flat_code.specs.Image.{record_of_block, record_of_param, kind_of_number}
-use Rattle.flat_code.specs.Loading.{Verifies, lens_of, around_block}
+use Rattle.flat_code.specs.Loading.{Verifies, lens_of, environment_of_block}
 use Rattle.flat_code.specs.Records.{section_in}
 use Rattle.flat_code.specs.Table.{takes_of, has_memory_width}
-use Rattle.flat_code.specs.Placed.{Placed, op_placed, line_placed, code_places, begins, bracket_codes, is_opening, brackets_after, zones_behind_op, most_brackets, most_zones, before_next, last_op}
-use Rattle.flat_code.specs.Blocks.{BlockSignature, signature_of, CalleeSeen, callee, writes_operand, prepares, is_odd_bit, is_in_db, is_above, pass_before, are_passed, is_bad_instance, misfits_parameter, leads}
+use Rattle.flat_code.specs.Placed.{PlacedOp, op_placed, line_placed, code_places, begins_its_statement, bracket_codes, is_opening, brackets_after, zones_behind_op, most_brackets, most_zones, before_next, last_op}
+use Rattle.flat_code.specs.Blocks.{BlockSignature, signature_of, CalleeSeen, callee_among, writes_operand, prepares_statement, is_odd_bit, is_in_db, is_above, pass_before, are_all_passed, is_bad_instance, misfits_parameter, leads_to_target}
 use Rattle.image_file.specs.Readers.{block_by_id}
 
 -- the op of code that begins at an offset
-abbrev pub placed_at : ℕ → List Placed → Option Placed
+abbrev pub placed_at : ℕ → List PlacedOp → Option PlacedOp
 placed_at at [] = None
 placed_at at (q ∷ qs) = if q.at == at then Some q else placed_at at qs
 
 -- an op, in its place, of a block of a program that verifies
-pub record IsVerifiedOp (p : Program) (b : CodeBlock) (q : Placed) : Type 0 where
+pub record IsVerifiedOp (p : Program) (b : CodeBlock) (q : PlacedOp) : Type 0 where
   -- the program verifies
   pub verifies : Verifies p
   -- the block, by kind and number
@@ -52,7 +52,7 @@ pub record IsVerifiedOp (p : Program) (b : CodeBlock) (q : Placed) : Type 0 wher
 -- the readers' op is the one in its place
 pub record IsReaderOp (ops : List OpData) (at : ℕ) (op : OpData) (next : ℕ) : Type 0 where
   -- the op in its place
-  pub here : Placed
+  pub here : PlacedOp
   -- it is one of the code's
   pub place : placed_at at (code_places ops) ≡ Some here
   -- it begins at the offset
@@ -60,7 +60,7 @@ pub record IsReaderOp (ops : List OpData) (at : ℕ) (op : OpData) (next : ℕ) 
   -- it is the op that was read
   pub op_is : here.op ≡ op
   -- the next one begins behind it
-  pub next_is : next ≡ at + size op
+  pub next_is : next ≡ at + size_of_op op
 
 -- of any ops the one that the readers give at an offset is the one in its place
 abbrev pub OpsArePlaced : Type 0
@@ -68,10 +68,10 @@ OpsArePlaced = (ops : List OpData) (at : ℕ) (op : OpData) (next : ℕ) → op_
 
 -- behind an op stands the next one; the last op of a block is BE, ends its statement, and no bracket and
 -- no zone stands open there
-abbrev pub HasNext : CodeBlock → Placed → List OpData → Type 0
+abbrev pub HasNext : CodeBlock → PlacedOp → List OpData → Type 0
 HasNext b q [] = (q.op.code ≡ op_code_of (operation.End ends.Be)) × (q.op.last ≡ true) × (q.brackets ≡ []) × (q.zones ≡ [])
-HasNext b q (op ∷ ops) = placed_at (q.at + size q.op) (code_places b.code) ≡ Some (record {
-  at = q.at + size q.op;
+HasNext b q (op ∷ ops) = placed_at (q.at + size_of_op q.op) (code_places b.code) ≡ Some (record {
+  at = q.at + size_of_op q.op;
   brackets = brackets_after q.at q.op.code q.brackets;
   zones = zones_behind_op q.at q.op.code q.zones;
   before = before_next q.op q.before;
@@ -81,18 +81,18 @@ HasNext b q (op ∷ ops) = placed_at (q.at + size q.op) (code_places b.code) ≡
 
 -- in a program that verifies each op has one behind it, but BE at the end of its block
 abbrev pub CodeGoesOn : Type 0
-CodeGoesOn = (p : Program) (b : CodeBlock) (q : Placed) → IsVerifiedOp p b q → HasNext b q q.rest
+CodeGoesOn = (p : Program) (b : CodeBlock) (q : PlacedOp) → IsVerifiedOp p b q → HasNext b q q.rest
 
 -- a statement has at most 64 ops; only USEDB and PASS stand before its last one
-pub record StatementIsRight (q : Placed) : Type 0 where
+pub record StatementIsRight (q : PlacedOp) : Type 0 where
   -- at most 64 ops with the last one
   pub few : length q.before < 64
   -- only USEDB and PASS don't end it
-  pub ended : q.op.last ≡ not (prepares q.op.code)
+  pub ended : q.op.last ≡ not (prepares_statement q.op.code)
 
 -- in a program that verifies a statement has at most 64 ops, all but the last USEDB or PASS
 abbrev pub StatementsAreRight : Type 0
-StatementsAreRight = (p : Program) (b : CodeBlock) (q : Placed) → IsVerifiedOp p b q → StatementIsRight q
+StatementsAreRight = (p : Program) (b : CodeBlock) (q : PlacedOp) → IsVerifiedOp p b q → StatementIsRight q
 
 -- each statement has a line
 pub record HasLine (b : CodeBlock) (at : ℕ) : Type 0 where
@@ -103,12 +103,12 @@ pub record HasLine (b : CodeBlock) (at : ℕ) : Type 0 where
 
 -- in a program that verifies each statement has a source line, found where its first op begins
 abbrev pub StatementsHaveLines : Type 0
-StatementsHaveLines = (p : Program) (b : CodeBlock) (q : Placed) → IsVerifiedOp p b q → begins q ≡ true → HasLine b q.at
+StatementsHaveLines = (p : Program) (b : CodeBlock) (q : PlacedOp) → IsVerifiedOp p b q → begins_its_statement q ≡ true → HasLine b q.at
 
 -- each op is one of the table
 abbrev pub OpsAreOfTable : Type 0
 OpsAreOfTable =
-    (p : Program) (b : CodeBlock) (q : Placed) → IsVerifiedOp p b q
+    (p : Program) (b : CodeBlock) (q : PlacedOp) → IsVerifiedOp p b q
     → is_op q.op.code q.op.operand ≡ true
 
 -- ---- blocks
@@ -116,13 +116,13 @@ OpsAreOfTable =
 -- a block begins with a statement, before which no bracket and no zone stands open
 pub record BlockBegins (b : CodeBlock) : Type 0 where
   -- the first op, in its place
-  pub first : Placed
+  pub first : PlacedOp
   -- it is one of the code's
   pub place : placed_at 0 (code_places b.code) ≡ Some first
   -- it begins at offset 0
   pub offset : first.at ≡ 0
   -- a statement begins with it
-  pub statement : begins first ≡ true
+  pub statement : begins_its_statement first ≡ true
   -- no bracket stands open
   pub closed : first.brackets ≡ []
   -- no zone stands open
@@ -146,15 +146,15 @@ BlocksAreRight =
 -- ---- jumps, brackets and zones
 
 -- a jump's target is a statement of the block, where the same brackets and as many zones stand open
-pub record Lands (b : CodeBlock) (q : Placed) (target : ℕ) : Type 0 where
+pub record Lands (b : CodeBlock) (q : PlacedOp) (target : ℕ) : Type 0 where
   -- the op at the target, in its place
-  pub there : Placed
+  pub there : PlacedOp
   -- it is one of the code's
   pub place : placed_at target (code_places b.code) ≡ Some there
   -- it begins at the target
   pub offset : there.at ≡ target
   -- a statement begins with it
-  pub statement : begins there ≡ true
+  pub statement : begins_its_statement there ≡ true
   -- the same brackets stand open
   pub same : bracket_codes q.brackets ≡ bracket_codes there.brackets
   -- as many zones stand open
@@ -162,14 +162,14 @@ pub record Lands (b : CodeBlock) (q : Placed) (target : ℕ) : Type 0 where
 
 -- in a program that verifies each jump has such a target, JL and LOOP too
 abbrev pub JumpsLand : Type 0
-JumpsLand = (p : Program) (b : CodeBlock) (q : Placed) (kind target : ℕ) → IsVerifiedOp p b q → q.op.operand ≡ operand.Jump kind target → Lands b q target
+JumpsLand = (p : Program) (b : CodeBlock) (q : PlacedOp) (kind target : ℕ) → IsVerifiedOp p b q → q.op.operand ≡ operand.Jump kind target → Lands b q target
 
 -- between a JL and its target stand at most 255 JU and nothing else
 abbrev pub ListsLead : Type 0
-ListsLead = (p : Program) (b : CodeBlock) (q : Placed) (target : ℕ) → IsVerifiedOp p b q → q.op.operand ≡ operand.Jump (jump_number jump.Jl) target → leads 255 target (q.at + size q.op) q.rest ≡ true
+ListsLead = (p : Program) (b : CodeBlock) (q : PlacedOp) (target : ℕ) → IsVerifiedOp p b q → q.op.operand ≡ operand.Jump (jump_number jump.Jl) target → leads_to_target 255 target (q.at + size_of_op q.op) q.rest ≡ true
 
 -- at most seven brackets stand open, one of A( to XN( finds room, `)` finds an open one
-pub record BracketsAreRight (q : Placed) : Type 0 where
+pub record BracketsAreRight (q : PlacedOp) : Type 0 where
   -- at most seven stand open
   pub few : length q.brackets ≤ most_brackets
   -- one that opens finds room
@@ -179,10 +179,10 @@ pub record BracketsAreRight (q : Placed) : Type 0 where
 
 -- in a program that verifies no bracket is an eighth open one, and no `)` lacks an open one
 abbrev pub BracketsFit : Type 0
-BracketsFit = (p : Program) (b : CodeBlock) (q : Placed) → IsVerifiedOp p b q → BracketsAreRight q
+BracketsFit = (p : Program) (b : CodeBlock) (q : PlacedOp) → IsVerifiedOp p b q → BracketsAreRight q
 
 -- at most eight zones stand open, `MCR(` finds room, `)MCR` finds an open one
-pub record ZonesAreRight (q : Placed) : Type 0 where
+pub record ZonesAreRight (q : PlacedOp) : Type 0 where
   -- at most eight stand open
   pub few : length q.zones ≤ most_zones
   -- `MCR(` finds room
@@ -192,7 +192,7 @@ pub record ZonesAreRight (q : Placed) : Type 0 where
 
 -- in a program that verifies no zone is a ninth open one, and no `)MCR` lacks an open one
 abbrev pub ZonesFit : Type 0
-ZonesFit = (p : Program) (b : CodeBlock) (q : Placed) → IsVerifiedOp p b q → ZonesAreRight q
+ZonesFit = (p : Program) (b : CodeBlock) (q : PlacedOp) → IsVerifiedOp p b q → ZonesAreRight q
 
 -- ---- operands
 
@@ -221,7 +221,7 @@ FitsOperand b op _ = Unit {0}
 
 -- in a program that verifies each operand fits its instruction and its block
 abbrev pub OperandsFit : Type 0
-OperandsFit = (p : Program) (b : CodeBlock) (q : Placed) → IsVerifiedOp p b q → FitsOperand b q.op q.op.operand
+OperandsFit = (p : Program) (b : CodeBlock) (q : PlacedOp) → IsVerifiedOp p b q → FitsOperand b q.op q.op.operand
 
 -- ---- USEDB and PASS
 
@@ -234,14 +234,14 @@ FitsPassed b (passed.InBlock number a w byte bit) = (a ≡ area.Db) × (is_odd_b
 
 -- USEDB stands first, in a statement whose last op has a place in DB; PASS stands in a statement that ends
 -- by CALL, with an index above that of the PASS before it
-abbrev pub FitsPrepared : CodeBlock → Placed → Operand → Type 0
-FitsPrepared b q (operand.UseDb number) = (begins q ≡ true) × (is_in_db (last_op q).operand ≡ true)
+abbrev pub FitsPrepared : CodeBlock → PlacedOp → Operand → Type 0
+FitsPrepared b q (operand.UseDb number) = (begins_its_statement q ≡ true) × (is_in_db (last_op q).operand ≡ true)
 FitsPrepared b q (operand.Pass index actual) = ((last_op q).code ≡ op_code_of (operation.Call calls.Call)) × (is_above index (pass_before None q.before) ≡ true) × FitsPassed b actual
 FitsPrepared b q _ = Unit {0}
 
 -- in a program that verifies USEDB stands first before a place in DB, and PASS before a CALL
 abbrev pub PreparedFit : Type 0
-PreparedFit = (p : Program) (b : CodeBlock) (q : Placed) → IsVerifiedOp p b q → FitsPrepared b q q.op.operand
+PreparedFit = (p : Program) (b : CodeBlock) (q : PlacedOp) → IsVerifiedOp p b q → FitsPrepared b q q.op.operand
 
 -- ---- calls
 
@@ -251,19 +251,19 @@ block_signatures p = map signature_of (map record_of_block p.code_blocks)
 
 -- what is called is there; a function or system function is passed each parameter; an instance is given
 -- to a function block alone, is there and long enough, and is left out only where there are no parameters
-pub record FitsCall (p : Program) (q : Placed) (kind number instance : ℕ) : Type 0 where
+pub record FitsCall (p : Program) (q : PlacedOp) (kind number instance : ℕ) : Type 0 where
   -- what is called
   pub called : CalleeSeen
   -- it is a block of the program, or a system function
-  pub there : callee (block_signatures p) kind number ≡ Some called
+  pub there : callee_among (block_signatures p) kind number ≡ Some called
   -- all but a function block is passed each parameter
-  pub all : (called.0 ≡ kind_number kinds.Fb → ⊥) → are_passed 0 called.2 q.before ≡ true
+  pub all : (called.0 ≡ kind_number kinds.Fb → ⊥) → are_all_passed 0 called.2 q.before ≡ true
   -- the instance is one of the callee, or none is needed
   pub instance_fits : is_bad_instance (lens_of p.data_blocks) called instance ≡ false
 
 -- in a program that verifies each CALL, UC and CC has its block, what it passes, and its instance
 abbrev pub CallsFit : Type 0
-CallsFit = (p : Program) (b : CodeBlock) (q : Placed) (kind number instance : ℕ) → IsVerifiedOp p b q → q.op.operand ≡ operand.Called kind number instance → FitsCall p q kind number instance
+CallsFit = (p : Program) (b : CodeBlock) (q : PlacedOp) (kind number instance : ℕ) → IsVerifiedOp p b q → q.op.operand ≡ operand.Called kind number instance → FitsCall p q kind number instance
 
 -- what is passed fits a parameter of what the statement calls
 pub record FitsParameter (p : Program) (b : CodeBlock) (called : CalleeSeen) (index : ℕ) (actual : Passed) : Type 0 where
@@ -272,11 +272,11 @@ pub record FitsParameter (p : Program) (b : CodeBlock) (called : CalleeSeen) (in
   -- the callee has it
   pub there : slice_get called.2 index ≡ Some parameter
   -- what is passed fits it
-  pub fits : misfits_parameter (around_block (Some (lens_of p.data_blocks)) (map record_of_block p.code_blocks) (record_of_block b)) parameter actual ≡ false
+  pub fits : misfits_parameter (environment_of_block (Some (lens_of p.data_blocks)) (map record_of_block p.code_blocks) (record_of_block b)) parameter actual ≡ false
 
 -- in a program that verifies each PASS passes what fits that parameter of the called block
 abbrev pub PassedFit : Type 0
-PassedFit = (p : Program) (b : CodeBlock) (q : Placed) (index : ℕ) (actual : Passed) (kind number instance : ℕ) (called : CalleeSeen) → IsVerifiedOp p b q → q.op.operand ≡ operand.Pass index actual → (last_op q).operand ≡ operand.Called kind number instance → callee (block_signatures p) kind number ≡ Some called → FitsParameter p b called index actual
+PassedFit = (p : Program) (b : CodeBlock) (q : PlacedOp) (index : ℕ) (actual : Passed) (kind number instance : ℕ) (called : CalleeSeen) → IsVerifiedOp p b q → q.op.operand ≡ operand.Pass index actual → (last_op q).operand ≡ operand.Called kind number instance → callee_among (block_signatures p) kind number ≡ Some called → FitsParameter p b called index actual
 
 -- a function or function block that is called is a block of the program
 pub record IsCalledBlock (p : Program) (kind number : ℕ) (called : CalleeSeen) : Type 0 where
@@ -289,4 +289,4 @@ pub record IsCalledBlock (p : Program) (kind number : ℕ) (called : CalleeSeen)
 
 -- what a call of a function or function block finds is such a block, whether the program verifies or not
 abbrev pub CalledAreThere : Type 0
-CalledAreThere = (p : Program) (kind number : ℕ) (called : CalleeSeen) → (kind ≡ kind_number kinds.Fc) ⊎ (kind ≡ kind_number kinds.Fb) → callee (block_signatures p) kind number ≡ Some called → IsCalledBlock p kind number called
+CalledAreThere = (p : Program) (kind number : ℕ) (called : CalleeSeen) → (kind ≡ kind_number kinds.Fc) ⊎ (kind ≡ kind_number kinds.Fb) → callee_among (block_signatures p) kind number ≡ Some called → IsCalledBlock p kind number called

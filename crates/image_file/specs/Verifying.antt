@@ -4,10 +4,10 @@ use Rattle.std.specs.Prelude.{◌≡◌, ℕ, Bool, true, false, ◌&&◌, List,
 use Rattle.plc_base.specs.declared.blocks.BlockId.{BlockId}
 use Rattle.flat_code.specs.declared.image_fields.Field.TheVariants as field_of
 use Rattle.flat_code.specs.Codes.{code_fault, is_nowhere}
-use Rattle.flat_code.specs.Blocks.{Around, at_offset, block_faults}
+use Rattle.flat_code.specs.Blocks.{Environment, at_offset, block_faults}
 use Rattle.flat_code.specs.Faults.{field_fault}
 use Rattle.flat_code.specs.Image.{end_marks, record_of_block}
-use Rattle.flat_code.specs.Loading.{lens_of, around_block}
+use Rattle.flat_code.specs.Loading.{lens_of, environment_of_block}
 use Rattle.flat_code.specs.Programs.{CodeBlock, DataBlock, Program}
 use Rattle.flat_code.specs.Records.{BlockRecord}
 use Rattle.image_file.specs.declared.refusing.VerifyError.{VerifyError}
@@ -27,13 +27,13 @@ count_faults b =
     at_offset 0 (field_fault (field_of.StatementCount (end_marks b.code) (length b.lines)))
 
 -- 5 alone, where the code has one; else 9, and those of the ops
-abbrev pub faults_unless : Option ℕ → Around → BlockRecord → List (ℕ × ℕ)
+abbrev pub faults_unless : Option ℕ → Environment → BlockRecord → List (ℕ × ℕ)
 faults_unless (Some at) around b = (at, 5) ∷ []
 faults_unless None around b =
     count_faults b ++ line_faults 0 b.lines ++ block_faults around 0 b.code
 
 -- the faults of a block: its fault 5 alone, or where its code has none all others
-abbrev pub faults_of_block : Around → BlockRecord → List (ℕ × ℕ)
+abbrev pub faults_of_block : Environment → BlockRecord → List (ℕ × ℕ)
 faults_of_block around b = faults_unless (code_fault b.code) around b
 
 -- whether no code has a fault 5: only then are calls checked
@@ -54,7 +54,7 @@ lens_checked p = lens_where (are_whole (map record_of_block p.code_blocks)) p.da
 abbrev pub faults_among :
     Option (List (ℕ × ℕ)) → List BlockRecord → CodeBlock → List (ℕ × ℕ)
 faults_among lens all b =
-    faults_of_block (around_block lens all (record_of_block b)) (record_of_block b)
+    faults_of_block (environment_of_block lens all (record_of_block b)) (record_of_block b)
 
 -- the first block with a fault, and the least of its faults
 abbrev pub DecidesFor : BlockId → VerifyFault → List (ℕ × ℕ) → Type 0 → Type 0

@@ -1,7 +1,7 @@
 -- Walks over the bytes of code.
 use Rattle.std.specs.Prelude.{◌≡◌, ◌≤◌, ℕ, Bool, List, ◌++◌, length, drop}
 use Rattle.flat_code.specs.Ops.{OpData}
-use Rattle.flat_code.specs.Codes.{ops_from, code_bytes, last_place, ends_by_be, overlong}
+use Rattle.flat_code.specs.Codes.{ops_from, code_bytes, last_place, ends_by_be, overlong_statement}
 
 -- the ops that were found so far, in front of those from a place on
 abbrev pub ops_behind_front : List OpData → ℕ → List ℕ → ℕ → List OpData × List ℕ
@@ -21,4 +21,4 @@ pub record HasReadOps (code : List ℕ) (ops : List OpData) (at before : ℕ) (e
   -- whether it ends the block
   pub ended : end ≡ ends_by_be ops
   -- the count of its statement so far
-  pub few : overlong 0 0 (ops_from (length code) code).0 ≡ overlong count at (ops_from (length code) (drop at code)).0
+  pub few : overlong_statement 0 0 (ops_from (length code) code).0 ≡ overlong_statement count at (ops_from (length code) (drop at code)).0

@@ -1,7 +1,7 @@
 -- What lets a program's counts and lengths be written in their fields.
 use Rattle.std.specs.Prelude.{◌≤◌, ◌<◌, ◌+◌, false, All, length}
 use Rattle.flat_code.specs.Codes.{code_bytes}
-use Rattle.flat_code.specs.Image.{body, front_size, number_of_instance}
+use Rattle.flat_code.specs.Image.{body_layout, front_size, number_of_instance}
 use Rattle.flat_code.specs.Programs.{CodeBlock, DataBlock, NameEntry, Program}
 
 -- the statement count and the code length of a code block fit their fields
@@ -37,4 +37,4 @@ pub record ProgramFitsFields (p : Program) : Type 0 where
   -- and the length of each name
   pub names : All NameFitsField p.names
   -- the image has at most 8,388,608 bytes
-  pub total : front_size + length ((body false).spell p) ≤ 8388608
+  pub total : front_size + length ((body_layout false).spell p) ≤ 8388608

@@ -1,8 +1,8 @@
 //! The code blocks of an image.
 ghost use Rattle.std.specs.Prelude.{true, ◌≡◌, ◌+◌, ◌*◌, ◌<◌, ◌≤◌, ◌^◌, length, OnOk, IfOk, vec_len};
 ghost use Rattle.flat_code.specs.Codes.{code_layout, code_bytes};
-ghost use Rattle.flat_code.specs.Image.{Head, head_layout, parameter_layout, parameters, end_marks, lines_layout, line_field, line_after, code_and_lines, plain_block, code_block_layout, code_blocks};
-ghost use Rattle.flat_code.specs.Layout.{many, chain};
+ghost use Rattle.flat_code.specs.Image.{Head, head_layout, parameter_layout, parameters_layout, end_marks, lines_layout, line_field, line_after, code_and_lines, plain_block, code_block_layout, code_blocks_layout};
+ghost use Rattle.flat_code.specs.Layout.{list_layout, chain_layout};
 ghost use Rattle.image_file.specs.Running.{reader_run, run_layout, reader_cursor, log_of, head_values, Sees, SeesBlock, SeesBlocks};
 
 use crate::codes::ops_in;
@@ -94,10 +94,10 @@ impl Reader<'_> {
         })
     }
 
-    #[tactic(auto, unfolding(flat_code::specs::Image::parameters))]
+    #[tactic(auto, unfolding(flat_code::specs::Image::parameters_layout))]
     fn parameters(&mut self, alloc: Global, head: HeadRead) -> Result<Vec<ParameterRecord>, Stop>
         requires { self.old.at + length self.old.rest.now < 2 ^ 32 }
-        ensures read { Sees (λ v. v.items) result self.new (run_layout (parameters (head_values head))
+        ensures read { Sees (λ v. v.items) result self.new (run_layout (parameters_layout (head_values head))
             (reader_cursor self.old) (log_of self.old)) }
         ensures all { OnOk result (self.new.at + length self.new.rest.now
             ≡ self.old.at + length self.old.rest.now) }
@@ -145,7 +145,7 @@ impl Reader<'_> {
 
     fn lines(&mut self, alloc: Global, count: u16) -> Result<Vec<u32>, Stop>
         requires { self.old.at + length self.old.rest.now < 2 ^ 32 }
-        ensures read { Sees (λ v. v.items) result self.new (run_layout (many
+        ensures read { Sees (λ v. v.items) result self.new (run_layout (list_layout
             (line_field true) line_after 0 count) (reader_cursor self.old) (log_of self.old)) }
         ensures all { OnOk result (self.new.at + length self.new.rest.now
             ≡ self.old.at + length self.old.rest.now) }
@@ -261,10 +261,10 @@ impl Reader<'_> {
     }
 
     /// All code blocks, which are kept.
-    #[tactic(auto, unfolding(flat_code::specs::Image::code_blocks))]
+    #[tactic(auto, unfolding(flat_code::specs::Image::code_blocks_layout))]
     pub(crate) fn code_blocks(&mut self, alloc: Global, count: u16) -> Result<(), Stop>
         requires { self.old.at + length self.old.rest.now + 2000 < 2 ^ 32 }
-        ensures read { SeesBlocks result self.new (run_layout (code_blocks true count)
+        ensures read { SeesBlocks result self.new (run_layout (code_blocks_layout true count)
             (reader_cursor self.old) (log_of self.old)) }
         ensures all { OnOk result (self.new.at + length self.new.rest.now
             ≡ self.old.at + length self.old.rest.now) }

@@ -1,7 +1,7 @@
 //! Calls: what a CALL, UC or CC may not do, and what its PASS ops may not pass.
 ghost use Rattle.std.specs.Prelude.{◌≡◌, None};
-ghost use Rattle.flat_code.specs.Placed.{is_empty_list, Placed, last_op};
-ghost use Rattle.flat_code.specs.Blocks.{CalleeSeen, is_short, is_bad_instance, is_bad_call, are_passed, misfits_index, misfits_callee, misfits_call, callee};
+ghost use Rattle.flat_code.specs.Placed.{is_empty_list, PlacedOp, last_op};
+ghost use Rattle.flat_code.specs.Blocks.{CalleeSeen, is_short_instance, is_bad_instance, is_bad_call, are_all_passed, misfits_index, misfits_callee, misfits_call, callee_among};
 ghost use Rattle.image_file.specs.OpChecking.{around_of};
 
 use crate::numbers::FUNCTION_BLOCK;
@@ -11,7 +11,7 @@ use flat_code::{Op, Operand, ParameterRecord, Passed};
 
 /// Whether an instance is absent or shorter than the function block's.
 fn is_short(needed: u16, len: Option<usize>) -> bool
-    ensures { result ≡ is_short needed len }
+    ensures { result ≡ is_short_instance needed len }
 {
     match len {
         None => true,
@@ -41,7 +41,7 @@ fn is_bad_instance(
 
 /// Whether each parameter is passed.
 fn are_passed(params: &[ParameterRecord], before: &[Op]) -> bool
-    ensures { result ≡ are_passed 0 params.now before.now }
+    ensures { result ≡ are_all_passed 0 params.now before.now }
 {
     for i in 0..params.len() {
         if !is_passed(i, before) {
@@ -61,7 +61,7 @@ pub(crate) fn is_bad_call(
     instance: u16,
     before: &[Op],
 ) -> bool
-    ensures { result ≡ is_bad_call lens.now (callee
+    ensures { result ≡ is_bad_call lens.now (callee_among
         (around_of around.now).blocks kind number) instance before.now }
 {
     match callee(around.blocks, kind, number) {

@@ -1,9 +1,9 @@
 //! The faults of a block's ops, one op behind the other, with the least so far.
 ghost use Rattle.std.specs.Prelude.{◌≡◌, ◌+◌, ◌<◌, ◌≤◌, ◌^◌, [], length, drop, OnOk, IfOk};
 ghost use Rattle.std.specs.Option.{option_map};
-ghost use Rattle.flat_code.specs.Codes.{size, code_bytes};
-ghost use Rattle.flat_code.specs.Placed.{Placed, is_empty_list, brackets_after, zones_behind_op, before_next, few, spot_at, spots, open_behind, code_places};
-ghost use Rattle.flat_code.specs.Blocks.{seven_if, same_codes, target_fault, jump_fault, operand_fault, call_fault, mark_fault, bracket_fault, zone_fault, at_offset, op_faults, faults_over, open_faults, block_faults};
+ghost use Rattle.flat_code.specs.Codes.{size_of_op, code_bytes};
+ghost use Rattle.flat_code.specs.Placed.{PlacedOp, is_empty_list, brackets_after, zones_behind_op, before_next, codes_of_few_brackets, spot_at, statement_spots, open_behind, code_places};
+ghost use Rattle.flat_code.specs.Blocks.{seven_if, are_same_codes, target_fault, jump_fault, operand_fault, call_fault, mark_fault, bracket_fault, zone_fault, at_offset, op_faults, faults_over, open_faults, block_faults};
 ghost use Rattle.image_file.specs.OpChecking.{AllUpTo, around_of};
 ghost use Rattle.image_file.specs.Least.{with_faults};
 
@@ -72,7 +72,7 @@ impl Nesting {
 
 /// The op codes of open brackets, if they are at most seven.
 pub(crate) fn few(brackets: &[OpenBracket]) -> Option<ArrayVec<u8, 7>>
-    ensures { option_map (λ v. v.items) result ≡ few brackets.now }
+    ensures { option_map (λ v. v.items) result ≡ codes_of_few_brackets brackets.now }
 {
     if brackets.len() > 7 {
         return None;
@@ -132,7 +132,7 @@ pub(crate) fn prepare(before: &mut Vec<Op>, op: &Op) -> Result<(), NoMemory>
 }
 
 pub(crate) fn same_codes(codes: &[u8], others: &[u8]) -> bool
-    ensures { result ≡ same_codes codes.now others.now }
+    ensures { result ≡ are_same_codes codes.now others.now }
 {
     let mut rest = others;
     for x in codes {

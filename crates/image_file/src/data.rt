@@ -1,8 +1,8 @@
 //! The data blocks and the names of an image.
 ghost use Rattle.std.specs.Prelude.{true, ◌≡◌, ◌+◌, ◌≤◌, ◌<◌, ◌^◌, length, [], OnOk, IfOk, vec_len};
 ghost use Rattle.flat_code.specs.Faults.{name_fault};
-ghost use Rattle.flat_code.specs.Image.{instance_of_number, contents, data_block_layout, plain_data_blocks, name_bytes, name_record, after_name};
-ghost use Rattle.flat_code.specs.Layout.{many};
+ghost use Rattle.flat_code.specs.Image.{instance_of_number, contents_layout, data_block_layout, plain_data_blocks, name_bytes, name_record, after_name};
+ghost use Rattle.flat_code.specs.Layout.{list_layout};
 ghost use Rattle.image_file.specs.Running.{reader_run, run_layout, reader_cursor, log_of, name_values, Sees};
 
 use crate::reader::Reader;
@@ -43,10 +43,10 @@ fn key_of_data(block: &DataBlock) -> (u16, u32)
 }
 
 impl<'a> Reader<'a> {
-    #[tactic(auto, unfolding(flat_code::specs::Image::contents))]
+    #[tactic(auto, unfolding(flat_code::specs::Image::contents_layout))]
     fn contents(&mut self, alloc: Global, count: u16) -> Result<Vec<u8>, Stop>
         requires { self.old.at + length self.old.rest.now < 2 ^ 32 }
-        ensures read { Sees (λ v. v.items) result self.new (run_layout (contents count)
+        ensures read { Sees (λ v. v.items) result self.new (run_layout (contents_layout count)
             (reader_cursor self.old) (log_of self.old)) }
         ensures all { OnOk result (self.new.at + length self.new.rest.now
             ≡ self.old.at + length self.old.rest.now) }
@@ -141,7 +141,7 @@ impl<'a> Reader<'a> {
     pub(crate) fn names(&mut self, alloc: Global, count: u16) -> Result<Vec<NameRead>, Stop>
         requires { self.old.at + length self.old.rest.now < 2 ^ 32 }
         ensures read { Sees (λ v. v.items) result self.new (run_layout
-            (many name_record after_name [] count) (reader_cursor self.old) (log_of self.old)) }
+            (list_layout name_record after_name [] count) (reader_cursor self.old) (log_of self.old)) }
         ensures all { OnOk result (self.new.at + length self.new.rest.now
             ≡ self.old.at + length self.old.rest.now) }
     {

@@ -1,6 +1,6 @@
 //! The fields of an image, each read and checked.
 ghost use Rattle.std.specs.Prelude.{true, ◌≡◌, ◌+◌, ◌<◌, ◌^◌, length, min, OnOk};
-ghost use Rattle.flat_code.specs.Image.{plain_u16, plain_u32, zero_u8, zero_u16, width_field, section_field, parameter_byte, parameter_bit, kind_field, parameter_count_layout, block_number_layout, local_length_layout, instance_bytes, line_field, data_number_layout, instance_field, data_length_layout, name_len, name_area, name_bit, data_count, magic_field, version_field, profile_field};
+ghost use Rattle.flat_code.specs.Image.{plain_u16, plain_u32, zero_u8, zero_u16, width_field, section_field, parameter_byte, parameter_bit, kind_field, parameter_count_layout, block_number_layout, local_length_layout, instance_bytes_layout, line_field, data_number_layout, instance_field, data_length_layout, name_len, name_area, name_bit, data_count, magic_field, version_field, profile_field};
 ghost use Rattle.image_file.specs.Running.{reader_run, run_layout, reader_cursor, log_of};
 
 use crate::reader::Reader;
@@ -233,11 +233,11 @@ impl Reader<'_> {
         Ok(number)
     }
 
-    #[tactic(auto, unfolding(crate::specs::Running::run_layout, crate::specs::Running::log_after, crate::specs::Least::with_faults, flat_code::specs::Image::instance_bytes))]
+    #[tactic(auto, unfolding(crate::specs::Running::run_layout, crate::specs::Running::log_after, crate::specs::Least::with_faults, flat_code::specs::Image::instance_bytes_layout))]
     pub(crate) fn instance_bytes(&mut self, kind: u8) -> Result<u16, Ended>
         requires { self.old.at + length self.old.rest.now < 2 ^ 32 }
         ensures read { reader_run (λ n. n) result self.new
-            ≡ run_layout (instance_bytes kind) (reader_cursor self.old) (log_of self.old) }
+            ≡ run_layout (instance_bytes_layout kind) (reader_cursor self.old) (log_of self.old) }
         ensures all { self.new.at + length self.new.rest.now
             ≡ self.old.at + length self.old.rest.now }
         ensures step { OnOk result (self.new.at ≡ self.old.at + 2) }

@@ -6,7 +6,7 @@ ghost use Rattle.flat_code.specs.OpCodes.{op_code_of};
 ghost use Rattle.flat_code.specs.declared.operations.CallOperation.TheVariants as calls;
 ghost use Rattle.flat_code.specs.declared.operations.Operation.TheVariants as operation;
 ghost use Rattle.flat_code.specs.Placed.{is_empty_list, ending_op};
-ghost use Rattle.flat_code.specs.Blocks.{is_odd_bit, is_past_locals, is_bad_place, lacks_width, writes_operand, parameter_meant, lacks_own, is_in_parameter, is_in_db, pass_index, pass_before, is_above, is_bad_actual, literal_fits, misfits_parameter, is_index, is_passed, is_ju_operand, leads};
+ghost use Rattle.flat_code.specs.Blocks.{is_odd_bit, is_past_locals, is_bad_place, lacks_width, writes_operand, parameter_meant, lacks_own_parameter, is_in_parameter, is_in_db, pass_index, pass_before, is_above, is_bad_actual, literal_fits, misfits_parameter, is_index, is_passed, is_ju_operand, leads_to_target};
 ghost use Rattle.image_file.specs.OpChecking.{around_of};
 
 use crate::numbers::{CALL, EDGE_NEGATIVE, FUNCTION, JUMP, TRANSFER};
@@ -73,7 +73,7 @@ pub(crate) fn own_parameter(around: &Surroundings, index: u8) -> Option<Paramete
 }
 
 pub(crate) fn lacks_own(parameter: Option<ParameterRecord>, width: Width) -> bool
-    ensures { result ≡ lacks_own parameter width }
+    ensures { result ≡ lacks_own_parameter parameter width }
 {
     match parameter {
         None => true,
@@ -257,7 +257,7 @@ fn is_ju(op: &Op) -> bool
 /// Whether between an offset and a target stand at most 255 JU alone.
 pub(crate) fn leads(target: u32, from: u32, rest: &[Op]) -> bool
     requires { from + length (code_bytes rest.now) < 2 ^ 32 }
-    ensures { result ≡ leads 255 target from rest.now }
+    ensures { result ≡ leads_to_target 255 target from rest.now }
 {
     let mut at = from;
     let mut most = 255_u8;

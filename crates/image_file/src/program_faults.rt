@@ -3,9 +3,9 @@ ghost use Rattle.std.specs.Prelude.{◌≡◌, ◌<◌, length, map, All, IfOk, 
 ghost use Rattle.std.specs.Option.{option_map};
 ghost use Rattle.plc_base.specs.declared.profiles.Profile.TheVariants as profiles;
 ghost use Rattle.flat_code.specs.Blocks.{signature_of};
-ghost use Rattle.flat_code.specs.Codes.{code_bytes, code_fault, ends_by_be, last_place, overlong};
+ghost use Rattle.flat_code.specs.Codes.{code_bytes, code_fault, ends_by_be, last_place, overlong_statement};
 ghost use Rattle.flat_code.specs.Image.{record_of_block, record_of_param};
-ghost use Rattle.flat_code.specs.Loading.{around_block, Verifies};
+ghost use Rattle.flat_code.specs.Loading.{environment_of_block, Verifies};
 ghost use Rattle.image_file.specs.OpChecking.{around_of};
 ghost use Rattle.image_file.specs.Least.{with_faults};
 ghost use Rattle.image_file.specs.Verifying.{are_whole, count_faults, faults_of_block, lens_checked, lens_where, line_faults, AreClean, IsFaultOf, IsFirstOf, IsUnverified};
@@ -28,7 +28,7 @@ use std::alloc::Global;
 /// The offset of the first op that is the 65th of its statement.
 fn overlong(ops: &[Op]) -> Option<u32>
     requires { length (code_bytes ops.now) < 4294967296 }
-    ensures { result ≡ overlong 0 0 ops.now }
+    ensures { result ≡ overlong_statement 0 0 ops.now }
 {
     let mut at = 0;
     let mut count = 0;

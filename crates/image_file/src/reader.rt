@@ -2,8 +2,8 @@
 ghost use Rattle.std.specs.Prelude.{◌≡◌, ◌+◌, ◌<◌, ◌^◌, length, min, IfOk, OnOk};
 ghost use Rattle.flat_code.specs.Coding.{u8 as a_byte, u16 as a_word, u32 as a_dword};
 ghost use Rattle.flat_code.specs.Faults.{field_fault};
-ghost use Rattle.flat_code.specs.Image.{no_fault, contents, bytes};
-ghost use Rattle.flat_code.specs.Layout.{field, fault_note};
+ghost use Rattle.flat_code.specs.Image.{no_fault, contents_layout, bytes_coding};
+ghost use Rattle.flat_code.specs.Layout.{field_layout, fault_note};
 ghost use Rattle.image_file.specs.Least.{with_fault, with_faults};
 ghost use Rattle.image_file.specs.Running.{reader_run, run_layout, reader_cursor, log_of, log_after};
 
@@ -67,7 +67,7 @@ impl<'a> Reader<'a> {
     pub(crate) fn u8(&mut self) -> Result<u8, Ended>
         requires { self.old.at + length self.old.rest.now < 2 ^ 32 }
         ensures read { reader_run (λ n. n) result self.new
-            ≡ run_layout (field a_byte no_fault) (reader_cursor self.old) (log_of self.old) }
+            ≡ run_layout (field_layout a_byte no_fault) (reader_cursor self.old) (log_of self.old) }
         ensures all { self.new.at + length self.new.rest.now
             ≡ self.old.at + length self.old.rest.now }
         ensures step { OnOk result (self.new.at ≡ self.old.at + 1) }
@@ -89,7 +89,7 @@ impl<'a> Reader<'a> {
     pub(crate) fn u16(&mut self) -> Result<u16, Ended>
         requires { self.old.at + min 4 (length self.old.rest.now) < 2 ^ 32 }
         ensures read { reader_run (λ n. n) result self.new
-            ≡ run_layout (field a_word no_fault) (reader_cursor self.old) (log_of self.old) }
+            ≡ run_layout (field_layout a_word no_fault) (reader_cursor self.old) (log_of self.old) }
         ensures all { self.new.at + length self.new.rest.now
             ≡ self.old.at + length self.old.rest.now }
         ensures step { OnOk result (self.new.at ≡ self.old.at + 2) }
@@ -112,7 +112,7 @@ impl<'a> Reader<'a> {
     pub(crate) fn u32(&mut self) -> Result<u32, Ended>
         requires { self.old.at + min 4 (length self.old.rest.now) < 2 ^ 32 }
         ensures read { reader_run (λ n. n) result self.new
-            ≡ run_layout (field a_dword no_fault) (reader_cursor self.old) (log_of self.old) }
+            ≡ run_layout (field_layout a_dword no_fault) (reader_cursor self.old) (log_of self.old) }
         ensures all { self.new.at + length self.new.rest.now
             ≡ self.old.at + length self.old.rest.now }
         ensures step { OnOk result (self.new.at ≡ self.old.at + 4) }
@@ -136,7 +136,7 @@ impl<'a> Reader<'a> {
     pub(crate) fn bytes(&mut self, count: u16) -> Result<&'a [u8], Ended>
         requires { self.old.at + length self.old.rest.now < 2 ^ 32 }
         ensures read { reader_run (λ s. s.now) result self.new
-            ≡ run_layout (field (bytes count) (λ bs. None)) (reader_cursor self.old) (log_of self.old) }
+            ≡ run_layout (field_layout (bytes_coding count) (λ bs. None)) (reader_cursor self.old) (log_of self.old) }
         ensures all { self.new.at + length self.new.rest.now
             ≡ self.old.at + length self.old.rest.now }
         ensures len { IfOk result (λ s. length s.now ≡ count) }

@@ -2,7 +2,7 @@
 ghost use Rattle.std.specs.Prelude.{◌≡◌, ◌++◌, ◌∷◌, [], ◌<◌, ◌^◌, length, map, slice_get, if◌then◌else◌, OnOk, IfOk};
 ghost use Rattle.std.specs.Option.{option_map};
 ghost use Rattle.flat_code.specs.Codes.{code_bytes};
-ghost use Rattle.flat_code.specs.Placed.{few, spots, spot_at};
+ghost use Rattle.flat_code.specs.Placed.{codes_of_few_brackets, statement_spots, spot_at};
 
 use crate::checking::{Nesting, Statement, few, is_last};
 use crate::tables::{place_at, table_of};
@@ -33,7 +33,7 @@ impl Model for Statements {
 /// The statements of ops, and the offset after the last op.
 fn statement_list(alloc: Global, ops: &[Op]) -> Result<(Vec<Statement>, u32), NoMemory>
     requires { length (code_bytes ops.now) < 2 ^ 32 }
-    ensures statements { IfOk result (λ r. r.0.items ≡ spots ops.now) }
+    ensures statements { IfOk result (λ r. r.0.items ≡ statement_spots ops.now) }
     ensures end { IfOk result (λ r. r.1 ≡ length (code_bytes ops.now)) }
 {
     let mut statements = Vec::new(alloc);
@@ -58,7 +58,7 @@ fn add_statement(
 ) -> Result<(), NoMemory>
     ensures { OnOk result (statements.new.items ≡ (if begin then statements.old.items ++ record {
       at = at;
-      codes = few nesting.now.brackets.items;
+      codes = codes_of_few_brackets nesting.now.brackets.items;
       zones = length nesting.now.zones.items;
     } ∷ []
         else statements.old.items)) }
@@ -99,7 +99,7 @@ impl Statements {
     /// The statements of ops.
     pub(crate) fn of(alloc: Global, ops: &[Op]) -> Result<Self, NoMemory>
         requires { length (code_bytes ops.now) < 2 ^ 32 }
-        ensures { IfOk result (λ s. s ≡ spots ops.now) }
+        ensures { IfOk result (λ s. s ≡ statement_spots ops.now) }
     {
         let (list, end) = statement_list(alloc, ops)?;
         let offsets = offsets_of(alloc, list.as_slice())?;

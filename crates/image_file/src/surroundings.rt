@@ -1,7 +1,7 @@
 //! What surrounds a block whose ops are checked: its own head, and the blocks that it may call.
 ghost use Rattle.std.specs.Prelude.{◌≡◌, map, slice_get, IfOk};
 ghost use Rattle.std.specs.Option.{option_map};
-ghost use Rattle.flat_code.specs.Blocks.{block_with, callee};
+ghost use Rattle.flat_code.specs.Blocks.{block_with, callee_among};
 ghost use Rattle.image_file.specs.OpChecking.{callee_values};
 ghost use Rattle.image_file.specs.Tables.{call_key, signature_callee, found_callee};
 
@@ -144,13 +144,13 @@ fn data_numbers(alloc: Global, lens: &[(u16, usize)]) -> Result<Vec<u32>, NoMemo
 }
 
 /// The block that is called: its kind, the bytes of an instance, its parameters.
-#[tactic(auto, unfolding(flat_code::specs::Blocks::callee))]
+#[tactic(auto, unfolding(flat_code::specs::Blocks::callee_among))]
 pub(crate) fn callee(
     blocks: &Signatures,
     kind: u8,
     number: u16,
 ) -> Option<(u8, u16, &[ParameterRecord])>
-    ensures { option_map callee_values result ≡ callee blocks.now kind number }
+    ensures { option_map callee_values result ≡ callee_among blocks.now kind number }
 {
     if kind != SYSTEM_FUNCTION {
         return blocks.block_with(kind, number);

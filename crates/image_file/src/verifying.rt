@@ -1,9 +1,9 @@
 //! The faults of a block whose code begins at an offset.
 ghost use Rattle.std.specs.Prelude.{◌≡◌, ◌+◌, ◌<◌, ◌≤◌, ◌^◌, ◌∷◌, ◌++◌, [], length, drop, OnOk, IfOk, if◌then◌else◌};
 ghost use Rattle.std.specs.Option.{option_map};
-ghost use Rattle.flat_code.specs.Codes.{size, code_bytes};
-ghost use Rattle.flat_code.specs.Placed.{few, spots, spot_at};
-ghost use Rattle.flat_code.specs.Blocks.{are_other, call_fault_among, differing, target_fault, jump_fault, operand_fault, call_fault, op_faults, open_faults, open_zone_faults, block_faults};
+ghost use Rattle.flat_code.specs.Codes.{size_of_op, code_bytes};
+ghost use Rattle.flat_code.specs.Placed.{codes_of_few_brackets, statement_spots, spot_at};
+ghost use Rattle.flat_code.specs.Blocks.{are_other_brackets, call_fault_among, nesting_fault, target_fault, jump_fault, operand_fault, call_fault, op_faults, open_faults, open_zone_faults, block_faults};
 ghost use Rattle.image_file.specs.OpChecking.{AllUpTo, ZonesUpTo, around_of, placed_of};
 ghost use Rattle.image_file.specs.Least.{with_faults};
 
@@ -47,7 +47,7 @@ pub(crate) struct Place<'a> {
 
 /// Whether other brackets stand open at a jump's target.
 fn are_other(here: &Option<ArrayVec<u8, 7>>, there: &Option<ArrayVec<u8, 7>>) -> bool
-    ensures { result ≡ are_other (option_map (λ v. v.items) here.now) (option_map
+    ensures { result ≡ are_other_brackets (option_map (λ v. v.items) here.now) (option_map
         (λ v. v.items) there.now) }
 {
     match here {
@@ -61,13 +61,13 @@ fn are_other(here: &Option<ArrayVec<u8, 7>>, there: &Option<ArrayVec<u8, 7>>) ->
 
 /// Whether other brackets stand open at a statement.
 fn codes_differ(here: &Option<ArrayVec<u8, 7>>, there: &Statement) -> bool
-    ensures { result ≡ are_other (option_map (λ v. v.items) here.now) there.now.codes }
+    ensures { result ≡ are_other_brackets (option_map (λ v. v.items) here.now) there.now.codes }
 {
     are_other(here, &there.codes)
 }
 
 fn differing(here: &Option<ArrayVec<u8, 7>>, zones: usize, there: &Statement) -> Option<u16>
-    ensures { result ≡ differing (option_map (λ v. v.items) here.now) zones there.now }
+    ensures { result ≡ nesting_fault (option_map (λ v. v.items) here.now) zones there.now }
 {
     if codes_differ(here, there) || zones != there.zones {
         Some(8)
@@ -93,7 +93,7 @@ fn target_fault(
 
 /// The fault of a jump.
 fn jump_fault(statements: &Statements, op: &Op, place: &Place, kind: u8, target: u32) -> Option<u16>
-    requires { place.now.at + size op.now + length (code_bytes place.now.rest.now) < 2 ^ 32 }
+    requires { place.now.at + size_of_op op.now + length (code_bytes place.now.rest.now) < 2 ^ 32 }
     ensures { result ≡ jump_fault statements.now (placed_of op.now place.now) kind target }
 {
     if kind == JUMP_LIST && !leads(target, place.at + op.size(), place.rest) {
@@ -110,7 +110,7 @@ fn operand_fault(
     op: &Op,
     place: &Place,
 ) -> Option<u16>
-    requires { place.now.at + size op.now + length (code_bytes place.now.rest.now) < 2 ^ 32 }
+    requires { place.now.at + size_of_op op.now + length (code_bytes place.now.rest.now) < 2 ^ 32 }
     ensures { result ≡ operand_fault (around_of around.now) statements.now
         (placed_of op.now place.now) op.now.operand }
 {
@@ -180,7 +180,7 @@ fn check_op(
     place: &Place,
     least: Option<LoadFault>,
 ) -> Option<LoadFault>
-    requires room { place.now.at + size op.now + length (code_bytes place.now.rest.now) < 2 ^ 32 }
+    requires room { place.now.at + size_of_op op.now + length (code_bytes place.now.rest.now) < 2 ^ 32 }
     requires start { start + place.now.at < 2 ^ 32 }
     ensures { result ≡ with_faults least (op_faults (around_of around.now) statements.now start
         (placed_of op.now place.now)) }
@@ -257,7 +257,7 @@ fn check_ops(
     least: Option<LoadFault>,
 ) -> Result<Option<LoadFault>, NoMemory>
     requires room { start + length (code_bytes ops.now) < 2 ^ 32 }
-    requires all { statements.now ≡ spots ops.now }
+    requires all { statements.now ≡ statement_spots ops.now }
     ensures { IfOk result (λ l. l
         ≡ with_faults least (block_faults (around_of around.now) start ops.now)) }
 {

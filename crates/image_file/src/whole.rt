@@ -1,6 +1,6 @@
 //! An image as a whole.
 ghost use Rattle.std.specs.Prelude.{true, ◌≡◌, ◌+◌, ◌<◌, ◌≤◌, ◌^◌, length, take, [], ◌∷◌, if◌then◌else◌, OnOk, IfOk};
-ghost use Rattle.flat_code.specs.Image.{counts_layout, data_blocks_layout, names, records, front, cut, read_image};
+ghost use Rattle.flat_code.specs.Image.{counts_layout, data_blocks_layout, names_layout, records_layout, front_layout, read_cut_off, read_image};
 ghost use Rattle.flat_code.specs.Layout.{Faulty};
 ghost use Rattle.image_file.specs.Running.{reader_run, run_layout, run_of_read, log_after, reader_cursor, log_of, counts_values, front_values, Sees, SeesDatas, SeesRecords, SeesImage};
 
@@ -57,7 +57,7 @@ impl Reader<'_> {
     fn records(&mut self, alloc: Global) -> Result<Vec<NameRead>, Stop>
         requires { self.old.at + length self.old.rest.now + 2000 < 2 ^ 32 }
         ensures read { SeesRecords
-            (λ v. v.items) result self.new (run_layout (records true) (reader_cursor self.old)
+            (λ v. v.items) result self.new (run_layout (records_layout true) (reader_cursor self.old)
             (log_of self.old)) }
         ensures all { OnOk result (self.new.at + length self.new.rest.now
             ≡ self.old.at + length self.old.rest.now) }
@@ -69,11 +69,11 @@ impl Reader<'_> {
         Ok(names)
     }
 
-    #[tactic(auto, unfolding(flat_code::specs::Image::front, flat_code::specs::Image::front_rows), using(crate::proofs::RunLemmas::run_seen, crate::proofs::RunLemmas::run_chain))]
+    #[tactic(auto, unfolding(flat_code::specs::Image::front_layout, flat_code::specs::Image::front_rows), using(crate::proofs::RunLemmas::run_seen, crate::proofs::RunLemmas::run_chain))]
     fn front(&mut self) -> Result<FrontRead, Ended>
         requires { self.old.at ≡ 0 }
         ensures read { reader_run front_values result self.new
-            ≡ run_layout front (reader_cursor self.old) (log_of self.old) }
+            ≡ run_layout front_layout (reader_cursor self.old) (log_of self.old) }
         ensures all { self.new.at + length self.new.rest.now
             ≡ self.old.at + length self.old.rest.now }
         ensures at { IfOk result (λ f. self.new.at ≡ 12) }
@@ -103,7 +103,7 @@ impl Reader<'_> {
         requires low { 20 ≤ total }
         requires there { total ≤ size }
         requires high { total ≤ 8388608 }
-        ensures { SeesImage result self.new (run_of_read (cut true stamp size total
+        ensures { SeesImage result self.new (run_of_read (read_cut_off true stamp size total
             (reader_cursor self.old)) (log_of self.old)) }
     {
         self.note_if(size != total as usize, total, 10);

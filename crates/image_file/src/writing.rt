@@ -1,7 +1,7 @@
 //! The image of a program: its records one behind the other, and the header in front of them.
 ghost use Rattle.std.specs.Prelude.{◌≡◌, ◌++◌, ◌+◌, ◌≤◌, ◌<◌, false, [], map, length, All, IfOk, OnOk};
 ghost use Rattle.flat_code.specs.Codes.{code_bytes};
-ghost use Rattle.flat_code.specs.Image.{head_of_block, head_layout, counts_layout, counts_of, front, front_of, records_of, record_of_block, record_of_param, name_of_entry, number_of_instance, front_size, parameter_layout, same_state, line_field, line_after, code_block_layout, after_block, data_block_layout, after_data, name_record, after_name, body, image};
+ghost use Rattle.flat_code.specs.Image.{head_of_block, head_layout, counts_layout, counts_of, front_layout, front_of, records_of, record_of_block, record_of_param, name_of_entry, number_of_instance, front_size, parameter_layout, same_state, line_field, line_after, code_block_layout, after_block, data_block_layout, after_data, name_record, after_name, body_layout, image};
 ghost use Rattle.flat_code.specs.Layout.{spell_many};
 ghost use Rattle.flat_code.specs.declared.stamps.Stamp.TheVariants as stamps;
 ghost use Rattle.image_file.specs.Running.{head_values};
@@ -93,7 +93,7 @@ fn head_of(block: &CodeBlock) -> HeadRead
     }
 }
 
-#[tactic(auto, unfolding(flat_code::specs::Image::head_layout, flat_code::specs::Image::head_rows, flat_code::specs::Image::kind_field, flat_code::specs::Image::parameter_count_layout, flat_code::specs::Image::block_number_layout, flat_code::specs::Image::local_length_layout, flat_code::specs::Image::instance_bytes, flat_code::specs::Image::plain_u16, flat_code::specs::Image::zero_u16, flat_code::specs::Image::plain_u32))]
+#[tactic(auto, unfolding(flat_code::specs::Image::head_layout, flat_code::specs::Image::head_rows, flat_code::specs::Image::kind_field, flat_code::specs::Image::parameter_count_layout, flat_code::specs::Image::block_number_layout, flat_code::specs::Image::local_length_layout, flat_code::specs::Image::instance_bytes_layout, flat_code::specs::Image::plain_u16, flat_code::specs::Image::zero_u16, flat_code::specs::Image::plain_u32))]
 fn put_head(out: &mut Vec<u8>, head: &HeadRead) -> Result<(), NoMemory>
     ensures { OnOk result (out.new.items
         ≡ out.old.items ++ (head_layout (0, 0)).spell (head_values head.now)) }
@@ -148,7 +148,7 @@ fn put_code_blocks(out: &mut Vec<u8>, blocks: &[CodeBlock]) -> Result<(), NoMemo
     Ok(())
 }
 
-#[tactic(auto, unfolding(flat_code::specs::Image::data_block_layout, flat_code::specs::Image::data_rows, flat_code::specs::Image::data_number_layout, flat_code::specs::Image::instance_field, flat_code::specs::Image::data_length_layout, flat_code::specs::Image::zero_u16, flat_code::specs::Image::contents))]
+#[tactic(auto, unfolding(flat_code::specs::Image::data_block_layout, flat_code::specs::Image::data_rows, flat_code::specs::Image::data_number_layout, flat_code::specs::Image::instance_field, flat_code::specs::Image::data_length_layout, flat_code::specs::Image::zero_u16, flat_code::specs::Image::contents_layout))]
 fn put_data_block(out: &mut Vec<u8>, block: &DataBlock) -> Result<(), NoMemory>
     requires { DataFitsFields block.now }
     ensures { OnOk result (out.new.items
@@ -218,8 +218,8 @@ fn put_counts(out: &mut Vec<u8>, program: &Program) -> Result<(), NoMemory>
 /// All behind the total length.
 fn put_body(out: &mut Vec<u8>, program: &Program) -> Result<(), NoMemory>
     ensures spelled { OnOk result (out.new.items
-        ≡ out.old.items ++ (body false).spell program.now) }
-    ensures short { front_size + length ((body false).spell program.now) ≤ 8388608 }
+        ≡ out.old.items ++ (body_layout false).spell program.now) }
+    ensures short { front_size + length ((body_layout false).spell program.now) ≤ 8388608 }
 {
     let code_blocks = program.code_blocks.as_slice();
     put_counts(out, program)?;
@@ -230,9 +230,9 @@ fn put_body(out: &mut Vec<u8>, program: &Program) -> Result<(), NoMemory>
 }
 
 /// The header up to the total length.
-#[tactic(auto, unfolding(flat_code::specs::Image::front, flat_code::specs::Image::front_rows, flat_code::specs::Image::magic_field, flat_code::specs::Image::version_field, flat_code::specs::Image::profile_field, flat_code::specs::Image::plain_u32))]
+#[tactic(auto, unfolding(flat_code::specs::Image::front_layout, flat_code::specs::Image::front_rows, flat_code::specs::Image::magic_field, flat_code::specs::Image::version_field, flat_code::specs::Image::profile_field, flat_code::specs::Image::plain_u32))]
 fn put_front(out: &mut Vec<u8>, stamp: Stamp, total: u32) -> Result<(), NoMemory>
-    ensures { OnOk result (out.new.items ≡ out.old.items ++ front.spell (front_of stamp total)) }
+    ensures { OnOk result (out.new.items ≡ out.old.items ++ front_layout.spell (front_of stamp total)) }
 {
     let [e, f] = stamp.version().to_be_bytes();
     let [g, h] = stamp.profile_field().to_be_bytes();

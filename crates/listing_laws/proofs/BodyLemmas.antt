@@ -27,7 +27,7 @@ use Rattle.flat_code.specs.declared.operands.Passed.{Passed}
 use Rattle.flat_code.specs.declared.operations.Operation.TheVariants as operation
 use Rattle.flat_code.specs.declared.operations.Operation.{Operation}
 use Rattle.stl_ast.specs.Operands.{IsNumber}
-use Rattle.stl_ast.specs.Statements.{is_empty, is_nothing}
+use Rattle.stl_ast.specs.Statements.{is_empty_statement, is_nothing}
 use Rattle.stl_ast.specs.declared.operands.Letters.TheVariants as letters
 use Rattle.stl_ast.specs.declared.operands.Operand.TheVariants as operand
 use Rattle.stl_ast.specs.declared.operands.Operand.{Operand}
@@ -42,22 +42,22 @@ use Rattle.stl_parser.specs.Operands.{holds_pointer}
 use Rattle.stl_types.specs.declared.parameters.Formal.{Formal}
 use Rattle.stl_list.specs.Actuals.{actual_for, actual_here, actuals_before, actuals_by, is_written, passed_operand}
 use Rattle.stl_list.specs.Joined.{called_id, system_parameters}
-use Rattle.stl_list.specs.Labels.{label_of}
-use Rattle.stl_list.specs.Lines.{line_at}
+use Rattle.stl_list.specs.Labels.{label_of_number}
+use Rattle.stl_list.specs.Lines.{line_of_statement}
 use Rattle.stl_list.specs.Runs.{Run, number_at, runs}
-use Rattle.stl_list.specs.Signatures.{Signature, called_formals, formals_of}
-use Rattle.stl_list.specs.Statements.{Surroundings, body_of, label_at, label_of_end, statement, statement_at, statements_from, surroundings}
-use Rattle.stl_list.specs.Operands.{data_block_name, direct_operand, implied_operand, instance_name, letters_of, name_at, operand_by, plain_operand, timer_or_counter, writes, opened_by, own_parameter, read_letters, used_by}
-use Rattle.print_laws.specs.Reading.{FitsSyntax, IsArea, IsAreaOf, IsBlockOf, IsCalled, IsLabelOf, IsOpened, IsPassed, IsPrintedActual, IsPrintedOperand, IsPrintedStatement, IsRegister, IsTarget, Syntax, block_call, bracket, call, empty, jump, opens, plain, syntax_of}
-use Rattle.print_laws.specs.Standing.{IsName as IsCutName}
+use Rattle.stl_list.specs.Signatures.{Signature, called_formals, formals_of_block}
+use Rattle.stl_list.specs.Statements.{Surroundings, body_of, label_at, label_of_end, listed_statement, statement_at, statements_from, surroundings}
+use Rattle.stl_list.specs.Operands.{name_of_data_block, direct_operand, implied_operand, instance_name, letters_for_area, name_at, operand_by, plain_operand, timer_or_counter, operation_writes_operand, block_opened_by_ops, own_parameter, read_letters, block_of_use_db}
+use Rattle.print_laws.specs.Reading.{FitsSyntax, IsArea, IsAreaOf, IsBlockOf, IsCallOperand, IsPrintedLabelOf, IsOpenOperand, IsPassedOperand, IsPrintedActual, IsPrintedOperand, IsPrintedStatement, IsRegister, IsJumpOperand, PrintedSyntax, block_call, bracket, call, empty, jump, opens, plain, syntax_of}
+use Rattle.print_laws.specs.Standing.{IsNonTitleName as IsCutName}
 use Rattle.listing_laws.proofs.FormLemmas.{labels_printed, typed_printed}
 use Rattle.listing_laws.proofs.NameLemmas.{either_way, parameter_is, signed_long, system_named}
-use Rattle.listing_laws.specs.Bodies.{AreBodiesPrinted, AreWords, IsCallBy, IsNoBit, IsOpenedIn, IsPlace, IsShown, IsSourceRun, PassesPlace, Prepares}
+use Rattle.listing_laws.specs.Bodies.{AreBodiesPrinted, AreWords, IsCallBy, IsNoBit, IsOpenedIn, IsPlace, IsLastOperandPrinted, IsSourceRun, PassesPlace, Prepares}
 
 -- ---- areas
 
 -- the letters of a place are those of an address
-area_is : (writes : Bool) (a : Area) (w : Width) → IsNoBit a w → IsArea (letters_of writes a) w
+area_is : (writes : Bool) (a : Area) (w : Width) → IsNoBit a w → IsArea (letters_for_area writes a) w
 area_is writes area.I w h = tt
 area_is writes area.Q w h = tt
 area_is writes area.M w h = tt
@@ -121,28 +121,28 @@ name_word formals index h named = by (slice_get formals index) refl (named_word 
 -- ---- fixed places
 
 -- the block that a statement opens first
-opened_block : (opened : Option ℕ) (writes : Bool) (a : Area) → MatchOption opened (Unit {0}) (λ n. n ≤ 65535) → IsOpenedIn opened a → IsBlockOf (option_map data_block_name opened) (letters_of writes a)
+opened_block : (opened : Option ℕ) (writes : Bool) (a : Area) → MatchOption opened (Unit {0}) (λ n. n ≤ 65535) → IsOpenedIn opened a → IsBlockOf (option_map name_of_data_block opened) (letters_for_area writes a)
 opened_block None writes a h k = tt
-opened_block (Some n) writes a h k = ((refl, h), ap (letters_of writes) k)
+opened_block (Some n) writes a h k = ((refl, h), ap (letters_for_area writes) k)
 
 pub place_printed : (opened : Option ℕ) (writes : Bool) (a : Area) (w : Width) (byte bit : ℕ) → MatchOption opened (Unit {0}) (λ n. n ≤ 65535) → IsOpenedIn opened a → IsPlace a w bit → byte ≤ 65535
     → IsPrintedOperand (direct_operand opened writes a w byte bit)
 place_printed opened writes a w byte bit block in_ place h = (opened_block opened writes a block in_, area_is writes a w place.0, h, place.1)
 
-pub opened_number : (before : List OpData) → AllByRecursion IsOp before → MatchOption (opened_by before) (Unit {0}) (λ n. n ≤ 65535)
+pub opened_number : (before : List OpData) → AllByRecursion IsOp before → MatchOption (block_opened_by_ops before) (Unit {0}) (λ n. n ≤ 65535)
 unfolding is_op
 opened_number [] h = tt
 opened_number (op ∷ ops) (one, more) = used op.operand (and_parts _ (payload_fits op.operand) one).1 where
-  used : (f : FlatOperand) → payload_fits f ≡ true → MatchOption (used_by f) (Unit {0}) (λ n. n ≤ 65535)
+  used : (f : FlatOperand) → payload_fits f ≡ true → MatchOption (block_of_use_db f) (Unit {0}) (λ n. n ≤ 65535)
   used (flat.UseDb number) e = number_is number e
   used _ e = tt
 
 -- ---- what a call passes
 
-own_passed : (formals : List Formal) (index : ℕ) → index < 2 ^ 64 → AreWords formals → IsPassed (own_parameter formals index)
+own_passed : (formals : List Formal) (index : ℕ) → index < 2 ^ 64 → AreWords formals → IsPassedOperand (own_parameter formals index)
 own_passed formals index h named = name_word formals index h named
 
-pub passed_printed : (formals : List Formal) (f : Formal) (p : Passed) → AreWords formals → actual_fits p ≡ true → PassesPlace p → IsPassed (passed_operand formals f p)
+pub passed_printed : (formals : List Formal) (f : Formal) (p : Passed) → AreWords formals → actual_fits p ≡ true → PassesPlace p → IsPassedOperand (passed_operand formals f p)
 passed_printed formals f (passed.Literal value) named e place = typed_printed f.kind value (ltb-true value 4294967296 e)
 passed_printed formals f (passed.Direct a w byte bit) named e place = place_printed None (is_written f.section) a w byte bit tt tt place (byte_place a w byte bit e)
 passed_printed formals f (passed.Parameter index w) named e place =
@@ -212,24 +212,24 @@ is_plain_takes takes.Call = false
 is_plain_takes takes.Open = false
 is_plain_takes _ = true
 
-abbrev is_plain : Syntax → Bool
+abbrev is_plain : PrintedSyntax → Bool
 is_plain plain = true
 is_plain _ = false
 
-abbrev is_bracket : Syntax → Bool
+abbrev is_bracket : PrintedSyntax → Bool
 is_bracket bracket = true
 is_bracket _ = false
 
-abbrev is_opens : Syntax → Bool
+abbrev is_opens : PrintedSyntax → Bool
 is_opens opens = true
 is_opens _ = false
 
-abbrev is_calling : Syntax → Bool
+abbrev is_calling : PrintedSyntax → Bool
 is_calling block_call = true
 is_calling call = true
 is_calling _ = false
 
-abbrev is_jumping : Syntax → Bool
+abbrev is_jumping : PrintedSyntax → Bool
 is_jumping jump = true
 is_jumping _ = false
 
@@ -253,9 +253,9 @@ open_word : (c : ℕ) → c < 128 → is_open (takes_of c) ≡ true → is_opens
 unfolding takes_of operation_of word_of
 open_word c h e = follows _ _ (agree_below_at (λ c. not (is_open (takes_of c)) || is_opens (syntax_of (word_of c))) (λ c. true) 128 c refl h) e
 
-prepares_word : (c : ℕ) → c < 128 → (is_use_db (takes_of c) || is_pass (takes_of c)) ≡ true → is_empty (word_of c) ≡ true
+prepares_word : (c : ℕ) → c < 128 → (is_use_db (takes_of c) || is_pass (takes_of c)) ≡ true → is_empty_statement (word_of c) ≡ true
 unfolding takes_of operation_of word_of
-prepares_word c h e = follows _ _ (agree_below_at (λ c. not (is_use_db (takes_of c) || is_pass (takes_of c)) || is_empty (word_of c)) (λ c. true) 128 c refl h) e
+prepares_word c h e = follows _ _ (agree_below_at (λ c. not (is_use_db (takes_of c) || is_pass (takes_of c)) || is_empty_statement (word_of c)) (λ c. true) 128 c refl h) e
 
 jumping_word : (k : ℕ) → k < 18 → is_jumping (syntax_of (jump_word k)) ≡ true
 unfolding jump_word
@@ -320,7 +320,7 @@ kind_plain _ kind h = refl
 
 -- ---- statements by what stands behind their word
 
-plain_fits : (line : ℕ) (x : Syntax) (o : Operand) → is_plain x ≡ true → IsPrintedOperand o → FitsSyntax line x o []
+plain_fits : (line : ℕ) (x : PrintedSyntax) (o : Operand) → is_plain x ≡ true → IsPrintedOperand o → FitsSyntax line x o []
 plain_fits line plain o e h = (h, refl)
 plain_fits line bracket o e h = absurd (false≢true e)
 plain_fits line jump o e h = absurd (false≢true e)
@@ -333,7 +333,7 @@ is_none : (o : Operand) → is_nothing o ≡ true → o ≡ operand.Nothing
 is_none operand.Nothing e = refl
 is_none _ e = absurd (false≢true e)
 
-bare_fits : (line : ℕ) (x : Syntax) (o : Operand) → (is_plain x || is_bracket x && is_nothing o) ≡ true → IsPrintedOperand o → FitsSyntax line x o []
+bare_fits : (line : ℕ) (x : PrintedSyntax) (o : Operand) → (is_plain x || is_bracket x && is_nothing o) ≡ true → IsPrintedOperand o → FitsSyntax line x o []
 bare_fits line plain o e h = (h, refl)
 bare_fits line bracket o e h = (is_none o e, refl)
 bare_fits line jump o e h = absurd (false≢true e)
@@ -342,7 +342,7 @@ bare_fits line block_call o e h = absurd (false≢true e)
 bare_fits line call o e h = absurd (false≢true e)
 bare_fits line empty o e h = absurd (false≢true e)
 
-opens_fits : (line : ℕ) (x : Syntax) (o : Operand) → is_opens x ≡ true → IsOpened o → FitsSyntax line x o []
+opens_fits : (line : ℕ) (x : PrintedSyntax) (o : Operand) → is_opens x ≡ true → IsOpenOperand o → FitsSyntax line x o []
 opens_fits line plain o e h = absurd (false≢true e)
 opens_fits line bracket o e h = absurd (false≢true e)
 opens_fits line jump o e h = absurd (false≢true e)
@@ -351,7 +351,7 @@ opens_fits line block_call o e h = absurd (false≢true e)
 opens_fits line call o e h = absurd (false≢true e)
 opens_fits line empty o e h = absurd (false≢true e)
 
-jump_fits : (line : ℕ) (x : Syntax) (o : Operand) → is_jumping x ≡ true → IsTarget o → FitsSyntax line x o []
+jump_fits : (line : ℕ) (x : PrintedSyntax) (o : Operand) → is_jumping x ≡ true → IsJumpOperand o → FitsSyntax line x o []
 jump_fits line plain o e h = absurd (false≢true e)
 jump_fits line bracket o e h = absurd (false≢true e)
 jump_fits line jump o e h = (h, refl)
@@ -360,7 +360,7 @@ jump_fits line block_call o e h = absurd (false≢true e)
 jump_fits line call o e h = absurd (false≢true e)
 jump_fits line empty o e h = absurd (false≢true e)
 
-calls_fit : (line : ℕ) (x : Syntax) (id : BlockId) → is_calling x ≡ true → IsNumber id.number → FitsSyntax line x (operand.Called (block.Number id) None) []
+calls_fit : (line : ℕ) (x : PrintedSyntax) (id : BlockId) → is_calling x ≡ true → IsNumber id.number → FitsSyntax line x (operand.Called (block.Number id) None) []
 calls_fit line plain id e h = absurd (false≢true e)
 calls_fit line bracket id e h = absurd (false≢true e)
 calls_fit line jump id e h = absurd (false≢true e)
@@ -378,12 +378,12 @@ pub words_of : (formals : List Formal) → AllByRecursion (λ f. IsCutName f.nam
 words_of [] h = tt
 words_of (f ∷ formals) h = (h.0.0, words_of formals h.1)
 
-block_words : (ss : List Signature) (id : BlockId) → AreBlocksWords ss → AreWords (formals_of ss id)
+block_words : (ss : List Signature) (id : BlockId) → AreBlocksWords ss → AreWords (formals_of_block ss id)
 block_words [] id h = tt
-block_words (s ∷ ss) id (one, more) = either_way AreWords (is_same_block s.id id) s.formals (formals_of ss id) one (block_words ss id more)
+block_words (s ∷ ss) id (one, more) = either_way AreWords (is_same_block s.id id) s.formals (formals_of_block ss id) one (block_words ss id more)
 
 called_words : (ss : List Signature) (id : BlockId) → AreBlocksWords ss → AreWords (called_formals ss id)
-called_words ss id h = either_way AreWords (is_system_function id.kind) (system_parameters id.number) (formals_of ss id) (words_of (system_parameters id.number) (system_named id.number)) (block_words ss id h)
+called_words ss id h = either_way AreWords (is_system_function id.kind) (system_parameters id.number) (formals_of_block ss id) (words_of (system_parameters id.number) (system_named id.number)) (block_words ss id h)
 
 for_printed : (line : ℕ) (formals : List Formal) (o : Option Formal) (p : Passed) → AreWords formals → MatchOption o (Unit {0}) (λ f. is_word f.name ≡ true) → actual_fits p ≡ true → PassesPlace p
     → AllByRecursion (IsPrintedActual line) (actual_for line formals o p)
@@ -405,10 +405,10 @@ before_printed line formals called (op ∷ before) named others (one, more) (pla
 
 -- ---- calls
 
-instance_called : (kind number instance : ℕ) → IsNumber number → IsNumber instance → (instance ≡ 0) ⊎ (kind ≡ 3) → IsCalled (operand.Called (block.Number (called_id kind number)) (instance_name instance))
-instance_called kind number instance n i (inl none) = subst (λ (k : ℕ). IsCalled (operand.Called (block.Number (called_id kind number)) (instance_name k))) (sym none) n
-instance_called kind number instance n i (inr fb) = subst (λ (k : ℕ). IsCalled (operand.Called (block.Number (called_id k number)) (instance_name instance))) (sym fb)
-    (either_way (λ o. IsCalled (operand.Called (block.Number (called_id 3 number)) o)) (instance == 0) None (Some (data_block_name instance)) n ((refl, n), (refl, i)))
+instance_called : (kind number instance : ℕ) → IsNumber number → IsNumber instance → (instance ≡ 0) ⊎ (kind ≡ 3) → IsCallOperand (operand.Called (block.Number (called_id kind number)) (instance_name instance))
+instance_called kind number instance n i (inl none) = subst (λ (k : ℕ). IsCallOperand (operand.Called (block.Number (called_id kind number)) (instance_name k))) (sym none) n
+instance_called kind number instance n i (inr fb) = subst (λ (k : ℕ). IsCallOperand (operand.Called (block.Number (called_id k number)) (instance_name instance))) (sym fb)
+    (either_way (λ o. IsCallOperand (operand.Called (block.Number (called_id 3 number)) o)) (instance == 0) None (Some (name_of_data_block instance)) n ((refl, n), (refl, i)))
 
 -- CALL with its actual parameters, or UC and CC
 called_fits : (line code kind number instance : ℕ) (formals called : List Formal) (before : List OpData) → code < 128 → is_call_form (takes_of code) ≡ true → IsNumber number → IsNumber instance
@@ -436,9 +436,9 @@ timer_printed kind number h = either_way IsPrintedOperand (kind == 1) (operand.T
 
 -- operand and actual parameters of the last op of a statement
 fits : (ss : List Signature) (line : ℕ) (formals : List Formal) (starts : List ℕ) (before : List OpData) (code : ℕ) (o : FlatOperand) → AreBlocksWords ss → AreWords formals
-    → AllByRecursion IsOp before → AllByRecursion (λ op. Prepares op.operand) before → code < 128 → admits (takes_of code) o ≡ true → payload_fits o ≡ true → IsShown before code o
-    → is_empty (word_by code o) ≡ false
-    → FitsSyntax line (syntax_of (word_by code o)) (operand_by formals starts (opened_by before) (operation_of code) o) (actuals_by ss line formals before o)
+    → AllByRecursion IsOp before → AllByRecursion (λ op. Prepares op.operand) before → code < 128 → admits (takes_of code) o ≡ true → payload_fits o ≡ true → IsLastOperandPrinted before code o
+    → is_empty_statement (word_by code o) ≡ false
+    → FitsSyntax line (syntax_of (word_by code o)) (operand_by formals starts (block_opened_by_ops before) (operation_of code) o) (actuals_by ss line formals before o)
 unfolding operand_by plain_operand actuals_by admits
 fits ss line formals starts before code flat.Nothing known named ops prepares h a e shown word =
     bare_fits line (syntax_of (word_of code)) (implied_operand (operation_of code)) (nothing_word code h a) (implied_printed (operation_of code))
@@ -446,7 +446,7 @@ fits ss line formals starts before code (flat.Literal value) known named ops pre
     plain_fits line (syntax_of (word_of code)) (instruction_constant (operation_of code) value) (plain_word code h (literal_plain (takes_of code) value a)) (constant_printed (operation_of code) value (ltb-true value 4294967296 e))
 fits ss line formals starts before code (flat.Direct ar w byte bit) known named ops prepares h a e shown word =
     plain_fits line (syntax_of (word_of code)) _ (plain_word code h (direct_plain (takes_of code) a))
-    (place_printed (opened_by before) (writes (operation_of code)) ar w byte bit (opened_number before ops) shown.0 shown.1 (byte_place ar w byte bit e))
+    (place_printed (block_opened_by_ops before) (operation_writes_operand (operation_of code)) ar w byte bit (opened_number before ops) shown.0 shown.1 (byte_place ar w byte bit e))
 fits ss line formals starts before code (flat.ByMemory ar w from byte) known named ops prepares h a e shown word =
     let parts = and_parts (is_memory_area ar) (holds_pointers from && nat_lt byte 65536) e in
     let more = and_parts (holds_pointers from) (nat_lt byte 65536) parts.1 in
@@ -487,28 +487,28 @@ fits ss line formals starts before code (flat.OpenBy register from byte) known n
 
 -- a statement whose op is of the table
 run_fits : (s : Surroundings) (n : ℕ) (r : Run) → AreBlocksWords s.signatures → AreWords s.formals → IsSourceRun r
-    → FitsSyntax (line_at s.lines n) (syntax_of (mnemonic_of r.op)) (operand_by s.formals s.starts (opened_by r.before) (operation_of r.op.code) r.op.operand) (actuals_by s.signatures (line_at s.lines n) s.formals r.before r.op.operand)
+    → FitsSyntax (line_of_statement s.lines n) (syntax_of (mnemonic_of r.op)) (operand_by s.formals s.starts (block_opened_by_ops r.before) (operation_of r.op.code) r.op.operand) (actuals_by s.signatures (line_of_statement s.lines n) s.formals r.before r.op.operand)
 unfolding is_op
 run_fits s n r known named is =
     let whole = and_parts (nat_lt r.op.code 128 && admits (takes_of r.op.code) r.op.operand) (payload_fits r.op.operand) is.op in
     let parts = and_parts (nat_lt r.op.code 128) (admits (takes_of r.op.code) r.op.operand) whole.0 in
-    fits s.signatures (line_at s.lines n) s.formals s.starts r.before r.op.code r.op.operand known named is.ops is.prepares (ltb-true r.op.code 128 parts.0) parts.1 whole.1 is.shown is.word
+    fits s.signatures (line_of_statement s.lines n) s.formals s.starts r.before r.op.code r.op.operand known named is.ops is.prepares (ltb-true r.op.code 128 parts.0) parts.1 whole.1 is.shown is.word
 
-label_printed : (targets : List Bool) (n : ℕ) → IsLabelOf (label_at targets n)
-label_printed targets n = either_way IsLabelOf (unwrap_or (slice_get targets n) false) (Some (label_of n)) None (labels_printed n) tt
+label_printed : (targets : List Bool) (n : ℕ) → IsPrintedLabelOf (label_at targets n)
+label_printed targets n = either_way IsPrintedLabelOf (unwrap_or (slice_get targets n) false) (Some (label_of_number n)) None (labels_printed n) tt
 
-statement_printed : (s : Surroundings) (n : ℕ) (r : Run) → AreBlocksWords s.signatures → AreWords s.formals → IsSourceRun r → IsPrintedStatement (statement s n r)
+statement_printed : (s : Surroundings) (n : ℕ) (r : Run) → AreBlocksWords s.signatures → AreWords s.formals → IsSourceRun r → IsPrintedStatement (listed_statement s n r)
 statement_printed s n r known named is = record { label = label_printed s.targets n; fits = run_fits s n r known named is }
 
 no_label : (line : ℕ) (targets : List Bool) (n : ℕ) → unwrap_or (slice_get targets n) false ≡ false → label_of_end line (label_at targets n) ≡ []
-no_label line targets n e = ap (λ (b : Bool). label_of_end line (if b then Some (label_of n) else None)) e
+no_label line targets n e = ap (λ (b : Bool). label_of_end line (if b then Some (label_of_number n) else None)) e
 
 at_printed : (s : Surroundings) (n : ℕ) (r : Run) → AreBlocksWords s.signatures → AreWords s.formals → IsSourceRun r → (suc n ≡ length s.lines → unwrap_or (slice_get s.targets n) false ≡ false)
     → AllByRecursion IsPrintedStatement (statement_at s n r)
 unfolding statement_at
 at_printed s n r known named is free =
-    cond_both (suc n == length s.lines) (label_of_end (line_at s.lines n) (label_at s.targets n)) (statement s n r ∷ []) (λ l. AllByRecursion IsPrintedStatement l)
-    (λ e. subst (λ (l : List Statement). AllByRecursion IsPrintedStatement l) (sym (no_label (line_at s.lines n) s.targets n (free (eqb-true (suc n) (length s.lines) e)))) tt)
+    cond_both (suc n == length s.lines) (label_of_end (line_of_statement s.lines n) (label_at s.targets n)) (listed_statement s n r ∷ []) (λ l. AllByRecursion IsPrintedStatement l)
+    (λ e. subst (λ (l : List Statement). AllByRecursion IsPrintedStatement l) (sym (no_label (line_of_statement s.lines n) s.targets n (free (eqb-true (suc n) (length s.lines) e)))) tt)
     (λ e. (statement_printed s n r known named is, tt))
 
 from_printed : (s : Surroundings) (n : ℕ) (rs : List Run) → AreBlocksWords s.signatures → AreWords s.formals → AllByRecursion IsSourceRun rs → ((k : ℕ) → suc k ≡ length s.lines → unwrap_or (slice_get s.targets k) false ≡ false)

@@ -18,7 +18,7 @@ use Rattle.flat_code.specs.declared.operations.EndOperation.{EndOperation}
 use Rattle.flat_code.specs.declared.kinds.JumpOperation.{JumpOperation}
 use Rattle.flat_code.specs.declared.kinds.JumpOperation.TheVariants as jump
 use Rattle.stl_ast.specs.Operands.{IsOperand}
-use Rattle.stl_ast.specs.Statements.{IsStatement, is_empty}
+use Rattle.stl_ast.specs.Statements.{IsStatement, is_empty_statement}
 use Rattle.stl_ast.specs.WellFormed.{IsBlock}
 use Rattle.stl_ast.specs.declared.blocks.Block.{Block}
 use Rattle.stl_ast.specs.declared.blocks.PathStep.{PathStep}
@@ -35,8 +35,8 @@ use Rattle.stl_symbols.specs.Symbol.{Symbol, symbol_named}
 use Rattle.stl_symbols.specs.declared.targets.Target.{Target}
 use Rattle.stl_symbols.specs.declared.targets.Target.TheVariants as target
 use Rattle.block_layout.specs.Blocks.{named_block}
-use Rattle.block_layout.specs.Offsets.{place_at, placed, width_of}
-use Rattle.block_layout.specs.Paths.{cells_at, elementary_at, folded_path, walked_data, walked_local}
+use Rattle.block_layout.specs.Offsets.{place_at, elementary_place, width_of}
+use Rattle.block_layout.specs.Paths.{cells_at, elementary_at, folded_path, path_end_in_data_block, walked_local}
 use Rattle.block_layout.specs.declared.blocks.BlockLayout.{BlockLayout}
 use Rattle.block_layout.specs.declared.cells.Cell.{Cell}
 use Rattle.block_layout.specs.declared.cells.Element.{Element}
@@ -44,28 +44,28 @@ use Rattle.block_layout.specs.declared.cells.Element.TheVariants as element
 use Rattle.block_layout.specs.declared.walks.ComponentAt.{ComponentAt}
 use Rattle.block_layout.specs.declared.walks.PathEnd.{PathEnd}
 use Rattle.block_layout.specs.declared.walks.PathEnd.TheVariants as walk
-use Rattle.stl_types.specs.Addresses.{address_in}
+use Rattle.stl_types.specs.Addresses.{address_in_block}
 use Rattle.stl_types.specs.Bodies.{first_context}
 use Rattle.stl_types.specs.Context.{Context, data_number, data_place, in_function}
-use Rattle.stl_types.specs.Resolution.{called_seen, direct_seen, instance_number, opened_seen, path_seen, seen, symbol_seen, target_view, whole_block}
-use Rattle.stl_types.specs.Resolved.{resolved, seen_view}
-use Rattle.stl_types.specs.Variables.{composite, data_at, data_path, data_variable, data_walked, date_or_composite, in_area, is_temporary, own_at, own_elementary, own_variable, own_walked, parameter, parameter_at, parameter_index}
+use Rattle.stl_types.specs.Resolution.{called_seen, direct_seen, instance_number, opened_seen, path_seen, resolution_of, symbol_seen, target_view, whole_called_block}
+use Rattle.stl_types.specs.Resolved.{resolved_operand, seen_view}
+use Rattle.stl_types.specs.Variables.{composite_operand, data_at, data_path, data_variable, data_walked, date_or_composite, variable_in_area, is_temporary_variable, own_at, own_elementary, own_variable, own_walked, parameter_resolution, parameter_at, parameter_index}
 use Rattle.stl_types.specs.declared.views.Register.TheVariants as register
 use Rattle.stl_types.specs.declared.views.Resolution.{Resolution}
 use Rattle.stl_types.specs.declared.views.Resolution.TheVariants as resolution
 use Rattle.stl_types.specs.declared.views.Resolution.TheVariants.{Resolved}
 use Rattle.stl_types.specs.declared.views.ResolvedOperand.{ResolvedOperand}
 use Rattle.stl_types.specs.declared.views.ResolvedOperand.TheVariants as view
-use Rattle.stl_codegen.specs.Compiled.{Stated, StatedBlock, aimed, aimed_op, compiled, offset_of, ops_in, placed_ops}
-use Rattle.stl_codegen.specs.Emitted.{call_op, ops_of, passing}
+use Rattle.stl_codegen.specs.Compiled.{SourceInstruction, StatedBlock, operand_with_target, op_with_target, compiled_block, offset_of_statement, ops_in, placed_ops}
+use Rattle.stl_codegen.specs.Emitted.{call_op, ops_of, pass_ops}
 use Rattle.stl_codegen.specs.Generated.{code_block, code_block_of, code_blocks_of, each_block, stated_from, statements_of}
 use Rattle.stl_codegen.specs.Instruction.{call_instr, end_instr, instr_by, instruction, jump_instr, resolved_instr, target_of, view_instr}
-use Rattle.stl_codegen.specs.Operations.{call_of, end_of, jump_of}
-use Rattle.stl_codegen.specs.Operands.{operand_of}
+use Rattle.stl_codegen.specs.Operations.{call_operation_of, end_operation_of, jump_operation_of}
+use Rattle.stl_codegen.specs.Operands.{flat_operand_of}
 use Rattle.stl_codegen.specs.Order.{is_code_before}
 use Rattle.listing_laws.proofs.BlockLemmas.{all_sorted}
 use Rattle.listing_laws.proofs.NameLemmas.{either_way}
-use Rattle.listing_laws.specs.Ranges.{AreCompiledWritten, IsWritten, IsWrittenBlock}
+use Rattle.listing_laws.specs.Ranges.{AreCompiledWritten, IsOffsetWritable, IsWrittenBlock}
 
 -- ---- what operands name
 
@@ -78,13 +78,13 @@ abbrev SeenShort : Resolution → Type 0
 SeenShort (Resolved v) = IsShort v
 SeenShort _ = Unit {0}
 
-in_area_short : (kind : Simple) (a : Area) (n bits : ℕ) → SeenShort (in_area kind (placed a n bits (Some kind)))
+in_area_short : (kind : Simple) (a : Area) (n bits : ℕ) → SeenShort (variable_in_area kind (elementary_place a n bits (Some kind)))
 in_area_short kind a n bits = by (leb (bits / 8) 65535) where
-  by : (b : Bool) → SeenShort (in_area kind (if b then Some (place_at a n bits, width_of kind) else None))
+  by : (b : Bool) → SeenShort (variable_in_area kind (if b then Some (place_at a n bits, width_of kind) else None))
   by true = tt
   by false = tt
 
-composite_short : (found : Option Cell) → IsShort (composite found)
+composite_short : (found : Option Cell) → IsShort (composite_operand found)
 composite_short None = tt
 composite_short (Some c) = of_ c.of where
   of_ : (e : Element) → IsShort (date_or_composite e)
@@ -93,24 +93,24 @@ composite_short (Some c) = of_ c.of where
 
 parameter_short : (c : Context) (spot : ComponentAt) (kind : Simple) → SeenShort (parameter_at c spot kind)
 parameter_short c spot kind = by (slice_get (cells_at c.layouts c.block false) spot.place) where
-  by : (found : Option Cell) → SeenShort (parameter (parameter_index (length (cells_at c.layouts c.block false)) spot.place (slice_get c.blocks c.block)) kind found)
+  by : (found : Option Cell) → SeenShort (parameter_resolution (parameter_index (length (cells_at c.layouts c.block false)) spot.place (slice_get c.blocks c.block)) kind found)
   by None = tt
   by (Some cell) = tt
 
 own_elementary_short : (c : Context) (temporary : Bool) (spot : ComponentAt) (kind : Simple) → SeenShort (own_elementary c temporary spot kind)
 own_elementary_short c true spot kind = in_area_short kind area.L 0 spot.offset
 own_elementary_short c false spot kind =
-    either_way SeenShort (in_function c) (parameter_at c spot kind) (in_area kind (placed area.Di 0 spot.offset (Some kind))) (parameter_short c spot kind) (in_area_short kind area.Di 0 spot.offset)
+    either_way SeenShort (in_function c) (parameter_at c spot kind) (variable_in_area kind (elementary_place area.Di 0 spot.offset (Some kind))) (parameter_short c spot kind) (in_area_short kind area.Di 0 spot.offset)
 
 own_short : (c : Context) (name : List ℕ) (steps : List PathStep) → SeenShort (own_variable c name steps)
 own_short c name steps = by (walked_local c.layouts c.block name steps) where
-  by : (w : PathEnd) → SeenShort (own_walked c (is_temporary c name) w)
+  by : (w : PathEnd) → SeenShort (own_walked c (is_temporary_variable c name) w)
   by walk.Unknown = tt
   by walk.Rests = tt
   by (walk.Reaches spot) = at (elementary_at c.layouts spot) where
-    at : (kind : Option Simple) → SeenShort (own_at c (is_temporary c name) spot kind)
+    at : (kind : Option Simple) → SeenShort (own_at c (is_temporary_variable c name) spot kind)
     at None = composite_short (slice_get (cells_at c.layouts spot.block spot.temporary) spot.place)
-    at (Some kind) = own_elementary_short c (is_temporary c name) spot kind
+    at (Some kind) = own_elementary_short c (is_temporary_variable c name) spot kind
 
 data_walk_short : (c : Context) (n : ℕ) (w : PathEnd) → SeenShort (data_walked c n w)
 data_walk_short c n walk.Unknown = tt
@@ -125,7 +125,7 @@ data_short c name steps = by (data_number c name) (data_place c name) where
   by : (n place : Option ℕ) → SeenShort (data_path c steps n place)
   by None place = tt
   by (Some n) None = tt
-  by (Some n) (Some block) = data_walk_short c n (walked_data c.layouts block steps)
+  by (Some n) (Some block) = data_walk_short c n (path_end_in_data_block c.layouts block steps)
 
 target_short : (t : Target) → IsShort (target_view t)
 target_short (target.Variable place w) = tt
@@ -144,7 +144,7 @@ path_short c (head.Symbol name) steps = by (symbol_named name c.symbols) where
 direct_short : (c : Context) (name : Option BlockName) (a : Letters) (w : Width) (byte bit : ℕ) → SeenShort (direct_seen c name a w byte bit)
 direct_short c None a w byte bit = tt
 direct_short c (Some name) a w byte bit = by (data_number c name) where
-  by : (n : Option ℕ) → SeenShort (address_in n a w byte bit)
+  by : (n : Option ℕ) → SeenShort (address_in_block n a w byte bit)
   by None = tt
   by (Some n) = tt
 
@@ -158,26 +158,26 @@ called_short (Some id) None instance = tt
 called_short (Some id) (Some name) None = tt
 called_short (Some id) (Some name) (Some n) = tt
 
-seen_short : (c : Context) (o : Operand) → IsOperand o → SeenShort (seen c o)
-unfolding seen
+seen_short : (c : Context) (o : Operand) → IsOperand o → SeenShort (resolution_of c o)
+unfolding resolution_of
 seen_short c (operand.ByRegister a w r bits) is = is.1
 seen_short c (operand.Direct name a w byte bit) is = direct_short c name a w byte bit
 seen_short c (operand.Named path steps) is = path_short c path steps
 seen_short c (operand.OpenBlock di name) is = opened_short di (data_number c name)
-seen_short c (operand.Called name instance) is = called_short (whole_block c (named_block c.symbols name)) instance (instance_number c instance)
+seen_short c (operand.Called name instance) is = called_short (whole_called_block c (named_block c.symbols name)) instance (instance_number c instance)
 seen_short c _ is = tt
 
 -- ---- instructions
 
 abbrev AreWritten : List OpData → Type 0
-AreWritten ops = AllByRecursion (λ op. IsWritten op.operand) ops
+AreWritten ops = AllByRecursion (λ op. IsOffsetWritable op.operand) ops
 
 abbrev IsWrittenInstr : Instr → Type 0
-IsWrittenInstr (Does use_db w o) = IsWritten o
+IsWrittenInstr (Does use_db w o) = IsOffsetWritable o
 IsWrittenInstr _ = Unit {0}
 
-operand_written : (o : Operand) (v : ResolvedOperand) → IsShort v → IsWritten (operand_of o v)
-unfolding operand_of
+operand_written : (o : Operand) (v : ResolvedOperand) → IsShort v → IsOffsetWritable (flat_operand_of o v)
+unfolding flat_operand_of
 operand_written o (view.ByRegister a w r bits) h = h
 operand_written o (view.NumberBy numbered.Timer from byte) h = tt
 operand_written o (view.NumberBy numbered.Counter from byte) h = tt
@@ -199,7 +199,7 @@ call_written c s how (view.Called id instance) = tt
 call_written c s how _ = tt
 
 view_written : (c : Context) (s : Statement) (v : ResolvedOperand) (how : Option CallOperation) → IsShort v → IsWrittenInstr (view_instr c s v how)
-view_written c s v None h = end_written s v (end_of s.code) h
+view_written c s v None h = end_written s v (end_operation_of s.code) h
 view_written c s v (Some how) h = call_written c s how v
 
 jump_written : (how : JumpOperation) (n to : ℕ) → IsWrittenInstr (jump_instr how n to)
@@ -214,24 +214,24 @@ view_short (Resolved v) h = h
 view_short resolution.Unknown h = tt
 view_short _ h = tt
 
-resolved_short : (c : Context) (s : Statement) → IsOperand s.operand → IsShortOrNone (resolved c s)
-unfolding resolved
-resolved_short c s is = either_way IsShortOrNone _ (seen_view (seen c s.operand)) None (view_short (seen c s.operand) (seen_short c s.operand is)) tt
+resolved_short : (c : Context) (s : Statement) → IsOperand s.operand → IsShortOrNone (resolved_operand c s)
+unfolding resolved_operand
+resolved_short c s is = either_way IsShortOrNone _ (seen_view (resolution_of c s.operand)) None (view_short (resolution_of c s.operand) (seen_short c s.operand is)) tt
 
 resolved_written : (c : Context) (s : Statement) (o : Option ResolvedOperand) → IsShortOrNone o → IsWrittenInstr (resolved_instr c s o)
 resolved_written c s None h = tt
-resolved_written c s (Some v) h = view_written c s v (call_of s.code) h
+resolved_written c s (Some v) h = view_written c s v (call_operation_of s.code) h
 
 instr_written : (c : Context) (body : List Statement) (n : ℕ) (s : Statement) → IsOperand s.operand → IsWrittenInstr (instruction c body n s)
 unfolding instruction
-instr_written c body n s is = by (jump_of s.code) where
+instr_written c body n s is = by (jump_operation_of s.code) where
   by : (how : Option JumpOperation) → IsWrittenInstr (instr_by c body n s how)
-  by None = resolved_written c s (resolved c s) (resolved_short c s is)
+  by None = resolved_written c s (resolved_operand c s) (resolved_short c s is)
   by (Some how) = jump_written how n (target_of body s.operand)
 
 -- ---- ops
 
-passing_written : (ps : List Passing) (more : List OpData) → AreWritten more → AreWritten (passing ps ++ more)
+passing_written : (ps : List Passing) (more : List OpData) → AreWritten more → AreWritten (pass_ops ps ++ more)
 passing_written [] more h = h
 passing_written (p ∷ ps) more h = (tt, passing_written ps more h)
 
@@ -244,28 +244,28 @@ ops_written (JumpsByList targets otherwise) h = (tt, tt)
 ops_written (Calls how id instance passings) h = passing_written passings (call_op how id instance ∷ []) (tt, tt)
 ops_written (Returns how) h = (tt, tt)
 
-aimed_written : (f : ℕ → ℕ) (o : FlatOperand) → IsWritten o → IsWritten (aimed f o)
+aimed_written : (f : ℕ → ℕ) (o : FlatOperand) → IsOffsetWritable o → IsOffsetWritable (operand_with_target f o)
 aimed_written f (flat.Jump kind to) h = tt
 aimed_written f (flat.ByRegister a w r bits) h = h
 aimed_written f _ h = tt
 
-placed_written : (f : ℕ → ℕ) (ops : List OpData) → AreWritten ops → AreWritten (map (aimed_op f) ops)
+placed_written : (f : ℕ → ℕ) (ops : List OpData) → AreWritten ops → AreWritten (map (op_with_target f) ops)
 placed_written f [] h = tt
 placed_written f (op ∷ ops) (one, more) = (aimed_written f op.operand one, placed_written f ops more)
 
 -- ---- blocks
 
-abbrev IsWrittenStated : Stated → Type 0
+abbrev IsWrittenStated : SourceInstruction → Type 0
 IsWrittenStated s = IsWrittenInstr s.instr
 
-all_ops : (ss : List Stated) → AllByRecursion IsWrittenStated ss → AreWritten (ops_in ss)
+all_ops : (ss : List SourceInstruction) → AllByRecursion IsWrittenStated ss → AreWritten (ops_in ss)
 all_ops [] h = tt
-all_ops (s ∷ ss) (one, more) = all_append (λ op. IsWritten op.operand) (ops_of s.instr) (ops_in ss) (ops_written s.instr one) (all_ops ss more)
+all_ops (s ∷ ss) (one, more) = all_append (λ op. IsOffsetWritable op.operand) (ops_of s.instr) (ops_in ss) (ops_written s.instr one) (all_ops ss more)
 
 stated_written : (c : Context) (body : List Statement) (n : ℕ) (ss : List Statement) → AllByRecursion IsStatement ss → AllByRecursion IsWrittenStated (stated_from c body n ss)
 stated_written c body n [] h = tt
 stated_written c body n (s ∷ ss) (one, more) =
-    either_way (λ l. AllByRecursion IsWrittenStated l) (is_empty s.code) (stated_from c body n ss) (record { instr = instruction c body n s; line = s.line } ∷ stated_from c body (suc n) ss)
+    either_way (λ l. AllByRecursion IsWrittenStated l) (is_empty_statement s.code) (stated_from c body n ss) (record { instr = instruction c body n s; line = s.line } ∷ stated_from c body (suc n) ss)
     (stated_written c body n ss more) (instr_written c body n s one.value, stated_written c body (suc n) ss more)
 
 statements_written : (c : Context) (b : Block) → IsBlock b → AllByRecursion IsWrittenStated (statements_of c b)
@@ -286,10 +286,10 @@ blocks_written c (b ∷ bs) [] h = tt
 blocks_written c (b ∷ bs) (l ∷ ls) (one, more) =
     all_append IsWrittenStatedBlock (code_block_of c b l l.id) _ (block_written c b l l.id one) (blocks_written (record c { block = suc c.block }) bs ls more)
 
-compiled_written : (bs : List StatedBlock) → AllByRecursion IsWrittenStatedBlock bs → AllByRecursion IsWrittenBlock (map compiled bs)
+compiled_written : (bs : List StatedBlock) → AllByRecursion IsWrittenStatedBlock bs → AllByRecursion IsWrittenBlock (map compiled_block bs)
 unfolding placed_ops
 compiled_written [] h = tt
-compiled_written (b ∷ bs) (one, more) = (placed_written (offset_of (ops_in b.statements)) (ops_in b.statements) (all_ops b.statements one), compiled_written bs more)
+compiled_written (b ∷ bs) (one, more) = (placed_written (offset_of_statement (ops_in b.statements)) (ops_in b.statements) (all_ops b.statements one), compiled_written bs more)
 
 pub written_compiled : AreCompiledWritten
 unfolding code_blocks_of

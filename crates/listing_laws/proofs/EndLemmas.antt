@@ -15,28 +15,28 @@ use Rattle.flat_code.specs.declared.kinds.JumpOperation.TheVariants as jump
 use Rattle.flat_code.specs.declared.kinds.JumpOperation.{JumpOperation}
 use Rattle.flat_code.specs.declared.operations.CallOperation.{CallOperation}
 use Rattle.flat_code.specs.declared.operations.EndOperation.{EndOperation}
-use Rattle.stl_ast.specs.Statements.{IsStatement, is_empty}
+use Rattle.stl_ast.specs.Statements.{IsStatement, is_empty_statement}
 use Rattle.stl_ast.specs.WellFormed.{IsBlock}
 use Rattle.stl_ast.specs.declared.blocks.Block.{Block}
 use Rattle.stl_ast.specs.declared.operands.Numbered.TheVariants as numbered
 use Rattle.stl_ast.specs.declared.operands.Operand.TheVariants as operand
 use Rattle.stl_ast.specs.declared.operands.Operand.{Operand}
 use Rattle.stl_ast.specs.declared.statements.Statement.{Statement}
-use Rattle.stl_symbols.specs.Names.{place_of}
+use Rattle.stl_symbols.specs.Names.{name_place}
 use Rattle.block_layout.specs.declared.blocks.BlockLayout.{BlockLayout}
 use Rattle.stl_types.specs.Bodies.{first_context}
 use Rattle.stl_types.specs.Context.{Context}
 use Rattle.stl_types.specs.Labels.{is_unknown_label, label_of, labels_of, rule_26, unknown_labels}
 use Rattle.stl_types.specs.Lists.{has_label}
-use Rattle.stl_types.specs.Resolved.{resolved}
+use Rattle.stl_types.specs.Resolved.{resolved_operand}
 use Rattle.stl_types.specs.declared.views.Register.TheVariants as register
 use Rattle.stl_types.specs.declared.views.ResolvedOperand.TheVariants as view
 use Rattle.stl_types.specs.declared.views.ResolvedOperand.{ResolvedOperand}
-use Rattle.stl_codegen.specs.Compiled.{Stated, StatedBlock, compiled}
-use Rattle.stl_codegen.specs.Generated.{code_block, code_block_of, code_blocks_of, each_block, returning, stated_from, statements_of}
-use Rattle.stl_codegen.specs.Instruction.{call_instr, counted, end_instr, instr_by, instruction, jump_instr, resolved_instr, target_in, target_of, view_instr}
-use Rattle.stl_codegen.specs.Operands.{operand_of}
-use Rattle.stl_codegen.specs.Operations.{call_of, end_of, jump_of}
+use Rattle.stl_codegen.specs.Compiled.{SourceInstruction, StatedBlock, compiled_block}
+use Rattle.stl_codegen.specs.Generated.{code_block, code_block_of, code_blocks_of, each_block, return_statement, stated_from, statements_of}
+use Rattle.stl_codegen.specs.Instruction.{call_instr, count_of_statement, end_instr, instr_by, instruction, jump_instr, resolved_instr, target_in, target_of, view_instr}
+use Rattle.stl_codegen.specs.Operands.{flat_operand_of}
+use Rattle.stl_codegen.specs.Operations.{call_operation_of, end_operation_of, jump_operation_of}
 use Rattle.stl_codegen.specs.Order.{is_code_before}
 use Rattle.listing_laws.proofs.BlockLemmas.{all_sorted}
 use Rattle.listing_laws.proofs.NameLemmas.{either_way}
@@ -50,10 +50,10 @@ use Rattle.listing_laws.specs.Statements.{goes_to, jumps_to}
 -- how many statements have a number
 abbrev count_of : List Statement → ℕ
 count_of [] = 0
-count_of (s ∷ ss) = counted s + count_of ss
+count_of (s ∷ ss) = count_of_statement s + count_of ss
 
 abbrev AreUnlabelled : List Statement → Type 0
-AreUnlabelled ss = AllByRecursion (λ s. is_empty s.code ≡ true → s.label ≡ None) ss
+AreUnlabelled ss = AllByRecursion (λ s. is_empty_statement s.code ≡ true → s.label ≡ None) ss
 
 unlabelled : (ss : List Statement) → AllByRecursion IsStatement ss → AreUnlabelled ss
 unlabelled [] h = tt
@@ -64,8 +64,8 @@ some_behind None h = h
 some_behind (Some k) h = refl
 
 -- behind a statement with such a label
-step : (name : List ℕ) (label : Option (List ℕ)) (none : Bool) (ss : List Statement) → (none ≡ true → label ≡ None) → is_none (place_of name (label_of label ++ labels_of ss)) ≡ false
-    → (is_none (place_of name (labels_of ss)) ≡ false → target_in name ss < count_of ss)
+step : (name : List ℕ) (label : Option (List ℕ)) (none : Bool) (ss : List Statement) → (none ≡ true → label ≡ None) → is_none (name_place name (label_of label ++ labels_of ss)) ≡ false
+    → (is_none (name_place name (labels_of ss)) ≡ false → target_in name ss < count_of ss)
     → (if has_label name label then 0 else (if none then 0 else 1) + target_in name ss) < (if none then 0 else 1) + count_of ss
 step name None true ss bare known more = let less = more known in omega (arith, less)
 step name None false ss bare known more = let less = more known in omega (arith, less)
@@ -75,14 +75,14 @@ step name (Some label) true ss bare known more = absurd (none_some label (sym (b
     none_some label e = absurd cc
 step name (Some label) false ss bare known more = by (bytes_eq name label) known
   where
-    by : (b : Bool) → is_none (if b then Some 0 else option_map (λ k. suc k) (place_of name (labels_of ss))) ≡ false → (if b then 0 else 1 + target_in name ss) < 1 + count_of ss
+    by : (b : Bool) → is_none (if b then Some 0 else option_map (λ k. suc k) (name_place name (labels_of ss))) ≡ false → (if b then 0 else 1 + target_in name ss) < 1 + count_of ss
     by true known = omega arith
-    by false known = let less = more (some_behind (place_of name (labels_of ss)) known) in omega (arith, less)
+    by false known = let less = more (some_behind (name_place name (labels_of ss)) known) in omega (arith, less)
 
-target_below : (name : List ℕ) (ss : List Statement) → AreUnlabelled ss → is_none (place_of name (labels_of ss)) ≡ false → target_in name ss < count_of ss
+target_below : (name : List ℕ) (ss : List Statement) → AreUnlabelled ss → is_none (name_place name (labels_of ss)) ≡ false → target_in name ss < count_of ss
 unfolding target_in
 target_below name [] bare known = absurd (false≢true (sym known))
-target_below name (s ∷ ss) (one, rest) known = step name s.label (is_empty s.code) ss one known (λ k. target_below name ss rest k)
+target_below name (s ∷ ss) (one, rest) known = step name s.label (is_empty_statement s.code) ss one known (λ k. target_below name ss rest k)
 
 target_less : (body : List Statement) (o : Operand) → 0 < count_of body → AreUnlabelled body → is_unknown_label (labels_of body) o ≡ false → target_of body o < count_of body
 target_less body (operand.Label name) some bare known = target_below name body bare known
@@ -93,8 +93,8 @@ target_less body _ some bare known = some
 apart_below : (target n : ℕ) → target < n → (target == n) ≡ false
 apart_below target n h = grind (arith, nat_tests)
 
-operand_free : (n : ℕ) (o : Operand) (v : ResolvedOperand) → goes_to n (operand_of o v) ≡ false
-unfolding operand_of
+operand_free : (n : ℕ) (o : Operand) (v : ResolvedOperand) → goes_to n (flat_operand_of o v) ≡ false
+unfolding flat_operand_of
 operand_free n o (view.NumberBy numbered.Timer from byte) = refl
 operand_free n o (view.NumberBy numbered.Counter from byte) = refl
 operand_free n o (view.NumberBy numbered.Db from byte) = refl
@@ -115,12 +115,12 @@ call_free n c s how (view.Called id instance) = refl
 call_free n c s how _ = refl
 
 view_free : (n : ℕ) (c : Context) (s : Statement) (v : ResolvedOperand) (how : Option CallOperation) → jumps_to n (view_instr c s v how) ≡ false
-view_free n c s v None = end_free n s v (end_of s.code)
+view_free n c s v None = end_free n s v (end_operation_of s.code)
 view_free n c s v (Some how) = call_free n c s how v
 
 resolved_free : (n : ℕ) (c : Context) (s : Statement) (o : Option ResolvedOperand) → jumps_to n (resolved_instr c s o) ≡ false
 resolved_free n c s None = refl
-resolved_free n c s (Some v) = view_free n c s v (call_of s.code)
+resolved_free n c s (Some v) = view_free n c s v (call_operation_of s.code)
 
 jump_free : (n k target : ℕ) (how : JumpOperation) → target < n → jumps_to n (jump_instr how k target) ≡ false
 jump_free n k target jump.Jl h = apart_below target n h
@@ -129,9 +129,9 @@ jump_free n k target _ h = apart_below target n h
 instr_free : (c : Context) (body : List Statement) (n : ℕ) (s : Statement) → 0 < count_of body → AreUnlabelled body → is_unknown_label (labels_of body) s.operand ≡ false
     → jumps_to (count_of body) (instruction c body n s) ≡ false
 unfolding instruction
-instr_free c body n s some bare known = by (jump_of s.code) where
+instr_free c body n s some bare known = by (jump_operation_of s.code) where
   by : (how : Option JumpOperation) → jumps_to (count_of body) (instr_by c body n s how) ≡ false
-  by None = resolved_free (count_of body) c s (resolved c s)
+  by None = resolved_free (count_of body) c s (resolved_operand c s)
   by (Some how) = jump_free (count_of body) n (target_of body s.operand) how (target_less body s.operand some bare known)
 
 -- ---- blocks
@@ -153,27 +153,27 @@ labels_known body (s ∷ ss) e =
     let parts = nil_parts (broken_if (is_unknown_label (labels_of body) s.operand) s.line 26) (unknown_labels (labels_of body) ss) e in
     (not_broken (is_unknown_label (labels_of body) s.operand) s.line 26 parts.0, labels_known body ss parts.1)
 
-abbrev StaysOff : ℕ → Stated → Type 0
+abbrev StaysOff : ℕ → SourceInstruction → Type 0
 StaysOff n x = jumps_to n x.instr ≡ false
 
 stated_free : (c : Context) (body : List Statement) (n : ℕ) (ss : List Statement) → count_of ss ≤ count_of body → AreUnlabelled body → AreKnown body ss → AllByRecursion (StaysOff (count_of body)) (stated_from c body n ss)
 stated_free c body n [] le bare known = tt
 stated_free c body n (s ∷ ss) le bare (one, more) =
-    cond_both (is_empty s.code) (stated_from c body n ss) (record { instr = instruction c body n s; line = s.line } ∷ stated_from c body (suc n) ss) (λ l. AllByRecursion (StaysOff (count_of body)) l)
+    cond_both (is_empty_statement s.code) (stated_from c body n ss) (record { instr = instruction c body n s; line = s.line } ∷ stated_from c body (suc n) ss) (λ l. AllByRecursion (StaysOff (count_of body)) l)
     (λ e. stated_free c body n ss (omega (arith, le)) bare more)
-    (λ e. let here : counted s ≡ 1 = ap (λ (b : Bool). if b then 0 else 1) e in (instr_free c body n s (omega (arith, le, here)) bare one, stated_free c body (suc n) ss (omega (arith, le)) bare more))
+    (λ e. let here : count_of_statement s ≡ 1 = ap (λ (b : Bool). if b then 0 else 1) e in (instr_free c body n s (omega (arith, le, here)) bare one, stated_free c body (suc n) ss (omega (arith, le)) bare more))
 
 stated_count : (c : Context) (body : List Statement) (n : ℕ) (ss : List Statement) → length (stated_from c body n ss) ≡ count_of ss
 stated_count c body n [] = refl
 stated_count c body n (s ∷ ss) =
-    by (is_empty s.code) (stated_count c body n ss) (stated_count c body (suc n) ss)
+    by (is_empty_statement s.code) (stated_count c body n ss) (stated_count c body (suc n) ss)
   where
     by : (b : Bool) → length (stated_from c body n ss) ≡ count_of ss → length (stated_from c body (suc n) ss) ≡ count_of ss
         → length (if b then stated_from c body n ss else record { instr = instruction c body n s; line = s.line } ∷ stated_from c body (suc n) ss) ≡ (if b then 0 else 1) + count_of ss
     by true h k = omega (arith, h)
     by false h k = omega (arith, k)
 
-none_any : (n : ℕ) (xs : List Stated) → AllByRecursion (StaysOff n) xs → list_any (λ s. jumps_to n s.instr) xs ≡ false
+none_any : (n : ℕ) (xs : List SourceInstruction) → AllByRecursion (StaysOff n) xs → list_any (λ s. jumps_to n s.instr) xs ≡ false
 none_any n [] h = refl
 none_any n (x ∷ xs) (one, more) = rw one (none_any n xs more)
 
@@ -189,9 +189,9 @@ pub statements_free : (c : Context) (b : Block) → IsRight b → (n : ℕ) → 
 unfolding statements_of
 statements_free c b is n e =
     let front = stated_from c b.body 0 b.body in
-    let same : count_of b.body ≡ n = omega (arith, e, length-append front (returning b ∷ []), stated_count c b.body 0 b.body) in
-    ap (λ (k : ℕ). list_any (λ s. jumps_to k s.instr) (front ++ returning b ∷ [])) (sym same)
-    ∙ none_any (count_of b.body) (front ++ returning b ∷ []) (all_append (StaysOff (count_of b.body)) front (returning b ∷ []) (stated_free c b.body 0 b.body (omega arith) (unlabelled b.body is.0) (labels_known b.body b.body is.1)) (refl, tt))
+    let same : count_of b.body ≡ n = omega (arith, e, length-append front (return_statement b ∷ []), stated_count c b.body 0 b.body) in
+    ap (λ (k : ℕ). list_any (λ s. jumps_to k s.instr) (front ++ return_statement b ∷ [])) (sym same)
+    ∙ none_any (count_of b.body) (front ++ return_statement b ∷ []) (all_append (StaysOff (count_of b.body)) front (return_statement b ∷ []) (stated_free c b.body 0 b.body (omega arith) (unlabelled b.body is.0) (labels_known b.body b.body is.1)) (refl, tt))
 
 block_free : (c : Context) (b : Block) (l : BlockLayout) (id : Option BlockId) → IsRight b → AllByRecursion IsFree (code_block_of c b l id)
 block_free c b l None is = tt
@@ -202,7 +202,7 @@ blocks_free c [] ls h = tt
 blocks_free c (b ∷ bs) [] h = tt
 blocks_free c (b ∷ bs) (l ∷ ls) (one, more) = all_append IsFree (code_block_of c b l l.id) _ (block_free c b l l.id one) (blocks_free (record c { block = suc c.block }) bs ls more)
 
-compiled_free : (bs : List StatedBlock) → AllByRecursion IsFree bs → AllByRecursion (λ b. IsEndFree (length b.lines) b) (map compiled bs)
+compiled_free : (bs : List StatedBlock) → AllByRecursion IsFree bs → AllByRecursion (λ b. IsEndFree (length b.lines) b) (map compiled_block bs)
 compiled_free [] h = tt
 compiled_free (b ∷ bs) (one, more) =
     (λ n e. let last : suc n ≡ length b.statements = e ∙ length-map b.statements _ in targets_found b.statements n (omega (arith, last)) ∙ one n last, compiled_free bs more)

@@ -11,14 +11,14 @@ use Rattle.plc_base.specs.declared.blocks.BlockKind.{BlockKind}
 use Rattle.plc_base.specs.declared.blocks.BlockKind.TheVariants as kinds
 use Rattle.flat_code.proofs.PartLemmas.{all_of_blocks, chain_parts, good_block, good_head, unless_fine}
 use Rattle.flat_code.specs.Codes.{are_ops}
-use Rattle.flat_code.specs.Faults.{field_fault, unless}
-use Rattle.flat_code.specs.Image.{IsProgram, body, body_rows, code_block_layout, code_blocks, counts_layout, counts_of, data_blocks_layout, kind_field, names, parameter_count_layout, parts_of_block, parts_of_records, plain_block, record_of_block, record_of_param, records, records_of, row_of_body_parts}
-use Rattle.flat_code.specs.Layout.{chain, is_fine}
+use Rattle.flat_code.specs.Faults.{field_fault, fault_unless_met}
+use Rattle.flat_code.specs.Image.{IsProgram, body_layout, body_rows, code_block_layout, code_blocks_layout, counts_layout, counts_of, data_blocks_layout, kind_field, names_layout, parameter_count_layout, parts_of_block, parts_of_records, plain_block, record_of_block, record_of_param, records_layout, records_of, row_of_body_parts}
+use Rattle.flat_code.specs.Layout.{chain_layout, is_fine}
 use Rattle.flat_code.specs.Programs.{CodeBlock, DataBlock, Program}
 use Rattle.flat_code.specs.declared.programs.Param.{Param}
-use Rattle.stl_ast.specs.Blocks.{is_parameter, may_declare, may_have, part_rank}
+use Rattle.stl_ast.specs.Blocks.{is_parameter, may_declare, may_have_section, part_rank}
 use Rattle.stl_ast.specs.Operands.{IsNumber}
-use Rattle.stl_ast.specs.WellFormed.{AreInOrder}
+use Rattle.stl_ast.specs.WellFormed.{AreSectionsInOrder}
 use Rattle.stl_ast.specs.declared.blocks.Part.{Part}
 use Rattle.stl_ast.specs.declared.blocks.PartKind.TheVariants as part
 use Rattle.stl_ast.specs.declared.blocks.PartKind.{PartKind}
@@ -26,7 +26,7 @@ use Rattle.stl_ast.specs.declared.declarations.Declaration.{Declaration}
 use Rattle.stl_ast.specs.declared.declarations.Init.{Init}
 use Rattle.stl_ast.specs.declared.declarations.Simple.TheVariants as simple
 use Rattle.stl_ast.specs.declared.declarations.Simple.{Simple}
-use Rattle.stl_codegen.specs.Order.{sorted}
+use Rattle.stl_codegen.specs.Order.{sorted_list}
 use Rattle.stl_lexer.specs.Bytes.{is_word_byte, is_word_start}
 use Rattle.stl_parser.proofs.FrameLemmas.{same_kind}
 use Rattle.stl_parser.specs.Tables.{keywords, look_up}
@@ -34,14 +34,14 @@ use Rattle.stl_types.specs.declared.parameters.Formal.{Formal}
 use Rattle.stl_list.specs.CodeBlocks.{in_lines, listed_block, listed_blocks, result_of}
 use Rattle.stl_list.specs.Constants.{typed_constant}
 use Rattle.stl_list.specs.DataBlocks.{function_block, known_settings, listed_data, listed_data_blocks}
-use Rattle.stl_list.specs.Initial.{byte_at, byte_here, byte_setting, byte_settings, init, inits_from, inits_of, parameter_here, parameter_setting, parameter_settings, settings_of, value_in, values_of}
+use Rattle.stl_list.specs.Initial.{byte_at, byte_here, byte_setting, byte_settings, initial_run, inits_from, inits_of, parameter_here, parameter_setting, parameter_settings, settings_of, value_in, values_of}
 use Rattle.stl_list.specs.Joined.{Chains, chains_of}
-use Rattle.stl_list.specs.Labels.{label_of, three_digits}
-use Rattle.stl_list.specs.Lines.{first_line, line_behind, stands_before}
+use Rattle.stl_list.specs.Labels.{label_of_number, three_digits}
+use Rattle.stl_list.specs.Lines.{first_statement_line, line_behind_statements, stands_before}
 use Rattle.stl_list.specs.Parameters.{is_return, parameter_name, return_name}
-use Rattle.stl_list.specs.Sections.{byte_array, bytes_here, data_name, declared_here, declared_in, is_declared_in, plain_declaration, section, sections, static_bytes, static_len, static_name, static_start, temporary_name}
-use Rattle.stl_list.specs.Signatures.{Signature, formals_from, formals_of, is_behind, signatures, signatures_from}
-use Rattle.print_laws.specs.Reading.{IsCountOf, IsDeclaredIn, IsName, IsPrintedBlock, IsPrintedDeclaration, IsPrintedInit, IsPrintedLiteral, IsPrintedPart, IsPrintedSetting, IsResultOf}
+use Rattle.stl_list.specs.Sections.{byte_array, bytes_here, data_name, declared_here, declarations_of_section, is_declared_in, plain_declaration, section_part, section_parts, static_bytes, static_len, static_name, static_start, temporary_name}
+use Rattle.stl_list.specs.Signatures.{Signature, formals_from, formals_of_block, is_behind, signatures, signatures_from}
+use Rattle.print_laws.specs.Reading.{IsCountOf, IsPrintedDeclarationIn, IsNonKeywordName, IsPrintedBlock, IsPrintedDeclaration, IsPrintedInit, IsPrintedLiteral, IsPrintedPart, IsPrintedSetting, IsResultOf}
 use Rattle.listing_laws.proofs.BlockLemmas.{AreBytes, all_sorted, range_below, value_is, byte_is}
 use Rattle.listing_laws.proofs.IdLemmas.{same_order}
 use Rattle.listing_laws.proofs.NameLemmas.{all_joined, either_way, label_is, parameter_is, signed_int, signed_long}
@@ -50,32 +50,32 @@ use Rattle.listing_laws.specs.Forms.{AreDataPrinted, AreFramesPrinted, AreLabels
 
 -- ---- names
 
-static_is : IsName static_name
+static_is : IsNonKeywordName static_name
 unfolding is_word_byte is_word_start keywords look_up
 static_is = record { word = refl; free = refl }
 
-temporary_is : IsName temporary_name
+temporary_is : IsNonKeywordName temporary_name
 unfolding is_word_byte is_word_start keywords look_up
 temporary_is = record { word = refl; free = refl }
 
-data_is : IsName data_name
+data_is : IsNonKeywordName data_name
 unfolding is_word_byte is_word_start keywords look_up
 data_is = record { word = refl; free = refl }
 
-return_is : IsName return_name
+return_is : IsNonKeywordName return_name
 unfolding is_word_byte is_word_start keywords look_up
 return_is = record { word = refl; free = refl }
 
-parameter_named : (index : ℕ) → index < 2 ^ 64 → IsName (parameter_name index)
+parameter_named : (index : ℕ) → index < 2 ^ 64 → IsNonKeywordName (parameter_name index)
 unfolding is_word_byte is_word_start keywords look_up
 parameter_named index h = record { word = (parameter_is index h).0; free = refl }
 
-label_free : (n : ℕ) → look_up keywords (label_of n) ≡ None
-unfolding label_of keywords look_up
+label_free : (n : ℕ) → look_up keywords (label_of_number n) ≡ None
+unfolding label_of_number keywords look_up
 label_free n = either_way (λ (s : List ℕ). look_up keywords s ≡ None) (nat_lt n 46656) (95 ∷ three_digits n) (90 ∷ three_digits (n - 46656)) refl refl
 
-label_short : (n : ℕ) → length (label_of n) ≤ 4
-unfolding label_of
+label_short : (n : ℕ) → length (label_of_number n) ≤ 4
+unfolding label_of_number
 label_short n = either_way (λ (s : List ℕ). length s ≤ 4) (nat_lt n 46656) (95 ∷ three_digits n) (90 ∷ three_digits (n - 46656)) (omega arith) (omega arith)
 
 pub labels_printed : AreLabelsPrinted
@@ -103,7 +103,7 @@ unfolding parameter_count_layout field_fault
 count_is kinds.Ob count good is =
     let few = leb count 60 in
     let none = eqb count 0 in
-    let c = and_parts (ltb count 256) (is_fine (unless (few && none) 4)) good in
+    let c = and_parts (ltb count 256) (is_fine (fault_unless_met (few && none) 4)) good in
     eqb-true count 0 (and_parts few none (unless_fine (few && none) 4 c.1)).1
 count_is kinds.Fc count good is = absurd (false≢true is)
 count_is kinds.Fb count good is = absurd (false≢true is)
@@ -124,17 +124,17 @@ head_is before b good =
     }
 
 pub program_heads : (p : Program) → IsProgram p → AllByRecursion IsHead p.code_blocks
-unfolding body records body_rows
+unfolding body_layout records_layout body_rows
 program_heads p is =
     let row = row_of_body_parts (parts_of_records (records_of p)) in
-    let a = chain_parts counts_layout (λ c. chain (code_blocks false c.code_blocks) (λ blocks. chain (data_blocks_layout c.data_blocks) (λ datas. names c.names))) row is.good in
-    let b = chain_parts (code_blocks false (counts_of (records_of p)).code_blocks) (λ blocks. chain (data_blocks_layout (counts_of (records_of p)).data_blocks) (λ datas. names (counts_of (records_of p)).names)) row.1 a.1 in
+    let a = chain_parts counts_layout (λ c. chain_layout (code_blocks_layout false c.code_blocks) (λ blocks. chain_layout (data_blocks_layout c.data_blocks) (λ datas. names_layout c.names))) row is.good in
+    let b = chain_parts (code_blocks_layout false (counts_of (records_of p)).code_blocks) (λ blocks. chain_layout (data_blocks_layout (counts_of (records_of p)).data_blocks) (λ datas. names_layout (counts_of (records_of p)).names)) row.1 a.1 in
     all_of_blocks false IsHead head_is (counts_of (records_of p)).code_blocks p.code_blocks b.0
 
 -- ---- parameters
 
 abbrev AreNamed : List Formal → Type 0
-AreNamed formals = AllByRecursion (λ f. IsName f.name) formals
+AreNamed formals = AllByRecursion (λ f. IsNonKeywordName f.name) formals
 
 -- the parameters of a block of a kind: a function alone returns, and an organization block has none
 record AreFormalsOf (k : BlockKind) (formals : List Formal) : Type 0 where
@@ -150,7 +150,7 @@ record IsFormed (s : Signature) : Type 0 where
 formals_named : (c : Chains) (returns behind : Bool) (index first : ℕ) (ps : List Param) → index + length ps < 2 ^ 64 → AreNamed (formals_from c returns behind index first ps)
 formals_named c returns behind index first [] h = tt
 formals_named c returns behind index first (p ∷ ps) h =
-    (either_way IsName _ return_name (parameter_name index) return_is (parameter_named index (omega (arith, h))), formals_named c returns (is_behind returns behind p) (suc index) (suc first) ps (omega (arith, h)))
+    (either_way IsNonKeywordName _ return_name (parameter_name index) return_is (parameter_named index (omega (arith, h))), formals_named c returns (is_behind returns behind p) (suc index) (suc first) ps (omega (arith, h)))
 
 no_return : (c : Chains) (index first : ℕ) (ps : List Param) → find is_return (formals_from c false false index first ps) ≡ None
 no_return c index first [] = refl
@@ -179,38 +179,38 @@ all_formed c bs h k = signatures_formed c 0 bs h k
 same_block : (a b : BlockId) (formals : List Formal) → is_same_block a b ≡ true → AreFormalsOf a.kind formals → AreFormalsOf b.kind formals
 same_block a b formals e h = subst (λ (k : BlockKind). AreFormalsOf k formals) (same_kind a.kind b.kind (sym (same_order a.kind b.kind) ∙ (and_parts (is_same_kind a.kind b.kind) _ e).0)) h
 
-formals_formed : (ss : List Signature) (id : BlockId) → AllByRecursion IsFormed ss → AreFormalsOf id.kind (formals_of ss id)
+formals_formed : (ss : List Signature) (id : BlockId) → AllByRecursion IsFormed ss → AreFormalsOf id.kind (formals_of_block ss id)
 formals_formed [] id h = record { named = tt; result = λ e. refl; none = λ e. refl }
 formals_formed (s ∷ ss) id (one, more) =
-    cond_both (is_same_block s.id id) s.formals (formals_of ss id) (λ formals. AreFormalsOf id.kind formals) (λ e. same_block s.id id s.formals e one.formals) (λ e. formals_formed ss id more)
+    cond_both (is_same_block s.id id) s.formals (formals_of_block ss id) (λ formals. AreFormalsOf id.kind formals) (λ e. same_block s.id id s.formals e one.formals) (λ e. formals_formed ss id more)
 
 -- ---- declarations and sections
 
-bytes_printed : (line : ℕ) (name : List ℕ) (count : ℕ) (values : List Init) → IsName name → count ≤ 65536 → AllByRecursion IsPrintedInit values → AllByRecursion IsPrintedDeclaration (bytes_here line name count values)
+bytes_printed : (line : ℕ) (name : List ℕ) (count : ℕ) (values : List Init) → IsNonKeywordName name → count ≤ 65536 → AllByRecursion IsPrintedInit values → AllByRecursion IsPrintedDeclaration (bytes_here line name count values)
 bytes_printed line name count values is h all =
     either_way (λ l. AllByRecursion IsPrintedDeclaration l) (count == 0) [] (byte_array line name count values ∷ []) tt
     (record { name = is; level = refl; type = (omega arith, omega (arith, h), all) }, tt)
 
-bytes_declared : (k : BlockKind) (kind : PartKind) (line : ℕ) (name : List ℕ) (count : ℕ) → is_parameter kind ≡ false → IsName name → count ≤ 65536 → AllByRecursion (IsDeclaredIn k kind) (bytes_here line name count [])
+bytes_declared : (k : BlockKind) (kind : PartKind) (line : ℕ) (name : List ℕ) (count : ℕ) → is_parameter kind ≡ false → IsNonKeywordName name → count ≤ 65536 → AllByRecursion (IsPrintedDeclarationIn k kind) (bytes_here line name count [])
 unfolding may_declare
 bytes_declared k kind line name count other is h =
-    either_way (λ l. AllByRecursion (IsDeclaredIn k kind) l) (count == 0) [] (byte_array line name count [] ∷ []) tt
+    either_way (λ l. AllByRecursion (IsPrintedDeclarationIn k kind) l) (count == 0) [] (byte_array line name count [] ∷ []) tt
     (record { printed = record { name = is; level = refl; type = (omega arith, omega (arith, h), tt) }; allowed = refl; elementary = λ e. absurd (false≢true (sym other ∙ e)) }, tt)
 
-here_declared : (k : BlockKind) (kind : PartKind) (line : ℕ) (f : Formal) → IsName f.name → AllByRecursion (IsDeclaredIn k kind) (declared_here line kind f)
+here_declared : (k : BlockKind) (kind : PartKind) (line : ℕ) (f : Formal) → IsNonKeywordName f.name → AllByRecursion (IsPrintedDeclarationIn k kind) (declared_here line kind f)
 unfolding may_declare
 here_declared k kind line f is =
-    either_way (λ l. AllByRecursion (IsDeclaredIn k kind) l) (is_declared_in kind f) (plain_declaration line f ∷ []) []
+    either_way (λ l. AllByRecursion (IsPrintedDeclarationIn k kind) l) (is_declared_in kind f) (plain_declaration line f ∷ []) []
     (record { printed = record { name = is; level = refl; type = refl }; allowed = refl; elementary = λ e. refl }, tt) tt
 
-section_printed : (k : BlockKind) (line : ℕ) (kind : PartKind) (items : List Declaration) → ((length items == 0) ≡ false → may_have k kind ≡ true) → AllByRecursion (IsDeclaredIn k kind) items
-    → AllByRecursion (IsPrintedPart k) (section line kind items)
+section_printed : (k : BlockKind) (line : ℕ) (kind : PartKind) (items : List Declaration) → ((length items == 0) ≡ false → may_have_section k kind ≡ true) → AllByRecursion (IsPrintedDeclarationIn k kind) items
+    → AllByRecursion (IsPrintedPart k) (section_part line kind items)
 section_printed k line kind items may h =
     cond_both (length items == 0) [] (record { line = line; kind = kind; items = items } ∷ []) (λ l. AllByRecursion (IsPrintedPart k) l) (λ e. tt) (λ e. (record { allowed = may e; items = h }, tt))
 
 -- a function has such sections
-function_has : (kind : PartKind) → is_parameter kind ≡ true → may_have kinds.Fc kind ≡ true
-unfolding may_have
+function_has : (kind : PartKind) → is_parameter kind ≡ true → may_have_section kinds.Fc kind ≡ true
+unfolding may_have_section
 function_has part.Input is = refl
 function_has part.Output is = refl
 function_has part.InOut is = refl
@@ -218,17 +218,17 @@ function_has part.Static is = absurd (false≢true is)
 function_has part.Temp is = absurd (false≢true is)
 
 may_parameters : (k : BlockKind) (kind : PartKind) (line : ℕ) (formals : List Formal) → is_code k ≡ true → is_parameter kind ≡ true → (is_organization_block k ≡ true → formals ≡ [])
-    → (length (declared_in line formals kind) == 0) ≡ false → may_have k kind ≡ true
-unfolding may_have
-may_parameters kinds.Ob kind line formals code is none e = absurd (false≢true (sym e ∙ ap (λ (fs : List Formal). length (declared_in line fs kind) == 0) (none refl)))
+    → (length (declarations_of_section line formals kind) == 0) ≡ false → may_have_section k kind ≡ true
+unfolding may_have_section
+may_parameters kinds.Ob kind line formals code is none e = absurd (false≢true (sym e ∙ ap (λ (fs : List Formal). length (declarations_of_section line fs kind) == 0) (none refl)))
 may_parameters kinds.Fc kind line formals code is none e = function_has kind is
 may_parameters kinds.Fb kind line formals code is none e = refl
 may_parameters kinds.Db kind line formals code is none e = absurd (false≢true code)
 may_parameters kinds.Sfc kind line formals code is none e = absurd (false≢true code)
 may_parameters kinds.Udt kind line formals code is none e = absurd (false≢true code)
 
-may_static : (k : BlockKind) (line n : ℕ) → is_code k ≡ true → (length (bytes_here line static_name (if is_function_block k then n else 0) []) == 0) ≡ false → may_have k part.Static ≡ true
-unfolding may_have
+may_static : (k : BlockKind) (line n : ℕ) → is_code k ≡ true → (length (bytes_here line static_name (if is_function_block k then n else 0) []) == 0) ≡ false → may_have_section k part.Static ≡ true
+unfolding may_have_section
 may_static kinds.Ob line n code e = absurd (false≢true (sym e))
 may_static kinds.Fc line n code e = absurd (false≢true (sym e))
 may_static kinds.Fb line n code e = refl
@@ -236,8 +236,8 @@ may_static kinds.Db line n code e = absurd (false≢true code)
 may_static kinds.Sfc line n code e = absurd (false≢true code)
 may_static kinds.Udt line n code e = absurd (false≢true code)
 
-may_temporary : (k : BlockKind) → is_code k ≡ true → may_have k part.Temp ≡ true
-unfolding may_have
+may_temporary : (k : BlockKind) → is_code k ≡ true → may_have_section k part.Temp ≡ true
+unfolding may_have_section
 may_temporary kinds.Ob code = refl
 may_temporary kinds.Fc code = refl
 may_temporary kinds.Fb code = refl
@@ -246,24 +246,24 @@ may_temporary kinds.Sfc code = absurd (false≢true code)
 may_temporary kinds.Udt code = absurd (false≢true code)
 
 parameters_printed : (k : BlockKind) (line : ℕ) (formals : List Formal) (kind : PartKind) → is_code k ≡ true → is_parameter kind ≡ true → AreFormalsOf k formals
-    → AllByRecursion (IsPrintedPart k) (section line kind (declared_in line formals kind))
+    → AllByRecursion (IsPrintedPart k) (section_part line kind (declarations_of_section line formals kind))
 parameters_printed k line formals kind code is h =
-    section_printed k line kind (declared_in line formals kind) (may_parameters k kind line formals code is h.none)
-    (all_joined (λ f. IsName f.name) (IsDeclaredIn k kind) (declared_here line kind) formals (λ f named. here_declared k kind line f named) h.named)
+    section_printed k line kind (declarations_of_section line formals kind) (may_parameters k kind line formals code is h.none)
+    (all_joined (λ f. IsNonKeywordName f.name) (IsPrintedDeclarationIn k kind) (declared_here line kind) formals (λ f named. here_declared k kind line f named) h.named)
 
 static_short : (b : CodeBlock) → b.instance_len ≤ 65536 → static_bytes b ≤ 65536
 static_short b h = either_way (λ n. n ≤ 65536) (is_function_block b.id.kind) (static_len b.instance_len b.params) 0 (omega (arith, h)) (omega arith)
 
 sections_printed : (line : ℕ) (formals : List Formal) (b : CodeBlock) → is_code b.id.kind ≡ true → AreFormalsOf b.id.kind formals → b.local_len ≤ 65536 → b.instance_len ≤ 65536
-    → AllByRecursion (IsPrintedPart b.id.kind) (sections line formals b)
-unfolding sections
+    → AllByRecursion (IsPrintedPart b.id.kind) (section_parts line formals b)
+unfolding section_parts
 sections_printed line formals b code h local_ instance =
     let k = b.id.kind in
-    let input = section line part.Input (declared_in line formals part.Input) in
-    let output = section line part.Output (declared_in line formals part.Output) in
-    let in_out = section line part.InOut (declared_in line formals part.InOut) in
-    let static_ = section line part.Static (bytes_here line static_name (static_bytes b) []) in
-    let temporary = section line part.Temp (bytes_here line temporary_name b.local_len []) in
+    let input = section_part line part.Input (declarations_of_section line formals part.Input) in
+    let output = section_part line part.Output (declarations_of_section line formals part.Output) in
+    let in_out = section_part line part.InOut (declarations_of_section line formals part.InOut) in
+    let static_ = section_part line part.Static (bytes_here line static_name (static_bytes b) []) in
+    let temporary = section_part line part.Temp (bytes_here line temporary_name b.local_len []) in
     all_append (IsPrintedPart k) (((input ++ output) ++ in_out) ++ static_) temporary
     (all_append (IsPrintedPart k) ((input ++ output) ++ in_out) static_
     (all_append (IsPrintedPart k) (input ++ output) in_out
@@ -278,34 +278,34 @@ sections_printed line formals b code h local_ instance =
 abbrev AreBelow : ℕ → List Part → Type 0
 AreBelow high ps = AllByRecursion (λ p. part_rank p.kind < high) ps
 
-order_from : (low mid : ℕ) (ps : List Part) → low ≤ mid → AreInOrder mid ps → AreInOrder low ps
+order_from : (low mid : ℕ) (ps : List Part) → low ≤ mid → AreSectionsInOrder mid ps → AreSectionsInOrder low ps
 order_from low mid [] le h = tt
 order_from low mid (p ∷ ps) le h = let first = h.0 in (omega (arith, le, first), h.1)
 
-order_joined : (low mid : ℕ) (ps qs : List Part) → low ≤ mid → AreInOrder low ps → AreBelow mid ps → AreInOrder mid qs → AreInOrder low (ps ++ qs)
+order_joined : (low mid : ℕ) (ps qs : List Part) → low ≤ mid → AreSectionsInOrder low ps → AreBelow mid ps → AreSectionsInOrder mid qs → AreSectionsInOrder low (ps ++ qs)
 order_joined low mid [] qs le h below k = order_from low mid qs le k
 order_joined low mid (p ∷ ps) qs le h below k = let here = below.0 in (h.0, order_joined (part_rank p.kind + 1) mid ps qs (omega (arith, here)) h.1 below.1 k)
 
-section_order : (low line : ℕ) (kind : PartKind) (items : List Declaration) → low ≤ part_rank kind → AreInOrder low (section line kind items)
-section_order low line kind items h = either_way (λ l. AreInOrder low l) (length items == 0) [] (record { line = line; kind = kind; items = items } ∷ []) tt (h, tt)
+section_order : (low line : ℕ) (kind : PartKind) (items : List Declaration) → low ≤ part_rank kind → AreSectionsInOrder low (section_part line kind items)
+section_order low line kind items h = either_way (λ l. AreSectionsInOrder low l) (length items == 0) [] (record { line = line; kind = kind; items = items } ∷ []) tt (h, tt)
 
-section_below : (high line : ℕ) (kind : PartKind) (items : List Declaration) → part_rank kind < high → AreBelow high (section line kind items)
+section_below : (high line : ℕ) (kind : PartKind) (items : List Declaration) → part_rank kind < high → AreBelow high (section_part line kind items)
 section_below high line kind items h = either_way (λ l. AreBelow high l) (length items == 0) [] (record { line = line; kind = kind; items = items } ∷ []) tt (h, tt)
 
-sections_order : (line : ℕ) (formals : List Formal) (b : CodeBlock) → AreInOrder 0 (sections line formals b)
-unfolding sections
+sections_order : (line : ℕ) (formals : List Formal) (b : CodeBlock) → AreSectionsInOrder 0 (section_parts line formals b)
+unfolding section_parts
 sections_order line formals b =
-    let ins = declared_in line formals part.Input in
-    let outs = declared_in line formals part.Output in
-    let in_outs = declared_in line formals part.InOut in
+    let ins = declarations_of_section line formals part.Input in
+    let outs = declarations_of_section line formals part.Output in
+    let in_outs = declarations_of_section line formals part.InOut in
     let statics = bytes_here line static_name (static_bytes b) [] in
     let temporaries = bytes_here line temporary_name b.local_len [] in
-    let input = section line part.Input ins in
-    let output = section line part.Output outs in
-    let in_out = section line part.InOut in_outs in
-    let static_ = section line part.Static statics in
+    let input = section_part line part.Input ins in
+    let output = section_part line part.Output outs in
+    let in_out = section_part line part.InOut in_outs in
+    let static_ = section_part line part.Static statics in
     let below = λ (high : ℕ) (ps qs : List Part) (h : AreBelow high ps) (k : AreBelow high qs). all_append (λ p. part_rank p.kind < high) ps qs h k in
-    order_joined 0 4 (((input ++ output) ++ in_out) ++ static_) (section line part.Temp temporaries) (omega arith)
+    order_joined 0 4 (((input ++ output) ++ in_out) ++ static_) (section_part line part.Temp temporaries) (omega arith)
     (order_joined 0 3 ((input ++ output) ++ in_out) static_ (omega arith)
     (order_joined 0 2 (input ++ output) in_out (omega arith)
     (order_joined 0 1 input output (omega arith) (section_order 0 line part.Input ins (omega arith)) (section_below 1 line part.Input ins (omega arith)) (section_order 1 line part.Output outs (omega arith)))
@@ -334,9 +334,9 @@ frame_printed ss reached b known is head =
     record {
       name = (refl, is.number);
       kind = head.kind;
-      result = result_is b.id.kind (formals_of ss b.id) head.kind formals;
-      order = sections_order (max reached (first_line b)) (formals_of ss b.id) b;
-      parts = sections_printed (max reached (first_line b)) (formals_of ss b.id) b head.kind formals is.local_len is.instance_len;
+      result = result_is b.id.kind (formals_of_block ss b.id) head.kind formals;
+      order = sections_order (max reached (first_statement_line b)) (formals_of_block ss b.id) b;
+      parts = sections_printed (max reached (first_statement_line b)) (formals_of_block ss b.id) b head.kind formals is.local_len is.instance_len;
       shape = refl;
       components = refl;
       instance = refl;
@@ -345,25 +345,25 @@ frame_printed ss reached b known is head =
 
 blocks_printed : (ss : List Signature) (reached : ℕ) (bs : List CodeBlock) → AllByRecursion IsFormed ss → AllByRecursion IsListedCode bs → AllByRecursion IsHead bs → AllByRecursion IsPrintedFrame (listed_blocks ss reached bs)
 blocks_printed ss reached [] known h k = tt
-blocks_printed ss reached (b ∷ bs) known (one, more) (head, heads) = (frame_printed ss reached b known one head, blocks_printed ss (line_behind reached b.lines) bs known more heads)
+blocks_printed ss reached (b ∷ bs) known (one, more) (head, heads) = (frame_printed ss reached b known one head, blocks_printed ss (line_behind_statements reached b.lines) bs known more heads)
 
 pub frames_printed : AreFramesPrinted
 unfolding in_lines
 frames_printed p is w =
     let listed = program_listed p is w in
     let heads = program_heads p is in
-    blocks_printed (signatures (chains_of p.code_blocks) p.code_blocks) 1 (sorted stands_before p.code_blocks) (all_formed (chains_of p.code_blocks) p.code_blocks listed.code_blocks heads)
+    blocks_printed (signatures (chains_of p.code_blocks) p.code_blocks) 1 (sorted_list stands_before p.code_blocks) (all_formed (chains_of p.code_blocks) p.code_blocks listed.code_blocks heads)
     (all_sorted IsListedCode stands_before p.code_blocks listed.code_blocks) (all_sorted IsHead stands_before p.code_blocks heads)
 
 -- ---- initial values
 
-init_printed : (value count : ℕ) → value < 256 → count ≤ 65535 → IsPrintedInit (init value count)
+init_printed : (value count : ℕ) → value < 256 → count ≤ 65535 → IsPrintedInit (initial_run value count)
 init_printed value count is h = (either_way IsCountOf (count == 1) None (Some count) tt h, omega (arith, is))
 
 from_printed : (value count : ℕ) (bytes : List ℕ) → value < 256 → AreBytes bytes → count ≤ 65535 → AllByRecursion IsPrintedInit (inits_from value count bytes)
 from_printed value count [] is all h = (init_printed value count is h, tt)
 from_printed value count (b ∷ bs) is (one, more) h =
-    cond_both (b == value && nat_lt count 65535) (inits_from value (suc count) bs) (init value count ∷ inits_from b 1 bs) (λ l. AllByRecursion IsPrintedInit l)
+    cond_both (b == value && nat_lt count 65535) (inits_from value (suc count) bs) (initial_run value count ∷ inits_from b 1 bs) (λ l. AllByRecursion IsPrintedInit l)
     (λ e. from_printed value (suc count) bs is more (ltb-true count 65535 (and_parts (b == value) (nat_lt count 65535) e).1))
     (λ e. (init_printed value count is h, from_printed b 1 bs one more (omega arith)))
 
@@ -385,7 +385,7 @@ typed_printed simple.Int bits h = signed_int (bits % 2 ^ 16) (omega arith)
 typed_printed simple.Time bits h = signed_long bits h
 typed_printed _ bits h = h
 
-parameter_printed : (line : ℕ) (f : Formal) (bits : ℕ) → IsName f.name → bits < 4294967296 → AllByRecursion IsPrintedSetting (parameter_here line f bits)
+parameter_printed : (line : ℕ) (f : Formal) (bits : ℕ) → IsNonKeywordName f.name → bits < 4294967296 → AllByRecursion IsPrintedSetting (parameter_here line f bits)
 parameter_printed line f bits is h =
     either_way (λ l. AllByRecursion IsPrintedSetting l) (bits == 0) [] (parameter_setting line f bits ∷ []) tt (record { path = is; value = typed_printed f.kind bits h }, tt)
 

@@ -9,10 +9,10 @@ use Rattle.plc_base.specs.Least.{broken_if}
 use Rattle.plc_base.specs.declared.blocks.BlockId.{BlockId}
 use Rattle.stl_ast.specs.declared.blocks.Block.{Block}
 use Rattle.stl_symbols.specs.Symbol.{Symbol}
-use Rattle.block_layout.specs.Blocks.{block_place, id_of, ids_of}
-use Rattle.block_layout.specs.Measures.{types_of}
+use Rattle.block_layout.specs.Blocks.{place_of_block, id_of, ids_of}
+use Rattle.block_layout.specs.Measures.{types_of_source}
 use Rattle.block_layout.specs.Rule22.{is_block_twice, is_earlier, rule_22}
-use Rattle.block_layout.specs.Rule44.{has_wrong_number, is_beyond, rule_44}
+use Rattle.block_layout.specs.Rule44.{has_wrong_number, is_number_beyond_limits, rule_44}
 use Rattle.block_layout.specs.Types.{Types}
 use Rattle.stl_list.specs.Listing.{listed_tree}
 use Rattle.listing_laws.specs.Heads.{AreBlocksOnce, AreNumbersRight}
@@ -38,9 +38,9 @@ once_from y front ids before [] whole same size apart = refl
 once_from y front [] before (b ∷ bs) whole same size apart = absurd cc
 once_from y front (id ∷ ids) before (b ∷ bs) whole same size apart =
     let parts = heads (id_of y.symbols b) (Some id) (map (λ b. id_of y.symbols b) bs) (map (λ i. Some i) ids) same in
-    let place : block_place id y.ids ≡ Some (length front) = ap (block_place id) whole ∙ place_of (front ++ id ∷ ids) (length front) id apart (got_behind front ids id) in
+    let place : place_of_block id y.ids ≡ Some (length front) = ap (place_of_block id) whole ∙ place_of (front ++ id ∷ ids) (length front) id apart (got_behind front ids id) in
     let once : is_block_twice y before b ≡ false =
-    ap (λ (o : Option BlockId). is_earlier (option_and_then (λ d. block_place d y.ids) o) (length before)) parts.0
+    ap (λ (o : Option BlockId). is_earlier (option_and_then (λ d. place_of_block d y.ids) o) (length before)) parts.0
     ∙ ap (λ (o : Option ℕ). is_earlier o (length before)) place ∙ ap (nat_lt (length front)) size ∙ not_earlier (length front) in
     let group : (front ++ id ∷ []) ++ ids ≡ front ++ id ∷ ids = append_assoc front (id ∷ []) ids in
     let longer = length-append front (id ∷ []) in
@@ -52,7 +52,7 @@ unfolding rule_22
 blocks_once t symbols listed h =
     let p = source_program t symbols in
     let blocks : List Block = (listed_tree p).blocks in
-    let y = types_of listed blocks in
+    let y = types_of_source listed blocks in
     once_from y [] (program_ids p) [] blocks (source_ids listed blocks ∙ ids_listed listed p) (ap (λ (z : List Symbol). ids_of z blocks) (source_symbols listed blocks) ∙ ids_listed listed p) refl
     (program_apart t symbols (source_apart symbols t.blocks h))
 
@@ -63,7 +63,7 @@ right_from symbols ids before [] same right = refl
 right_from symbols [] before (b ∷ bs) same right = absurd cc
 right_from symbols (id ∷ ids) before (b ∷ bs) same right =
     let parts = heads (id_of symbols b) (Some id) (map (λ b. id_of symbols b) bs) (map (λ i. Some i) ids) same in
-    let within : has_wrong_number symbols b ≡ false = ap is_beyond parts.0 ∙ ap (λ (t : Bool). not t) right.0 in
+    let within : has_wrong_number symbols b ≡ false = ap is_number_beyond_limits parts.0 ∙ ap (λ (t : Bool). not t) right.0 in
     ap (λ (t : Bool). broken_if t b.line 44 ++ refusals_along (λ b. false) (λ before b. broken_if (has_wrong_number symbols b) b.line 44) (λ before b. b ∷ before) (b ∷ before) bs) within
     ∙ right_from symbols ids (b ∷ before) bs parts.1 right.1
 

@@ -16,21 +16,21 @@ use Rattle.flat_code.specs.Programs.{CodeBlock, DataBlock, Program}
 use Rattle.stl_ast.specs.declared.blocks.Block.{Block}
 use Rattle.stl_ast.specs.declared.blocks.Tree.{Tree}
 use Rattle.stl_symbols.specs.Symbol.{Symbol}
-use Rattle.block_layout.specs.Blocks.{block_place, id_of, ids_of, is_block_number, is_id, known_block}
+use Rattle.block_layout.specs.Blocks.{place_of_block, id_of, ids_of, is_block_number, is_id, known_block}
 use Rattle.block_layout.specs.Layouts.{block_layout, layouts_by, layouts_from, layouts_of}
-use Rattle.block_layout.specs.Measures.{depths_after, bits_after, type_bits, type_depth, types_of, unmeasured, with_all_bits, with_all_depths, with_bits, with_depths}
+use Rattle.block_layout.specs.Measures.{depths_after, bits_after, type_bits, type_depth, types_of_source, unmeasured_types, with_all_bits, with_all_depths, with_bits, with_depths}
 use Rattle.block_layout.specs.Rule22.{is_block_twice, is_earlier, rule_22}
-use Rattle.block_layout.specs.Rule44.{has_wrong_number, is_beyond, rule_44}
+use Rattle.block_layout.specs.Rule44.{has_wrong_number, is_number_beyond_limits, rule_44}
 use Rattle.block_layout.specs.Types.{Types}
 use Rattle.stl_types.specs.Bodies.{first_context}
 use Rattle.stl_types.specs.Context.{Context}
-use Rattle.stl_codegen.specs.Compiled.{StatedBlock, compiled}
-use Rattle.stl_codegen.specs.Generated.{code_block, code_block_of, code_blocks_of, data_block, data_block_of, data_blocks_of, each_block}
-use Rattle.stl_codegen.specs.Order.{inserted, is_code_before, is_data_before, sorted}
+use Rattle.stl_codegen.specs.Compiled.{StatedBlock, compiled_block}
+use Rattle.stl_codegen.specs.Generated.{code_block, code_block_of, code_blocks_of, generated_data_block, data_block_of, data_blocks_of, each_block}
+use Rattle.stl_codegen.specs.Order.{sorted_insertion, is_code_before, is_data_before, sorted_list}
 use Rattle.stl_list.specs.CodeBlocks.{in_lines, listed_blocks, line_reached}
 use Rattle.stl_list.specs.DataBlocks.{listed_data, listed_data_blocks}
 use Rattle.stl_list.specs.Joined.{chains_of}
-use Rattle.stl_list.specs.Lines.{line_behind, stands_before}
+use Rattle.stl_list.specs.Lines.{line_behind_statements, stands_before}
 use Rattle.stl_list.specs.Listing.{listed_tree}
 use Rattle.stl_list.specs.Signatures.{Signature, signatures}
 use Rattle.listing_laws.specs.Ids.{AreBlocksFound, AreBlocksKept, AreIdsListed, HasNoTypes, data_id, program_ids, source_program}
@@ -103,8 +103,8 @@ code_listed : (symbols : List Symbol) (ss : List Signature) (reached : ℕ) (bs 
     → map (λ b. id_of symbols b) (listed_blocks ss reached bs) ≡ map (λ id. Some id) (map (λ b. b.id) bs)
 code_listed symbols ss reached [] = refl
 code_listed symbols ss reached (b ∷ bs) =
-    ap (λ (o : Option BlockId). o ∷ map (λ b. id_of symbols b) (listed_blocks ss (line_behind reached b.lines) bs)) (one_listed b.id)
-    ∙ ap (λ (z : List (Option BlockId)). Some b.id ∷ z) (code_listed symbols ss (line_behind reached b.lines) bs)
+    ap (λ (o : Option BlockId). o ∷ map (λ b. id_of symbols b) (listed_blocks ss (line_behind_statements reached b.lines) bs)) (one_listed b.id)
+    ∙ ap (λ (z : List (Option BlockId)). Some b.id ∷ z) (code_listed symbols ss (line_behind_statements reached b.lines) bs)
 
 one_data : (symbols : List Symbol) (ss : List Signature) (line number : ℕ) (bytes : List ℕ) (of : Option ℕ) → id_of symbols (listed_data ss line number bytes of) ≡ Some (data_id number)
 one_data symbols ss line number bytes None = refl
@@ -186,7 +186,7 @@ data_are c blocks y before (b ∷ bs) =
     by (Some id) more = test (is_data_block id.kind) more
       where
         test : (t : Bool) → map (λ d. data_id d.number) rest ≡ data_ids (map (λ b. id_of y.symbols b) bs)
-            → map (λ d. data_id d.number) ((if t then data_block c (block_layout y blocks before b) id ∷ [] else []) ++ rest)
+            → map (λ d. data_id d.number) ((if t then generated_data_block c (block_layout y blocks before b) id ∷ [] else []) ++ rest)
             ≡ (if t then data_id id.number ∷ data_ids (map (λ b. id_of y.symbols b) bs) else data_ids (map (λ b. id_of y.symbols b) bs))
         test true more = ap (λ (z : List BlockId). data_id id.number ∷ z) more
         test false more = more
@@ -201,7 +201,7 @@ any_joined p (x ∷ xs) ys = ap (λ (t : Bool). p x || t) (any_joined p xs ys) �
     grouped true b c = refl
     grouped false b c = refl
 
-any_inserted : {A : Type 0} (p : A → Bool) (lt : A → A → Bool) (x : A) (ys : List A) → list_any p (inserted lt x ys) ≡ (p x || list_any p ys)
+any_inserted : {A : Type 0} (p : A → Bool) (lt : A → A → Bool) (x : A) (ys : List A) → list_any p (sorted_insertion lt x ys) ≡ (p x || list_any p ys)
 any_inserted p lt x [] = refl
 any_inserted {A = A} p lt x (y ∷ ys) = by (lt y x) (any_inserted p lt x ys)
   where
@@ -210,14 +210,14 @@ any_inserted {A = A} p lt x (y ∷ ys) = by (lt y x) (any_inserted p lt x ys)
     swapped true false c = refl
     swapped false b c = refl
 
-    by : (b : Bool) → list_any p (inserted lt x ys) ≡ (p x || list_any p ys) → list_any p (cond b (y ∷ inserted lt x ys) (x ∷ y ∷ ys)) ≡ (p x || (p y || list_any p ys))
+    by : (b : Bool) → list_any p (sorted_insertion lt x ys) ≡ (p x || list_any p ys) → list_any p (cond b (y ∷ sorted_insertion lt x ys) (x ∷ y ∷ ys)) ≡ (p x || (p y || list_any p ys))
     by true more = ap (λ (t : Bool). p y || t) more ∙ swapped (p y) (p x) (list_any p ys)
     by false more = refl
 
-any_sorted : {A : Type 0} (p : A → Bool) (lt : A → A → Bool) (xs : List A) → list_any p (sorted lt xs) ≡ list_any p xs
-unfolding sorted
+any_sorted : {A : Type 0} (p : A → Bool) (lt : A → A → Bool) (xs : List A) → list_any p (sorted_list lt xs) ≡ list_any p xs
+unfolding sorted_list
 any_sorted p lt [] = refl
-any_sorted p lt (x ∷ xs) = any_inserted p lt x (sorted lt xs) ∙ ap (λ (t : Bool). p x || t) (any_sorted p lt xs)
+any_sorted p lt (x ∷ xs) = any_inserted p lt x (sorted_list lt xs) ∙ ap (λ (t : Bool). p x || t) (any_sorted p lt xs)
 
 any_mapped : {A B : Type 0} (p : B → Bool) (f : A → B) (xs : List A) → list_any p (map f xs) ≡ list_any (λ x. p (f x)) xs
 any_mapped p f [] = refl
@@ -225,19 +225,19 @@ any_mapped p f (x ∷ xs) = ap (λ (t : Bool). p (f x) || t) (any_mapped p f xs)
 
 -- the same of a program's blocks
 program_any : (q : BlockId → Bool) (xs : List StatedBlock) (ds : List DataBlock)
-    → list_any q (map (λ b. b.id) (in_lines (map compiled (sorted is_code_before xs))) ++ map (λ d. data_id d.number) (sorted is_data_before ds))
+    → list_any q (map (λ b. b.id) (in_lines (map compiled_block (sorted_list is_code_before xs))) ++ map (λ d. data_id d.number) (sorted_list is_data_before ds))
     ≡ (list_any q (map (λ x. x.id) xs) || list_any q (map (λ d. data_id d.number) ds))
 unfolding in_lines
 program_any q xs ds =
-    any_joined q (map (λ b. b.id) (sorted stands_before (map compiled (sorted is_code_before xs)))) (map (λ d. data_id d.number) (sorted is_data_before ds))
-    ∙ ap (λ (t : Bool). t || list_any q (map (λ d. data_id d.number) (sorted is_data_before ds)))
-    (any_mapped q (λ (b : CodeBlock). b.id) (sorted stands_before (map compiled (sorted is_code_before xs)))
-    ∙ any_sorted (λ (b : CodeBlock). q b.id) stands_before (map compiled (sorted is_code_before xs))
-    ∙ any_mapped (λ (b : CodeBlock). q b.id) compiled (sorted is_code_before xs)
+    any_joined q (map (λ b. b.id) (sorted_list stands_before (map compiled_block (sorted_list is_code_before xs)))) (map (λ d. data_id d.number) (sorted_list is_data_before ds))
+    ∙ ap (λ (t : Bool). t || list_any q (map (λ d. data_id d.number) (sorted_list is_data_before ds)))
+    (any_mapped q (λ (b : CodeBlock). b.id) (sorted_list stands_before (map compiled_block (sorted_list is_code_before xs)))
+    ∙ any_sorted (λ (b : CodeBlock). q b.id) stands_before (map compiled_block (sorted_list is_code_before xs))
+    ∙ any_mapped (λ (b : CodeBlock). q b.id) compiled_block (sorted_list is_code_before xs)
     ∙ any_sorted (λ (x : StatedBlock). q x.id) is_code_before xs
     ∙ sym (any_mapped q (λ (x : StatedBlock). x.id) xs))
     ∙ ap (λ (t : Bool). list_any q (map (λ x. x.id) xs) || t)
-    (any_mapped q (λ (d : DataBlock). data_id d.number) (sorted is_data_before ds)
+    (any_mapped q (λ (d : DataBlock). data_id d.number) (sorted_list is_data_before ds)
     ∙ any_sorted (λ (d : DataBlock). q (data_id d.number)) is_data_before ds
     ∙ sym (any_mapped q (λ (d : DataBlock). data_id d.number) ds))
 
@@ -290,7 +290,7 @@ source_any id [] t s = refl
 source_any id (None ∷ is) t s = source_any id is t s
 source_any id (Some i ∷ is) t s = source_step id i.kind i.number is t s (source_any id is t s)
 
-place_there : (id : BlockId) (is : List (Option BlockId)) → is_some (block_place id is) ≡ list_any (is_id id) is
+place_there : (id : BlockId) (is : List (Option BlockId)) → is_some (place_of_block id is) ≡ list_any (is_id id) is
 place_there id [] = refl
 place_there id (i ∷ is) = by (is_id id i) (place_there id is)
   where
@@ -298,39 +298,39 @@ place_there id (i ∷ is) = by (is_id id i) (place_there id is)
     mapped None = refl
     mapped (Some k) = refl
 
-    by : (b : Bool) → is_some (block_place id is) ≡ list_any (is_id id) is → is_some (if b then Some 0 else option_map (λ k. suc k) (block_place id is)) ≡ (b || list_any (is_id id) is)
+    by : (b : Bool) → is_some (place_of_block id is) ≡ list_any (is_id id) is → is_some (if b then Some 0 else option_map (λ k. suc k) (place_of_block id is)) ≡ (b || list_any (is_id id) is)
     by true more = refl
-    by false more = mapped (block_place id is) ∙ more
+    by false more = mapped (place_of_block id is) ∙ more
 
 -- ---- the program of a source
 
-pub source_symbols : (symbols : List Symbol) (blocks : List Block) → (types_of symbols blocks).symbols ≡ symbols
-unfolding types_of with_all_bits with_all_depths
+pub source_symbols : (symbols : List Symbol) (blocks : List Block) → (types_of_source symbols blocks).symbols ≡ symbols
+unfolding types_of_source with_all_bits with_all_depths
 source_symbols symbols blocks = refl
 
-pub source_ids : (symbols : List Symbol) (blocks : List Block) → (types_of symbols blocks).ids ≡ ids_of symbols blocks
-unfolding types_of with_all_bits with_all_depths
+pub source_ids : (symbols : List Symbol) (blocks : List Block) → (types_of_source symbols blocks).ids ≡ ids_of symbols blocks
+unfolding types_of_source with_all_bits with_all_depths
 source_ids symbols blocks = refl
 
 abbrev codes_of : Tree → List Symbol → List StatedBlock
-codes_of t symbols = codes_in (first_context symbols (layouts_of t symbols) t.blocks) t.blocks (types_of symbols t.blocks) [] t.blocks
+codes_of t symbols = codes_in (first_context symbols (layouts_of t symbols) t.blocks) t.blocks (types_of_source symbols t.blocks) [] t.blocks
 
 abbrev stored_of : Tree → List Symbol → List DataBlock
-stored_of t symbols = data_in (first_context symbols (layouts_of t symbols) t.blocks) t.blocks (types_of symbols t.blocks) [] t.blocks
+stored_of t symbols = data_in (first_context symbols (layouts_of t symbols) t.blocks) t.blocks (types_of_source symbols t.blocks) [] t.blocks
 
 ids_are : (t : Tree) (symbols : List Symbol) → program_ids (source_program t symbols)
-    ≡ map (λ b. b.id) (in_lines (map compiled (sorted is_code_before (codes_of t symbols)))) ++ map (λ d. data_id d.number) (sorted is_data_before (stored_of t symbols))
+    ≡ map (λ b. b.id) (in_lines (map compiled_block (sorted_list is_code_before (codes_of t symbols)))) ++ map (λ d. data_id d.number) (sorted_list is_data_before (stored_of t symbols))
 unfolding code_blocks_of data_blocks_of layouts_of layouts_by
 ids_are t symbols = refl
 
 source_codes : (t : Tree) (symbols : List Symbol) → map (λ x. x.id) (codes_of t symbols) ≡ code_ids (ids_of symbols t.blocks)
 source_codes t symbols =
-    codes_are (first_context symbols (layouts_of t symbols) t.blocks) t.blocks (types_of symbols t.blocks) [] t.blocks
+    codes_are (first_context symbols (layouts_of t symbols) t.blocks) t.blocks (types_of_source symbols t.blocks) [] t.blocks
     ∙ ap (λ (z : List Symbol). code_ids (ids_of z t.blocks)) (source_symbols symbols t.blocks)
 
 source_data : (t : Tree) (symbols : List Symbol) → map (λ d. data_id d.number) (stored_of t symbols) ≡ data_ids (ids_of symbols t.blocks)
 source_data t symbols =
-    data_are (first_context symbols (layouts_of t symbols) t.blocks) t.blocks (types_of symbols t.blocks) [] t.blocks
+    data_are (first_context symbols (layouts_of t symbols) t.blocks) t.blocks (types_of_source symbols t.blocks) [] t.blocks
     ∙ ap (λ (z : List Symbol). data_ids (ids_of z t.blocks)) (source_symbols symbols t.blocks)
 
 numbered : (k : BlockKind) (n : ℕ) → is_block_number k n ≡ true → is_system_function k ≡ false
@@ -342,7 +342,7 @@ numbered kinds.Sfc n h = absurd cc
 numbered kinds.Udt n h = refl
 
 same_there : (t : Tree) (symbols : List Symbol) (id : BlockId) → is_data_type id.kind ≡ false → is_system_function id.kind ≡ false
-    → is_some (block_place id (map (λ i. Some i) (program_ids (source_program t symbols)))) ≡ is_some (block_place id (ids_of symbols t.blocks))
+    → is_some (place_of_block id (map (λ i. Some i) (program_ids (source_program t symbols)))) ≡ is_some (place_of_block id (ids_of symbols t.blocks))
 same_there t symbols id plain system =
     place_there id (map (λ i. Some i) (program_ids (source_program t symbols)))
     ∙ any_mapped (is_id id) (λ (i : BlockId). Some i) (program_ids (source_program t symbols))
@@ -359,8 +359,8 @@ blocks_kept t symbols listed id plain =
     ∙ by (is_block_number id.kind id.number) refl
   where
     by : (b : Bool) → is_block_number id.kind id.number ≡ b
-        → is_some (if b then block_place id (map (λ i. Some i) (program_ids (source_program t symbols))) else None)
-        ≡ is_some (if b then block_place id (ids_of symbols t.blocks) else None)
+        → is_some (if b then place_of_block id (map (λ i. Some i) (program_ids (source_program t symbols))) else None)
+        ≡ is_some (if b then place_of_block id (ids_of symbols t.blocks) else None)
     by true e = same_there t symbols id plain (numbered id.kind id.number e)
     by false e = refl
 
@@ -382,7 +382,7 @@ all_any : {A : Type 0} (P : A → Type 0) (xs : List A) → ((x : A) → P x) �
 all_any P [] h = tt
 all_any P (x ∷ xs) h = (h x, all_any P xs h)
 
-not_in_front : (id : BlockId) (front rest : List (Option BlockId)) → is_earlier (block_place id (front ++ rest)) (length front) ≡ false → AllByRecursion (λ e. is_id id e ≡ false) front
+not_in_front : (id : BlockId) (front rest : List (Option BlockId)) → is_earlier (place_of_block id (front ++ rest)) (length front) ≡ false → AllByRecursion (λ e. is_id id e ≡ false) front
 not_in_front id [] rest h = tt
 not_in_front id (e ∷ front) rest h = by (is_id id e) refl h (not_in_front id front rest)
   where
@@ -393,12 +393,12 @@ not_in_front id (e ∷ front) rest h = by (is_id id e) refl h (not_in_front id f
     first : (n : ℕ) → nat_lt 0 (suc n) ≡ true
     first n = grind (arith, nat_tests)
 
-    by : (b : Bool) → is_id id e ≡ b → is_earlier (if b then Some 0 else option_map (λ k. suc k) (block_place id (front ++ rest))) (suc (length front)) ≡ false
-        → (is_earlier (block_place id (front ++ rest)) (length front) ≡ false → AllByRecursion (λ e. is_id id e ≡ false) front) → AllByRecursion (λ e. is_id id e ≡ false) (e ∷ front)
+    by : (b : Bool) → is_id id e ≡ b → is_earlier (if b then Some 0 else option_map (λ k. suc k) (place_of_block id (front ++ rest))) (suc (length front)) ≡ false
+        → (is_earlier (place_of_block id (front ++ rest)) (length front) ≡ false → AllByRecursion (λ e. is_id id e ≡ false) front) → AllByRecursion (λ e. is_id id e ≡ false) (e ∷ front)
     by true is h more = let f = first (length front) in absurd cc
-    by false is h more = (is, more (sym (one_less (block_place id (front ++ rest)) (length front)) ∙ h))
+    by false is h more = (is, more (sym (one_less (place_of_block id (front ++ rest)) (length front)) ∙ h))
 
-far_front : (i : Option BlockId) (front rest : List (Option BlockId)) → is_earlier (option_and_then (λ id. block_place id (front ++ rest)) i) (length front) ≡ false → AllByRecursion (Far i) front
+far_front : (i : Option BlockId) (front rest : List (Option BlockId)) → is_earlier (option_and_then (λ id. place_of_block id (front ++ rest)) i) (length front) ≡ false → AllByRecursion (Far i) front
 far_front None front rest h = all_any (Far None) front (λ e. tt)
 far_front (Some id) front rest h = not_in_front id front rest h
 
@@ -420,9 +420,9 @@ none_twice y front before (b ∷ bs) whole size h =
     let i : Option BlockId = id_of y.symbols b in
     let parts = nil_parts (broken_if (is_block_twice y before b) b.line 22) _ h in
     let once : is_block_twice y before b ≡ false = none_broken (is_block_twice y before b) b.line 22 parts.0 in
-    let here : is_earlier (option_and_then (λ id. block_place id (front ++ ids_by y (b ∷ bs))) i) (length front) ≡ false =
-    ap (λ (n : ℕ). is_earlier (option_and_then (λ id. block_place id (front ++ ids_by y (b ∷ bs))) i) n) (sym size)
-    ∙ ap (λ (z : List (Option BlockId)). is_earlier (option_and_then (λ id. block_place id z) i) (length before)) (sym whole) ∙ once in
+    let here : is_earlier (option_and_then (λ id. place_of_block id (front ++ ids_by y (b ∷ bs))) i) (length front) ≡ false =
+    ap (λ (n : ℕ). is_earlier (option_and_then (λ id. place_of_block id (front ++ ids_by y (b ∷ bs))) i) n) (sym size)
+    ∙ ap (λ (z : List (Option BlockId)). is_earlier (option_and_then (λ id. place_of_block id z) i) (length before)) (sym whole) ∙ once in
     let longer = length-append front (i ∷ []) in
     let more = none_twice y (front ++ i ∷ []) (b ∷ before) bs (whole ∙ sym (append_assoc front (i ∷ []) (ids_by y bs))) (omega (arith, size, longer)) parts.1 in
     let fronts = all_fronts front i (ids_by y bs) more.0 in
@@ -430,20 +430,20 @@ none_twice y front before (b ∷ bs) whole size h =
 
 none_beyond : (symbols : List Symbol) (before bs : List Block)
     → refusals_along (λ b. false) (λ before b. broken_if (has_wrong_number symbols b) b.line 44) (λ before b. b ∷ before) before bs ≡ []
-    → AllByRecursion (λ i. is_beyond i ≡ false) (ids_of symbols bs)
+    → AllByRecursion (λ i. is_number_beyond_limits i ≡ false) (ids_of symbols bs)
 none_beyond symbols before [] h = tt
 none_beyond symbols before (b ∷ bs) h =
     let parts = nil_parts (broken_if (has_wrong_number symbols b) b.line 44) _ h in
     (none_broken (has_wrong_number symbols b) b.line 44 parts.0, none_beyond symbols (b ∷ before) bs parts.1)
 
-pub source_apart : (symbols : List Symbol) (blocks : List Block) → rule_22 (types_of symbols blocks) blocks ≡ [] → Pairs Far (ids_of symbols blocks)
+pub source_apart : (symbols : List Symbol) (blocks : List Block) → rule_22 (types_of_source symbols blocks) blocks ≡ [] → Pairs Far (ids_of symbols blocks)
 unfolding rule_22
 source_apart symbols blocks h =
-    let y = types_of symbols blocks in
+    let y = types_of_source symbols blocks in
     let same : y.ids ≡ ids_by y blocks = source_ids symbols blocks ∙ ap (λ (z : List Symbol). ids_of z blocks) (sym (source_symbols symbols blocks)) in
     subst (λ (z : List Symbol). Pairs Far (ids_of z blocks)) (source_symbols symbols blocks) ((none_twice y [] [] blocks same refl h).1)
 
-pub source_right : (symbols : List Symbol) (blocks : List Block) → rule_44 symbols blocks ≡ [] → AllByRecursion (λ i. is_beyond i ≡ false) (ids_of symbols blocks)
+pub source_right : (symbols : List Symbol) (blocks : List Block) → rule_44 symbols blocks ≡ [] → AllByRecursion (λ i. is_number_beyond_limits i ≡ false) (ids_of symbols blocks)
 unfolding rule_44
 source_right symbols blocks h = none_beyond symbols [] blocks h
 
@@ -534,30 +534,30 @@ pairs_joined R [] ys h k cross = k
 pairs_joined R (x ∷ xs) ys h k cross = (all_append (λ y. R y x) xs ys h.0 cross.0, pairs_joined R xs ys h.1 k cross.1)
 
 -- what holds of all blocks with code, of the program's
-code_program : (P : BlockId → Type 0) (xs : List StatedBlock) → AllByRecursion P (map (λ x. x.id) xs) → AllByRecursion P (map (λ b. b.id) (in_lines (map compiled (sorted is_code_before xs))))
+code_program : (P : BlockId → Type 0) (xs : List StatedBlock) → AllByRecursion P (map (λ x. x.id) xs) → AllByRecursion P (map (λ b. b.id) (in_lines (map compiled_block (sorted_list is_code_before xs))))
 unfolding in_lines
 code_program P xs h =
-    all_mapped P (λ (b : CodeBlock). b.id) (sorted stands_before (map compiled (sorted is_code_before xs)))
-    (all_sorted (λ (b : CodeBlock). P b.id) stands_before (map compiled (sorted is_code_before xs))
-    (all_mapped (λ (b : CodeBlock). P b.id) compiled (sorted is_code_before xs)
+    all_mapped P (λ (b : CodeBlock). b.id) (sorted_list stands_before (map compiled_block (sorted_list is_code_before xs)))
+    (all_sorted (λ (b : CodeBlock). P b.id) stands_before (map compiled_block (sorted_list is_code_before xs))
+    (all_mapped (λ (b : CodeBlock). P b.id) compiled_block (sorted_list is_code_before xs)
     (all_sorted (λ (x : StatedBlock). P x.id) is_code_before xs (all_behind P (λ (x : StatedBlock). x.id) xs h))))
 
-data_program : (P : BlockId → Type 0) (ds : List DataBlock) → AllByRecursion P (map (λ d. data_id d.number) ds) → AllByRecursion P (map (λ d. data_id d.number) (sorted is_data_before ds))
+data_program : (P : BlockId → Type 0) (ds : List DataBlock) → AllByRecursion P (map (λ d. data_id d.number) ds) → AllByRecursion P (map (λ d. data_id d.number) (sorted_list is_data_before ds))
 data_program P ds h =
-    all_mapped P (λ (d : DataBlock). data_id d.number) (sorted is_data_before ds)
+    all_mapped P (λ (d : DataBlock). data_id d.number) (sorted_list is_data_before ds)
     (all_sorted (λ (d : DataBlock). P (data_id d.number)) is_data_before ds (all_behind P (λ (d : DataBlock). data_id d.number) ds h))
 
-code_pairs : (xs : List StatedBlock) → Pairs NotSame (map (λ x. x.id) xs) → Pairs NotSame (map (λ b. b.id) (in_lines (map compiled (sorted is_code_before xs))))
+code_pairs : (xs : List StatedBlock) → Pairs NotSame (map (λ x. x.id) xs) → Pairs NotSame (map (λ b. b.id) (in_lines (map compiled_block (sorted_list is_code_before xs))))
 unfolding in_lines
 code_pairs xs h =
-    pairs_mapped NotSame (λ (b : CodeBlock). b.id) (sorted stands_before (map compiled (sorted is_code_before xs)))
-    (pairs_sorted (λ (a b : CodeBlock). NotSame a.id b.id) (λ a b. same_turned a.id b.id) stands_before (map compiled (sorted is_code_before xs))
-    (pairs_mapped (λ (a b : CodeBlock). NotSame a.id b.id) compiled (sorted is_code_before xs)
+    pairs_mapped NotSame (λ (b : CodeBlock). b.id) (sorted_list stands_before (map compiled_block (sorted_list is_code_before xs)))
+    (pairs_sorted (λ (a b : CodeBlock). NotSame a.id b.id) (λ a b. same_turned a.id b.id) stands_before (map compiled_block (sorted_list is_code_before xs))
+    (pairs_mapped (λ (a b : CodeBlock). NotSame a.id b.id) compiled_block (sorted_list is_code_before xs)
     (pairs_sorted (λ (a b : StatedBlock). NotSame a.id b.id) (λ a b. same_turned a.id b.id) is_code_before xs (pairs_behind NotSame (λ (x : StatedBlock). x.id) xs h))))
 
-data_pairs : (ds : List DataBlock) → Pairs NotSame (map (λ d. data_id d.number) ds) → Pairs NotSame (map (λ d. data_id d.number) (sorted is_data_before ds))
+data_pairs : (ds : List DataBlock) → Pairs NotSame (map (λ d. data_id d.number) ds) → Pairs NotSame (map (λ d. data_id d.number) (sorted_list is_data_before ds))
 data_pairs ds h =
-    pairs_mapped NotSame (λ (d : DataBlock). data_id d.number) (sorted is_data_before ds)
+    pairs_mapped NotSame (λ (d : DataBlock). data_id d.number) (sorted_list is_data_before ds)
     (pairs_sorted (λ (a b : DataBlock). NotSame (data_id a.number) (data_id b.number)) (λ a b. same_turned (data_id a.number) (data_id b.number)) is_data_before ds
     (pairs_behind NotSame (λ (d : DataBlock). data_id d.number) ds h))
 
@@ -581,13 +581,13 @@ source_have_code t symbols = subst (AllByRecursion HasCode) (sym (source_codes t
 pub program_apart : (t : Tree) (symbols : List Symbol) → Pairs Far (ids_of symbols t.blocks) → Pairs NotSame (program_ids (source_program t symbols))
 program_apart t symbols h =
     subst (Pairs NotSame) (sym (ids_are t symbols))
-    (pairs_joined NotSame (map (λ b. b.id) (in_lines (map compiled (sorted is_code_before (codes_of t symbols))))) (map (λ d. data_id d.number) (sorted is_data_before (stored_of t symbols)))
+    (pairs_joined NotSame (map (λ b. b.id) (in_lines (map compiled_block (sorted_list is_code_before (codes_of t symbols))))) (map (λ d. data_id d.number) (sorted_list is_data_before (stored_of t symbols)))
     (code_pairs (codes_of t symbols) (subst (Pairs NotSame) (sym (source_codes t symbols)) (codes_apart (ids_of symbols t.blocks) h)))
     (data_pairs (stored_of t symbols) (subst (Pairs NotSame) (sym (source_data t symbols)) (data_apart (ids_of symbols t.blocks) h)))
-    (crossed (sorted is_data_before (stored_of t symbols)) (map (λ b. b.id) (in_lines (map compiled (sorted is_code_before (codes_of t symbols)))))
+    (crossed (sorted_list is_data_before (stored_of t symbols)) (map (λ b. b.id) (in_lines (map compiled_block (sorted_list is_code_before (codes_of t symbols)))))
     (code_program HasCode (codes_of t symbols) (source_have_code t symbols))))
 
-right_number : (id : BlockId) → is_beyond (Some id) ≡ false → IsRight id
+right_number : (id : BlockId) → is_number_beyond_limits (Some id) ≡ false → IsRight id
 right_number id h = by (is_block_number id.kind id.number) h
   where
     by : (b : Bool) → not b ≡ false → b ≡ true
@@ -598,15 +598,15 @@ all_weaken : {A : Type 0} (P Q : A → Type 0) (xs : List A) → ((x : A) → P 
 all_weaken P Q [] f h = tt
 all_weaken P Q (x ∷ xs) f h = (f x h.0, all_weaken P Q xs f h.1)
 
-pub program_right : (t : Tree) (symbols : List Symbol) → AllByRecursion (λ i. is_beyond i ≡ false) (ids_of symbols t.blocks) → AllByRecursion IsRight (program_ids (source_program t symbols))
+pub program_right : (t : Tree) (symbols : List Symbol) → AllByRecursion (λ i. is_number_beyond_limits i ≡ false) (ids_of symbols t.blocks) → AllByRecursion IsRight (program_ids (source_program t symbols))
 program_right t symbols h =
     let is : List (Option BlockId) = ids_of symbols t.blocks in
     subst (AllByRecursion IsRight) (sym (ids_are t symbols))
-    (all_append IsRight (map (λ b. b.id) (in_lines (map compiled (sorted is_code_before (codes_of t symbols))))) (map (λ d. data_id d.number) (sorted is_data_before (stored_of t symbols)))
+    (all_append IsRight (map (λ b. b.id) (in_lines (map compiled_block (sorted_list is_code_before (codes_of t symbols))))) (map (λ d. data_id d.number) (sorted_list is_data_before (stored_of t symbols)))
     (code_program IsRight (codes_of t symbols)
-    (subst (AllByRecursion IsRight) (sym (source_codes t symbols)) (all_weaken (λ id. is_beyond (Some id) ≡ false) IsRight (code_ids is) right_number (codes_all (λ i. is_beyond i ≡ false) is h))))
+    (subst (AllByRecursion IsRight) (sym (source_codes t symbols)) (all_weaken (λ id. is_number_beyond_limits (Some id) ≡ false) IsRight (code_ids is) right_number (codes_all (λ i. is_number_beyond_limits i ≡ false) is h))))
     (data_program IsRight (stored_of t symbols)
-    (subst (AllByRecursion IsRight) (sym (source_data t symbols)) (all_weaken (λ id. is_beyond (Some id) ≡ false) IsRight (data_ids is) right_number (data_all (λ i. is_beyond i ≡ false) is h)))))
+    (subst (AllByRecursion IsRight) (sym (source_data t symbols)) (all_weaken (λ id. is_number_beyond_limits (Some id) ≡ false) IsRight (data_ids is) right_number (data_all (λ i. is_number_beyond_limits i ≡ false) is h)))))
 
 -- the first place of one that no other is
 got : {A : Type 0} (P : A → Type 0) (xs : List A) (k : ℕ) (x : A) → AllByRecursion P xs → slice_get xs k ≡ Some x → P x
@@ -614,7 +614,7 @@ got P [] k x h e = absurd cc
 got P (y ∷ xs) zero x h e = let same : y ≡ x = cc in subst P same h.0
 got P (y ∷ xs) (suc k) x h e = got P xs k x h.1 e
 
-pub place_of : (ids : List BlockId) (k : ℕ) (id : BlockId) → Pairs NotSame ids → slice_get ids k ≡ Some id → block_place id (map (λ i. Some i) ids) ≡ Some k
+pub place_of : (ids : List BlockId) (k : ℕ) (id : BlockId) → Pairs NotSame ids → slice_get ids k ≡ Some id → place_of_block id (map (λ i. Some i) ids) ≡ Some k
 place_of [] k id apart e = absurd cc
 place_of (i ∷ ids) zero id apart e =
     let same : i ≡ id = cc in
@@ -629,7 +629,7 @@ blocks_found t symbols listed k id none_22 none_44 e =
     let ids : List BlockId = program_ids (source_program t symbols) in
     let right = got IsRight ids k id (program_right t symbols (source_right symbols t.blocks none_44)) e in
     ap (known_block id) (ids_listed listed (source_program t symbols))
-    ∙ ap (λ (b : Bool). if b then block_place id (map (λ i. Some i) ids) else None) right
+    ∙ ap (λ (b : Bool). if b then place_of_block id (map (λ i. Some i) ids) else None) right
     ∙ place_of ids k id (program_apart t symbols (source_apart symbols t.blocks none_22)) e
 
 -- ---- no types
@@ -648,11 +648,11 @@ no_bits y [] h = refl
 no_bits y (b ∷ bs) h = rw (h.0, no_bits y bs h.1) refl
 
 types_plain : (symbols : List Symbol) (bs : List Block) → AllByRecursion IsPlain bs
-    → types_of symbols bs ≡ record { symbols = symbols; ids = ids_of symbols bs; depths = map (λ b. 0) bs; bits = map (λ b. 0) bs }
-unfolding types_of with_all_bits with_all_depths
+    → types_of_source symbols bs ≡ record { symbols = symbols; ids = ids_of symbols bs; depths = map (λ b. 0) bs; bits = map (λ b. 0) bs }
+unfolding types_of_source with_all_bits with_all_depths
 types_plain symbols bs h =
-    let first : Types = with_depths (unmeasured symbols bs) (depths_after 8 (unmeasured symbols bs) bs) in
-    let deep : Types = with_depths (unmeasured symbols bs) (map (type_depth first) bs) in
+    let first : Types = with_depths (unmeasured_types symbols bs) (depths_after 8 (unmeasured_types symbols bs) bs) in
+    let deep : Types = with_depths (unmeasured_types symbols bs) (map (type_depth first) bs) in
     ap (λ (z : List ℕ). record { symbols = symbols; ids = ids_of symbols bs; depths = map (type_depth first) bs; bits = z })
     (no_bits (with_bits deep (bits_after 8 deep bs)) bs h)
     ∙ ap (λ (z : List ℕ). record { symbols = symbols; ids = ids_of symbols bs; depths = z; bits = map (λ b. 0) bs }) (no_depths first bs h)
@@ -665,7 +665,7 @@ no_type_code _ h = absurd cc
 
 code_plain : (ss : List Signature) (reached : ℕ) (bs : List CodeBlock) → AllByRecursion HasCode (map (λ b. b.id) bs) → AllByRecursion IsPlain (listed_blocks ss reached bs)
 code_plain ss reached [] h = tt
-code_plain ss reached (b ∷ bs) h = (no_type_code b.id.kind h.0, code_plain ss (line_behind reached b.lines) bs h.1)
+code_plain ss reached (b ∷ bs) h = (no_type_code b.id.kind h.0, code_plain ss (line_behind_statements reached b.lines) bs h.1)
 
 one_plain : (ss : List Signature) (line number : ℕ) (bytes : List ℕ) (of : Option ℕ) → IsPlain (listed_data ss line number bytes of)
 one_plain ss line number bytes None = refl

@@ -17,14 +17,14 @@ use Rattle.stl_ast.specs.Literals.{IsDecimal, IsLong}
 use Rattle.stl_ast.specs.declared.declarations.Simple.TheVariants as simple
 use Rattle.stl_ast.specs.declared.declarations.Simple.{Simple}
 use Rattle.stl_lexer.specs.Bytes.{is_word_byte, is_word_start}
-use Rattle.stl_types.specs.Parameters.{dtime, is_one_of, mode, ob_nr, returns, sign, system_formals}
+use Rattle.stl_types.specs.Parameters.{dtime_formal, is_one_of, mode_formal, ob_nr_formal, return_value_formal, sign_formal, system_formals}
 use Rattle.stl_types.specs.declared.parameters.Formal.{Formal}
 use Rattle.stl_list.specs.Constants.{instruction_constant, open_block_name, typed_constant}
 use Rattle.stl_list.specs.Joined.{Chains, system_parameters}
-use Rattle.stl_list.specs.Labels.{digit, label_of, three_digits}
+use Rattle.stl_list.specs.Labels.{base_36_digit, label_of_number, three_digits}
 use Rattle.stl_list.specs.Parameters.{parameter_name, return_name}
-use Rattle.stl_list.specs.Signatures.{Signature, called_formals, formals_from, formals_of, is_behind, signatures, signatures_from}
-use Rattle.print_laws.specs.Standing.{IsName, IsPrintableLiteral, IsPrintableOperand}
+use Rattle.stl_list.specs.Signatures.{Signature, called_formals, formals_from, formals_of_block, is_behind, signatures, signatures_from}
+use Rattle.print_laws.specs.Standing.{IsNonTitleName, IsPrintableLiteral, IsPrintableOperand}
 use Rattle.print_laws.proofs.lexing.Numerals.{digits_words, numeral}
 use Rattle.listing_laws.proofs.RangeLemmas.{IsListedCode}
 
@@ -39,56 +39,56 @@ all_joined P Q f (x ∷ xs) h (one, more) = all_append Q (f x) (flat_map f xs) (
 
 -- ---- names
 
-pub parameter_is : (index : ℕ) → index < 2 ^ 64 → IsName (parameter_name index)
+pub parameter_is : (index : ℕ) → index < 2 ^ 64 → IsNonTitleName (parameter_name index)
 unfolding is_word_byte is_word_start
 parameter_is index h = (digits_words (decimal index) (numeral index h).digits, refl)
 
-pub return_is : IsName return_name
+pub return_is : IsNonTitleName return_name
 unfolding is_word_byte is_word_start
 return_is = (refl, refl)
 
-label_digit : (n : ℕ) → is_word_byte (digit (n % 36)) ≡ true
+label_digit : (n : ℕ) → is_word_byte (base_36_digit (n % 36)) ≡ true
 unfolding is_word_byte is_word_start
-label_digit n = agree_below_at (λ d. is_word_byte (digit d)) (λ d. true) 36 (n % 36) refl (omega arith)
+label_digit n = agree_below_at (λ d. is_word_byte (base_36_digit d)) (λ d. true) 36 (n % 36) refl (omega arith)
 
 digits_all : (n : ℕ) → list_all is_word_byte (three_digits n) ≡ true
 digits_all n =
-    and_from (is_word_byte (digit (n / 1296 % 36))) _ (label_digit (n / 1296))
-    (and_from (is_word_byte (digit (n / 36 % 36))) _ (label_digit (n / 36)) (and_from (is_word_byte (digit (n % 36))) _ (label_digit n) refl))
+    and_from (is_word_byte (base_36_digit (n / 1296 % 36))) _ (label_digit (n / 1296))
+    (and_from (is_word_byte (base_36_digit (n / 36 % 36))) _ (label_digit (n / 36)) (and_from (is_word_byte (base_36_digit (n % 36))) _ (label_digit n) refl))
 
-low_label : (n : ℕ) → IsName (95 ∷ three_digits n)
+low_label : (n : ℕ) → IsNonTitleName (95 ∷ three_digits n)
 unfolding is_word_start
 low_label n = (digits_all n, refl)
 
-high_label : (n : ℕ) → IsName (90 ∷ three_digits n)
+high_label : (n : ℕ) → IsNonTitleName (90 ∷ three_digits n)
 unfolding is_word_start
 high_label n = (digits_all n, refl)
 
-pub label_is : (n : ℕ) → IsName (label_of n)
-unfolding label_of
-label_is n = either_way IsName (nat_lt n 46656) (95 ∷ three_digits n) (90 ∷ three_digits (n - 46656)) (low_label n) (high_label (n - 46656))
+pub label_is : (n : ℕ) → IsNonTitleName (label_of_number n)
+unfolding label_of_number
+label_is n = either_way IsNonTitleName (nat_lt n 46656) (95 ∷ three_digits n) (90 ∷ three_digits (n - 46656)) (low_label n) (high_label (n - 46656))
 
 -- ---- parameters
 
 abbrev pub AreFormals : List Formal → Type 0
-AreFormals formals = AllByRecursion (λ f. IsName f.name) formals
+AreFormals formals = AllByRecursion (λ f. IsNonTitleName f.name) formals
 
 abbrev AreKnown : Option (List Formal) → Type 0
 AreKnown o = AreFormals (unwrap_or o [])
 
-ob_nr_name : IsName ob_nr.name
+ob_nr_name : IsNonTitleName ob_nr_formal.name
 unfolding is_word_byte is_word_start
 ob_nr_name = (refl, refl)
 
-mode_name : IsName mode.name
+mode_name : IsNonTitleName mode_formal.name
 unfolding is_word_byte is_word_start
 mode_name = (refl, refl)
 
-dtime_name : IsName dtime.name
+dtime_name : IsNonTitleName dtime_formal.name
 unfolding is_word_byte is_word_start
 dtime_name = (refl, refl)
 
-sign_name : IsName sign.name
+sign_name : IsNonTitleName sign_formal.name
 unfolding is_word_byte is_word_start
 sign_name = (refl, refl)
 
@@ -99,17 +99,17 @@ known b fs o h k = either_way AreKnown b (Some fs) o h k
 pub system_named : (n : ℕ) → AreFormals (system_parameters n)
 unfolding system_formals
 system_named n =
-    known (nat_eq n 32) (ob_nr ∷ dtime ∷ sign ∷ returns simple.Int ∷ []) _ (ob_nr_name, (dtime_name, (sign_name, (return_is, tt))))
-    (known (nat_eq n 33) (ob_nr ∷ returns simple.Int ∷ []) _ (ob_nr_name, (return_is, tt))
-    (known (is_one_of (39 ∷ 40 ∷ []) n) (mode ∷ ob_nr ∷ returns simple.Int ∷ []) _ (mode_name, (ob_nr_name, (return_is, tt)))
-    (known (is_one_of (41 ∷ 42 ∷ []) n) (returns simple.Int ∷ []) _ (return_is, tt)
+    known (nat_eq n 32) (ob_nr_formal ∷ dtime_formal ∷ sign_formal ∷ return_value_formal simple.Int ∷ []) _ (ob_nr_name, (dtime_name, (sign_name, (return_is, tt))))
+    (known (nat_eq n 33) (ob_nr_formal ∷ return_value_formal simple.Int ∷ []) _ (ob_nr_name, (return_is, tt))
+    (known (is_one_of (39 ∷ 40 ∷ []) n) (mode_formal ∷ ob_nr_formal ∷ return_value_formal simple.Int ∷ []) _ (mode_name, (ob_nr_name, (return_is, tt)))
+    (known (is_one_of (41 ∷ 42 ∷ []) n) (return_value_formal simple.Int ∷ []) _ (return_is, tt)
     (known (is_one_of (43 ∷ 46 ∷ []) n) [] _ tt
-    (known (nat_eq n 64) (returns simple.Time ∷ []) None (return_is, tt) tt)))))
+    (known (nat_eq n 64) (return_value_formal simple.Time ∷ []) None (return_is, tt) tt)))))
 
 formals_named : (c : Chains) (returns behind : Bool) (index first : ℕ) (ps : List Param) → index + length ps < 2 ^ 64 → AreFormals (formals_from c returns behind index first ps)
 formals_named c returns behind index first [] h = tt
 formals_named c returns behind index first (p ∷ ps) h =
-    (either_way IsName _ return_name (parameter_name index) return_is (parameter_is index (omega (arith, h))), formals_named c returns (is_behind returns behind p) (suc index) (suc first) ps (omega (arith, h)))
+    (either_way IsNonTitleName _ return_name (parameter_name index) return_is (parameter_is index (omega (arith, h))), formals_named c returns (is_behind returns behind p) (suc index) (suc first) ps (omega (arith, h)))
 
 -- what a block says of itself to calls and instances
 abbrev pub IsSignature : Signature → Type 0
@@ -127,12 +127,12 @@ pub all_signatures : (c : Chains) (bs : List CodeBlock) → AllByRecursion IsLis
 unfolding signatures
 all_signatures c bs h = signatures_named c 0 bs h
 
-pub block_named : (ss : List Signature) (id : BlockId) → AreSignatures ss → AreFormals (formals_of ss id)
+pub block_named : (ss : List Signature) (id : BlockId) → AreSignatures ss → AreFormals (formals_of_block ss id)
 block_named [] id h = tt
-block_named (s ∷ ss) id (one, more) = either_way AreFormals (is_same_block s.id id) s.formals (formals_of ss id) one.0 (block_named ss id more)
+block_named (s ∷ ss) id (one, more) = either_way AreFormals (is_same_block s.id id) s.formals (formals_of_block ss id) one.0 (block_named ss id more)
 
 pub called_named : (ss : List Signature) (id : BlockId) → AreSignatures ss → AreFormals (called_formals ss id)
-called_named ss id h = either_way AreFormals (is_system_function id.kind) (system_parameters id.number) (formals_of ss id) (system_named id.number) (block_named ss id h)
+called_named ss id h = either_way AreFormals (is_system_function id.kind) (system_parameters id.number) (formals_of_block ss id) (system_named id.number) (block_named ss id h)
 
 -- ---- constants
 
@@ -153,12 +153,12 @@ typed_printable simple.Int bits h = signed_int (bits % 2 ^ 16) (omega arith)
 typed_printable simple.Time bits h = signed_long bits h
 typed_printable _ bits h = tt
 
-open_name : (which : ℕ) → IsName (open_block_name which)
+open_name : (which : ℕ) → IsNonTitleName (open_block_name which)
 unfolding is_word_byte is_word_start
 open_name which =
-    either_way IsName (which == 0) _ _ (refl, refl)
-    (either_way IsName (which == 1) _ _ (refl, refl)
-    (either_way IsName (which == 2) _ _ (refl, refl) (refl, refl)))
+    either_way IsNonTitleName (which == 0) _ _ (refl, refl)
+    (either_way IsNonTitleName (which == 1) _ _ (refl, refl)
+    (either_way IsNonTitleName (which == 2) _ _ (refl, refl) (refl, refl)))
 
 pub instruction_printable : (o : Operation) (bits : ℕ) → bits < 4294967296 → IsPrintableOperand (instruction_constant o bits)
 instruction_printable operation.Load bits h = tt

@@ -18,7 +18,7 @@ use Rattle.flat_code.specs.declared.operands.Operand.{Operand as FlatOperand}
 use Rattle.flat_code.specs.declared.operands.Passed.TheVariants as passed
 use Rattle.flat_code.specs.declared.operations.CallOperation.{CallOperation}
 use Rattle.flat_code.specs.declared.operations.EndOperation.{EndOperation}
-use Rattle.stl_ast.specs.Statements.{is_empty}
+use Rattle.stl_ast.specs.Statements.{is_empty_statement}
 use Rattle.stl_ast.specs.declared.blocks.Block.{Block}
 use Rattle.stl_ast.specs.declared.operands.Operand.{Operand}
 use Rattle.stl_ast.specs.declared.statements.Actual.{Actual}
@@ -27,28 +27,28 @@ use Rattle.block_layout.specs.declared.blocks.BlockLayout.{BlockLayout}
 use Rattle.stl_types.specs.Bodies.{first_context}
 use Rattle.stl_types.specs.Context.{Context}
 use Rattle.stl_types.specs.Parameters.{Callee, callee_of}
-use Rattle.stl_types.specs.Resolution.{seen}
-use Rattle.stl_types.specs.Resolved.{resolved}
+use Rattle.stl_types.specs.Resolution.{resolution_of}
+use Rattle.stl_types.specs.Resolved.{resolved_operand}
 use Rattle.stl_types.specs.declared.parameters.Formal.{Formal}
 use Rattle.stl_types.specs.declared.views.Resolution.TheVariants.{Resolved}
 use Rattle.stl_types.specs.declared.views.Resolution.{Resolution}
 use Rattle.stl_types.specs.declared.views.ResolvedOperand.TheVariants as view
 use Rattle.stl_types.specs.declared.views.ResolvedOperand.{ResolvedOperand}
-use Rattle.stl_codegen.specs.Compiled.{Stated, StatedBlock, aimed, compiled}
-use Rattle.stl_codegen.specs.Emitted.{passing}
-use Rattle.stl_codegen.specs.Generated.{code_block, code_block_of, code_blocks_of, each_block, returning, stated_from, statements_of}
-use Rattle.stl_codegen.specs.Instruction.{block_at, call_instr, end_instr, in_order, instr_by, instruction, jump_instr, passings_to, resolved_instr, target_of, view_instr}
-use Rattle.stl_codegen.specs.Operands.{is_db, is_in_named_block, opened_by, operand_of}
-use Rattle.stl_codegen.specs.Operations.{call_of, end_of, jump_of}
+use Rattle.stl_codegen.specs.Compiled.{SourceInstruction, StatedBlock, operand_with_target, compiled_block}
+use Rattle.stl_codegen.specs.Emitted.{pass_ops}
+use Rattle.stl_codegen.specs.Generated.{code_block, code_block_of, code_blocks_of, each_block, return_statement, stated_from, statements_of}
+use Rattle.stl_codegen.specs.Instruction.{source_block_at, call_instr, end_instr, in_parameter_order, instr_by, instruction, jump_instr, passings_to, resolved_instr, target_of, view_instr}
+use Rattle.stl_codegen.specs.Operands.{is_db, is_in_named_block, block_opened_by_operand, flat_operand_of}
+use Rattle.stl_codegen.specs.Operations.{call_operation_of, end_operation_of, jump_operation_of}
 use Rattle.stl_codegen.specs.Order.{is_code_before}
-use Rattle.stl_codegen.specs.Passed.{passed_actual, passed_place, passed_seen, passed_view, passings_from, supplied, with_index}
+use Rattle.stl_codegen.specs.Passed.{passed_actual, passed_place, passed_seen, passed_view, passings_from, actual_of_formal, with_index}
 use Rattle.stl_list.specs.Runs.{runs}
 use Rattle.listing_laws.proofs.BlockLemmas.{all_sorted}
 use Rattle.listing_laws.proofs.NameLemmas.{either_way}
 use Rattle.listing_laws.proofs.RunLemmas.{runs_found}
 use Rattle.listing_laws.specs.Bodies.{IsOpenedIn}
 use Rattle.listing_laws.specs.Opened.{ActsIn, AreOpenedRight, OpensRight, PassesIn, PreparesIn}
-use Rattle.listing_laws.specs.Statements.{offset_in, run_of}
+use Rattle.listing_laws.specs.Statements.{statement_offset, run_of}
 
 -- ---- places
 
@@ -63,8 +63,8 @@ acts_freely _ = tt
 place_acts : (place : Place) → IsOpenedIn (if is_in_named_block place then Some place.number else None) place.area
 place_acts place = cond_both (is_in_named_block place) (Some place.number) None (λ o. IsOpenedIn o place.area) (λ e. area_is place.area (and_parts (is_db place.area) _ e).0) (λ e. tt)
 
-view_acts : (o : Operand) (v : ResolvedOperand) → ActsIn (opened_by v) (operand_of o v)
-unfolding operand_of
+view_acts : (o : Operand) (v : ResolvedOperand) → ActsIn (block_opened_by_operand v) (flat_operand_of o v)
+unfolding flat_operand_of
 view_acts o (view.Direct place width side declared) = place_acts place
 view_acts o (view.NumberBy what from byte) = acts_freely _
 view_acts o (view.Register which) = acts_freely _
@@ -97,16 +97,16 @@ seen_in index o _ = tt
 
 actual_in : (c : Context) (index : ℕ) (a : Option Actual) → ArePassedIn (passed_actual c index a)
 actual_in c index None = tt
-actual_in c index (Some a) = seen_in index a.value (seen c a.value)
+actual_in c index (Some a) = seen_in index a.value (resolution_of c a.value)
 
 passings_in : (c : Context) (actuals : List Actual) (index : ℕ) (fs : List Formal) → ArePassedIn (passings_from c actuals index fs)
 passings_in c actuals index [] = tt
 passings_in c actuals index (f ∷ fs) =
-    all_append (λ p. PassesIn p.actual) (passed_actual c index (supplied actuals f)) (passings_from c actuals (suc index) fs) (actual_in c index (supplied actuals f)) (passings_in c actuals (suc index) fs)
+    all_append (λ p. PassesIn p.actual) (passed_actual c index (actual_of_formal actuals f)) (passings_from c actuals (suc index) fs) (actual_in c index (actual_of_formal actuals f)) (passings_in c actuals (suc index) fs)
 
 callee_in : (c : Context) (s : Statement) (o : Option Callee) → ArePassedIn (passings_to c s o)
 callee_in c s None = tt
-callee_in c s (Some callee) = passings_in c s.actuals 0 (in_order (block_at c.blocks callee.place) callee.formals)
+callee_in c s (Some callee) = passings_in c s.actuals 0 (in_parameter_order (source_block_at c.blocks callee.place) callee.formals)
 
 call_opens : (c : Context) (s : Statement) (how : CallOperation) (v : ResolvedOperand) → OpensInstr (call_instr c s how v)
 call_opens c s how (view.Called id instance) = callee_in c s (callee_of c s.operand)
@@ -117,7 +117,7 @@ end_opens s v None = view_acts s.operand v
 end_opens s v (Some how) = tt
 
 view_opens : (c : Context) (s : Statement) (v : ResolvedOperand) (how : Option CallOperation) → OpensInstr (view_instr c s v how)
-view_opens c s v None = end_opens s v (end_of s.code)
+view_opens c s v None = end_opens s v (end_operation_of s.code)
 view_opens c s v (Some how) = call_opens c s how v
 
 jump_opens : (how : JumpOperation) (n target : ℕ) → OpensInstr (jump_instr how n target)
@@ -126,29 +126,29 @@ jump_opens _ n target = tt
 
 resolved_opens : (c : Context) (s : Statement) (o : Option ResolvedOperand) → OpensInstr (resolved_instr c s o)
 resolved_opens c s None = tt
-resolved_opens c s (Some v) = view_opens c s v (call_of s.code)
+resolved_opens c s (Some v) = view_opens c s v (call_operation_of s.code)
 
 instr_opens : (c : Context) (body : List Statement) (n : ℕ) (s : Statement) → OpensInstr (instruction c body n s)
 unfolding instruction
-instr_opens c body n s = by (jump_of s.code) where
+instr_opens c body n s = by (jump_operation_of s.code) where
   by : (how : Option JumpOperation) → OpensInstr (instr_by c body n s how)
-  by None = resolved_opens c s (resolved c s)
+  by None = resolved_opens c s (resolved_operand c s)
   by (Some how) = jump_opens how n (target_of body s.operand)
 
 -- ---- blocks
 
-abbrev AllOpen : List Stated → Type 0
+abbrev AllOpen : List SourceInstruction → Type 0
 AllOpen ss = AllByRecursion (λ s. OpensInstr s.instr) ss
 
 stated_open : (c : Context) (body : List Statement) (n : ℕ) (ss : List Statement) → AllOpen (stated_from c body n ss)
 stated_open c body n [] = tt
 stated_open c body n (s ∷ ss) =
-    either_way AllOpen (is_empty s.code) (stated_from c body n ss) (record { instr = instruction c body n s; line = s.line } ∷ stated_from c body (suc n) ss)
+    either_way AllOpen (is_empty_statement s.code) (stated_from c body n ss) (record { instr = instruction c body n s; line = s.line } ∷ stated_from c body (suc n) ss)
     (stated_open c body n ss) (instr_opens c body n s, stated_open c body (suc n) ss)
 
 statements_open : (c : Context) (b : Block) → AllOpen (statements_of c b)
 unfolding statements_of
-statements_open c b = all_append (λ s. OpensInstr s.instr) (stated_from c b.body 0 b.body) (returning b ∷ []) (stated_open c b.body 0 b.body) (tt, tt)
+statements_open c b = all_append (λ s. OpensInstr s.instr) (stated_from c b.body 0 b.body) (return_statement b ∷ []) (stated_open c b.body 0 b.body) (tt, tt)
 
 abbrev IsOpen : StatedBlock → Type 0
 IsOpen b = AllOpen b.statements
@@ -164,11 +164,11 @@ blocks_open c (b ∷ bs) (l ∷ ls) = all_append IsOpen (code_block_of c b l l.i
 
 -- ---- runs
 
-aimed_acts : (f : ℕ → ℕ) (opened : Option ℕ) (o : FlatOperand) → ActsIn opened o → ActsIn opened (aimed f o)
+aimed_acts : (f : ℕ → ℕ) (opened : Option ℕ) (o : FlatOperand) → ActsIn opened o → ActsIn opened (operand_with_target f o)
 aimed_acts f opened (flat.Jump kind target) h = tt
 aimed_acts f opened _ h = h
 
-passing_in : (ps : List Passing) → ArePassedIn ps → AllByRecursion (λ op. PreparesIn op.operand) (passing ps)
+passing_in : (ps : List Passing) → ArePassedIn ps → AllByRecursion (λ op. PreparesIn op.operand) (pass_ops ps)
 passing_in [] h = tt
 passing_in (p ∷ ps) (one, more) = (one, passing_in ps more)
 
@@ -180,14 +180,14 @@ run_opens f (JumpsByList targets otherwise) h = record { acts = tt; prepares = t
 run_opens f (Calls how block instance passings) h = record { acts = tt; prepares = passing_in passings h }
 run_opens f (Returns how) h = record { acts = tt; prepares = tt }
 
-runs_open : (f : ℕ → ℕ) (ss : List Stated) → AllOpen ss → AllByRecursion OpensRight (map (λ s. run_of f s.instr) ss)
+runs_open : (f : ℕ → ℕ) (ss : List SourceInstruction) → AllOpen ss → AllByRecursion OpensRight (map (λ s. run_of f s.instr) ss)
 runs_open f [] h = tt
 runs_open f (s ∷ ss) (one, more) = (run_opens f s.instr one, runs_open f ss more)
 
-compiled_open : (bs : List StatedBlock) → AllByRecursion IsOpen bs → AllByRecursion (λ b. AllByRecursion OpensRight (runs b.code)) (map compiled bs)
+compiled_open : (bs : List StatedBlock) → AllByRecursion IsOpen bs → AllByRecursion (λ b. AllByRecursion OpensRight (runs b.code)) (map compiled_block bs)
 compiled_open [] h = tt
 compiled_open (b ∷ bs) (one, more) =
-    (subst (λ rs. AllByRecursion OpensRight rs) (sym (runs_found b.statements)) (runs_open (offset_in b.statements) b.statements one), compiled_open bs more)
+    (subst (λ rs. AllByRecursion OpensRight rs) (sym (runs_found b.statements)) (runs_open (statement_offset b.statements) b.statements one), compiled_open bs more)
 
 pub opened_right : AreOpenedRight
 unfolding code_blocks_of

@@ -22,22 +22,22 @@ use Rattle.stl_ast.specs.declared.statements.Statement.{Statement}
 use Rattle.stl_parser.specs.declared.clauses.Clause.TheVariants as clause
 use Rattle.stl_parser.specs.declared.clauses.Clause.{Clause}
 use Rattle.stl_types.specs.declared.parameters.Formal.{Formal}
-use Rattle.stl_codegen.specs.Compiled.{StatedBlock, compiled}
+use Rattle.stl_codegen.specs.Compiled.{StatedBlock, compiled_block}
 use Rattle.stl_codegen.specs.Generated.{code_blocks_of, program_of}
-use Rattle.stl_codegen.specs.Order.{sorted}
+use Rattle.stl_codegen.specs.Order.{sorted_list}
 use Rattle.stl_print.specs.Clauses.{line_of}
 use Rattle.stl_print.specs.Gaps.{line_behind as line_past}
-use Rattle.stl_print.specs.Trees.{begin_clauses, block_clauses, declared_from, part_clauses, structure_ends, type_clauses}
+use Rattle.stl_print.specs.Trees.{begin_clauses, block_clauses, declaration_clauses_from, part_clauses, structure_ends, type_clauses}
 use Rattle.stl_list.specs.CodeBlocks.{in_lines, line_reached, listed_block, listed_blocks}
 use Rattle.stl_list.specs.DataBlocks.{function_block, known_settings, listed_data, listed_data_blocks}
 use Rattle.stl_list.specs.Initial.{byte_at, byte_here, byte_setting, byte_settings, parameter_here, parameter_setting, parameter_settings, settings_of, value_in, values_of}
 use Rattle.stl_list.specs.Joined.{chains_of}
-use Rattle.stl_list.specs.Lines.{first_line, line_at, line_behind, lines_from, stands_before}
+use Rattle.stl_list.specs.Lines.{first_statement_line, line_of_statement, line_behind_statements, lines_from, stands_before}
 use Rattle.stl_list.specs.Listing.{listed_tree}
 use Rattle.stl_list.specs.Runs.{Run, runs}
-use Rattle.stl_list.specs.Sections.{byte_array, bytes_here, data_name, declared_here, declared_in, is_declared_in, plain_declaration, section, sections, static_bytes, static_len, static_name, static_start, temporary_name}
-use Rattle.stl_list.specs.Signatures.{Signature, formals_of, signatures}
-use Rattle.stl_list.specs.Statements.{Surroundings, body_of, label_at, label_of_end, statement, statement_at, statements_from, surroundings}
+use Rattle.stl_list.specs.Sections.{byte_array, bytes_here, data_name, declared_here, declarations_of_section, is_declared_in, plain_declaration, section_part, section_parts, static_bytes, static_len, static_name, static_start, temporary_name}
+use Rattle.stl_list.specs.Signatures.{Signature, formals_of_block, signatures}
+use Rattle.stl_list.specs.Statements.{Surroundings, body_of, label_at, label_of_end, listed_statement, statement_at, statements_from, surroundings}
 use Rattle.print_laws.specs.Reading.{AreOnLines, IsOnLine}
 use Rattle.listing_laws.proofs.BlockLemmas.{all_sorted}
 use Rattle.listing_laws.proofs.NameLemmas.{either_way}
@@ -112,11 +112,11 @@ declares_stay : (line : ℕ) (d : Declaration) (cs : List Clause) → 1 ≤ line
 unfolding line_of
 declares_stay line d cs h e k = one_stays line (clause.Declares d) cs (line_again line d.line h e) (line_again line d.line h e ∙ e) k
 
-items_stay : (line : ℕ) (ds : List Declaration) → 1 ≤ line → AllByRecursion (IsAt line) ds → Stays line (declared_from 0 ds)
+items_stay : (line : ℕ) (ds : List Declaration) → 1 ≤ line → AllByRecursion (IsAt line) ds → Stays line (declaration_clauses_from 0 ds)
 items_stay line [] h all = none_stay line
 items_stay line (d ∷ ds) h (one, more) =
-    subst (λ (front : List Clause). Stays line (front ++ (clause.Declares d ∷ declared_from (level_behind d.level d.of.of) ds))) (sym one.1)
-    (subst (λ (level : ℕ). Stays line (clause.Declares d ∷ declared_from level ds)) (sym one.2) (declares_stay line d (declared_from 0 ds) h one.0 (items_stay line ds h more)))
+    subst (λ (front : List Clause). Stays line (front ++ (clause.Declares d ∷ declaration_clauses_from (level_behind d.level d.of.of) ds))) (sym one.1)
+    (subst (λ (level : ℕ). Stays line (clause.Declares d ∷ declaration_clauses_from level ds)) (sym one.2) (declares_stay line d (declaration_clauses_from 0 ds) h one.0 (items_stay line ds h more)))
 
 bytes_at : (line : ℕ) (name : List ℕ) (count : ℕ) (values : List Init) → AllByRecursion (IsAt line) (bytes_here line name count values)
 bytes_at line name count values = either_way (λ l. AllByRecursion (IsAt line) l) (count == 0) [] (byte_array line name count values ∷ []) tt ((refl, refl, refl), tt)
@@ -124,41 +124,41 @@ bytes_at line name count values = either_way (λ l. AllByRecursion (IsAt line) l
 here_at : (line : ℕ) (kind : PartKind) (f : Formal) → AllByRecursion (IsAt line) (declared_here line kind f)
 here_at line kind f = either_way (λ l. AllByRecursion (IsAt line) l) (is_declared_in kind f) (plain_declaration line f ∷ []) [] ((refl, refl, refl), tt) tt
 
-declared_at : (line : ℕ) (formals : List Formal) (kind : PartKind) → AllByRecursion (IsAt line) (declared_in line formals kind)
+declared_at : (line : ℕ) (formals : List Formal) (kind : PartKind) → AllByRecursion (IsAt line) (declarations_of_section line formals kind)
 declared_at line [] kind = tt
-declared_at line (f ∷ formals) kind = all_append (IsAt line) (declared_here line kind f) (declared_in line formals kind) (here_at line kind f) (declared_at line formals kind)
+declared_at line (f ∷ formals) kind = all_append (IsAt line) (declared_here line kind f) (declarations_of_section line formals kind) (here_at line kind f) (declared_at line formals kind)
 
 -- ---- sections
 
 abbrev IsPartAt : ℕ → Part → Type 0
 IsPartAt line p = (p.line ≡ line) × AllByRecursion (IsAt line) p.items
 
-section_at : (line : ℕ) (kind : PartKind) (items : List Declaration) → AllByRecursion (IsAt line) items → AllByRecursion (IsPartAt line) (section line kind items)
+section_at : (line : ℕ) (kind : PartKind) (items : List Declaration) → AllByRecursion (IsAt line) items → AllByRecursion (IsPartAt line) (section_part line kind items)
 section_at line kind items h = either_way (λ l. AllByRecursion (IsPartAt line) l) (length items == 0) [] (record { line = line; kind = kind; items = items } ∷ []) tt ((refl, h), tt)
 
-sections_at : (line : ℕ) (formals : List Formal) (b : CodeBlock) → AllByRecursion (IsPartAt line) (sections line formals b)
-unfolding sections
+sections_at : (line : ℕ) (formals : List Formal) (b : CodeBlock) → AllByRecursion (IsPartAt line) (section_parts line formals b)
+unfolding section_parts
 sections_at line formals b =
-    let input = section line part.Input (declared_in line formals part.Input) in
-    let output = section line part.Output (declared_in line formals part.Output) in
-    let in_out = section line part.InOut (declared_in line formals part.InOut) in
-    let static_ = section line part.Static (bytes_here line static_name (static_bytes b) []) in
-    let temporary = section line part.Temp (bytes_here line temporary_name b.local_len []) in
+    let input = section_part line part.Input (declarations_of_section line formals part.Input) in
+    let output = section_part line part.Output (declarations_of_section line formals part.Output) in
+    let in_out = section_part line part.InOut (declarations_of_section line formals part.InOut) in
+    let static_ = section_part line part.Static (bytes_here line static_name (static_bytes b) []) in
+    let temporary = section_part line part.Temp (bytes_here line temporary_name b.local_len []) in
     all_append (IsPartAt line) (((input ++ output) ++ in_out) ++ static_) temporary
     (all_append (IsPartAt line) ((input ++ output) ++ in_out) static_
     (all_append (IsPartAt line) (input ++ output) in_out
     (all_append (IsPartAt line) input output
-    (section_at line part.Input (declared_in line formals part.Input) (declared_at line formals part.Input))
-    (section_at line part.Output (declared_in line formals part.Output) (declared_at line formals part.Output)))
-    (section_at line part.InOut (declared_in line formals part.InOut) (declared_at line formals part.InOut)))
+    (section_at line part.Input (declarations_of_section line formals part.Input) (declared_at line formals part.Input))
+    (section_at line part.Output (declarations_of_section line formals part.Output) (declared_at line formals part.Output)))
+    (section_at line part.InOut (declarations_of_section line formals part.InOut) (declared_at line formals part.InOut)))
     (section_at line part.Static (bytes_here line static_name (static_bytes b) []) (bytes_at line static_name (static_bytes b) [])))
     (section_at line part.Temp (bytes_here line temporary_name b.local_len []) (bytes_at line temporary_name b.local_len []))
 
 part_stays : (line : ℕ) (p : Part) → 1 ≤ line → IsPartAt line p → Stays line (part_clauses p)
 unfolding part_clauses line_of
 part_stays line p h is =
-    one_stays line (clause.Section p.line p.kind) (declared_from 0 p.items ++ clause.EndSection ∷ []) (line_again line p.line h is.0) (line_again line p.line h is.0 ∙ is.0)
-    (stay_joined line (declared_from 0 p.items) (clause.EndSection ∷ []) (items_stay line p.items h is.1) (one_stays line clause.EndSection [] tt (line_kept line h) (none_stay line)))
+    one_stays line (clause.Section p.line p.kind) (declaration_clauses_from 0 p.items ++ clause.EndSection ∷ []) (line_again line p.line h is.0) (line_again line p.line h is.0 ∙ is.0)
+    (stay_joined line (declaration_clauses_from 0 p.items) (clause.EndSection ∷ []) (items_stay line p.items h is.1) (one_stays line clause.EndSection [] tt (line_kept line h) (none_stay line)))
 
 parts_stay : (line : ℕ) (ps : List Part) → 1 ≤ line → AllByRecursion (IsPartAt line) ps → Stays line (flat_map part_clauses ps)
 parts_stay line [] h all = none_stay line
@@ -180,11 +180,11 @@ end_reaches : (reached line : ℕ) (label : Option (List ℕ)) → 1 ≤ reached
 end_reaches reached line None h le = record { on = tt; some = h; low = le }
 end_reaches reached line (Some label) h le = single_reaches reached _ h le
 
-at_reaches : (s : Surroundings) (n : ℕ) (r : Run) (reached : ℕ) → 1 ≤ reached → reached ≤ line_at s.lines n → Reaches reached (line_at s.lines n) (map clause.Runs (statement_at s n r))
+at_reaches : (s : Surroundings) (n : ℕ) (r : Run) (reached : ℕ) → 1 ≤ reached → reached ≤ line_of_statement s.lines n → Reaches reached (line_of_statement s.lines n) (map clause.Runs (statement_at s n r))
 unfolding statement_at
 at_reaches s n r reached h le =
-    either_way (λ (l : List Statement). Reaches reached (line_at s.lines n) (map clause.Runs l)) (suc n == length s.lines) (label_of_end (line_at s.lines n) (label_at s.targets n)) (statement s n r ∷ [])
-    (end_reaches reached (line_at s.lines n) (label_at s.targets n) h le) (single_reaches reached (statement s n r) h le)
+    either_way (λ (l : List Statement). Reaches reached (line_of_statement s.lines n) (map clause.Runs l)) (suc n == length s.lines) (label_of_end (line_of_statement s.lines n) (label_at s.targets n)) (listed_statement s n r ∷ [])
+    (end_reaches reached (line_of_statement s.lines n) (label_at s.targets n) h le) (single_reaches reached (listed_statement s n r) h le)
 
 runs_joined : (xs ys : List Statement) → map clause.Runs (xs ++ ys) ≡ map clause.Runs xs ++ map clause.Runs ys
 runs_joined [] ys = refl
@@ -199,20 +199,20 @@ reach_joined reached last xs ys h k = subst (λ (cs : List Clause). Reaches reac
 
 -- lines of which none is before the one in front of it
 abbrev DoRise : List ℕ → Type 0
-DoRise lines = (i : ℕ) → suc i < length lines → line_at lines i ≤ line_at lines (suc i)
+DoRise lines = (i : ℕ) → suc i < length lines → line_of_statement lines i ≤ line_of_statement lines (suc i)
 
-body_reaches : (s : Surroundings) (n reached : ℕ) (r : Run) (rs : List Run) → DoRise s.lines → n + length (r ∷ rs) ≡ length s.lines → 1 ≤ reached → reached ≤ line_at s.lines n
-    → Reaches reached (line_at s.lines (length s.lines - 1)) (map clause.Runs (statements_from s n (r ∷ rs)))
+body_reaches : (s : Surroundings) (n reached : ℕ) (r : Run) (rs : List Run) → DoRise s.lines → n + length (r ∷ rs) ≡ length s.lines → 1 ≤ reached → reached ≤ line_of_statement s.lines n
+    → Reaches reached (line_of_statement s.lines (length s.lines - 1)) (map clause.Runs (statements_from s n (r ∷ rs)))
 body_reaches s n reached r [] rise size h le =
     let last : n ≡ length s.lines - 1 = omega (arith, size) in
     let one = at_reaches s n r reached h le in
-    reach_joined reached (line_at s.lines (length s.lines - 1)) (statement_at s n r) [] one.on
-    (record { on = tt; some = one.some; low = subst (λ (k : ℕ). past reached (map clause.Runs (statement_at s n r)) ≤ line_at s.lines k) last one.low })
+    reach_joined reached (line_of_statement s.lines (length s.lines - 1)) (statement_at s n r) [] one.on
+    (record { on = tt; some = one.some; low = subst (λ (k : ℕ). past reached (map clause.Runs (statement_at s n r)) ≤ line_of_statement s.lines k) last one.low })
 body_reaches s n reached r (q ∷ rs) rise size h le =
     let one = at_reaches s n r reached h le in
     let low = one.low in
     let next = rise n (omega (arith, size)) in
-    reach_joined reached (line_at s.lines (length s.lines - 1)) (statement_at s n r) (statements_from s (suc n) (q ∷ rs)) one.on
+    reach_joined reached (line_of_statement s.lines (length s.lines - 1)) (statement_at s n r) (statements_from s (suc n) (q ∷ rs)) one.on
     (body_reaches s (suc n) (past reached (map clause.Runs (statement_at s n r))) q rs rise (omega (arith, size)) one.some (omega (arith, low, next)))
 
 -- ---- lines of a listing
@@ -227,13 +227,13 @@ pub lines_count : (reached : ℕ) (lines : List ℕ) → length (lines_from reac
 lines_count reached [] = refl
 lines_count reached (line ∷ lines) = let more = lines_count (max reached line) lines in omega (arith, more)
 
-lines_last : (reached : ℕ) (line : ℕ) (lines : List ℕ) → line_at (lines_from reached (line ∷ lines)) (length (lines_from reached (line ∷ lines)) - 1) ≡ line_behind reached (line ∷ lines)
+lines_last : (reached : ℕ) (line : ℕ) (lines : List ℕ) → line_of_statement (lines_from reached (line ∷ lines)) (length (lines_from reached (line ∷ lines)) - 1) ≡ line_behind_statements reached (line ∷ lines)
 lines_last reached line [] = refl
 lines_last reached line (next ∷ lines) =
     let size : length (lines_from reached (line ∷ next ∷ lines)) - 1 ≡ suc (length (lines_from (max reached line) (next ∷ lines)) - 1) = omega arith in
-    ap (line_at (lines_from reached (line ∷ next ∷ lines))) size ∙ lines_last (max reached line) next lines
+    ap (line_of_statement (lines_from reached (line ∷ next ∷ lines))) size ∙ lines_last (max reached line) next lines
 
-line_later : (reached : ℕ) (lines : List ℕ) → reached ≤ line_behind reached lines
+line_later : (reached : ℕ) (lines : List ℕ) → reached ≤ line_behind_statements reached lines
 line_later reached [] = omega arith
 line_later reached (line ∷ lines) = let more = line_later (max reached line) lines in omega (arith, more)
 
@@ -244,7 +244,7 @@ abbrev pub HasLines : CodeBlock → Type 0
 HasLines b = length (runs b.code) ≡ length b.lines
 
 block_body : (ss : List Signature) (reached : ℕ) (b : CodeBlock) (rs : List Run) (lines : List ℕ) → length rs ≡ length lines → 1 ≤ reached
-    → Reaches (max reached (line_at lines 0)) (line_behind reached lines) (map clause.Runs (statements_from (surroundings ss (lines_from reached lines) b) 0 rs))
+    → Reaches (max reached (line_of_statement lines 0)) (line_behind_statements reached lines) (map clause.Runs (statements_from (surroundings ss (lines_from reached lines) b) 0 rs))
 block_body ss reached b [] [] e h = record { on = tt; some = omega (arith, h); low = omega arith }
 block_body ss reached b [] (line ∷ lines) e h = absurd (omega (arith, e))
 block_body ss reached b (r ∷ rs) [] e h = absurd (omega (arith, e))
@@ -272,17 +272,17 @@ reach_end reached last k cs h =
     let met = line_met (past reached cs) last (omega (arith, some, low)) low in
     record { on = on_joined reached cs (clause.Ends last k ∷ []) h.on (met, tt); same = past_joined reached cs (clause.Ends last k ∷ []) ∙ met }
 
-block_ends : (ss : List Signature) (r reached : ℕ) (b : CodeBlock) → HasLines b → 1 ≤ reached → r ≤ reached → Ends r (line_behind reached b.lines) (block_clauses (listed_block ss reached b))
+block_ends : (ss : List Signature) (r reached : ℕ) (b : CodeBlock) → HasLines b → 1 ≤ reached → r ≤ reached → Ends r (line_behind_statements reached b.lines) (block_clauses (listed_block ss reached b))
 unfolding block_clauses body_of
 block_ends ss r reached b e h le =
-    let line = max reached (first_line b) in
-    let last = line_behind reached b.lines in
-    let parts = sections line (formals_of ss b.id) b in
+    let line = max reached (first_statement_line b) in
+    let last = line_behind_statements reached b.lines in
+    let parts = section_parts line (formals_of_block ss b.id) b in
     let body = body_of ss (lines_from reached b.lines) b in
     let some : 1 ≤ line = omega (arith, h) in
     let ends = reach_end line last b.id.kind (map clause.Runs body) (block_body ss reached b (runs b.code) b.lines e h) in
     head_ends r line last b.id.kind _ _ _ some (omega (arith, le))
-    (stay_end line last (flat_map part_clauses parts) _ (parts_stay line parts some (sections_at line (formals_of ss b.id) b))
+    (stay_end line last (flat_map part_clauses parts) _ (parts_stay line parts some (sections_at line (formals_of_block ss b.id) b))
     (stay_end line last (begin_clauses b.id.kind) _ (begins_stay line b.id.kind some) ends))
 
 -- ---- blocks one behind the other
@@ -294,14 +294,14 @@ blocks_on : (ss : List Signature) (r reached : ℕ) (bs : List CodeBlock) (rest 
     → ((q : ℕ) → q ≤ line_reached reached bs → AreOnLines q (flat_map block_clauses rest)) → AreOnLines r (flat_map block_clauses (listed_blocks ss reached bs ++ rest))
 blocks_on ss r reached [] rest all h le k = k r le
 blocks_on ss r reached (b ∷ bs) rest (one, more) h le k =
-    let last = line_behind reached b.lines in
+    let last = line_behind_statements reached b.lines in
     let later = line_later reached b.lines in
     behind_block r last (listed_block ss reached b) (listed_blocks ss last bs ++ rest) (block_ends ss r reached b one h le)
     (blocks_on ss last last bs rest more (omega (arith, later, h)) (omega arith) k)
 
 reached_later : (reached : ℕ) (bs : List CodeBlock) → reached ≤ line_reached reached bs
 reached_later reached [] = omega arith
-reached_later reached (b ∷ bs) = let here = line_later reached b.lines in let more = reached_later (line_behind reached b.lines) bs in omega (arith, here, more)
+reached_later reached (b ∷ bs) = let here = line_later reached b.lines in let more = reached_later (line_behind_statements reached b.lines) bs in omega (arith, here, more)
 
 -- ---- data blocks
 
@@ -351,9 +351,9 @@ unfolding block_clauses line_of type_clauses
 data_ends ss r line number bytes None h le =
     let items = bytes_here line data_name (length bytes) (values_of bytes) in
     head_ends r line line _ _ _ _ h le (stay_ends line _
-    (stay_joined line (clause.Structure ∷ (declared_from 0 items ++ clause.EndStructure ∷ [])) _
-    (quiet_stays line clause.Structure (declared_from 0 items ++ clause.EndStructure ∷ []) h refl tt
-    (stay_joined line (declared_from 0 items) (clause.EndStructure ∷ []) (items_stay line items h (bytes_at line data_name (length bytes) (values_of bytes)))
+    (stay_joined line (clause.Structure ∷ (declaration_clauses_from 0 items ++ clause.EndStructure ∷ [])) _
+    (quiet_stays line clause.Structure (declaration_clauses_from 0 items ++ clause.EndStructure ∷ []) h refl tt
+    (stay_joined line (declaration_clauses_from 0 items) (clause.EndStructure ∷ []) (items_stay line items h (bytes_at line data_name (length bytes) (values_of bytes)))
     (quiet_stays line clause.EndStructure [] h refl tt (none_stay line))))
     (quiet_stays line clause.Begins _ h refl tt (last_stays line _ h))))
 data_ends ss r line number bytes (Some of_) h le =
@@ -370,7 +370,7 @@ data_on ss line (d ∷ ds) r h le =
 
 -- ---- the listing of a source's program
 
-pub all_have_lines : (bs : List StatedBlock) → AllByRecursion HasLines (map compiled bs)
+pub all_have_lines : (bs : List StatedBlock) → AllByRecursion HasLines (map compiled_block bs)
 all_have_lines [] = tt
 all_have_lines (b ∷ bs) = (ap length (runs_found b.statements) ∙ length-map b.statements _ ∙ sym (length-map b.statements _), all_have_lines bs)
 
@@ -378,7 +378,7 @@ pub placed_by : (p : Program) → AllByRecursion HasLines p.code_blocks → AreO
 unfolding listed_tree in_lines
 placed_by p h =
     let ss = signatures (chains_of p.code_blocks) p.code_blocks in
-    let blocks = sorted stands_before p.code_blocks in
+    let blocks = sorted_list stands_before p.code_blocks in
     let later = reached_later 1 blocks in
     blocks_on ss 0 1 blocks (listed_data_blocks ss (line_reached 1 blocks) p.data_blocks) (all_sorted HasLines stands_before p.code_blocks h) (omega arith) (omega arith)
     (λ q le. data_on ss (line_reached 1 blocks) p.data_blocks q (omega (arith, later)) le)

@@ -7,16 +7,16 @@ use Rattle.std.proofs.lemmas.List.{length-map}
 use Rattle.flat_code.proofs.PartLemmas.{all_of_blocks, chain_parts, good_block, good_head, head_params}
 use Rattle.flat_code.specs.Codes.{are_ops, code_layout, is_nowhere, stop_at}
 use Rattle.flat_code.specs.Forms.{payload_fits}
-use Rattle.flat_code.specs.Image.{IsProgram, after_data, block_number_layout, body, body_rows, bytes_fit, code_block_layout, code_blocks, contents, counts_layout, counts_of, data_block_layout, data_blocks_layout, data_length_layout, data_number_layout, data_row, data_rows, fields_of_data, instance_bytes, instance_field, local_length_layout, names, number_of_instance, parts_of_block, parts_of_records, plain_block, record_of_block, record_of_param, records, records_of, row_of_body_parts, zero_u16}
-use Rattle.flat_code.specs.Layout.{chain, good_many}
+use Rattle.flat_code.specs.Image.{IsProgram, after_data, block_number_layout, body_layout, body_rows, bytes_fit, code_block_layout, code_blocks_layout, contents_layout, counts_layout, counts_of, data_block_layout, data_blocks_layout, data_length_layout, data_number_layout, data_row, data_rows, fields_of_data, instance_bytes_layout, instance_field, local_length_layout, names_layout, number_of_instance, parts_of_block, parts_of_records, plain_block, record_of_block, record_of_param, records_layout, records_of, row_of_body_parts, zero_u16}
+use Rattle.flat_code.specs.Layout.{chain_layout, good_many}
 use Rattle.flat_code.specs.Ops.{OpData, is_op}
 use Rattle.flat_code.specs.Programs.{CodeBlock, DataBlock, Program}
 use Rattle.stl_ast.specs.Operands.{IsNumber}
-use Rattle.listing_laws.specs.Ranges.{IsWritten, IsWrittenBlock, IsWrittenProgram}
+use Rattle.listing_laws.specs.Ranges.{IsOffsetWritable, IsWrittenBlock, IsWrittenProgram}
 
 -- an op: the numbers of its operand are in the ranges of its form
 abbrev pub IsListedOp : OpData → Type 0
-IsListedOp op = (payload_fits op.operand ≡ true) × IsWritten op.operand
+IsListedOp op = (payload_fits op.operand ≡ true) × IsOffsetWritable op.operand
 
 -- a code block: its numbers fit their fields
 pub record IsListedCode (b : CodeBlock) : Type 0 where
@@ -61,8 +61,8 @@ local_fits : (kind n : ℕ) → (local_length_layout kind).good n ≡ true → n
 unfolding local_length_layout
 local_fits kind n good = ltb-true n 65536 (and_parts (nat_lt n 65536) _ good).0
 
-instance_fits : (kind n : ℕ) → (instance_bytes kind).good n ≡ true → n < 65536
-unfolding instance_bytes
+instance_fits : (kind n : ℕ) → (instance_bytes_layout kind).good n ≡ true → n < 65536
+unfolding instance_bytes_layout
 instance_fits kind n good = ltb-true n 65536 (and_parts (nat_lt n 65536) _ good).0
 
 pub ops_fit : (judged : Bool) (n : ℕ) (ops : List OpData) → (code_layout judged n).good ops ≡ true → are_ops ops ≡ true
@@ -87,7 +87,7 @@ payload_is : (op : OpData) → is_op op.code op.operand ≡ true → payload_fit
 unfolding is_op
 payload_is op e = (and_parts _ (payload_fits op.operand) e).1
 
-ops_listed : (ops : List OpData) → are_ops ops ≡ true → AllByRecursion (λ op. IsWritten op.operand) ops → AllByRecursion IsListedOp ops
+ops_listed : (ops : List OpData) → are_ops ops ≡ true → AllByRecursion (λ op. IsOffsetWritable op.operand) ops → AllByRecursion IsListedOp ops
 ops_listed [] good h = tt
 ops_listed (op ∷ ops) good (one, more) =
     let parts = and_parts (is_op op.code op.operand) (are_ops ops) good in
@@ -127,17 +127,17 @@ bytes_are (b ∷ bs) e =
     let parts = and_parts (nat_lt b 256) (bytes_fit bs) e in
     (ltb-true b 256 parts.0, bytes_are bs parts.1)
 
-contents_are : (n : ℕ) (bs : List ℕ) → (contents n).good bs ≡ true → AllByRecursion (λ b. b < 256) bs
-unfolding contents
+contents_are : (n : ℕ) (bs : List ℕ) → (contents_layout n).good bs ≡ true → AllByRecursion (λ b. b < 256) bs
+unfolding contents_layout
 contents_are n bs good = bytes_are bs (and_parts (length bs == n) (bytes_fit bs) (and_parts (length bs == n && bytes_fit bs) _ good).0).1
 
 data_listed : (before : ℕ × ℕ) (d : DataBlock) → (data_block_layout before).good d ≡ true → IsListedData d
 unfolding data_block_layout data_rows
 data_listed before d good =
-    let a = chain_parts (data_number_layout before.0) (λ number. chain instance_field (λ instance. chain (data_length_layout before.1) (λ n. chain zero_u16 (λ zero. contents n)))) (data_row (fields_of_data d)) good in
-    let b = chain_parts instance_field (λ instance. chain (data_length_layout before.1) (λ n. chain zero_u16 (λ zero. contents n))) (data_row (fields_of_data d)).1 a.1 in
-    let c = chain_parts (data_length_layout before.1) (λ n. chain zero_u16 (λ zero. contents n)) (data_row (fields_of_data d)).1.1 b.1 in
-    let f = chain_parts zero_u16 (λ zero. contents (length d.bytes)) (data_row (fields_of_data d)).1.1.1 c.1 in
+    let a = chain_parts (data_number_layout before.0) (λ number. chain_layout instance_field (λ instance. chain_layout (data_length_layout before.1) (λ n. chain_layout zero_u16 (λ zero. contents_layout n)))) (data_row (fields_of_data d)) good in
+    let b = chain_parts instance_field (λ instance. chain_layout (data_length_layout before.1) (λ n. chain_layout zero_u16 (λ zero. contents_layout n))) (data_row (fields_of_data d)).1 a.1 in
+    let c = chain_parts (data_length_layout before.1) (λ n. chain_layout zero_u16 (λ zero. contents_layout n)) (data_row (fields_of_data d)).1.1 b.1 in
+    let f = chain_parts zero_u16 (λ zero. contents_layout (length d.bytes)) (data_row (fields_of_data d)).1.1.1 c.1 in
     record {
       number = omega (arith, number_fits before.0 d.number a.0);
       instance_of = instance_of_fits d.instance_of b.0;
@@ -155,12 +155,12 @@ datas_listed s (suc n) (d ∷ ds) h =
 -- ---- programs
 
 pub program_listed : (p : Program) → IsProgram p → IsWrittenProgram p → IsListed p
-unfolding body records body_rows data_blocks_layout
+unfolding body_layout records_layout body_rows data_blocks_layout
 program_listed p is w =
     let row = row_of_body_parts (parts_of_records (records_of p)) in
-    let a = chain_parts counts_layout (λ c. chain (code_blocks false c.code_blocks) (λ blocks. chain (data_blocks_layout c.data_blocks) (λ datas. names c.names))) row is.good in
-    let b = chain_parts (code_blocks false (counts_of (records_of p)).code_blocks) (λ blocks. chain (data_blocks_layout (counts_of (records_of p)).data_blocks) (λ datas. names (counts_of (records_of p)).names)) row.1 a.1 in
-    let c = chain_parts (data_blocks_layout (counts_of (records_of p)).data_blocks) (λ datas. names (counts_of (records_of p)).names) row.1.1 b.1 in
+    let a = chain_parts counts_layout (λ c. chain_layout (code_blocks_layout false c.code_blocks) (λ blocks. chain_layout (data_blocks_layout c.data_blocks) (λ datas. names_layout c.names))) row is.good in
+    let b = chain_parts (code_blocks_layout false (counts_of (records_of p)).code_blocks) (λ blocks. chain_layout (data_blocks_layout (counts_of (records_of p)).data_blocks) (λ datas. names_layout (counts_of (records_of p)).names)) row.1 a.1 in
+    let c = chain_parts (data_blocks_layout (counts_of (records_of p)).data_blocks) (λ datas. names_layout (counts_of (records_of p)).names) row.1.1 b.1 in
     record {
       code_blocks = code_listed p.code_blocks (all_of_blocks false IsGoodCode good_code (counts_of (records_of p)).code_blocks p.code_blocks b.0) w;
       data_blocks = datas_listed (0, 0) (counts_of (records_of p)).data_blocks p.data_blocks c.0;

@@ -13,7 +13,7 @@ use Rattle.flat_code.specs.OpCodes.{op_code_of}
 use Rattle.flat_code.specs.Ops.{IsOp, OpData, is_op}
 use Rattle.flat_code.specs.declared.operands.Operand.TheVariants as flat
 use Rattle.flat_code.specs.declared.operands.Operand.{Operand as FlatOperand}
-use Rattle.stl_ast.specs.Statements.{is_empty}
+use Rattle.stl_ast.specs.Statements.{is_empty_statement}
 use Rattle.stl_ast.specs.WellFormed.{IsWellFormed}
 use Rattle.stl_ast.specs.declared.blocks.Block.{Block}
 use Rattle.stl_ast.specs.declared.blocks.Tree.{Tree}
@@ -22,31 +22,31 @@ use Rattle.block_layout.specs.declared.blocks.BlockLayout.{BlockLayout}
 use Rattle.stl_types.specs.Bodies.{first_context}
 use Rattle.stl_types.specs.Context.{Context}
 use Rattle.stl_types.specs.Labels.{rule_26}
-use Rattle.stl_codegen.specs.Compiled.{Stated, StatedBlock, aimed, code_in, compiled}
+use Rattle.stl_codegen.specs.Compiled.{SourceInstruction, StatedBlock, operand_with_target, code_in, compiled_block}
 use Rattle.stl_codegen.specs.Generated.{code_block, code_block_of, code_blocks_of, each_block, program_of}
 use Rattle.stl_codegen.specs.Order.{is_code_before}
 use Rattle.stl_list.specs.Mnemonics.{mnemonic_of, word_by}
 use Rattle.stl_list.specs.Runs.{Run, runs, runs_from}
 use Rattle.flat_code.specs.declared.operands.Passed.TheVariants as passed
 use Rattle.flat_code.specs.declared.operands.Passed.{Passed}
-use Rattle.stl_list.specs.Operands.{opened_by}
+use Rattle.stl_list.specs.Operands.{block_opened_by_ops}
 use Rattle.listing_laws.proofs.CompiledLemmas.{written_compiled}
 use Rattle.listing_laws.proofs.OpenedLemmas.{opened_right}
 use Rattle.listing_laws.specs.Opened.{ActsIn, OpensRight, PassesIn, PreparesIn}
 use Rattle.listing_laws.proofs.EndLemmas.{ends_free}
 use Rattle.listing_laws.proofs.RunLemmas.{runs_found}
 use Rattle.listing_laws.proofs.WordLemmas.{have_words}
-use Rattle.listing_laws.specs.Bodies.{IsEndFree, IsShown, IsSourceRun, PassesPlace, Prepares}
+use Rattle.listing_laws.specs.Bodies.{IsEndFree, IsLastOperandPrinted, IsSourceRun, PassesPlace, Prepares}
 use Rattle.listing_laws.specs.Labels.{HasWord}
-use Rattle.listing_laws.specs.Statements.{offset_in, run_of}
+use Rattle.listing_laws.specs.Statements.{statement_offset, run_of}
 use Rattle.stl_list.specs.CodeBlocks.{in_lines, line_reached, listed_block, listed_blocks}
 use Rattle.stl_list.specs.DataBlocks.{listed_data_blocks}
 use Rattle.stl_list.specs.Joined.{chains_of}
-use Rattle.stl_list.specs.Lines.{line_behind, lines_from, stands_before}
+use Rattle.stl_list.specs.Lines.{line_behind_statements, lines_from, stands_before}
 use Rattle.stl_list.specs.Listing.{listed_tree}
 use Rattle.stl_list.specs.Signatures.{Signature, signatures}
 use Rattle.print_laws.specs.Printed.{IsPrintable}
-use Rattle.print_laws.specs.Reading.{IsPrintable as IsReadable, IsPrintedBlock}
+use Rattle.print_laws.specs.Reading.{HasPrintedForms as IsReadable, IsPrintedBlock}
 use Rattle.listing_laws.proofs.BlockLemmas.{all_sorted, listed_printable}
 use Rattle.listing_laws.proofs.BodyLemmas.{AreBlocksWords, bodies_printed, words_of}
 use Rattle.listing_laws.proofs.FormLemmas.{IsHead, data_printed, frames_printed, program_heads}
@@ -54,8 +54,8 @@ use Rattle.listing_laws.proofs.NameLemmas.{AreSignatures, all_signatures, either
 use Rattle.listing_laws.proofs.PlaceLemmas.{HasLines, all_have_lines, lines_count, placed_by}
 use Rattle.listing_laws.proofs.RangeLemmas.{program_listed}
 use Rattle.listing_laws.specs.Forms.{IsPrintedFrame}
-use Rattle.listing_laws.specs.Ranges.{IsWritten, IsWrittenBlock, IsWrittenProgram}
-use Rattle.listing_laws.specs.Sources.{ActsOn, IsNamed, IsNamedProgram, IsSourceBlock, PassesOn, PreparesOn}
+use Rattle.listing_laws.specs.Ranges.{IsOffsetWritable, IsWrittenBlock, IsWrittenProgram}
+use Rattle.listing_laws.specs.Sources.{ActsOn, IsRunNamed, IsNamedProgram, IsSourceBlock, PassesPlaceOn, PreparesOn}
 
 signatures_words : (ss : List Signature) → AreSignatures ss → AreBlocksWords ss
 signatures_words [] h = tt
@@ -80,7 +80,7 @@ block_printed ss reached b known h frame = (
 blocks_printed : (ss : List Signature) (reached : ℕ) (bs : List CodeBlock) → AreBlocksWords ss → AllByRecursion IsSourceBlock bs → AllByRecursion IsPrintedFrame (listed_blocks ss reached bs)
     → AllByRecursion IsPrintedBlock (listed_blocks ss reached bs)
 blocks_printed ss reached [] known h frames = tt
-blocks_printed ss reached (b ∷ bs) known (one, more) (frame, frames) = (block_printed ss reached b known one frame, blocks_printed ss (line_behind reached b.lines) bs known more frames)
+blocks_printed ss reached (b ∷ bs) known (one, more) (frame, frames) = (block_printed ss reached b known one frame, blocks_printed ss (line_behind_statements reached b.lines) bs known more frames)
 
 have_lines : (bs : List CodeBlock) → AllByRecursion IsSourceBlock bs → AllByRecursion HasLines bs
 have_lines [] h = tt
@@ -108,13 +108,13 @@ source_printable p is w h = record { cut = listed_printable p is w; read = sourc
 -- ---- the program of a source
 
 abbrev HasOps : Run → Type 0
-HasOps r = AllByRecursion IsOp r.before × IsOp r.op × IsWritten r.op.operand
+HasOps r = AllByRecursion IsOp r.before × IsOp r.op × IsOffsetWritable r.op.operand
 
 ops_are : (ops : List OpData) → are_ops ops ≡ true → AllByRecursion IsOp ops
 ops_are [] e = tt
 ops_are (op ∷ ops) e = let parts = and_parts (is_op op.code op.operand) (are_ops ops) e in (parts.0, ops_are ops parts.1)
 
-runs_have_ops : (before ops : List OpData) → AllByRecursion IsOp before → AllByRecursion IsOp ops → AllByRecursion (λ op. IsWritten op.operand) ops → AllByRecursion HasOps (runs_from before ops)
+runs_have_ops : (before ops : List OpData) → AllByRecursion IsOp before → AllByRecursion IsOp ops → AllByRecursion (λ op. IsOffsetWritable op.operand) ops → AllByRecursion HasOps (runs_from before ops)
 runs_have_ops before [] h k w = tt
 runs_have_ops before (op ∷ ops) h (one, more) (here, there) =
     either_way (λ rs. AllByRecursion HasOps rs) op.last (record { before = before; op = op } ∷ runs_from [] ops) (runs_from (before ++ op ∷ []) ops)
@@ -125,9 +125,9 @@ unfolding runs
 block_ops b e w = runs_have_ops [] b.code tt (ops_are b.code e) w
 
 abbrev HasRunWord : Run → Type 0
-HasRunWord r = is_empty (mnemonic_of r.op) ≡ false
+HasRunWord r = is_empty_statement (mnemonic_of r.op) ≡ false
 
-word_aimed : (f : ℕ → ℕ) (code : ℕ) (o : FlatOperand) → word_by code (aimed f o) ≡ word_by code (aimed (λ n. n) o)
+word_aimed : (f : ℕ → ℕ) (code : ℕ) (o : FlatOperand) → word_by code (operand_with_target f o) ≡ word_by code (operand_with_target (λ n. n) o)
 word_aimed f code (flat.Jump kind target) = refl
 word_aimed f code _ = refl
 
@@ -138,9 +138,9 @@ word_same f (JumpsByList targets otherwise) = refl
 word_same f (Calls how id instance passings) = refl
 word_same f (Returns how) = refl
 
-runs_have_words : (f : ℕ → ℕ) (ss : List Stated) → AllByRecursion (λ s. HasWord s.instr) ss → AllByRecursion HasRunWord (map (λ s. run_of f s.instr) ss)
+runs_have_words : (f : ℕ → ℕ) (ss : List SourceInstruction) → AllByRecursion (λ s. HasWord s.instr) ss → AllByRecursion HasRunWord (map (λ s. run_of f s.instr) ss)
 runs_have_words f [] h = tt
-runs_have_words f (s ∷ ss) (one, more) = (ap is_empty (word_same f s.instr) ∙ one, runs_have_words f ss more)
+runs_have_words f (s ∷ ss) (one, more) = (ap is_empty_statement (word_same f s.instr) ∙ one, runs_have_words f ss more)
 
 abbrev HasWords : StatedBlock → Type 0
 HasWords b = AllByRecursion (λ s. HasWord s.instr) b.statements
@@ -160,7 +160,7 @@ program_words t symbols layouts =
     all_sorted HasWords is_code_before (each_block (λ c b l. code_block_of c b l l.id) (first_context symbols layouts t.blocks) t.blocks layouts)
     (blocks_have_words (first_context symbols layouts t.blocks) t.blocks layouts)
 
-passes_place : (p : Passed) → PassesIn p → PassesOn p → PassesPlace p
+passes_place : (p : Passed) → PassesIn p → PassesPlaceOn p → PassesPlace p
 passes_place (passed.Direct a w byte bit) h k = k
 passes_place (passed.InBlock number a w byte bit) h k = (h, k)
 passes_place _ h k = tt
@@ -173,13 +173,13 @@ all_prepare : (ops : List OpData) → AllByRecursion (λ op. PreparesIn op.opera
 all_prepare [] h k = tt
 all_prepare (op ∷ ops) (one, more) (on, others) = (prepares_place op.operand one on, all_prepare ops more others)
 
-shows : (before : List OpData) (code : ℕ) (o : FlatOperand) → ActsIn (opened_by before) o → IsWritten o → ActsOn before code o → IsShown before code o
+shows : (before : List OpData) (code : ℕ) (o : FlatOperand) → ActsIn (block_opened_by_ops before) o → IsOffsetWritable o → ActsOn before code o → IsLastOperandPrinted before code o
 shows before code (flat.Direct a w byte bit) h k on = (h, on)
 shows before code (flat.ByRegister a w register bits) h k on = k
 shows before code (flat.Called kind number instance) h k on = on
 shows before code _ h k on = tt
 
-runs_of_source : (rs : List Run) → AllByRecursion HasOps rs → AllByRecursion HasRunWord rs → AllByRecursion OpensRight rs → AllByRecursion IsNamed rs → AllByRecursion IsSourceRun rs
+runs_of_source : (rs : List Run) → AllByRecursion HasOps rs → AllByRecursion HasRunWord rs → AllByRecursion OpensRight rs → AllByRecursion IsRunNamed rs → AllByRecursion IsSourceRun rs
 runs_of_source [] ops words opens named = tt
 runs_of_source (r ∷ rs) (op, ops) (word, words) (open_, opens) (one, more) = (
   record {
@@ -192,14 +192,14 @@ runs_of_source (r ∷ rs) (op, ops) (word, words) (open_, opens) (one, more) = (
   runs_of_source rs ops words opens more,
 )
 
-all_source : (bs : List StatedBlock) → AllByRecursion HasWords bs → AllByRecursion IsHead (map compiled bs) → AllByRecursion IsWrittenBlock (map compiled bs)
-    → AllByRecursion (λ b. IsEndFree (length b.lines) b) (map compiled bs) → AllByRecursion (λ b. AllByRecursion OpensRight (runs b.code)) (map compiled bs)
-    → AllByRecursion (λ b. AllByRecursion IsNamed (runs b.code)) (map compiled bs) → AllByRecursion HasLines (map compiled bs) → AllByRecursion IsSourceBlock (map compiled bs)
+all_source : (bs : List StatedBlock) → AllByRecursion HasWords bs → AllByRecursion IsHead (map compiled_block bs) → AllByRecursion IsWrittenBlock (map compiled_block bs)
+    → AllByRecursion (λ b. IsEndFree (length b.lines) b) (map compiled_block bs) → AllByRecursion (λ b. AllByRecursion OpensRight (runs b.code)) (map compiled_block bs)
+    → AllByRecursion (λ b. AllByRecursion IsRunNamed (runs b.code)) (map compiled_block bs) → AllByRecursion HasLines (map compiled_block bs) → AllByRecursion IsSourceBlock (map compiled_block bs)
 all_source [] words heads writes ends opens named lines = tt
 all_source (b ∷ bs) (word, words) (head, heads) (written, writes) (end, ends) (open_, opens) (one, named) (count, lines) = (
   record {
-    statements = runs_of_source (runs (code_in b.statements)) (block_ops (compiled b) head.code written)
-        (subst (λ (rs : List Run). AllByRecursion HasRunWord rs) (sym (runs_found b.statements)) (runs_have_words (offset_in b.statements) b.statements word)) open_ one;
+    statements = runs_of_source (runs (code_in b.statements)) (block_ops (compiled_block b) head.code written)
+        (subst (λ (rs : List Run). AllByRecursion HasRunWord rs) (sym (runs_found b.statements)) (runs_have_words (statement_offset b.statements) b.statements word)) open_ one;
     count = count;
     end = end;
   },

@@ -14,13 +14,13 @@ use Rattle.flat_code.specs.declared.operands.Passed.{Passed}
 use Rattle.stl_types.specs.declared.parameters.Formal.{Formal}
 use Rattle.stl_list.specs.Actuals.{actual_for, actual_here, actuals_by}
 use Rattle.stl_list.specs.Joined.{called_id}
-use Rattle.stl_list.specs.Labels.{label_of}
-use Rattle.stl_list.specs.Lines.{line_at}
-use Rattle.stl_list.specs.Operands.{opened_by}
+use Rattle.stl_list.specs.Labels.{label_of_number}
+use Rattle.stl_list.specs.Lines.{line_of_statement}
+use Rattle.stl_list.specs.Operands.{block_opened_by_ops}
 use Rattle.stl_list.specs.Runs.{Run, runs, runs_from}
 use Rattle.stl_list.specs.Signatures.{Signature, called_formals}
-use Rattle.stl_list.specs.Statements.{Surroundings, body_of, label_at, label_of_end, statement, statement_at, statements_from, surroundings}
-use Rattle.print_laws.specs.Standing.{IsName, IsPrintableActual, IsPrintableLabel, IsPrintableStatement}
+use Rattle.stl_list.specs.Statements.{Surroundings, body_of, label_at, label_of_end, listed_statement, statement_at, statements_from, surroundings}
+use Rattle.print_laws.specs.Standing.{IsNonTitleName, IsPrintableActual, IsPrintableLabel, IsPrintableStatement}
 use Rattle.listing_laws.proofs.NameLemmas.{AreFormals, AreSignatures, all_joined, block_named, called_named, either_way, label_is}
 use Rattle.listing_laws.proofs.OperandLemmas.{named_at, opened_is, operand_is, passed_is}
 use Rattle.listing_laws.proofs.RangeLemmas.{IsListedOp}
@@ -39,7 +39,7 @@ runs_listed before (op ∷ ops) h (one, more) =
 
 -- ---- actual parameters
 
-for_is : (line : ℕ) (formals : List Formal) (o : Option Formal) (p : Passed) → AreFormals formals → MatchOption o (Unit {0}) (λ f. IsName f.name) → actual_fits p ≡ true → AllByRecursion IsPrintableActual (actual_for line formals o p)
+for_is : (line : ℕ) (formals : List Formal) (o : Option Formal) (p : Passed) → AreFormals formals → MatchOption o (Unit {0}) (λ f. IsNonTitleName f.name) → actual_fits p ≡ true → AllByRecursion IsPrintableActual (actual_for line formals o p)
 for_is line formals None p named f e = tt
 for_is line formals (Some f) p named name e = ((name, passed_is formals f p named e), tt)
 
@@ -60,24 +60,24 @@ actuals_are ss line formals before _ known named h = tt
 -- ---- statements
 
 label_printable : (targets : List Bool) (n : ℕ) → IsPrintableLabel (label_at targets n)
-label_printable targets n = either_way IsPrintableLabel (unwrap_or (slice_get targets n) false) (Some (label_of n)) None (label_is n) tt
+label_printable targets n = either_way IsPrintableLabel (unwrap_or (slice_get targets n) false) (Some (label_of_number n)) None (label_is n) tt
 
 end_printable : (line : ℕ) (label : Option (List ℕ)) → IsPrintableLabel label → AllByRecursion IsPrintableStatement (label_of_end line label)
 end_printable line None h = tt
 end_printable line (Some label) h = ((h, tt, tt), tt)
 
-statement_printable : (s : Surroundings) (n : ℕ) (r : Run) → AreSignatures s.signatures → AreFormals s.formals → IsListedRun r → IsPrintableStatement (statement s n r)
+statement_printable : (s : Surroundings) (n : ℕ) (r : Run) → AreSignatures s.signatures → AreFormals s.formals → IsListedRun r → IsPrintableStatement (listed_statement s n r)
 statement_printable s n r known named (before, op) = (
   label_printable s.targets n,
-  operand_is s.formals s.starts (opened_by r.before) (operation_of r.op.code) r.op.operand named (opened_is r.before before) op.0 op.1,
-  actuals_are s.signatures (line_at s.lines n) s.formals r.before r.op.operand known named before,
+  operand_is s.formals s.starts (block_opened_by_ops r.before) (operation_of r.op.code) r.op.operand named (opened_is r.before before) op.0 op.1,
+  actuals_are s.signatures (line_of_statement s.lines n) s.formals r.before r.op.operand known named before,
 )
 
 at_printable : (s : Surroundings) (n : ℕ) (r : Run) → AreSignatures s.signatures → AreFormals s.formals → IsListedRun r → AllByRecursion IsPrintableStatement (statement_at s n r)
 unfolding statement_at
 at_printable s n r known named h =
-    either_way (λ l. AllByRecursion IsPrintableStatement l) (suc n == length s.lines) (label_of_end (line_at s.lines n) (label_at s.targets n)) (statement s n r ∷ [])
-    (end_printable (line_at s.lines n) (label_at s.targets n) (label_printable s.targets n)) (statement_printable s n r known named h, tt)
+    either_way (λ l. AllByRecursion IsPrintableStatement l) (suc n == length s.lines) (label_of_end (line_of_statement s.lines n) (label_at s.targets n)) (listed_statement s n r ∷ [])
+    (end_printable (line_of_statement s.lines n) (label_at s.targets n) (label_printable s.targets n)) (statement_printable s n r known named h, tt)
 
 from_printable : (s : Surroundings) (n : ℕ) (rs : List Run) → AreSignatures s.signatures → AreFormals s.formals → AllByRecursion IsListedRun rs → AllByRecursion IsPrintableStatement (statements_from s n rs)
 from_printable s n [] known named h = tt

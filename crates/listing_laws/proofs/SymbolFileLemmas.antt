@@ -18,10 +18,10 @@ use Rattle.stl_lexer.specs.Marks.{mark_text}
 use Rattle.stl_codegen.specs.Generated.{has_name}
 use Rattle.stl_list.specs.Symbols.{address_text, listed_names, name_text, symbols_writer}
 use Rattle.stl_list.specs.Operands.{read_letters}
-use Rattle.stl_list.specs.Parameters.{plain_kind}
-use Rattle.stl_print.specs.Operands.{address, bit_pieces}
+use Rattle.stl_list.specs.Parameters.{kind_of_width}
+use Rattle.stl_print.specs.Operands.{address_pieces, bit_pieces}
 use Rattle.stl_print.specs.Pieces.{with_pieces}
-use Rattle.stl_print.specs.Words.{address_letters as letters_for, type_word}
+use Rattle.stl_print.specs.Words.{letters_of_address as letters_for, type_word}
 use Rattle.stl_print.specs.declared.gaps.Gap.TheVariants as gap
 use Rattle.stl_symbols.specs.Symbol.{IsFirstBit, Symbol, symbol_named}
 use Rattle.stl_symbols.specs.Symbols.{and_then_lines, most_symbols, symbols_in, with_columns, with_declaration, with_line, with_lines, with_symbol}
@@ -131,7 +131,7 @@ wide_line a w byte has low =
     both_lines (letters_for (read_letters a) w ++ 32 ∷ []) (decimal byte) (both_lines (letters_for (read_letters a) w) (32 ∷ []) (plain_letters a w has).2 refl) (digits_line byte low)
 
 address_line : (a : Area) (w : Width) (byte bit : ℕ) → has_name a ≡ true → byte ≤ 65535 → IsFirstBit w bit
-    → IsLine (with_pieces [] (address gap.Nothing (read_letters a) w byte bit))
+    → IsLine (with_pieces [] (address_pieces gap.Nothing (read_letters a) w byte bit))
 unfolding bit_pieces mark_text
 address_line a width.Bit byte bit has low few =
     let word : List ℕ = letters_for (read_letters a) width.Bit in
@@ -143,7 +143,7 @@ address_line a width.Byte byte bit has low first = wide_line a width.Byte byte h
 address_line a width.Word byte bit has low first = wide_line a width.Word byte has low
 address_line a width.Dword byte bit has low first = wide_line a width.Dword byte has low
 
-kind_line : (w : Width) → IsLine (type_word (plain_kind w))
+kind_line : (w : Width) → IsLine (type_word (kind_of_width w))
 unfolding type_word
 kind_line width.Bit = refl
 kind_line width.Byte = refl
@@ -153,7 +153,7 @@ kind_line width.Dword = refl
 line_is : (e : NameEntry) → IsNamed e → IsLine (line_of e)
 line_is e is =
     both_lines (34 ∷ (escaped symbols_writer e.name ++ 34 ∷ [])) _ (quoted_line e.name is.line)
-    (fields_line (address_text e ∷ type_word (plain_kind e.width) ∷ [] ∷ []) (address_line e.place.area e.width e.place.byte e.place.bit is.has is.byte is.bit, (kind_line e.width, (refl, tt))))
+    (fields_line (address_text e ∷ type_word (kind_of_width e.width) ∷ [] ∷ []) (address_line e.place.area e.width e.place.byte e.place.bit is.has is.byte is.bit, (kind_line e.width, (refl, tt))))
 
 ends_fields : (x : List ℕ) (rest : List (List ℕ)) → EndsQuoted (fields_text symbols_writer (x ∷ rest))
 unfolding fields_text
@@ -163,7 +163,7 @@ ends_fields x (y ∷ rest) = ends_behind (44 ∷ (34 ∷ (escaped symbols_writer
 line_ends : (e : NameEntry) → strip_carriage_return (line_of e) ≡ line_of e
 line_ends e =
     unstripped (line_of e)
-    (ends_behind (34 ∷ (escaped symbols_writer e.name ++ 34 ∷ [])) _ (ends_fields (address_text e) (type_word (plain_kind e.width) ∷ [] ∷ [])))
+    (ends_behind (34 ∷ (escaped symbols_writer e.name ++ 34 ∷ [])) _ (ends_fields (address_text e) (type_word (kind_of_width e.width) ∷ [] ∷ [])))
 
 pub listed_lines : (es : List NameEntry) → AllByRecursion IsNamed es → lines (listed_names es) ≡ map line_of es
 unfolding listed_names

@@ -26,17 +26,17 @@ use Rattle.flat_code.specs.Programs.{NameEntry}
 use Rattle.stl_codegen.specs.Generated.{has_name}
 use Rattle.stl_lexer.specs.Marks.{mark_text}
 use Rattle.stl_list.specs.Operands.{read_letters}
-use Rattle.stl_list.specs.Parameters.{plain_kind}
+use Rattle.stl_list.specs.Parameters.{kind_of_width}
 use Rattle.stl_list.specs.Symbols.{address_text, fields_of, name_text, symbols_writer}
-use Rattle.stl_print.specs.Operands.{address, bit_pieces}
+use Rattle.stl_print.specs.Operands.{address_pieces, bit_pieces}
 use Rattle.stl_print.specs.Pieces.{with_pieces}
-use Rattle.stl_print.specs.Words.{address_letters as letters_for, area_letters, bit_letter, size_letter, type_word, width_letter}
+use Rattle.stl_print.specs.Words.{letters_of_address as letters_for, area_letters, bit_letter, size_letter, type_word, width_letter}
 use Rattle.stl_print.specs.declared.gaps.Gap.TheVariants as gap
-use Rattle.stl_symbols.specs.Address.{address_letters, address_of, bit_address, has_type, look_up, number_of, numbered, types_of, variable}
-use Rattle.stl_symbols.specs.Line.{columns, only_record}
+use Rattle.stl_symbols.specs.Address.{address_letters, address_of, bit_address, has_type, letters_spelled_as, number_of_address, numbered_address, type_names_of_width, variable_address}
+use Rattle.stl_symbols.specs.Line.{columns_of_line, only_record}
 use Rattle.stl_symbols.specs.Symbol.{IsFirstBit, Symbol}
 use Rattle.stl_symbols.specs.declared.targets.Target.TheVariants.{Variable}
-use Rattle.stl_symbols.specs.Symbols.{declaration_of, is_name, without_blanks, without_last_blanks}
+use Rattle.stl_symbols.specs.Symbols.{declaration_in_columns, is_name, without_blanks, without_last_blanks}
 use Rattle.stl_symbols.specs.declared.languages.Language.TheVariants.{English}
 use Rattle.print_laws.proofs.lexing.Numerals.{all_weaker, numeral}
 use Rattle.listing_laws.specs.Names.{symbol_of}
@@ -88,9 +88,9 @@ unfolding only_record next_record
 one_record x rest =
     rw (append_assoc (escaped symbols_writer x) (34 ∷ []) (fields_text symbols_writer rest), bare (escaped symbols_writer x ++ 34 ∷ fields_text symbols_writer rest), run [] x rest) refl
 
-pub columns_are : (e : NameEntry) → columns (line_of e) ≡ Some (record { name = e.name; address = address_text e; kind = type_word (plain_kind e.width) })
-unfolding columns
-columns_are e = rw (one_record e.name (address_text e ∷ type_word (plain_kind e.width) ∷ [] ∷ [])) refl
+pub columns_are : (e : NameEntry) → columns_of_line (line_of e) ≡ Some (record { name = e.name; address = address_text e; kind = type_word (kind_of_width e.width) })
+unfolding columns_of_line
+columns_are e = rw (one_record e.name (address_text e ∷ type_word (kind_of_width e.width) ∷ [] ∷ [])) refl
 
 -- ---- the name
 
@@ -140,7 +140,7 @@ no_point b h = grind (arith, nat_tests)
 
 -- letters and what stands behind them
 letters_read : (word digits after : List ℕ) → list_all (λ b. not (is_ascii_digit b)) word ≡ true → list_all is_ascii_digit digits ≡ true → 0 < length digits
-    → address_of English (word ++ (digits ++ after)) ≡ option_and_then (λ l. numbered l (digits ++ after)) (look_up English address_letters word)
+    → address_of English (word ++ (digits ++ after)) ≡ option_and_then (λ l. numbered_address l (digits ++ after)) (letters_spelled_as English address_letters word)
 unfolding address_of
 letters_read word digits after plain are some =
     let size : prefix_len (λ b. not (is_ascii_digit b)) (word ++ (digits ++ after)) ≡ length word =
@@ -148,7 +148,7 @@ letters_read word digits after plain are some =
     rw (size, take-append_seam word (digits ++ after), drop-append_seam word (digits ++ after)) refl
 
 -- a bit: its byte, a point, and its number
-bit_read : (a : Area) (byte bit : ℕ) → byte ≤ 65535 → bit ≤ 7 → bit_address a (decimal byte ++ 46 ∷ decimal bit) ≡ Some (variable a width.Bit byte bit)
+bit_read : (a : Area) (byte bit : ℕ) → byte ≤ 65535 → bit ≤ 7 → bit_address a (decimal byte ++ 46 ∷ decimal bit) ≡ Some (variable_address a width.Bit byte bit)
 unfolding bit_address
 bit_read a byte bit low few =
     let d = numeral byte (omega (arith, low)) in
@@ -181,8 +181,8 @@ plain_letters _ w h = absurd cc
 
 -- what they stand for
 bit_letters : (a : Area) (text : List ℕ) → has_name a ≡ true
-    → option_and_then (λ l. numbered l text) (look_up English address_letters (letters_for (read_letters a) width.Bit)) ≡ bit_address a text
-unfolding area_letters size_letter bit_letter width_letter look_up address_letters
+    → option_and_then (λ l. numbered_address l text) (letters_spelled_as English address_letters (letters_for (read_letters a) width.Bit)) ≡ bit_address a text
+unfolding area_letters size_letter bit_letter width_letter letters_spelled_as address_letters
 bit_letters area.I text h = refl
 bit_letters area.Q text h = refl
 bit_letters area.M text h = refl
@@ -193,8 +193,8 @@ is_bit width.Bit = true
 is_bit _ = false
 
 wide_letters : (a : Area) (w : Width) (text : List ℕ) → has_name a ≡ true → is_bit w ≡ false
-    → option_and_then (λ l. numbered l text) (look_up English address_letters (letters_for (read_letters a) w)) ≡ option_map (λ n. variable a w n 0) (number_of text)
-unfolding area_letters size_letter bit_letter width_letter look_up address_letters
+    → option_and_then (λ l. numbered_address l text) (letters_spelled_as English address_letters (letters_for (read_letters a) w)) ≡ option_map (λ n. variable_address a w n 0) (number_of_address text)
+unfolding area_letters size_letter bit_letter width_letter letters_spelled_as address_letters
 wide_letters a width.Bit text h b = absurd cc
 wide_letters area.I width.Byte text h b = refl
 wide_letters area.I width.Word text h b = refl
@@ -221,7 +221,7 @@ bit_joined word byte bit plain are few =
 
 -- the address of a name
 bit_named : (a : Area) (byte bit : ℕ) → has_name a ≡ true → byte ≤ 65535 → bit ≤ 7
-    → address_of English (without_blanks (with_pieces [] (address gap.Nothing (read_letters a) width.Bit byte bit))) ≡ Some (variable a width.Bit byte bit)
+    → address_of English (without_blanks (with_pieces [] (address_pieces gap.Nothing (read_letters a) width.Bit byte bit))) ≡ Some (variable_address a width.Bit byte bit)
 unfolding without_blanks bit_pieces mark_text
 bit_named a byte bit has low few =
     let word : List ℕ = letters_for (read_letters a) width.Bit in
@@ -234,7 +234,7 @@ bit_named a byte bit has low few =
     ∙ bit_read a byte bit low few
 
 wide_named : (a : Area) (w : Width) (byte : ℕ) → has_name a ≡ true → is_bit w ≡ false → byte ≤ 65535
-    → address_of English (without_blanks ((letters_for (read_letters a) w ++ 32 ∷ []) ++ decimal byte)) ≡ Some (variable a w byte 0)
+    → address_of English (without_blanks ((letters_for (read_letters a) w ++ 32 ∷ []) ++ decimal byte)) ≡ Some (variable_address a w byte 0)
 unfolding without_blanks
 wide_named a w byte has b low =
     let word : List ℕ = letters_for (read_letters a) w in
@@ -242,22 +242,22 @@ wide_named a w byte has b low =
     let plain = plain_letters a w has in
     ap (λ (t : List ℕ). address_of English t) (joined word byte plain.1 d.digits ∙ ap (λ (t : List ℕ). word ++ t) (sym (append-nil (decimal byte))))
     ∙ letters_read word (decimal byte) [] plain.0 d.digits d.some
-    ∙ ap (λ (t : List ℕ). option_and_then (λ l. numbered l t) (look_up English address_letters word)) (append-nil (decimal byte))
+    ∙ ap (λ (t : List ℕ). option_and_then (λ l. numbered_address l t) (letters_spelled_as English address_letters word)) (append-nil (decimal byte))
     ∙ wide_letters a w (decimal byte) has b
-    ∙ ap (option_map (λ n. variable a w n 0)) (number_read 65535 byte low (omega (arith, low)))
+    ∙ ap (option_map (λ n. variable_address a w n 0)) (number_read 65535 byte low (omega (arith, low)))
 
 address_named : (a : Area) (w : Width) (byte bit : ℕ) → has_name a ≡ true → byte ≤ 65535 → IsFirstBit w bit
-    → address_of English (without_blanks (with_pieces [] (address gap.Nothing (read_letters a) w byte bit))) ≡ Some (variable a w byte bit)
+    → address_of English (without_blanks (with_pieces [] (address_pieces gap.Nothing (read_letters a) w byte bit))) ≡ Some (variable_address a w byte bit)
 unfolding bit_pieces
 address_named a width.Bit byte bit has low first = bit_named a byte bit has low first
-address_named a width.Byte byte bit has low first = wide_named a width.Byte byte has refl low ∙ ap (λ n. Some (variable a width.Byte byte n)) (sym first)
-address_named a width.Word byte bit has low first = wide_named a width.Word byte has refl low ∙ ap (λ n. Some (variable a width.Word byte n)) (sym first)
-address_named a width.Dword byte bit has low first = wide_named a width.Dword byte has refl low ∙ ap (λ n. Some (variable a width.Dword byte n)) (sym first)
+address_named a width.Byte byte bit has low first = wide_named a width.Byte byte has refl low ∙ ap (λ n. Some (variable_address a width.Byte byte n)) (sym first)
+address_named a width.Word byte bit has low first = wide_named a width.Word byte has refl low ∙ ap (λ n. Some (variable_address a width.Word byte n)) (sym first)
+address_named a width.Dword byte bit has low first = wide_named a width.Dword byte has refl low ∙ ap (λ n. Some (variable_address a width.Dword byte n)) (sym first)
 
 -- ---- the type
 
-kind_right : (a : Area) (w : Width) (byte bit : ℕ) → has_type (variable a w byte bit) (without_last_blanks (type_word (plain_kind w))) ≡ true
-unfolding has_type types_of without_last_blanks type_word
+kind_right : (a : Area) (w : Width) (byte bit : ℕ) → has_type (variable_address a w byte bit) (without_last_blanks (type_word (kind_of_width w))) ≡ true
+unfolding has_type type_names_of_width without_last_blanks type_word
 kind_right a width.Bit byte bit = refl
 kind_right a width.Byte byte bit = refl
 kind_right a width.Word byte bit = refl
@@ -270,8 +270,8 @@ symbol_is : (e : NameEntry) → e.place.number ≡ 0
 symbol_is e h = ap (λ (n : ℕ). record { name = e.name; target = Variable (record { area = e.place.area; number = n; byte = e.place.byte; bit = e.place.bit }) e.width }) (sym h)
 
 pub line_declares : (e : NameEntry) → IsNamed e
-    → declaration_of English (record { name = e.name; address = address_text e; kind = type_word (plain_kind e.width) }) ≡ Some (Some (symbol_of e))
-unfolding declaration_of
+    → declaration_in_columns English (record { name = e.name; address = address_text e; kind = type_word (kind_of_width e.width) }) ≡ Some (Some (symbol_of e))
+unfolding declaration_in_columns
 line_declares e is =
     rw (no_last_blanks e.name is.ends, name_right e.name is.some is.short, address_named e.place.area e.width e.place.byte e.place.bit is.has is.byte is.bit, kind_right e.place.area e.width e.place.byte e.place.bit)
     (ap (λ (s : Symbol). Some (Some s)) (symbol_is e is.number))

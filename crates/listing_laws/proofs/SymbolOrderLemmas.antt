@@ -13,14 +13,14 @@ use Rattle.plc_base.specs.Folding.{upper_case_name, is_same_name}
 use Rattle.plc_base.specs.Texts.{is_blank}
 use Rattle.plc_base.specs.declared.refusals.Refusal.{Refusal}
 use Rattle.flat_code.specs.Programs.{NameEntry}
-use Rattle.stl_codegen.specs.Generated.{has_name, name_entry, names_of}
-use Rattle.stl_codegen.specs.Order.{is_name_before, sorted}
+use Rattle.stl_codegen.specs.Generated.{has_name, name_entry, name_entries_of}
+use Rattle.stl_codegen.specs.Order.{is_name_before, sorted_list}
 use Rattle.stl_codegen.proofs.OrderLemmas.{names_ordered}
 use Rattle.stl_list.specs.Symbols.{listed_names}
-use Rattle.stl_symbols.specs.Laws.{AreApart, Passes}
-use Rattle.stl_symbols.specs.Line.{Columns, columns}
-use Rattle.stl_symbols.specs.Symbol.{IsSymbol, IsTarget, Symbol, symbol_named}
-use Rattle.stl_symbols.specs.Symbols.{and_then_lines, declaration_of, most_symbols, symbols_in, with_columns, with_declaration, with_line, with_lines, with_symbol}
+use Rattle.stl_symbols.specs.Laws.{SymbolNamesDiffer, EachBytePasses}
+use Rattle.stl_symbols.specs.Line.{Columns, columns_of_line}
+use Rattle.stl_symbols.specs.Symbol.{IsSymbol, IsSymbolTarget, Symbol, symbol_named}
+use Rattle.stl_symbols.specs.Symbols.{and_then_lines, declaration_in_columns, most_symbols, symbols_in, with_columns, with_declaration, with_line, with_lines, with_symbol}
 use Rattle.stl_symbols.specs.declared.languages.Language.{Language}
 use Rattle.stl_symbols.specs.declared.languages.Language.TheVariants.{English}
 use Rattle.stl_symbols.specs.declared.targets.Target.{Target}
@@ -34,13 +34,13 @@ use Rattle.listing_laws.proofs.SymbolFileLemmas.{Apart, IsLine, NotSame, ends_no
 
 -- ---- no name of a file's symbols has a line's end
 
-passes_from : (text : List ℕ) → IsLine text → Passes ends_no_line text
+passes_from : (text : List ℕ) → IsLine text → EachBytePasses ends_no_line text
 passes_from [] h = tt
 passes_from (b ∷ text) h =
     let parts = and_parts (ends_no_line b) (list_all ends_no_line text) h in
     (parts.0, passes_from text parts.1)
 
-line_from : (text : List ℕ) → Passes ends_no_line text → IsLine text
+line_from : (text : List ℕ) → EachBytePasses ends_no_line text → IsLine text
 line_from [] h = refl
 line_from (b ∷ text) h = rw (h.0) (line_from text h.1)
 
@@ -116,7 +116,7 @@ unfolding with_line
 line_alone language [] h = tt
 line_alone language (b ∷ line) h =
     ok_case (with_line language [] (b ∷ line)) AreLines (λ xs is.
-    all_weaken (λ s. Passes ends_no_line s.name) (λ s. IsLine s.name) xs (λ s. line_from s.name)
+    all_weaken (λ s. EachBytePasses ends_no_line s.name) (λ s. IsLine s.name) xs (λ s. line_from s.name)
     ((symbols_right language (b ∷ line) xs (is_file language b line xs h is)).bytes ends_no_line (passes_from (b ∷ line) h)))
 
 symbol_more : (xs : List Symbol) (x : Symbol) → AreLines (x ∷ []) → AreLines xs → IfOk (with_symbol xs x) AreLines
@@ -136,12 +136,12 @@ declared_more xs (Some (Some x)) h k = symbol_more xs x h k
 
 columns_more : (language : Language) (xs : List Symbol) (o : Option Columns) → IfOk (with_columns language [] o) AreLines → AreLines xs → IfOk (with_columns language xs o) AreLines
 columns_more language xs None h k = tt
-columns_more language xs (Some line) h k = declared_more xs (declaration_of language line) h k
+columns_more language xs (Some line) h k = declared_more xs (declaration_in_columns language line) h k
 
 line_more : (language : Language) (xs : List Symbol) (line : List ℕ) → IfOk (with_line language [] line) AreLines → AreLines xs → IfOk (with_line language xs line) AreLines
 unfolding with_line
 line_more language xs [] h k = k
-line_more language xs (b ∷ line) h k = columns_more language xs (columns (b ∷ line)) h k
+line_more language xs (b ∷ line) h k = columns_more language xs (columns_of_line (b ∷ line)) h k
 
 then_more : (number : ℕ) (more : List Symbol → Result (List Symbol) Refusal) (r : Result (List Symbol) ℕ) → IfOk r AreLines
     → ((next : List Symbol) → AreLines next → IfOk (more next) AreLines) → IfOk (and_then_lines number more r) AreLines
@@ -190,7 +190,7 @@ upper_ends name some h =
     still : (b : ℕ) → is_blank b ≡ false → is_blank (to_ascii_uppercase b) ≡ false
     still b e = grind (arith, nat_tests)
 
-entry_named : (name : List ℕ) (t : Target) → 1 ≤ length name → length name ≤ 24 → is_blank (get_or name (length name - 1) 0) ≡ false → IsLine name → IsTarget t
+entry_named : (name : List ℕ) (t : Target) → 1 ≤ length name → length name ≤ 24 → is_blank (get_or name (length name - 1) 0) ≡ false → IsLine name → IsSymbolTarget t
     → AllByRecursion IsNamed (name_entry name t)
 entry_named name (Variable place w) some short ends line is = by (has_name place.area) refl
   where
@@ -255,7 +255,7 @@ entry_apart name (Timer n) es h k = k
 entry_apart name (Counter n) es h k = k
 entry_apart name (Block id) es h k = k
 
-all_apart : (symbols : List Symbol) → AreApart symbols → Apart (entries_of symbols)
+all_apart : (symbols : List Symbol) → SymbolNamesDiffer symbols → Apart (entries_of symbols)
 all_apart [] h = tt
 all_apart (s ∷ symbols) h = entry_apart s.name s.target (entries_of symbols) (all_far s.name symbols h.0) (all_apart symbols h.1)
 
@@ -286,18 +286,18 @@ turned f e h = nat_list_eq_equiv.symm (upper_case_name e.name) (upper_case_name 
 
 -- ---- the law
 
-names_named : (language : Language) (file : List ℕ) (symbols : List Symbol) → symbols_in language file ≡ Ok symbols → AllByRecursion IsNamed (names_of symbols)
+names_named : (language : Language) (file : List ℕ) (symbols : List Symbol) → symbols_in language file ≡ Ok symbols → AllByRecursion IsNamed (name_entries_of symbols)
 names_named language file symbols are =
     all_sorted IsNamed is_name_before (entries_of symbols) (all_named symbols (symbols_right language file symbols are).each (names_lines language file symbols are))
 
 pub names_read : (language : Language) (file : List ℕ) (symbols : List Symbol) → symbols_in language file ≡ Ok symbols
-    → symbols_in English (listed_names (names_of symbols)) ≡ Ok (map symbol_of (names_of symbols))
+    → symbols_in English (listed_names (name_entries_of symbols)) ≡ Ok (map symbol_of (name_entries_of symbols))
 names_read language file symbols are =
     let right = symbols_right language file symbols are in
     let size = length_sorted is_name_before (entries_of symbols) in
     let few = all_few symbols in
     let most = right.few in
-    file_read (names_of symbols) (names_named language file symbols are) (pairs_sorted NotSame turned is_name_before (entries_of symbols) (all_apart symbols right.apart)) (omega (arith, size, few, most))
+    file_read (name_entries_of symbols) (names_named language file symbols are) (pairs_sorted NotSame turned is_name_before (entries_of symbols) (all_apart symbols right.apart)) (omega (arith, size, few, most))
 
 back : (es : List NameEntry) → AllByRecursion IsNamed es → entries_of (map symbol_of es) ≡ es
 back [] h = refl
@@ -307,7 +307,7 @@ back (e ∷ es) h =
     ∙ ap (λ (rest : List NameEntry). e ∷ rest) (back es h.1)
 
 pub names_kept : (language : Language) (file : List ℕ) (symbols : List Symbol) → symbols_in language file ≡ Ok symbols
-    → names_of (map symbol_of (names_of symbols)) ≡ names_of symbols
+    → name_entries_of (map symbol_of (name_entries_of symbols)) ≡ name_entries_of symbols
 names_kept language file symbols are =
-    ap (sorted is_name_before) (back (names_of symbols) (names_named language file symbols are))
-    ∙ in_order is_name_before (names_of symbols) (order_sorted is_name_before names_ordered.one_way (entries_of symbols))
+    ap (sorted_list is_name_before) (back (name_entries_of symbols) (names_named language file symbols are))
+    ∙ in_order is_name_before (name_entries_of symbols) (order_sorted is_name_before names_ordered.one_way (entries_of symbols))

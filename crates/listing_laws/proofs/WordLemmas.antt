@@ -14,7 +14,7 @@ use Rattle.flat_code.specs.declared.operations.EndOperation.{EndOperation}
 use Rattle.flat_code.specs.declared.operations.EndOperation.TheVariants as ends
 use Rattle.flat_code.specs.declared.operations.Operation.{Operation}
 use Rattle.flat_code.specs.declared.operations.Operation.TheVariants as operation
-use Rattle.stl_ast.specs.Statements.{is_empty}
+use Rattle.stl_ast.specs.Statements.{is_empty_statement}
 use Rattle.stl_ast.specs.declared.literals.Literal.TheVariants as literal
 use Rattle.stl_ast.specs.declared.mnemonics.Mnemonic.TheVariants as code
 use Rattle.stl_ast.specs.declared.operands.Numbered.{Numbered}
@@ -24,16 +24,16 @@ use Rattle.stl_ast.specs.declared.operands.Operand.TheVariants as operand
 use Rattle.stl_ast.specs.declared.statements.Statement.{Statement}
 use Rattle.plc_base.specs.declared.places.Area.{Area}
 use Rattle.stl_types.specs.Context.{Context}
-use Rattle.stl_types.specs.Resolved.{resolved}
+use Rattle.stl_types.specs.Resolved.{resolved_operand}
 use Rattle.stl_types.specs.declared.views.Register.{Register}
 use Rattle.stl_types.specs.declared.views.Register.TheVariants as register
 use Rattle.stl_types.specs.declared.views.ResolvedOperand.{ResolvedOperand}
 use Rattle.stl_types.specs.declared.views.ResolvedOperand.TheVariants as view
-use Rattle.stl_codegen.specs.Compiled.{Stated}
-use Rattle.stl_codegen.specs.Generated.{returning, stated_from, statements_of}
-use Rattle.stl_codegen.specs.Instruction.{call_instr, end_instr, filler, instr_by, instruction, jump_instr, resolved_instr, target_of, view_instr}
-use Rattle.stl_codegen.specs.Operands.{numbered_operand, opened_by, operand_of, register_operand}
-use Rattle.stl_codegen.specs.Operations.{add_operation, call_of, end_of, jump_of, load_operation, load_pointer_operation, operation_for, or_operation, store_pointer_operation, transfer_operation}
+use Rattle.stl_codegen.specs.Compiled.{SourceInstruction}
+use Rattle.stl_codegen.specs.Generated.{return_statement, stated_from, statements_of}
+use Rattle.stl_codegen.specs.Instruction.{call_instr, end_instr, filler_instruction, instr_by, instruction, jump_instr, resolved_instr, target_of, view_instr}
+use Rattle.stl_codegen.specs.Operands.{numbered_operand, block_opened_by_operand, flat_operand_of, register_operand}
+use Rattle.stl_codegen.specs.Operations.{add_operation, call_operation_of, end_operation_of, jump_operation_of, load_operation, load_pointer_operation, operation_for, or_operation, store_pointer_operation, transfer_operation}
 use Rattle.stl_list.specs.Mnemonics.{jump_word, word_by, word_of}
 use Rattle.listing_laws.specs.Labels.{AreCallWordsFound, AreEndWordsFound, AreJumpWordsFound, AreWordsFound, HasWord, HaveWords}
 use Rattle.listing_laws.proofs.RunLemmas.{unaimed}
@@ -250,7 +250,7 @@ end_words_found _ how h = absurd cc
 
 -- ---- the instructions of a source have words
 
-jump_has : (how : JumpOperation) → is_empty (jump_word (jump_number how)) ≡ false
+jump_has : (how : JumpOperation) → is_empty_statement (jump_word (jump_number how)) ≡ false
 unfolding jump_word
 jump_has jump.Ju = refl
 jump_has jump.Jl = refl
@@ -271,13 +271,13 @@ jump_has jump.Jmz = refl
 jump_has jump.Juo = refl
 jump_has jump.Loop = refl
 
-call_has : (how : CallOperation) → is_empty (word_of (op_code_of (operation.Call how))) ≡ false
+call_has : (how : CallOperation) → is_empty_statement (word_of (op_code_of (operation.Call how))) ≡ false
 unfolding word_of
 call_has calls.Call = refl
 call_has calls.Uc = refl
 call_has calls.Cc = refl
 
-end_has : (how : EndOperation) → is_empty (word_of (op_code_of (operation.End how))) ≡ false
+end_has : (how : EndOperation) → is_empty_statement (word_of (op_code_of (operation.End how))) ≡ false
 unfolding word_of
 end_has ends.Be = refl
 end_has ends.Bec = refl
@@ -300,8 +300,8 @@ numbered_plain numbered.Counter from byte n = refl
 numbered_plain numbered.Db from byte n = refl
 numbered_plain numbered.Di from byte n = refl
 
-pub operand_plain : (o : Operand) (v : ResolvedOperand) → IsPlain (operand_of o v)
-unfolding operand_of
+pub operand_plain : (o : Operand) (v : ResolvedOperand) → IsPlain (flat_operand_of o v)
+unfolding flat_operand_of
 operand_plain o (view.Register which) n = register_plain which n
 operand_plain o (view.NumberBy what from byte) n = numbered_plain what from byte n
 operand_plain o (view.Direct place width side declared) n = refl
@@ -316,32 +316,32 @@ operand_plain o (view.OfStatus which) n = refl
 operand_plain o (view.OpenBlock di number) n = refl
 operand_plain o _ n = refl
 
-filler_has : HasWord filler
+filler_has : HasWord filler_instruction
 unfolding word_of
 filler_has = refl
 
-does_has : (u : Option ℕ) (w : Operation) (o : FlatOperand) → IsPlain o → is_empty (word_of (op_code_of w)) ≡ false → HasWord (Does u w o)
-does_has u w o plain h = ap (λ (z : FlatOperand). is_empty (word_by (op_code_of w) z)) (unaimed o) ∙ ap is_empty (plain (op_code_of w)) ∙ h
+does_has : (u : Option ℕ) (w : Operation) (o : FlatOperand) → IsPlain o → is_empty_statement (word_of (op_code_of w)) ≡ false → HasWord (Does u w o)
+does_has u w o plain h = ap (λ (z : FlatOperand). is_empty_statement (word_by (op_code_of w) z)) (unaimed o) ∙ ap is_empty_statement (plain (op_code_of w)) ∙ h
 
-ended_has : (s : Statement) (v : ResolvedOperand) (found : Option EndOperation) → is_empty s.code ≡ false → jump_of s.code ≡ None → call_of s.code ≡ None → end_of s.code ≡ found
+ended_has : (s : Statement) (v : ResolvedOperand) (found : Option EndOperation) → is_empty_statement s.code ≡ false → jump_operation_of s.code ≡ None → call_operation_of s.code ≡ None → end_operation_of s.code ≡ found
     → HasWord (end_instr s v found)
 ended_has s v None some jumps calls e =
-    does_has (opened_by v) (operation_for s.code s.operand v) (operand_of s.operand v) (operand_plain s.operand v)
-    (ap is_empty (words_found s.code s.operand v (record { some = some; jumps = jumps; calls = calls; ends = e })) ∙ some)
+    does_has (block_opened_by_operand v) (operation_for s.code s.operand v) (flat_operand_of s.operand v) (operand_plain s.operand v)
+    (ap is_empty_statement (words_found s.code s.operand v (record { some = some; jumps = jumps; calls = calls; ends = e })) ∙ some)
 ended_has s v (Some how) some jumps calls e = end_has how
 
 call_has_word : (c : Context) (s : Statement) (how : CallOperation) (v : ResolvedOperand) → HasWord (call_instr c s how v)
 call_has_word c s how (view.Called id instance) = call_has how
 call_has_word c s how _ = filler_has
 
-called_has : (c : Context) (s : Statement) (v : ResolvedOperand) (found : Option CallOperation) → is_empty s.code ≡ false → jump_of s.code ≡ None → call_of s.code ≡ found
+called_has : (c : Context) (s : Statement) (v : ResolvedOperand) (found : Option CallOperation) → is_empty_statement s.code ≡ false → jump_operation_of s.code ≡ None → call_operation_of s.code ≡ found
     → HasWord (view_instr c s v found)
-called_has c s v None some jumps e = ended_has s v (end_of s.code) some jumps e refl
+called_has c s v None some jumps e = ended_has s v (end_operation_of s.code) some jumps e refl
 called_has c s v (Some how) some jumps e = call_has_word c s how v
 
-resolved_has : (c : Context) (s : Statement) (found : Option ResolvedOperand) → is_empty s.code ≡ false → jump_of s.code ≡ None → HasWord (resolved_instr c s found)
+resolved_has : (c : Context) (s : Statement) (found : Option ResolvedOperand) → is_empty_statement s.code ≡ false → jump_operation_of s.code ≡ None → HasWord (resolved_instr c s found)
 resolved_has c s None some jumps = filler_has
-resolved_has c s (Some v) some jumps = called_has c s v (call_of s.code) some jumps refl
+resolved_has c s (Some v) some jumps = called_has c s v (call_operation_of s.code) some jumps refl
 
 jump_has_word : (how : JumpOperation) (n target : ℕ) → HasWord (jump_instr how n target)
 jump_has_word jump.Jl n target = jump_has jump.Jl
@@ -363,26 +363,26 @@ jump_has_word jump.Jmz n target = jump_has jump.Jmz
 jump_has_word jump.Juo n target = jump_has jump.Juo
 jump_has_word jump.Loop n target = jump_has jump.Loop
 
-jumped_has : (c : Context) (body : List Statement) (n : ℕ) (s : Statement) (found : Option JumpOperation) → is_empty s.code ≡ false → jump_of s.code ≡ found → HasWord (instr_by c body n s found)
-jumped_has c body n s None some e = resolved_has c s (resolved c s) some e
+jumped_has : (c : Context) (body : List Statement) (n : ℕ) (s : Statement) (found : Option JumpOperation) → is_empty_statement s.code ≡ false → jump_operation_of s.code ≡ found → HasWord (instr_by c body n s found)
+jumped_has c body n s None some e = resolved_has c s (resolved_operand c s) some e
 jumped_has c body n s (Some how) some e = jump_has_word how n (target_of body s.operand)
 
-instruction_has : (c : Context) (body : List Statement) (n : ℕ) (s : Statement) → is_empty s.code ≡ false → HasWord (instruction c body n s)
+instruction_has : (c : Context) (body : List Statement) (n : ℕ) (s : Statement) → is_empty_statement s.code ≡ false → HasWord (instruction c body n s)
 unfolding instruction
-instruction_has c body n s some = jumped_has c body n s (jump_of s.code) some refl
+instruction_has c body n s some = jumped_has c body n s (jump_operation_of s.code) some refl
 
-abbrev AllHave : List Stated → Type 0
+abbrev AllHave : List SourceInstruction → Type 0
 AllHave ss = AllByRecursion (λ s. HasWord s.instr) ss
 
 stated_have : (c : Context) (body : List Statement) (n : ℕ) (ss : List Statement) → AllHave (stated_from c body n ss)
 stated_have c body n [] = tt
-stated_have c body n (s ∷ ss) = by (is_empty s.code) refl (stated_have c body n ss) (stated_have c body (suc n) ss)
+stated_have c body n (s ∷ ss) = by (is_empty_statement s.code) refl (stated_have c body n ss) (stated_have c body (suc n) ss)
   where
-    by : (b : Bool) → is_empty s.code ≡ b → AllHave (stated_from c body n ss) → AllHave (stated_from c body (suc n) ss)
+    by : (b : Bool) → is_empty_statement s.code ≡ b → AllHave (stated_from c body n ss) → AllHave (stated_from c body (suc n) ss)
         → AllHave (if b then stated_from c body n ss else record { instr = instruction c body n s; line = s.line } ∷ stated_from c body (suc n) ss)
     by true e more next = more
     by false e more next = (instruction_has c body n s e, next)
 
 pub have_words : HaveWords
 unfolding statements_of
-have_words c b = all_append (λ s. HasWord s.instr) (stated_from c b.body 0 b.body) (returning b ∷ []) (stated_have c b.body 0 b.body) (end_has ends.Be, tt)
+have_words c b = all_append (λ s. HasWord s.instr) (stated_from c b.body 0 b.body) (return_statement b ∷ []) (stated_have c b.body 0 b.body) (end_has ends.Be, tt)

@@ -7,11 +7,11 @@ use Rattle.stl_symbols.specs.Symbol.{Symbol}
 use Rattle.block_layout.specs.Blocks.{known_block}
 use Rattle.block_layout.specs.Layouts.{layouts_of}
 use Rattle.stl_types.specs.Bodies.{first_context}
-use Rattle.stl_types.specs.Context.{Context, ids}
+use Rattle.stl_types.specs.Context.{Context, source_block_ids}
 use Rattle.stl_codegen.specs.Generated.{program_of}
 use Rattle.sem_kept.specs.Accepted.{IsAccepted}
-use Rattle.listing_laws.specs.Chains.{AreKept}
-use Rattle.listing_laws.specs.HandedOn.{declared_in}
+use Rattle.listing_laws.specs.Chains.{AreTypesAsDeclared}
+use Rattle.listing_laws.specs.HandedOn.{declared_type_in}
 use Rattle.listing_laws.specs.Owned.{own_kinds}
 use Rattle.listing_laws.specs.SourceTypes.{OwesSource}
 
@@ -24,7 +24,7 @@ kinds_at c (Some place) = own_kinds (record c { block = place })
 abbrev pub declared_kinds : Tree → List Symbol → BlockId → List Simple
 declared_kinds t symbols id =
     kinds_at (first_context symbols (layouts_of t symbols) t.blocks)
-    (known_block id (ids (first_context symbols (layouts_of t symbols) t.blocks)))
+    (known_block id (source_block_ids (first_context symbols (layouts_of t symbols) t.blocks)))
 
 -- the bodies of an accepted source see its parameters so, and what they pass has these types
 abbrev pub AreAcceptedTypesOwed : Type 0
@@ -37,5 +37,5 @@ AreAcceptedTypesOwed =
 abbrev pub AreAcceptedTypesKept : Type 0
 AreAcceptedTypesKept =
     (source file : List ℕ) (symbols : List Symbol) (t : Tree) → IsAccepted source file symbols t
-    → AreKept (program_of t symbols (layouts_of t symbols)).code_blocks
-    (declared_in (declared_kinds t symbols) (program_of t symbols (layouts_of t symbols)).code_blocks)
+    → AreTypesAsDeclared (program_of t symbols (layouts_of t symbols)).code_blocks
+    (declared_type_in (declared_kinds t symbols) (program_of t symbols (layouts_of t symbols)).code_blocks)

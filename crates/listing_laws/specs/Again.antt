@@ -12,7 +12,7 @@ use Rattle.block_layout.specs.Layouts.{layouts_of}
 use Rattle.block_layout.specs.declared.blocks.BlockLayout.{BlockLayout}
 use Rattle.stl_types.specs.Bodies.{first_context}
 use Rattle.stl_types.specs.Context.{Context}
-use Rattle.stl_codegen.specs.Compiled.{compiled}
+use Rattle.stl_codegen.specs.Compiled.{compiled_block}
 use Rattle.stl_codegen.specs.Generated.{code_block}
 use Rattle.stl_list.specs.CodeBlocks.{in_lines, listed_block}
 use Rattle.stl_list.specs.Listing.{listed_tree}
@@ -59,12 +59,12 @@ pub record IsMadeOf (symbols : List Symbol) (t : Tree) (again place : ℕ) (b : 
     (l : BlockLayout) (id : BlockId) : Type 0 where
   pub source : IsCodeAt symbols t place b l id
   pub ordered : slice_get (in_lines (program_in symbols t).code_blocks) again
-      ≡ Some (compiled (code_block (context_at symbols t place) b l id))
+      ≡ Some (compiled_block (code_block (context_at symbols t place) b l id))
   pub reached : ℕ
   pub listed : slice_get (listed_again symbols t).blocks again
       ≡ Some (listed_block (signatures_in (program_in symbols t)) reached
-      (compiled (code_block (context_at symbols t place) b l id)))
-  pub stands : StandsBehind reached (compiled (code_block (context_at symbols t place) b l id))
+      (compiled_block (code_block (context_at symbols t place) b l id)))
+  pub stands : StandsBehind reached (compiled_block (code_block (context_at symbols t place) b l id))
 
 -- each code block of the listing of an accepted source's program was made of one of the source
 abbrev pub AreMadeOfSource : Type 0

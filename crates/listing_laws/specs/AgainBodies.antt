@@ -8,14 +8,14 @@ use Rattle.stl_ast.specs.declared.statements.Statement.{Statement}
 use Rattle.stl_symbols.specs.Symbol.{Symbol}
 use Rattle.block_layout.specs.Layouts.{layouts_of}
 use Rattle.block_layout.specs.declared.blocks.BlockLayout.{BlockLayout}
-use Rattle.stl_codegen.specs.Compiled.{StatedBlock, compiled, lines_in}
+use Rattle.stl_codegen.specs.Compiled.{StatedBlock, compiled_block, lines_in}
 use Rattle.stl_codegen.specs.Generated.{code_block, code_blocks_of, stated_from}
 use Rattle.stl_list.specs.Statements.{Surroundings, body_of, surroundings}
 use Rattle.sem_kept.specs.Accepted.{IsAccepted, program_in}
 use Rattle.listing_laws.specs.Again.{IsMadeOf, IsWholeAgain, again_at, context_at, listed_again}
 use Rattle.listing_laws.specs.Declared.{signatures_in}
 use Rattle.listing_laws.specs.ListedBodies.{AreKeptFrom}
-use Rattle.listing_laws.specs.Statements.{offset_in}
+use Rattle.listing_laws.specs.Statements.{statement_offset}
 
 -- the code block of a block of the source at a place
 abbrev pub made_block : (symbols : List Symbol) → Tree → (place : ℕ) → Block → BlockLayout → BlockId
@@ -25,12 +25,12 @@ made_block symbols t place b l id = code_block (context_at symbols t place) b l 
 -- its body in the listing, where it stands on its own lines
 abbrev pub body_again : (symbols : List Symbol) → Tree → StatedBlock → List Statement
 body_again symbols t x =
-    body_of (signatures_in (program_in symbols t)) (lines_in x.statements) (compiled x)
+    body_of (signatures_in (program_in symbols t)) (lines_in x.statements) (compiled_block x)
 
 -- what the statements of that body refer to
 abbrev pub around_again : (symbols : List Symbol) → Tree → StatedBlock → Surroundings
 around_again symbols t x =
-    surroundings (signatures_in (program_in symbols t)) (lines_in x.statements) (compiled x)
+    surroundings (signatures_in (program_in symbols t)) (lines_in x.statements) (compiled_block x)
 
 -- each listed statement of a block of the source comes to its instruction, at its place in the listing
 abbrev pub IsBodyKept : (symbols : List Symbol) → Tree → (others : List Symbol) → (again place : ℕ)
@@ -39,7 +39,7 @@ IsBodyKept symbols t others again place b l id =
     AreKeptFrom (again_at symbols t others again)
     (body_again symbols t (made_block symbols t place b l id))
     (around_again symbols t (made_block symbols t place b l id))
-    (offset_in (made_block symbols t place b l id).statements) 0
+    (statement_offset (made_block symbols t place b l id).statements) 0
     (stated_from (context_at symbols t place) b.body 0 b.body)
 
 -- so does each of all listed bodies
@@ -61,6 +61,6 @@ AreCodeBlocksKept =
     (source file : List ℕ) (symbols : List Symbol) (t : Tree)
     → IsAccepted source file symbols t → AreBytes source → AreBytes file → (others : List Symbol)
     → AreBodiesKeptIn symbols t others
-    → map compiled
+    → map compiled_block
     (code_blocks_of (listed_again symbols t) others (layouts_of (listed_again symbols t) others))
     ≡ (program_in symbols t).code_blocks

@@ -16,12 +16,12 @@ use Rattle.flat_code.specs.declared.operands.Passed.TheVariants as passed
 use Rattle.flat_code.specs.declared.operations.CallOperation.TheVariants as calls
 use Rattle.flat_code.specs.declared.operations.Operation.TheVariants as operation
 use Rattle.stl_ast.specs.Operands.{IsBitOf}
-use Rattle.stl_ast.specs.Statements.{is_empty}
+use Rattle.stl_ast.specs.Statements.{is_empty_statement}
 use Rattle.stl_types.specs.declared.parameters.Formal.{Formal}
 use Rattle.stl_lexer.specs.Forms.{is_word}
 use Rattle.stl_list.specs.Mnemonics.{mnemonic_of}
-use Rattle.stl_list.specs.Operands.{opened_by}
-use Rattle.stl_list.specs.Runs.{Run, runs, starts, targets}
+use Rattle.stl_list.specs.Operands.{block_opened_by_ops}
+use Rattle.stl_list.specs.Runs.{Run, runs, statement_starts, target_marks}
 use Rattle.stl_list.specs.Signatures.{Signature}
 use Rattle.stl_list.specs.Statements.{body_of}
 use Rattle.print_laws.specs.Reading.{IsPrintedStatement}
@@ -60,19 +60,19 @@ IsCallBy before code kind instance =
     ⊎ ((instance ≡ 0) × (before ≡ []))
 
 -- the operand of the last op of a statement, of an op code, behind these ops
-abbrev pub IsShown : (before : List OpData) → (code : ℕ) → Operand → Type 0
-IsShown before code (flat.Direct a w byte bit) = IsOpenedIn (opened_by before) a × IsPlace a w bit
-IsShown before code (flat.ByRegister a w register bits) = bits < 8 * 65536
-IsShown before code (flat.Called kind number instance) = IsCallBy before code kind instance
-IsShown before code _ = Unit {0}
+abbrev pub IsLastOperandPrinted : (before : List OpData) → (code : ℕ) → Operand → Type 0
+IsLastOperandPrinted before code (flat.Direct a w byte bit) = IsOpenedIn (block_opened_by_ops before) a × IsPlace a w bit
+IsLastOperandPrinted before code (flat.ByRegister a w register bits) = bits < 8 * 65536
+IsLastOperandPrinted before code (flat.Called kind number instance) = IsCallBy before code kind instance
+IsLastOperandPrinted before code _ = Unit {0}
 
 -- the ops of a statement of a source
 pub record IsSourceRun (r : Run) : Type 0 where
   pub ops : AllByRecursion IsOp r.before
   pub op : IsOp r.op
   pub prepares : AllByRecursion (λ op. Prepares op.operand) r.before
-  pub shown : IsShown r.before r.op.code r.op.operand
-  pub word : is_empty (mnemonic_of r.op) ≡ false
+  pub shown : IsLastOperandPrinted r.before r.op.code r.op.operand
+  pub word : is_empty_statement (mnemonic_of r.op) ≡ false
 
 -- ---- the body of a block
 
@@ -83,7 +83,7 @@ AreWords formals = AllByRecursion (λ f. is_word f.name ≡ true) formals
 -- no jump leads to the last of so many statements, the END clause
 abbrev pub IsEndFree : (count : ℕ) → CodeBlock → Type 0
 IsEndFree count b =
-    (n : ℕ) → suc n ≡ count → unwrap_or (slice_get (targets (starts b.code) b.code) n) false ≡ false
+    (n : ℕ) → suc n ≡ count → unwrap_or (slice_get (target_marks (statement_starts b.code) b.code) n) false ≡ false
 
 -- statements of a source are listed as ones that are read back
 abbrev pub AreBodiesPrinted : Type 0

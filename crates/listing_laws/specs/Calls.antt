@@ -16,47 +16,47 @@ use Rattle.block_layout.specs.declared.blocks.Shape.TheVariants as shape
 use Rattle.stl_types.specs.Calls.{calls_unknown, has_no_instance, has_wrong_instance, is_bare_call}
 use Rattle.stl_types.specs.Context.{Context, whole_data_place}
 use Rattle.stl_types.specs.Parameters.{Callee, callee_of}
-use Rattle.stl_types.specs.Resolved.{resolved}
+use Rattle.stl_types.specs.Resolved.{resolved_operand}
 use Rattle.stl_types.specs.declared.parameters.Formal.{Formal}
 use Rattle.stl_types.specs.declared.views.ResolvedOperand.TheVariants as view
 use Rattle.stl_codegen.specs.Instruction.{instruction}
-use Rattle.stl_codegen.specs.Operations.{call_of}
-use Rattle.stl_codegen.specs.Emitted.{passing}
+use Rattle.stl_codegen.specs.Operations.{call_operation_of}
+use Rattle.stl_codegen.specs.Emitted.{pass_ops}
 use Rattle.stl_list.specs.Actuals.{actuals_before}
-use Rattle.stl_list.specs.Lines.{line_at}
+use Rattle.stl_list.specs.Lines.{line_of_statement}
 use Rattle.stl_list.specs.Signatures.{called_formals}
-use Rattle.stl_list.specs.Statements.{Surroundings, statement}
-use Rattle.stl_list.specs.Operands.{data_block_name, operand_of}
+use Rattle.stl_list.specs.Statements.{Surroundings, listed_statement}
+use Rattle.stl_list.specs.Operands.{name_of_data_block, operand_of_run}
 use Rattle.listing_laws.specs.Passings.{IsListedCall}
 use Rattle.listing_laws.specs.Statements.{run_of}
 
 -- an instance has a number, and 0 is none
-abbrev pub IsNumbered : Option ℕ → Type 0
-IsNumbered instance = instance ≡ Some 0 → ⊥
+abbrev pub IsInstanceNumbered : Option ℕ → Type 0
+IsInstanceNumbered instance = instance ≡ Some 0 → ⊥
 
 -- a listed call names its block and its instance by their numbers
 abbrev pub AreCallsListed : Type 0
 AreCallsListed =
     (formals : List Formal) (starts : List ℕ) (f : ℕ → ℕ) (how : CallOperation) (id : BlockId)
-    (instance : Option ℕ) (ps : List Passing) → is_callable id.kind ≡ true → IsNumbered instance
-    → operand_of formals starts (run_of f (Calls how id instance ps))
-    ≡ operand.Called (block.Number id) (option_map data_block_name instance)
+    (instance : Option ℕ) (ps : List Passing) → is_callable id.kind ≡ true → IsInstanceNumbered instance
+    → operand_of_run formals starts (run_of f (Calls how id instance ps))
+    ≡ operand.Called (block.Number id) (option_map name_of_data_block instance)
 
 -- it has the word of the source's statement, and its actual parameters are made of the ops before it
 abbrev pub AreStatementsListed : Type 0
 AreStatementsListed =
     (sur : Surroundings) (n : ℕ) (f : ℕ → ℕ) (m : Mnemonic) (how : CallOperation) (id : BlockId)
-    (instance : Option ℕ) (ps : List Passing) → is_callable id.kind ≡ true → call_of m ≡ Some how
-    → ((statement sur n (run_of f (Calls how id instance ps))).code ≡ m)
-    × ((statement sur n (run_of f (Calls how id instance ps))).actuals
-    ≡ actuals_before (line_at sur.lines n) sur.formals (called_formals sur.signatures id) (passing ps))
+    (instance : Option ℕ) (ps : List Passing) → is_callable id.kind ≡ true → call_operation_of m ≡ Some how
+    → ((listed_statement sur n (run_of f (Calls how id instance ps))).code ≡ m)
+    × ((listed_statement sur n (run_of f (Calls how id instance ps))).actuals
+    ≡ actuals_before (line_of_statement sur.lines n) sur.formals (called_formals sur.signatures id) (pass_ops ps))
 
 -- where it calls the same block with the same instance, its instruction is the one that it was made of
 abbrev pub AreCallsKept : Type 0
 AreCallsKept =
     (c : Context) (body : List Statement) (n : ℕ) (s : Statement) (how : CallOperation) (id : BlockId)
     (instance : Option ℕ) (own called : List Formal) (callee : Callee) (ps : List Passing)
-    → call_of s.code ≡ Some how → resolved c s ≡ Some (view.Called id instance)
+    → call_operation_of s.code ≡ Some how → resolved_operand c s ≡ Some (view.Called id instance)
     → callee_of c s.operand ≡ Some callee → IsListedCall c own called callee ps s
     → instruction c body n s ≡ Calls how id instance ps
 

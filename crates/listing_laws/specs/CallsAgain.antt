@@ -6,7 +6,7 @@ use Rattle.std.specs.Option.{option_map}
 use Rattle.plc_base.specs.Kinds.{is_function_block}
 use Rattle.plc_base.specs.declared.blocks.BlockId.{BlockId}
 use Rattle.stl_ast.specs.Literals.{AreBytes}
-use Rattle.stl_ast.specs.Statements.{has_actuals, is_empty}
+use Rattle.stl_ast.specs.Statements.{has_actuals, is_empty_statement}
 use Rattle.stl_ast.specs.declared.blocks.Block.{Block}
 use Rattle.stl_ast.specs.declared.blocks.Tree.{Tree}
 use Rattle.stl_ast.specs.declared.names.BlockName.TheVariants as block
@@ -16,20 +16,20 @@ use Rattle.stl_symbols.specs.Symbol.{Symbol}
 use Rattle.block_layout.specs.declared.blocks.BlockLayout.{BlockLayout}
 use Rattle.stl_types.specs.Context.{Context}
 use Rattle.stl_types.specs.Parameters.{Callee, callee_of}
-use Rattle.stl_types.specs.Resolved.{resolved}
+use Rattle.stl_types.specs.Resolved.{resolved_operand}
 use Rattle.stl_types.specs.declared.parameters.Formal.{Formal}
 use Rattle.stl_types.specs.declared.views.ResolvedOperand.TheVariants as view
-use Rattle.stl_codegen.specs.Instruction.{block_at, in_order, instruction, passings_to}
-use Rattle.stl_list.specs.Operands.{data_block_name}
-use Rattle.stl_list.specs.Signatures.{Signature, called_formals, formals_of}
-use Rattle.stl_list.specs.Statements.{statement}
+use Rattle.stl_codegen.specs.Instruction.{source_block_at, in_parameter_order, instruction, passings_to}
+use Rattle.stl_list.specs.Operands.{name_of_data_block}
+use Rattle.stl_list.specs.Signatures.{Signature, called_formals, formals_of_block}
+use Rattle.stl_list.specs.Statements.{listed_statement}
 use Rattle.sem_kept.specs.Accepted.{IsAccepted, program_in}
 use Rattle.listing_laws.specs.Again.{IsMadeOf, IsWholeAgain, again_at, context_at}
 use Rattle.listing_laws.specs.AgainBodies.{around_again, body_again, made_block}
 use Rattle.listing_laws.specs.Declared.{signatures_in}
-use Rattle.listing_laws.specs.Instructions.{IsKept, IsRightOperand}
-use Rattle.listing_laws.specs.Passings.{AreAllPassed, AreNamedApart, AreRising, IsPassable, upper}
-use Rattle.listing_laws.specs.Statements.{offset_in, run_of}
+use Rattle.listing_laws.specs.Instructions.{IsInstructionKept, IsRightOperand}
+use Rattle.listing_laws.specs.Passings.{AreAllPassed, AreNamedApart, AreRising, IsPassable, in_upper_case}
+use Rattle.listing_laws.specs.Statements.{statement_offset, run_of}
 
 -- what a statement of a source calls, `callee`, is found in its listing with the parameters that the
 -- listing has, `called`, and what is passed fits there. `own` are the parameters of the block that calls
@@ -37,10 +37,10 @@ pub record IsFoundAgain (c listed : Context) (own called : List Formal) (s : Sta
     (instance : Option ℕ) (callee : Callee) : Type 0 where
   pub found : Callee
   pub is : callee_of listed
-      (operand.Called (block.Number id) (option_map data_block_name instance)) ≡ Some found
+      (operand.Called (block.Number id) (option_map name_of_data_block instance)) ≡ Some found
   pub same : found.id ≡ callee.id
   pub size : length found.formals ≡ length callee.formals
-  pub order : in_order (block_at listed.blocks found.place) found.formals ≡ map upper called
+  pub order : in_parameter_order (source_block_at listed.blocks found.place) found.formals ≡ map in_upper_case called
   pub named : AreNamedApart called
   pub passable : AllByRecursion (IsPassable listed own called) (passings_to c s (Some callee))
   pub rising : AreRising 0 (passings_to c s (Some callee))
@@ -52,7 +52,7 @@ abbrev pub IsCalledAgain : (c listed : Context) → List Signature → (own : Li
     → Type 0
 IsCalledAgain c listed signatures own s =
     (id : BlockId) (instance : Option ℕ) (callee : Callee)
-    → resolved c s ≡ Some (view.Called id instance) → callee_of c s.operand ≡ Some callee
+    → resolved_operand c s ≡ Some (view.Called id instance) → callee_of c s.operand ≡ Some callee
     → IsFoundAgain c listed own (called_formals signatures id) s id instance callee
 
 -- so it is with each statement of an accepted source
@@ -64,7 +64,7 @@ AreCallsAgain =
     → IsMadeOf symbols t again place b l id
     → AllByRecursion
     (IsCalledAgain (context_at symbols t place) (again_at symbols t others again)
-    (signatures_in (program_in symbols t)) (formals_of (signatures_in (program_in symbols t)) id))
+    (signatures_in (program_in symbols t)) (formals_of_block (signatures_in (program_in symbols t)) id))
     b.body
 
 -- the operands of each statement, and of its actual parameters, are right ones
@@ -89,11 +89,11 @@ AreStatementsAgain =
     → IsMadeOf symbols t again place b l id
     → AllByRecursion
     (λ s.
-    is_empty s.code ≡ false → (n k : ℕ)
-    → IsKept (again_at symbols t others again)
+    is_empty_statement s.code ≡ false → (n k : ℕ)
+    → IsInstructionKept (again_at symbols t others again)
     (body_again symbols t (made_block symbols t place b l id)) n s.code
     (instruction (context_at symbols t place) b.body n s)
-    (statement (around_again symbols t (made_block symbols t place b l id)) k
-    (run_of (offset_in (made_block symbols t place b l id).statements)
+    (listed_statement (around_again symbols t (made_block symbols t place b l id)) k
+    (run_of (statement_offset (made_block symbols t place b l id).statements)
     (instruction (context_at symbols t place) b.body n s))))
     b.body

@@ -8,28 +8,28 @@ use Rattle.stl_ast.specs.declared.declarations.Simple.TheVariants as simple
 use Rattle.block_layout.specs.Offsets.{width_of}
 use Rattle.stl_list.specs.declared.links.Link.{Link}
 use Rattle.stl_list.specs.declared.links.Link.TheVariants.{Joins, Has}
-use Rattle.stl_list.specs.Joined.{chains_of, is_int, is_time, kind_at, labels_of, links, mark_at, marks_of, parameter_count}
+use Rattle.stl_list.specs.Joined.{chains_of, is_int_kind, is_time_kind, kind_at, chain_labels, links, mark_at, marks_of, total_parameter_count}
 
 -- ---- chains
 
 -- a link is a passing of one of two parameters for the other
-abbrev pub IsStep : Link → (m n : ℕ) → Type 0
-IsStep (Joins own other) m n = ((own ≡ m) × (other ≡ n)) ⊎ ((own ≡ n) × (other ≡ m))
-IsStep (Has own kind) m n = ⊥
+abbrev pub IsPassingStep : Link → (m n : ℕ) → Type 0
+IsPassingStep (Joins own other) m n = ((own ≡ m) × (other ≡ n)) ⊎ ((own ≡ n) × (other ≡ m))
+IsPassingStep (Has own kind) m n = ⊥
 
 -- one of these links is
 abbrev pub HasStep : List Link → (m n : ℕ) → Type 0
 HasStep [] m n = ⊥
-HasStep (l ∷ ls) m n = IsStep l m n ⊎ HasStep ls m n
+HasStep (l ∷ ls) m n = IsPassingStep l m n ⊎ HasStep ls m n
 
 -- a chain of passings leads from a parameter, over the others of a list, to one
-abbrev pub IsChain : List Link → (m : ℕ) → (over : List ℕ) → (n : ℕ) → Type 0
-IsChain ls m [] n = m ≡ n
-IsChain ls m (k ∷ over) n = HasStep ls m k × IsChain ls k over n
+abbrev pub IsPassingChain : List Link → (m : ℕ) → (over : List ℕ) → (n : ℕ) → Type 0
+IsPassingChain ls m [] n = m ≡ n
+IsPassingChain ls m (k ∷ over) n = HasStep ls m k × IsPassingChain ls k over n
 
 -- there is a chain from a parameter to another
 abbrev pub AreChained : List Link → (m n : ℕ) → Type 0
-AreChained ls m n = (over : List ℕ) × IsChain ls m over n
+AreChained ls m n = (over : List ℕ) × IsPassingChain ls m over n
 
 -- a link says that a parameter has a type that is meant
 abbrev pub IsSeed : (Simple → Bool) → Link → (n : ℕ) → Type 0
@@ -42,30 +42,30 @@ HasSeed is_meant [] n = ⊥
 HasSeed is_meant (l ∷ ls) n = IsSeed is_meant l n ⊎ HasSeed is_meant ls n
 
 -- a chain joins a parameter to one of a type that is meant
-abbrev pub IsHanded : (Simple → Bool) → List Link → (n : ℕ) → Type 0
-IsHanded is_meant ls n = (own : ℕ) × HasSeed is_meant ls own × AreChained ls own n
+abbrev pub IsHandedType : (Simple → Bool) → List Link → (n : ℕ) → Type 0
+IsHandedType is_meant ls n = (own : ℕ) × HasSeed is_meant ls own × AreChained ls own n
 
 -- a link is of parameters below a number
-abbrev pub IsBelow : (count : ℕ) → Link → Type 0
-IsBelow count (Joins own other) = (own < count) × (other < count)
-IsBelow count (Has own kind) = own < count
+abbrev pub IsLinkBelow : (count : ℕ) → Link → Type 0
+IsLinkBelow count (Joins own other) = (own < count) × (other < count)
+IsLinkBelow count (Has own kind) = own < count
 
 -- ---- labels
 
 -- parameters have the same label exactly where a chain joins them
 abbrev pub AreLabelsJoined : Type 0
 AreLabelsJoined =
-    (count : ℕ) (ls : List Link) → AllByRecursion (IsBelow count) ls
+    (count : ℕ) (ls : List Link) → AllByRecursion (IsLinkBelow count) ls
     → (m n : ℕ) → m < count → n < count
-    → (slice_get (labels_of count ls) m ≡ slice_get (labels_of count ls) n) ↔ AreChained ls m n
+    → (slice_get (chain_labels count ls) m ≡ slice_get (chain_labels count ls) n) ↔ AreChained ls m n
 
 -- and their label is marked exactly where a chain joins them to a type that is meant
 abbrev pub AreMarksHanded : Type 0
 AreMarksHanded =
-    (is_meant : Simple → Bool) (count : ℕ) (ls : List Link) → AllByRecursion (IsBelow count) ls
+    (is_meant : Simple → Bool) (count : ℕ) (ls : List Link) → AllByRecursion (IsLinkBelow count) ls
     → (n : ℕ) → n < count
-    → (mark_at (marks_of is_meant (labels_of count ls) ls) (slice_get (labels_of count ls) n) ≡ true)
-    ↔ IsHanded is_meant ls n
+    → (mark_at (marks_of is_meant (chain_labels count ls) ls) (slice_get (chain_labels count ls) n) ≡ true)
+    ↔ IsHandedType is_meant ls n
 
 -- ---- types
 
@@ -75,42 +75,42 @@ IsKeptBy declared (Joins own other) = declared own ≡ declared other
 IsKeptBy declared (Has own kind) = declared own ≡ kind
 
 -- a link says that a parameter has this type
-abbrev pub IsTyped : Link → (n : ℕ) → Simple → Type 0
-IsTyped (Has own kind) n type = (own ≡ n) × (kind ≡ type)
-IsTyped (Joins own other) n type = ⊥
+abbrev pub LinkHasType : Link → (n : ℕ) → Simple → Type 0
+LinkHasType (Has own kind) n type = (own ≡ n) × (kind ≡ type)
+LinkHasType (Joins own other) n type = ⊥
 
 -- one of these links does
 abbrev pub HasTyped : List Link → (n : ℕ) → Simple → Type 0
 HasTyped [] n type = ⊥
-HasTyped (l ∷ ls) n type = IsTyped l n type ⊎ HasTyped ls n type
+HasTyped (l ∷ ls) n type = LinkHasType l n type ⊎ HasTyped ls n type
 
 -- a type that a listing gives to a parameter
-abbrev pub is_listed : Simple → Bool
-is_listed simple.Char = false
-is_listed simple.S5time = false
-is_listed simple.Dint = false
-is_listed _ = true
+abbrev pub is_listed_type : Simple → Bool
+is_listed_type simple.Char = false
+is_listed_type simple.S5time = false
+is_listed_type simple.Dint = false
+is_listed_type _ = true
 
 -- what a listing says of the types of parameters, beside what a source declared
-pub record AreKept (blocks : List CodeBlock) (declared : ℕ → Simple) : Type 0 where
+pub record AreTypesAsDeclared (blocks : List CodeBlock) (declared : ℕ → Simple) : Type 0 where
   -- what is INT in the listing was INT, and so with TIME
-  pub ints : (n : ℕ) → n < parameter_count blocks → (w : Width)
-      → is_int (kind_at (chains_of blocks) n w) ≡ true → declared n ≡ simple.Int
-  pub times : (n : ℕ) → n < parameter_count blocks → (w : Width)
-      → is_time (kind_at (chains_of blocks) n w) ≡ true → declared n ≡ simple.Time
+  pub ints : (n : ℕ) → n < total_parameter_count blocks → (w : Width)
+      → is_int_kind (kind_at (chains_of blocks) n w) ≡ true → declared n ≡ simple.Int
+  pub times : (n : ℕ) → n < total_parameter_count blocks → (w : Width)
+      → is_time_kind (kind_at (chains_of blocks) n w) ≡ true → declared n ≡ simple.Time
   -- widths stay
-  pub widths : (n : ℕ) → n < parameter_count blocks
+  pub widths : (n : ℕ) → n < total_parameter_count blocks
       → width_of (kind_at (chains_of blocks) n (width_of (declared n))) ≡ width_of (declared n)
   -- both ends of a passing have one type
   pub ends : (m n : ℕ) → HasStep (links blocks) m n → (w : Width)
       → kind_at (chains_of blocks) m w ≡ kind_at (chains_of blocks) n w
   -- what is passed to a system function has the type that it asks for
-  pub seeds : (n : ℕ) (type : Simple) → HasTyped (links blocks) n type → is_listed type ≡ true
+  pub seeds : (n : ℕ) (type : Simple) → HasTyped (links blocks) n type → is_listed_type type ≡ true
       → kind_at (chains_of blocks) n (width_of type) ≡ type
 
 -- where the types that were declared are handed on by all passings
 abbrev pub AreTypesKept : Type 0
 AreTypesKept =
     (blocks : List CodeBlock) (declared : ℕ → Simple)
-    → AllByRecursion (IsBelow (parameter_count blocks)) (links blocks)
-    → AllByRecursion (IsKeptBy declared) (links blocks) → AreKept blocks declared
+    → AllByRecursion (IsLinkBelow (total_parameter_count blocks)) (links blocks)
+    → AllByRecursion (IsKeptBy declared) (links blocks) → AreTypesAsDeclared blocks declared

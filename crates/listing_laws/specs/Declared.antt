@@ -10,7 +10,7 @@ use Rattle.stl_ast.specs.declared.blocks.Block.{Block}
 use Rattle.stl_ast.specs.declared.blocks.Tree.{Tree}
 use Rattle.stl_symbols.specs.Symbol.{Symbol}
 use Rattle.block_layout.specs.Cells.{components_of}
-use Rattle.block_layout.specs.Lengths.{length_of, local_len}
+use Rattle.block_layout.specs.Lengths.{length_of_block, local_len}
 use Rattle.block_layout.specs.Offsets.{width_of}
 use Rattle.block_layout.specs.Types.{Types}
 use Rattle.block_layout.specs.declared.blocks.BlockLayout.{BlockLayout}
@@ -50,7 +50,7 @@ pub record IsDeclaredAgain (ss : List Signature) (b : CodeBlock) : Type 0 where
   pub local_len : (y : Types) (reached : ℕ) → local_len y (listed_block ss reached b) ≡ b.local_len
   pub instance_len : (y : Types) (blocks : List Block) (reached : ℕ)
       → is_function_block b.id.kind ≡ true
-      → length_of y blocks (listed_block ss reached b) ≡ b.instance_len
+      → length_of_block y blocks (listed_block ss reached b) ≡ b.instance_len
 
 -- so do those of each code block of an accepted source
 abbrev pub AreDeclaredAgain : Type 0

@@ -5,14 +5,14 @@ use Rattle.std.specs.List.{AllByRecursion}
 use Rattle.plc_base.specs.Kinds.{is_code}
 use Rattle.flat_code.specs.Image.{IsProgram}
 use Rattle.flat_code.specs.Programs.{Program}
-use Rattle.stl_ast.specs.WellFormed.{AreInOrder}
+use Rattle.stl_ast.specs.WellFormed.{AreSectionsInOrder}
 use Rattle.stl_ast.specs.declared.blocks.Block.{Block}
 use Rattle.stl_list.specs.CodeBlocks.{in_lines, listed_blocks}
 use Rattle.stl_list.specs.DataBlocks.{listed_data_blocks}
 use Rattle.stl_list.specs.Joined.{chains_of}
 use Rattle.stl_list.specs.Signatures.{Signature, signatures}
-use Rattle.print_laws.specs.Reading.{IsLabel, IsNameOf, IsPrintedBlock, IsPrintedPart, IsResultOf}
-use Rattle.stl_list.specs.Labels.{label_of}
+use Rattle.print_laws.specs.Reading.{IsPrintedLabel, IsNumberedBlockOf, IsPrintedBlock, IsPrintedPart, IsResultOf}
+use Rattle.stl_list.specs.Labels.{label_of_number}
 use Rattle.listing_laws.specs.Ranges.{IsWrittenProgram}
 
 -- what a listing says of the blocks of a program
@@ -21,10 +21,10 @@ program_signatures p = signatures (chains_of p.code_blocks) p.code_blocks
 
 -- a code block but for its statements
 pub record IsPrintedFrame (b : Block) : Type 0 where
-  pub name : IsNameOf b.kind b.name
+  pub name : IsNumberedBlockOf b.kind b.name
   pub kind : is_code b.kind ≡ true
   pub result : IsResultOf b.kind b.result
-  pub order : AreInOrder 0 b.parts
+  pub order : AreSectionsInOrder 0 b.parts
   pub parts : AllByRecursion (IsPrintedPart b.kind) b.parts
   pub shape : b.shape ≡ None
   pub components : b.components ≡ []
@@ -46,4 +46,4 @@ AreFramesPrinted =
 
 -- a label that a listing makes is no keyword, and short
 abbrev pub AreLabelsPrinted : Type 0
-AreLabelsPrinted = (n : ℕ) → IsLabel (label_of n)
+AreLabelsPrinted = (n : ℕ) → IsPrintedLabel (label_of_number n)

@@ -15,18 +15,18 @@ use Rattle.stl_ast.specs.declared.operands.Operand.{Operand}
 use Rattle.stl_ast.specs.declared.statements.Actual.{Actual}
 use Rattle.stl_ast.specs.declared.statements.Statement.{Statement}
 use Rattle.stl_types.specs.Actuals.{formal_named}
-use Rattle.stl_types.specs.Calls.{misfits}
+use Rattle.stl_types.specs.Calls.{misfits_formal}
 use Rattle.stl_types.specs.Context.{Context}
 use Rattle.stl_types.specs.Parameters.{Callee, callee_of}
-use Rattle.stl_types.specs.Resolution.{seen}
-use Rattle.stl_types.specs.Resolved.{resolved}
+use Rattle.stl_types.specs.Resolution.{resolution_of}
+use Rattle.stl_types.specs.Resolved.{resolved_operand}
 use Rattle.stl_types.specs.declared.parameters.Formal.{Formal}
 use Rattle.stl_types.specs.declared.views.Resolution.TheVariants.{Resolved}
 use Rattle.stl_types.specs.declared.views.ResolvedOperand.TheVariants as view
-use Rattle.stl_codegen.specs.Compiled.{StatedBlock, compiled}
-use Rattle.stl_codegen.specs.Instruction.{block_at, in_order, instruction, passings_to}
-use Rattle.stl_list.specs.Joined.{links, parameter_count, system_parameters}
-use Rattle.listing_laws.specs.Chains.{AreKept, IsBelow, IsKeptBy}
+use Rattle.stl_codegen.specs.Compiled.{StatedBlock, compiled_block}
+use Rattle.stl_codegen.specs.Instruction.{source_block_at, in_parameter_order, instruction, passings_to}
+use Rattle.stl_list.specs.Joined.{links, total_parameter_count, system_parameters}
+use Rattle.listing_laws.specs.Chains.{AreTypesAsDeclared, IsLinkBelow, IsKeptBy}
 
 -- ---- types
 
@@ -36,8 +36,8 @@ kinds_in kinds [] = []
 kinds_in kinds (b ∷ bs) = kinds b.id ++ kinds_in kinds bs
 
 -- the type of the parameter of a number
-abbrev pub declared_in : (kinds : BlockId → List Simple) → List CodeBlock → ℕ → Simple
-declared_in kinds blocks n = unwrap_or (slice_get (kinds_in kinds blocks) n) simple.Bool
+abbrev pub declared_type_in : (kinds : BlockId → List Simple) → List CodeBlock → ℕ → Simple
+declared_type_in kinds blocks n = unwrap_or (slice_get (kinds_in kinds blocks) n) simple.Bool
 
 -- the types of the parameters of a block that is called
 abbrev pub called_kinds : (kinds : BlockId → List Simple) → BlockId → List Simple
@@ -67,7 +67,7 @@ HandsOn kinds blocks own _ = Unit {0}
 pub record HandOn (kinds : BlockId → List Simple) (blocks : List StatedBlock) : Type 0 where
   pub lengths : AllByRecursion (λ (b : StatedBlock). length (kinds b.id) ≡ length b.params) blocks
   pub calls : AllByRecursion
-      (λ (b : StatedBlock). AllByRecursion (λ s. HandsOn kinds (map compiled blocks) (kinds b.id) s.instr) b.statements)
+      (λ (b : StatedBlock). AllByRecursion (λ s. HandsOn kinds (map compiled_block blocks) (kinds b.id) s.instr) b.statements)
       blocks
 
 -- ---- links
@@ -76,14 +76,14 @@ pub record HandOn (kinds : BlockId → List Simple) (blocks : List StatedBlock) 
 abbrev pub AreLinksHandedOn : Type 0
 AreLinksHandedOn =
     (kinds : BlockId → List Simple) (blocks : List StatedBlock) → HandOn kinds blocks
-    → AllByRecursion (IsBelow (parameter_count (map compiled blocks))) (links (map compiled blocks))
-    × AllByRecursion (IsKeptBy (declared_in kinds (map compiled blocks))) (links (map compiled blocks))
+    → AllByRecursion (IsLinkBelow (total_parameter_count (map compiled_block blocks))) (links (map compiled_block blocks))
+    × AllByRecursion (IsKeptBy (declared_type_in kinds (map compiled_block blocks))) (links (map compiled_block blocks))
 
 -- so a listing says of their types what the source said
 abbrev pub AreTypesListed : Type 0
 AreTypesListed =
     (kinds : BlockId → List Simple) (blocks : List StatedBlock) → HandOn kinds blocks
-    → AreKept (map compiled blocks) (declared_in kinds (map compiled blocks))
+    → AreTypesAsDeclared (map compiled_block blocks) (declared_type_in kinds (map compiled_block blocks))
 
 -- ---- calls of a source
 
@@ -91,7 +91,7 @@ AreTypesListed =
 abbrev pub SeesOwn : Context → (own : List Simple) → Type 0
 SeesOwn c own =
     (o : Operand) (index : ℕ) (section : PartKind) (kind : Simple)
-    → seen c o ≡ Resolved (view.Parameter index section kind) → slice_get own index ≡ Some kind
+    → resolution_of c o ≡ Resolved (view.Parameter index section kind) → slice_get own index ≡ Some kind
 
 -- a parameter is found by its name
 abbrev pub IsFoundAmong : List Formal → Formal → Type 0
@@ -100,18 +100,18 @@ IsFoundAmong formals f =
     → find (λ (g : Formal). bytes_eq name g.name) formals ≡ Some f
 
 -- the parameters of a called block by their index
-abbrev pub ordered : Context → Callee → List Formal
-ordered c callee = in_order (block_at c.blocks callee.place) callee.formals
+abbrev pub formals_by_index : Context → Callee → List Formal
+formals_by_index c callee = in_parameter_order (source_block_at c.blocks callee.place) callee.formals
 
 -- where each actual parameter fits, by rule 37, a statement hands on the types of what it passes
 abbrev pub ArePassedOn : Type 0
 ArePassedOn =
     (c : Context) (own : List Simple) (callee : Callee) (s : Statement) → SeesOwn c own
-    → AllByRecursion (IsFoundAmong callee.formals) (ordered c callee)
+    → AllByRecursion (IsFoundAmong callee.formals) (formals_by_index c callee)
     → AllByRecursion
-    (λ (a : Actual). misfits c a (formal_named callee.formals a.name) ≡ false) s.actuals
+    (λ (a : Actual). misfits_formal c a (formal_named callee.formals a.name) ≡ false) s.actuals
     → AllByRecursion
-    (λ (p : Passing). IsHandedOn own (map (λ f. f.kind) (ordered c callee)) p.index p.actual)
+    (λ (p : Passing). IsHandedOn own (map (λ f. f.kind) (formals_by_index c callee)) p.index p.actual)
     (passings_to c s (Some callee))
 
 -- what a source owes for a statement that calls a block: the block is there, its parameters are found by
@@ -120,16 +120,16 @@ abbrev pub OwesCall : (kinds : BlockId → List Simple) → List CodeBlock → C
 OwesCall kinds blocks c s id =
     IsCallable blocks id
     × ((callee : Callee) → callee_of c s.operand ≡ Some callee
-    → AllByRecursion (IsFoundAmong callee.formals) (ordered c callee)
+    → AllByRecursion (IsFoundAmong callee.formals) (formals_by_index c callee)
     × AllByRecursion
-    (λ (a : Actual). misfits c a (formal_named callee.formals a.name) ≡ false) s.actuals
-    × (called_kinds kinds id ≡ map (λ f. f.kind) (ordered c callee)))
+    (λ (a : Actual). misfits_formal c a (formal_named callee.formals a.name) ≡ false) s.actuals
+    × (called_kinds kinds id ≡ map (λ f. f.kind) (formals_by_index c callee)))
 
 -- then the instruction of the statement hands types on
 abbrev pub AreStatementsHandedOn : Type 0
 AreStatementsHandedOn =
     (kinds : BlockId → List Simple) (blocks : List CodeBlock) (c : Context) (own : List Simple)
     (body : List Statement) (n : ℕ) (s : Statement) → SeesOwn c own
-    → ((id : BlockId) (instance : Option ℕ) → resolved c s ≡ Some (view.Called id instance)
+    → ((id : BlockId) (instance : Option ℕ) → resolved_operand c s ≡ Some (view.Called id instance)
     → OwesCall kinds blocks c s id)
     → HandsOn kinds blocks own (instruction c body n s)

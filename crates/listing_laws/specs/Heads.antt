@@ -2,7 +2,7 @@
 use Rattle.std.specs.Prelude.{◌≡◌, List, []}
 use Rattle.stl_ast.specs.declared.blocks.Tree.{Tree}
 use Rattle.stl_symbols.specs.Symbol.{Symbol}
-use Rattle.block_layout.specs.Measures.{types_of}
+use Rattle.block_layout.specs.Measures.{types_of_source}
 use Rattle.block_layout.specs.Rule22.{rule_22}
 use Rattle.block_layout.specs.Rule44.{rule_44}
 use Rattle.stl_list.specs.Listing.{listed_tree}
@@ -11,8 +11,8 @@ use Rattle.listing_laws.specs.Ids.{source_program}
 -- where a source has no block twice, its listing has none
 abbrev pub AreBlocksOnce : Type 0
 AreBlocksOnce =
-    (t : Tree) (symbols listed : List Symbol) → rule_22 (types_of symbols t.blocks) t.blocks ≡ []
-    → rule_22 (types_of listed (listed_tree (source_program t symbols)).blocks)
+    (t : Tree) (symbols listed : List Symbol) → rule_22 (types_of_source symbols t.blocks) t.blocks ≡ []
+    → rule_22 (types_of_source listed (listed_tree (source_program t symbols)).blocks)
     (listed_tree (source_program t symbols)).blocks ≡ []
 
 -- where it has no number beyond the limits, its listing has none

@@ -8,7 +8,7 @@ use Rattle.stl_ast.specs.declared.blocks.Tree.{Tree}
 use Rattle.stl_symbols.specs.Symbol.{Symbol}
 use Rattle.block_layout.specs.Blocks.{ids_of, known_block}
 use Rattle.block_layout.specs.Layouts.{layouts_of}
-use Rattle.block_layout.specs.Measures.{types_of}
+use Rattle.block_layout.specs.Measures.{types_of_source}
 use Rattle.block_layout.specs.Rule22.{rule_22}
 use Rattle.block_layout.specs.Rule44.{rule_44}
 use Rattle.stl_codegen.specs.Generated.{program_of}
@@ -45,7 +45,7 @@ AreBlocksKept =
 abbrev pub AreBlocksFound : Type 0
 AreBlocksFound =
     (t : Tree) (symbols listed : List Symbol) (k : ℕ) (id : BlockId)
-    → rule_22 (types_of symbols t.blocks) t.blocks ≡ [] → rule_44 symbols t.blocks ≡ []
+    → rule_22 (types_of_source symbols t.blocks) t.blocks ≡ [] → rule_44 symbols t.blocks ≡ []
     → slice_get (program_ids (source_program t symbols)) k ≡ Some id
     → known_block id (ids_of listed (listed_tree (source_program t symbols)).blocks) ≡ Some k
 
@@ -53,7 +53,7 @@ AreBlocksFound =
 abbrev pub HasNoTypes : Type 0
 HasNoTypes =
     (t : Tree) (symbols listed : List Symbol)
-    → types_of listed (listed_tree (source_program t symbols)).blocks
+    → types_of_source listed (listed_tree (source_program t symbols)).blocks
     ≡ record {
       symbols = listed;
       ids = map (λ id. Some id) (program_ids (source_program t symbols));

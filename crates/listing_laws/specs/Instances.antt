@@ -7,8 +7,8 @@ use Rattle.stl_ast.specs.declared.blocks.Block.{Block}
 use Rattle.stl_ast.specs.declared.blocks.Tree.{Tree}
 use Rattle.stl_symbols.specs.Symbol.{Symbol}
 use Rattle.block_layout.specs.Layouts.{layouts_of}
-use Rattle.block_layout.specs.Lengths.{length_of}
-use Rattle.block_layout.specs.Measures.{types_of}
+use Rattle.block_layout.specs.Lengths.{length_of_block}
+use Rattle.block_layout.specs.Measures.{types_of_source}
 use Rattle.block_layout.specs.Rule41.{setting_misfits}
 use Rattle.block_layout.specs.Rule42.{setting_is_outside}
 use Rattle.block_layout.specs.Rule51.{is_too_long}
@@ -29,10 +29,10 @@ data_again symbols t line d =
 -- an instance, listed, is as long as it was and not too long (rule 51)
 pub record IsInstanceLong (symbols : List Symbol) (t : Tree) (others : List Symbol) (d : DataBlock) : Type 0 where
   pub length : (line : ℕ)
-      → length_of (types_of others (listed_again symbols t).blocks) (listed_again symbols t).blocks
+      → length_of_block (types_of_source others (listed_again symbols t).blocks) (listed_again symbols t).blocks
       (data_again symbols t line d) ≡ length d.bytes
   pub by_51 : (line : ℕ)
-      → is_too_long (types_of others (listed_again symbols t).blocks) (listed_again symbols t).blocks
+      → is_too_long (types_of_source others (listed_again symbols t).blocks) (listed_again symbols t).blocks
       (data_again symbols t line d) ≡ false
 
 -- so it is with each instance of an accepted source's program, whatever symbols stand beside it

@@ -3,7 +3,7 @@ use Rattle.std.specs.Prelude.{◌≡◌, ℕ, false, List, Some, None}
 use Rattle.plc_base.specs.declared.places.Area.TheVariants as area
 use Rattle.flat_code.specs.Instr.{Instr}
 use Rattle.stl_ast.specs.Operands.{IsOperand}
-use Rattle.stl_ast.specs.Statements.{is_empty}
+use Rattle.stl_ast.specs.Statements.{is_empty_statement}
 use Rattle.stl_ast.specs.declared.blocks.PartKind.{PartKind}
 use Rattle.stl_ast.specs.declared.blocks.PathStep.{PathStep}
 use Rattle.stl_ast.specs.declared.declarations.Simple.{Simple}
@@ -12,22 +12,22 @@ use Rattle.stl_ast.specs.declared.names.BlockName.{BlockName}
 use Rattle.stl_ast.specs.declared.operands.Operand.{Operand}
 use Rattle.stl_ast.specs.declared.operands.Operand.TheVariants as operand
 use Rattle.stl_ast.specs.declared.statements.Statement.{Statement}
-use Rattle.stl_symbols.specs.Symbol.{IsTarget, Symbol, symbol_named}
+use Rattle.stl_symbols.specs.Symbol.{IsSymbolTarget, Symbol, symbol_named}
 use Rattle.stl_types.specs.Addresses.{area_left}
 use Rattle.stl_types.specs.Context.{Context, data_number}
 use Rattle.stl_types.specs.Operands.{statement_rule}
-use Rattle.stl_types.specs.Resolved.{resolved}
+use Rattle.stl_types.specs.Resolved.{resolved_operand}
 use Rattle.stl_types.specs.Variables.{own_variable}
 use Rattle.stl_types.specs.declared.parameters.Formal.{Formal}
 use Rattle.stl_types.specs.declared.views.Resolution.TheVariants.{Resolved}
 use Rattle.stl_types.specs.declared.views.ResolvedOperand.{ResolvedOperand}
 use Rattle.stl_types.specs.declared.views.ResolvedOperand.TheVariants as view
 use Rattle.stl_codegen.specs.Instruction.{instruction, target_in, target_of}
-use Rattle.stl_codegen.specs.Operations.{call_of, jump_of}
-use Rattle.stl_list.specs.Labels.{label_of}
+use Rattle.stl_codegen.specs.Operations.{call_operation_of, jump_operation_of}
+use Rattle.stl_list.specs.Labels.{label_of_number}
 use Rattle.stl_list.specs.Runs.{number_at}
-use Rattle.stl_list.specs.Statements.{Surroundings, statement}
-use Rattle.listing_laws.specs.Operands.{IsCoded, IsOpenedAgain, IsParameterAgain}
+use Rattle.stl_list.specs.Statements.{Surroundings, listed_statement}
+use Rattle.listing_laws.specs.Operands.{IsConstantCoded, IsOpenedAgain, IsParameterAgain}
 use Rattle.listing_laws.specs.Statements.{run_of}
 
 -- the tree of a listing, at a block, has what the statements of the block in the source refer to: the
@@ -42,7 +42,7 @@ pub record HasAgain (c listed : Context) (formals : List Formal) : Type 0 where
 
 -- constants have their bits, and no pointer leads to peripherals
 abbrev pub IsCodedOperand : Operand → Type 0
-IsCodedOperand (operand.Constant value) = IsCoded value
+IsCodedOperand (operand.Constant value) = IsConstantCoded value
 IsCodedOperand (operand.Pointer a byte bit) = area_left a ≡ Some area.P → ⊥
 IsCodedOperand _ = Unit {0}
 
@@ -51,10 +51,10 @@ pub record IsRightOperand (symbols : List Symbol) (o : Operand) : Type 0 where
   pub written : IsOperand o
   pub coded : IsCodedOperand o
   pub targets : (name : List ℕ) (s : Symbol) → symbol_named name symbols ≡ Some s
-      → IsTarget s.target
+      → IsSymbolTarget s.target
 
 -- a listed statement breaks no rule by its operand, and comes to an instruction
-pub record IsKept (listed : Context) (body : List Statement) (n : ℕ) (m : Mnemonic) (i : Instr)
+pub record IsInstructionKept (listed : Context) (body : List Statement) (n : ℕ) (m : Mnemonic) (i : Instr)
     (again : Statement) : Type 0 where
   pub word : again.code ≡ m
   pub right : statement_rule listed again ≡ None
@@ -66,18 +66,18 @@ AreInstructionsKept =
     (c listed : Context) (sur : Surroundings) (f : ℕ → ℕ) (body again : List Statement) (n k : ℕ)
     (s : Statement) (v : ResolvedOperand)
     → HasAgain c listed sur.formals → IsRightOperand c.symbols s.operand
-    → is_empty s.code ≡ false → jump_of s.code ≡ None → call_of s.code ≡ None
-    → resolved c s ≡ Some v
-    → IsKept listed again n s.code (instruction c body n s)
-    (statement sur k (run_of f (instruction c body n s)))
+    → is_empty_statement s.code ≡ false → jump_operation_of s.code ≡ None → call_operation_of s.code ≡ None
+    → resolved_operand c s ≡ Some v
+    → IsInstructionKept listed again n s.code (instruction c body n s)
+    (listed_statement sur k (run_of f (instruction c body n s)))
 
 -- and so does a jump, where its target has the label of its number
 abbrev pub AreJumpsKept : Type 0
 AreJumpsKept =
     (c listed : Context) (sur : Surroundings) (f : ℕ → ℕ) (body again : List Statement) (n k : ℕ)
     (s : Statement)
-    → (jump_of s.code ≡ None → ⊥)
+    → (jump_operation_of s.code ≡ None → ⊥)
     → number_at sur.starts (f (target_of body s.operand)) ≡ target_of body s.operand
-    → target_in (label_of (target_of body s.operand)) again ≡ target_of body s.operand
-    → IsKept listed again n s.code (instruction c body n s)
-    (statement sur k (run_of f (instruction c body n s)))
+    → target_in (label_of_number (target_of body s.operand)) again ≡ target_of body s.operand
+    → IsInstructionKept listed again n s.code (instruction c body n s)
+    (listed_statement sur k (run_of f (instruction c body n s)))

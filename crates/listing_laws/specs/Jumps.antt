@@ -6,7 +6,7 @@ use Rattle.flat_code.specs.Programs.{CodeBlock}
 use Rattle.flat_code.specs.declared.operands.Operand.{Operand}
 use Rattle.flat_code.specs.declared.operands.Operand.TheVariants as operand
 use Rattle.stl_types.specs.Labels.{labels_of, labels_twice, unknown_labels}
-use Rattle.stl_codegen.specs.Compiled.{StatedBlock, compiled}
+use Rattle.stl_codegen.specs.Compiled.{StatedBlock, compiled_block}
 use Rattle.stl_list.specs.Runs.{runs}
 use Rattle.stl_list.specs.Signatures.{Signature}
 use Rattle.stl_list.specs.Statements.{body_of}
@@ -35,5 +35,5 @@ abbrev pub AreLabelsKnown : Type 0
 AreLabelsKnown =
     (signatures : List Signature) (lines : List ℕ) (b : StatedBlock)
     → AllByRecursion (λ s. LandsWithin (length b.statements) s.instr) b.statements
-    → unknown_labels (labels_of (body_of signatures lines (compiled b)))
-    (body_of signatures lines (compiled b)) ≡ []
+    → unknown_labels (labels_of (body_of signatures lines (compiled_block b)))
+    (body_of signatures lines (compiled_block b)) ≡ []

@@ -8,17 +8,17 @@ use Rattle.flat_code.specs.declared.kinds.JumpOperation.{JumpOperation}
 use Rattle.flat_code.specs.declared.operations.CallOperation.{CallOperation}
 use Rattle.flat_code.specs.declared.operations.EndOperation.{EndOperation}
 use Rattle.flat_code.specs.declared.operations.Operation.TheVariants as operation
-use Rattle.stl_ast.specs.Statements.{is_empty}
+use Rattle.stl_ast.specs.Statements.{is_empty_statement}
 use Rattle.stl_ast.specs.declared.blocks.Block.{Block}
 use Rattle.stl_ast.specs.declared.mnemonics.Mnemonic.{Mnemonic}
 use Rattle.stl_ast.specs.declared.operands.Operand.{Operand}
 use Rattle.stl_types.specs.Context.{Context}
 use Rattle.stl_types.specs.declared.views.ResolvedOperand.{ResolvedOperand}
-use Rattle.stl_codegen.specs.Compiled.{StatedBlock, compiled}
+use Rattle.stl_codegen.specs.Compiled.{StatedBlock, compiled_block}
 use Rattle.stl_codegen.specs.Generated.{statements_of}
 use Rattle.stl_codegen.specs.Instruction.{target_in}
-use Rattle.stl_codegen.specs.Operations.{call_of, end_of, jump_of, operation_for}
-use Rattle.stl_list.specs.Labels.{label_of}
+use Rattle.stl_codegen.specs.Operations.{call_operation_of, end_operation_of, jump_operation_of, operation_for}
+use Rattle.stl_list.specs.Labels.{label_of_number}
 use Rattle.stl_list.specs.Mnemonics.{jump_word, mnemonic_of, word_of}
 use Rattle.stl_list.specs.Signatures.{Signature}
 use Rattle.stl_list.specs.Statements.{body_of}
@@ -27,38 +27,38 @@ use Rattle.listing_laws.specs.Statements.{jumps_to, run_of}
 -- ---- instruction words
 
 -- an instruction that goes on to the next statement
-pub record GoesOn (m : Mnemonic) : Type 0 where
-  pub some : is_empty m ≡ false
-  pub jumps : jump_of m ≡ None
-  pub calls : call_of m ≡ None
-  pub ends : end_of m ≡ None
+pub record IsStraightLine (m : Mnemonic) : Type 0 where
+  pub some : is_empty_statement m ≡ false
+  pub jumps : jump_operation_of m ≡ None
+  pub calls : call_operation_of m ≡ None
+  pub ends : end_operation_of m ≡ None
 
 -- the word that a listing has for its op code is its own, whatever its operand names
 abbrev pub AreWordsFound : Type 0
 AreWordsFound =
-    (m : Mnemonic) (o : Operand) (v : ResolvedOperand) → GoesOn m
+    (m : Mnemonic) (o : Operand) (v : ResolvedOperand) → IsStraightLine m
     → word_of (op_code_of (operation_for m o v)) ≡ m
 
 -- and so is the word of a jump, of a call, and of the end of a block
 abbrev pub AreJumpWordsFound : Type 0
 AreJumpWordsFound =
-    (m : Mnemonic) (how : JumpOperation) → jump_of m ≡ Some how → jump_word (jump_number how) ≡ m
+    (m : Mnemonic) (how : JumpOperation) → jump_operation_of m ≡ Some how → jump_word (jump_number how) ≡ m
 
 -- the word of each call is found by its op code
 abbrev pub AreCallWordsFound : Type 0
 AreCallWordsFound =
-    (m : Mnemonic) (how : CallOperation) → call_of m ≡ Some how
+    (m : Mnemonic) (how : CallOperation) → call_operation_of m ≡ Some how
     → word_of (op_code_of (operation.Call how)) ≡ m
 
 -- and so is that of each block end
 abbrev pub AreEndWordsFound : Type 0
 AreEndWordsFound =
-    (m : Mnemonic) (how : EndOperation) → end_of m ≡ Some how
+    (m : Mnemonic) (how : EndOperation) → end_operation_of m ≡ Some how
     → word_of (op_code_of (operation.End how)) ≡ m
 
 -- a listing has a word for an instruction
 abbrev pub HasWord : Instr → Type 0
-HasWord i = is_empty (mnemonic_of (run_of (λ n. n) i).op) ≡ false
+HasWord i = is_empty_statement (mnemonic_of (run_of (λ n. n) i).op) ≡ false
 
 -- for those of each block of a source
 abbrev pub HaveWords : Type 0
@@ -68,7 +68,7 @@ HaveWords = (c : Context) (b : Block) → AllByRecursion (λ s. HasWord s.instr)
 
 -- labels of different numbers differ
 abbrev pub AreLabelsApart : Type 0
-AreLabelsApart = (m n : ℕ) → m < 93312 → n < 93312 → label_of m ≡ label_of n → m ≡ n
+AreLabelsApart = (m n : ℕ) → m < 93312 → n < 93312 → label_of_number m ≡ label_of_number n → m ≡ n
 
 -- in the listed body of a block the label of a statement to which a jump leads is that of its number
 abbrev pub AreLabelsReached : Type 0
@@ -77,4 +77,4 @@ AreLabelsReached =
     → AllByRecursion (λ s. HasWord s.instr) b.statements
     → length lines ≡ length b.statements → length b.statements ≤ 93312
     → n < length b.statements → list_any (λ s. jumps_to n s.instr) b.statements ≡ true
-    → target_in (label_of n) (body_of signatures lines (compiled b)) ≡ n
+    → target_in (label_of_number n) (body_of signatures lines (compiled_block b)) ≡ n

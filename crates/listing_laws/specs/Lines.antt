@@ -7,21 +7,21 @@ use Rattle.stl_lexer.specs.declared.kinds.Token.{Token}
 use Rattle.stl_parser.specs.Source.{IsTree}
 use Rattle.stl_symbols.specs.Symbol.{Symbol}
 use Rattle.block_layout.specs.declared.blocks.BlockLayout.{BlockLayout}
-use Rattle.stl_codegen.specs.Compiled.{compiled}
+use Rattle.stl_codegen.specs.Compiled.{compiled_block}
 use Rattle.stl_codegen.specs.Generated.{code_blocks_of}
 use Rattle.stl_list.specs.CodeBlocks.{in_lines}
-use Rattle.stl_list.specs.Lines.{first_line, last_line, line_behind, lines_from}
+use Rattle.stl_list.specs.Lines.{first_statement_line, last_statement_line, line_behind_statements, lines_from}
 
 -- behind what reaches to a line, a block's statements and its END clause stand on their own lines
 pub record StandsBehind (reached : ℕ) (b : CodeBlock) : Type 0 where
   pub lines : lines_from reached b.lines ≡ b.lines
-  pub head : max reached (first_line b) ≡ first_line b
-  pub end : line_behind reached b.lines ≡ last_line b
+  pub head : max reached (first_statement_line b) ≡ first_statement_line b
+  pub end : line_behind_statements reached b.lines ≡ last_statement_line b
 
 -- and so do blocks one behind the other
 abbrev pub StandBehind : (reached : ℕ) → List CodeBlock → Type 0
 StandBehind reached [] = Unit {0}
-StandBehind reached (b ∷ bs) = StandsBehind reached b × StandBehind (last_line b) bs
+StandBehind reached (b ∷ bs) = StandsBehind reached b × StandBehind (last_statement_line b) bs
 
 -- the code blocks of a source, in the order in which a listing has them
 abbrev pub AreLinesKept : Type 0
@@ -29,4 +29,4 @@ AreLinesKept =
     (source : List ℕ) (tokens : List Token) (t : Tree) (symbols : List Symbol)
     (layouts : List BlockLayout)
     → AreTokens source tokens → IsTree source tokens t
-    → StandBehind 1 (in_lines (map compiled (code_blocks_of t symbols layouts)))
+    → StandBehind 1 (in_lines (map compiled_block (code_blocks_of t symbols layouts)))

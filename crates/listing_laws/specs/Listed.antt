@@ -8,10 +8,10 @@ use Rattle.flat_code.specs.declared.programs.Param.{Param}
 use Rattle.stl_ast.specs.declared.declarations.Simple.{Simple}
 use Rattle.block_layout.specs.Offsets.{width_of}
 use Rattle.stl_types.specs.declared.parameters.Formal.{Formal}
-use Rattle.stl_list.specs.Joined.{Chains, chains_of, first_of, kind_at, links, parameter_count}
+use Rattle.stl_list.specs.Joined.{Chains, chains_of, first_of, kind_at, links, total_parameter_count}
 use Rattle.stl_list.specs.Parameters.{section_of}
-use Rattle.stl_list.specs.Signatures.{formals_of, signatures}
-use Rattle.listing_laws.specs.Chains.{AreKept, HasStep}
+use Rattle.stl_list.specs.Signatures.{formals_of_block, signatures}
+use Rattle.listing_laws.specs.Chains.{AreTypesAsDeclared, HasStep}
 use Rattle.listing_laws.specs.Fitting.{IsListedAs}
 
 -- the parameters of a block; none where there is no such block
@@ -25,20 +25,20 @@ pub record IsParameterOf (c : Chains) (blocks : List CodeBlock) (id : BlockId) (
   pub there : slice_get (params_in blocks id) index ≡ Some param
   pub section : f.section ≡ section_of param.section
   pub kind : f.kind ≡ kind_at c (first_of blocks id + index) param.width
-  pub few : first_of blocks id + index < parameter_count blocks
+  pub few : first_of blocks id + index < total_parameter_count blocks
 
 -- each parameter in a listing is one
 abbrev pub AreParametersListed : Type 0
 AreParametersListed =
     (c : Chains) (blocks : List CodeBlock) (id : BlockId) (index : ℕ) (f : Formal)
-    → slice_get (formals_of (signatures c blocks) id) index ≡ Some f
+    → slice_get (formals_of_block (signatures c blocks) id) index ≡ Some f
     → IsParameterOf c blocks id index f
 
 -- it is the parameter that the code has, where the source declared one of its width
 abbrev pub AreListedAs : Type 0
 AreListedAs =
     (blocks : List CodeBlock) (declared : ℕ → Simple) (id : BlockId) (index : ℕ) (f : Formal)
-    → AreKept blocks declared
+    → AreTypesAsDeclared blocks declared
     → (h : IsParameterOf (chains_of blocks) blocks id index f)
     → h.param.width ≡ width_of (declared (first_of blocks id + index))
     → IsListedAs f (record_of_param h.param)
@@ -47,7 +47,7 @@ AreListedAs =
 abbrev pub AreEndsAlike : Type 0
 AreEndsAlike =
     (blocks : List CodeBlock) (declared : ℕ → Simple) (id other : BlockId) (index place : ℕ) (f g : Formal)
-    → AreKept blocks declared
+    → AreTypesAsDeclared blocks declared
     → (h : IsParameterOf (chains_of blocks) blocks id index f)
     → (k : IsParameterOf (chains_of blocks) blocks other place g)
     → h.param.width ≡ k.param.width

@@ -1,32 +1,32 @@
 -- The statements of a listed body are those of the block.
 use Rattle.std.specs.Prelude.{◌≡◌, ℕ, suc, false, List, [], ◌∷◌, ◌++◌}
-use Rattle.stl_ast.specs.Statements.{is_empty}
+use Rattle.stl_ast.specs.Statements.{is_empty_statement}
 use Rattle.stl_ast.specs.declared.statements.Statement.{Statement}
 use Rattle.stl_types.specs.Context.{Context}
-use Rattle.stl_codegen.specs.Compiled.{Stated, StatedBlock, compiled, lines_in}
+use Rattle.stl_codegen.specs.Compiled.{SourceInstruction, StatedBlock, compiled_block, lines_in}
 use Rattle.stl_codegen.specs.Generated.{stated_from}
 use Rattle.stl_codegen.specs.Instruction.{instruction}
 use Rattle.stl_list.specs.Signatures.{Signature}
-use Rattle.stl_list.specs.Statements.{Surroundings, body_of, statement, surroundings}
-use Rattle.listing_laws.specs.Statements.{offset_in, run_of}
+use Rattle.stl_list.specs.Statements.{Surroundings, body_of, listed_statement, surroundings}
+use Rattle.listing_laws.specs.Statements.{statement_offset, run_of}
 
 -- each listed statement from a number on isn't empty, and comes to its instruction
 abbrev pub AreKeptFrom : Context → (body : List Statement) → Surroundings → (ℕ → ℕ) → (k : ℕ)
-    → List Stated → Type 0
+    → List SourceInstruction → Type 0
 AreKeptFrom listed body sur f k [] = Unit {0}
 AreKeptFrom listed body sur f k (s ∷ ss) =
-    (is_empty (statement sur k (run_of f s.instr)).code ≡ false)
-    × (instruction listed body k (statement sur k (run_of f s.instr)) ≡ s.instr)
+    (is_empty_statement (listed_statement sur k (run_of f s.instr)).code ≡ false)
+    × (instruction listed body k (listed_statement sur k (run_of f s.instr)) ≡ s.instr)
     × AreKeptFrom listed body sur f (suc k) ss
 
 -- then the listed body comes to the statements of the block, but the one that returns
 abbrev pub AreBodiesKept : Type 0
 AreBodiesKept =
-    (listed : Context) (signatures : List Signature) (b : StatedBlock) (ss : List Stated)
-    (last : Stated)
+    (listed : Context) (signatures : List Signature) (b : StatedBlock) (ss : List SourceInstruction)
+    (last : SourceInstruction)
     → b.statements ≡ ss ++ last ∷ []
-    → AreKeptFrom listed (body_of signatures (lines_in b.statements) (compiled b))
-    (surroundings signatures (lines_in b.statements) (compiled b)) (offset_in b.statements) 0 ss
-    → stated_from listed (body_of signatures (lines_in b.statements) (compiled b)) 0
-    (body_of signatures (lines_in b.statements) (compiled b))
+    → AreKeptFrom listed (body_of signatures (lines_in b.statements) (compiled_block b))
+    (surroundings signatures (lines_in b.statements) (compiled_block b)) (statement_offset b.statements) 0 ss
+    → stated_from listed (body_of signatures (lines_in b.statements) (compiled_block b)) 0
+    (body_of signatures (lines_in b.statements) (compiled_block b))
     ≡ ss

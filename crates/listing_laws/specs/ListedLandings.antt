@@ -7,7 +7,7 @@ use Rattle.stl_ast.specs.declared.blocks.Tree.{Tree}
 use Rattle.stl_symbols.specs.Symbol.{Symbol}
 use Rattle.block_layout.specs.declared.blocks.BlockLayout.{BlockLayout}
 use Rattle.stl_types.specs.Labels.{labels_of}
-use Rattle.stl_types.specs.Landings.{crossing_jumps, landings_at_labels, outside}
+use Rattle.stl_types.specs.Landings.{crossing_jumps, landings_at_labels, empty_nesting}
 use Rattle.sem_kept.specs.Accepted.{IsAccepted}
 use Rattle.listing_laws.specs.Again.{IsMadeOf, listed_again}
 
@@ -20,4 +20,4 @@ AreLandingsKept =
     → (again place : ℕ) (b : Block) (l : BlockLayout) (id : BlockId)
     → IsMadeOf symbols t again place b l id
     → (x : Block) → slice_get (listed_again symbols t).blocks again ≡ Some x
-    → crossing_jumps (labels_of x.body) (landings_at_labels outside x.body) x.body ≡ []
+    → crossing_jumps (labels_of x.body) (landings_at_labels empty_nesting x.body) x.body ≡ []

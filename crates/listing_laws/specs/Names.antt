@@ -1,7 +1,7 @@
 -- The symbols file of a listing is read back.
 use Rattle.std.specs.Prelude.{◌≡◌, ℕ, List, map, Ok}
 use Rattle.flat_code.specs.Programs.{NameEntry}
-use Rattle.stl_codegen.specs.Generated.{names_of}
+use Rattle.stl_codegen.specs.Generated.{name_entries_of}
 use Rattle.stl_list.specs.Symbols.{listed_names}
 use Rattle.stl_symbols.specs.Symbol.{Symbol}
 use Rattle.stl_symbols.specs.Symbols.{symbols_in}
@@ -18,11 +18,11 @@ abbrev pub AreNamesRead : Type 0
 AreNamesRead =
     (language : Language) (file : List ℕ) (symbols : List Symbol)
     → symbols_in language file ≡ Ok symbols
-    → symbols_in English (listed_names (names_of symbols)) ≡ Ok (map symbol_of (names_of symbols))
+    → symbols_in English (listed_names (name_entries_of symbols)) ≡ Ok (map symbol_of (name_entries_of symbols))
 
 -- and these symbols give a program the same names
 abbrev pub AreNamesKept : Type 0
 AreNamesKept =
     (language : Language) (file : List ℕ) (symbols : List Symbol)
     → symbols_in language file ≡ Ok symbols
-    → names_of (map symbol_of (names_of symbols)) ≡ names_of symbols
+    → name_entries_of (map symbol_of (name_entries_of symbols)) ≡ name_entries_of symbols

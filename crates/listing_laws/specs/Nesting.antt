@@ -2,64 +2,64 @@
 use Rattle.std.specs.Prelude.{◌≡◌, ℕ, false, List, [], ◌∷◌, None, if◌then◌else◌}
 use Rattle.std.specs.List.{AllByRecursion, flat_map}
 use Rattle.plc_base.specs.Least.{broken_if}
-use Rattle.stl_ast.specs.Statements.{IsStatement, is_empty}
+use Rattle.stl_ast.specs.Statements.{IsStatement, is_empty_statement}
 use Rattle.stl_ast.specs.declared.blocks.Block.{Block}
 use Rattle.stl_ast.specs.declared.mnemonics.Mnemonic.{Mnemonic}
 use Rattle.stl_ast.specs.declared.statements.Statement.{Statement}
-use Rattle.stl_types.specs.Brackets.{closes_none, is_eighth, left_open, with_brackets}
+use Rattle.stl_types.specs.Brackets.{closes_no_bracket, is_eighth_bracket, brackets_left_open, with_brackets}
 use Rattle.stl_types.specs.Context.{Context}
-use Rattle.stl_types.specs.Resolved.{resolved}
-use Rattle.stl_types.specs.Zones.{ends_none, is_ninth, with_zones, zones_left_open}
-use Rattle.stl_codegen.specs.Compiled.{StatedBlock, compiled, lines_in}
+use Rattle.stl_types.specs.Resolved.{resolved_operand}
+use Rattle.stl_types.specs.Zones.{ends_no_zone, is_ninth_zone, with_zones, zones_left_open}
+use Rattle.stl_codegen.specs.Compiled.{StatedBlock, compiled_block, lines_in}
 use Rattle.stl_codegen.specs.Generated.{statements_of}
 use Rattle.stl_list.specs.Signatures.{Signature}
 use Rattle.stl_list.specs.Statements.{body_of}
 
 -- the instruction word of a statement, and its line
-pub record Mark : Type 0 where
+pub record NestingMark : Type 0 where
   pub code : Mnemonic
   pub line : ℕ
 
 -- an empty statement has none
-abbrev pub mark_of : Statement → List Mark
-mark_of s = if is_empty s.code then [] else record { code = s.code; line = s.line } ∷ []
+abbrev pub mark_of : Statement → List NestingMark
+mark_of s = if is_empty_statement s.code then [] else record { code = s.code; line = s.line } ∷ []
 
 -- those of a body
-abbrev pub marks : List Statement → List Mark
-marks body = flat_map mark_of body
+abbrev pub nesting_marks : List Statement → List NestingMark
+nesting_marks body = flat_map mark_of body
 
 -- two bodies break the same rules on brackets and zones, on the same lines
 pub record AreNestedAlike (ss ts : List Statement) : Type 0 where
-  pub closing : with_brackets (λ brackets s. broken_if (closes_none brackets s) s.line 29) [] ss
-      ≡ with_brackets (λ brackets s. broken_if (closes_none brackets s) s.line 29) [] ts
-  pub left : left_open ss ≡ left_open ts
-  pub eighth : with_brackets (λ brackets s. broken_if (is_eighth brackets s) s.line 31) [] ss
-      ≡ with_brackets (λ brackets s. broken_if (is_eighth brackets s) s.line 31) [] ts
-  pub ending : with_zones (λ zones s. broken_if (ends_none zones s) s.line 47) [] ss
-      ≡ with_zones (λ zones s. broken_if (ends_none zones s) s.line 47) [] ts
+  pub closing : with_brackets (λ brackets s. broken_if (closes_no_bracket brackets s) s.line 29) [] ss
+      ≡ with_brackets (λ brackets s. broken_if (closes_no_bracket brackets s) s.line 29) [] ts
+  pub left : brackets_left_open ss ≡ brackets_left_open ts
+  pub eighth : with_brackets (λ brackets s. broken_if (is_eighth_bracket brackets s) s.line 31) [] ss
+      ≡ with_brackets (λ brackets s. broken_if (is_eighth_bracket brackets s) s.line 31) [] ts
+  pub ending : with_zones (λ zones s. broken_if (ends_no_zone zones s) s.line 47) [] ss
+      ≡ with_zones (λ zones s. broken_if (ends_no_zone zones s) s.line 47) [] ts
   pub zones_left : zones_left_open ss ≡ zones_left_open ts
-  pub ninth : with_zones (λ zones s. broken_if (is_ninth zones s) s.line 49) [] ss
-      ≡ with_zones (λ zones s. broken_if (is_ninth zones s) s.line 49) [] ts
+  pub ninth : with_zones (λ zones s. broken_if (is_ninth_zone zones s) s.line 49) [] ss
+      ≡ with_zones (λ zones s. broken_if (is_ninth_zone zones s) s.line 49) [] ts
 
 -- so do bodies with the same words on the same lines
 abbrev pub AreNestingsKept : Type 0
-AreNestingsKept = (ss ts : List Statement) → marks ss ≡ marks ts → AreNestedAlike ss ts
+AreNestingsKept = (ss ts : List Statement) → nesting_marks ss ≡ nesting_marks ts → AreNestedAlike ss ts
 
 -- a statement of a right source: its operand is one that its instruction takes
 pub record IsReadable (c : Context) (s : Statement) : Type 0 where
   pub statement : IsStatement s
-  pub resolves : is_empty s.code ≡ false → resolved c s ≡ None → ⊥
+  pub resolves : is_empty_statement s.code ≡ false → resolved_operand c s ≡ None → ⊥
 
 -- the listed body of a block has the words of the block's own body, on its lines
 abbrev pub AreMarksKept : Type 0
 AreMarksKept =
     (c : Context) (b : Block) (stated : StatedBlock) (signatures : List Signature)
     → AllByRecursion (IsReadable c) b.body → stated.statements ≡ statements_of c b
-    → marks (body_of signatures (lines_in stated.statements) (compiled stated)) ≡ marks b.body
+    → nesting_marks (body_of signatures (lines_in stated.statements) (compiled_block stated)) ≡ nesting_marks b.body
 
 -- so it breaks the same rules on brackets and zones, on the same lines
 abbrev pub AreListedNestingsKept : Type 0
 AreListedNestingsKept =
     (c : Context) (b : Block) (stated : StatedBlock) (signatures : List Signature)
     → AllByRecursion (IsReadable c) b.body → stated.statements ≡ statements_of c b
-    → AreNestedAlike (body_of signatures (lines_in stated.statements) (compiled stated)) b.body
+    → AreNestedAlike (body_of signatures (lines_in stated.statements) (compiled_block stated)) b.body

@@ -9,7 +9,7 @@ use Rattle.flat_code.specs.declared.operands.Passed.TheVariants as passed
 use Rattle.block_layout.specs.declared.blocks.BlockLayout.{BlockLayout}
 use Rattle.stl_ast.specs.declared.blocks.Tree.{Tree}
 use Rattle.stl_codegen.specs.Generated.{program_of}
-use Rattle.stl_list.specs.Operands.{opened_by}
+use Rattle.stl_list.specs.Operands.{block_opened_by_ops}
 use Rattle.stl_list.specs.Runs.{Run, runs}
 use Rattle.stl_symbols.specs.Symbol.{Symbol}
 use Rattle.listing_laws.specs.Bodies.{IsOpenedIn}
@@ -31,7 +31,7 @@ PreparesIn _ = Unit {0}
 
 -- the ops of a statement
 pub record OpensRight (r : Run) : Type 0 where
-  pub acts : ActsIn (opened_by r.before) r.op.operand
+  pub acts : ActsIn (block_opened_by_ops r.before) r.op.operand
   pub prepares : AllByRecursion (λ op. PreparesIn op.operand) r.before
 
 -- those of the program of each source

@@ -12,21 +12,21 @@ use Rattle.stl_ast.specs.declared.literals.Literal.{Literal}
 use Rattle.stl_ast.specs.declared.mnemonics.Mnemonic.{Mnemonic}
 use Rattle.stl_ast.specs.declared.operands.Operand.{Operand}
 use Rattle.stl_ast.specs.declared.operands.Operand.TheVariants as operand
-use Rattle.block_layout.specs.Fits.{bits_of, fits}
+use Rattle.block_layout.specs.Fits.{bits_of, fits_elementary_type}
 use Rattle.block_layout.specs.Offsets.{width_of}
 use Rattle.stl_types.specs.Context.{Context, data_number}
 use Rattle.stl_types.specs.Forms.{form_of}
 use Rattle.stl_types.specs.Operands.{is_input, operand_rule}
-use Rattle.stl_types.specs.Resolution.{seen}
+use Rattle.stl_types.specs.Resolution.{resolution_of}
 use Rattle.stl_types.specs.Variables.{own_variable}
 use Rattle.stl_types.specs.declared.parameters.Formal.{Formal}
 use Rattle.stl_types.specs.declared.views.Resolution.TheVariants.{Resolved}
 use Rattle.stl_types.specs.declared.views.ResolvedOperand.{ResolvedOperand}
 use Rattle.stl_types.specs.declared.views.ResolvedOperand.TheVariants as view
-use Rattle.stl_codegen.specs.Operands.{opened_by, opened_by_place, operand_of}
+use Rattle.stl_codegen.specs.Operands.{block_opened_by_operand, opened_by_place, flat_operand_of}
 use Rattle.stl_codegen.specs.Operations.{operation_for}
-use Rattle.stl_list.specs.Operands.{data_block_name, name_at, operand_of as listed_operand}
-use Rattle.listing_laws.specs.Labels.{GoesOn}
+use Rattle.stl_list.specs.Operands.{name_of_data_block, name_at, operand_of_run as listed_operand}
+use Rattle.listing_laws.specs.Labels.{IsStraightLine}
 use Rattle.listing_laws.specs.Statements.{run_of}
 
 -- ---- what the tree of a listing must say
@@ -34,7 +34,7 @@ use Rattle.listing_laws.specs.Statements.{run_of}
 -- a data block that a statement opens stands there by its number
 abbrev pub IsOpenedAgain : Context → Option ℕ → Type 0
 IsOpenedAgain listed None = Unit {0}
-IsOpenedAgain listed (Some number) = data_number listed (data_block_name number) ≡ Some number
+IsOpenedAgain listed (Some number) = data_number listed (name_of_data_block number) ≡ Some number
 
 -- the parameter of an index stands there by its name, with its width, and is an input if it was one
 pub record IsParameterAgain (listed : Context) (formals : List Formal) (index : ℕ)
@@ -64,13 +64,13 @@ StandsAgain listed formals (view.Pointer a byte bit) = IsPointer a byte bit
 StandsAgain listed formals _ = Unit {0}
 
 -- a constant is in the range of its kind, and its bits are as many as it says
-pub record IsCoded (value : Literal) : Type 0 where
+pub record IsConstantCoded (value : Literal) : Type 0 where
   pub literal : IsLiteral value
-  pub word : fits value simple.Word ≡ true → bits_of value ≤ 65535
+  pub word : fits_elementary_type value simple.Word ≡ true → bits_of value ≤ 65535
 
 -- a view is that of a constant exactly where the operand is one
 abbrev pub IsConstantSeen : Operand → ResolvedOperand → Type 0
-IsConstantSeen (operand.Constant value) v = (v ≡ view.Constant) × IsCoded value
+IsConstantSeen (operand.Constant value) v = (v ≡ view.Constant) × IsConstantCoded value
 IsConstantSeen o view.Constant = ⊥
 IsConstantSeen o _ = Unit {0}
 
@@ -80,21 +80,21 @@ IsConstantSeen o _ = Unit {0}
 pub record IsActedAgain (listed : Context) (m : Mnemonic) (o again : Operand) (v : ResolvedOperand)
     : Type 0 where
   pub found : ResolvedOperand
-  pub sees : seen listed again ≡ Resolved found
+  pub sees : resolution_of listed again ≡ Resolved found
   pub right : operand_rule listed (form_of m) again ≡ None
-  pub opened : opened_by found ≡ opened_by v
+  pub opened : block_opened_by_operand found ≡ block_opened_by_operand v
   pub operation : operation_for m again found ≡ operation_for m o v
-  pub operand : operand_of again found ≡ operand_of o v
+  pub operand : flat_operand_of again found ≡ flat_operand_of o v
 
 -- the instruction of a statement that goes on, by what its operand names
-abbrev pub acting : Mnemonic → Operand → ResolvedOperand → Instr
-acting m o v = Does (opened_by v) (operation_for m o v) (operand_of o v)
+abbrev pub operand_instruction : Mnemonic → Operand → ResolvedOperand → Instr
+operand_instruction m o v = Does (block_opened_by_operand v) (operation_for m o v) (flat_operand_of o v)
 
 -- so does the operand that a listing has for such an instruction, whatever the instruction and the operand
 abbrev pub AreOperandsKept : Type 0
 AreOperandsKept =
     (c listed : Context) (formals : List Formal) (starts : List ℕ) (f : ℕ → ℕ) (m : Mnemonic)
     (o : Operand) (v : ResolvedOperand)
-    → GoesOn m → operand_rule c (form_of m) o ≡ None → seen c o ≡ Resolved v
+    → IsStraightLine m → operand_rule c (form_of m) o ≡ None → resolution_of c o ≡ Resolved v
     → IsConstantSeen o v → StandsAgain listed formals v
-    → IsActedAgain listed m o (listed_operand formals starts (run_of f (acting m o v))) v
+    → IsActedAgain listed m o (listed_operand formals starts (run_of f (operand_instruction m o v))) v

@@ -7,7 +7,7 @@ use Rattle.stl_ast.specs.declared.blocks.Block.{Block}
 use Rattle.stl_ast.specs.declared.blocks.Tree.{Tree}
 use Rattle.stl_symbols.specs.Symbol.{Symbol}
 use Rattle.block_layout.specs.Layouts.{layouts_of}
-use Rattle.block_layout.specs.Lengths.{length_of}
+use Rattle.block_layout.specs.Lengths.{length_of_block}
 use Rattle.block_layout.specs.Rule51.{is_too_long}
 use Rattle.block_layout.specs.Types.{Types}
 use Rattle.block_layout.specs.declared.blocks.BlockLayout.{BlockLayout}
@@ -24,7 +24,7 @@ use Rattle.listing_laws.specs.Declared.{signatures_in}
 -- that source has it again, with its number and its bytes
 pub record IsOwnDataAgain (ss : List Signature) (d : DataBlock) : Type 0 where
   pub length : (y : Types) (blocks : List Block) (line : ℕ)
-      → length_of y blocks (listed_data ss line d.number d.bytes None) ≡ length d.bytes
+      → length_of_block y blocks (listed_data ss line d.number d.bytes None) ≡ length d.bytes
   pub by_51 : (y : Types) (blocks : List Block) (line : ℕ)
       → is_too_long y blocks (listed_data ss line d.number d.bytes None) ≡ false
   pub again : (symbols : List Symbol) (t : Tree) (k line : ℕ) (l : BlockLayout)
@@ -43,7 +43,7 @@ AreOwnDataAgain =
     (program_in symbols t).data_blocks
 
 -- a data block that is one of some
-pub record IsAmong (d : DataBlock) (ds : List DataBlock) : Type 0 where
+pub record IsOneOfDataBlocks (d : DataBlock) (ds : List DataBlock) : Type 0 where
   pub place : ℕ
   pub there : slice_get ds place ≡ Some d
 
@@ -55,7 +55,7 @@ AreOwnDataKept =
     → AllByRecursion (λ l. l.broken ≡ false) (layouts_of (listed_tree (program_in symbols t)) others)
     → AllByRecursion
     (λ d. d.instance_of ≡ None
-    → IsAmong d
+    → IsOneOfDataBlocks d
     (data_blocks_of (listed_tree (program_in symbols t)) others
     (layouts_of (listed_tree (program_in symbols t)) others)))
     (program_in symbols t).data_blocks

@@ -21,7 +21,7 @@ pub record IsFunctionAt (c : Context) (b : Block) (l : BlockLayout) : Type 0 whe
   pub whole : l.broken ≡ false
 
 -- a component at a place is of elementary type, and the first of its name
-pub record IsOwn (cells : List Cell) (j : ℕ) (cell : Cell) (kind : Simple) : Type 0 where
+pub record IsOwnParameterCell (cells : List Cell) (j : ℕ) (cell : Cell) (kind : Simple) : Type 0 where
   pub there : slice_get cells j ≡ Some cell
   pub sound : cell.sound ≡ true
   pub bounds : cell.bounds ≡ []
@@ -34,6 +34,6 @@ abbrev pub AreOwnParametersFound : Type 0
 AreOwnParametersFound =
     (c : Context) (b : Block) (l : BlockLayout) (j : ℕ) (cell : Cell) (kind : Simple)
     → IsFunctionAt c b l → AllByRecursion (λ d. d.level ≡ 0) l.components
-    → IsOwn l.components j cell kind
+    → IsOwnParameterCell l.components j cell kind
     → own_variable c cell.name []
     ≡ Resolved (view.Parameter (behind_others (length l.components) j b.result) cell.section kind)

@@ -8,7 +8,7 @@ use Rattle.block_layout.specs.declared.cells.Cell.{Cell}
 use Rattle.block_layout.specs.declared.cells.Element.TheVariants.{Plain}
 use Rattle.stl_types.specs.Context.{Context, in_function}
 use Rattle.stl_types.specs.Parameters.{formals_of}
-use Rattle.stl_codegen.specs.Instruction.{in_order}
+use Rattle.stl_codegen.specs.Instruction.{in_parameter_order}
 use Rattle.listing_laws.specs.HandedOn.{SeesOwn}
 
 -- a component is a parameter, of elementary type
@@ -19,7 +19,7 @@ IsParameterCell cell = (kind : Simple) × (is_parameter cell.section ≡ true) �
 abbrev pub own_kinds : Context → List Simple
 own_kinds c =
     map (λ f. f.kind)
-    (in_order (slice_get c.blocks c.block) (formals_of (cells_at c.layouts c.block false)))
+    (in_parameter_order (slice_get c.blocks c.block) (formals_of (cells_at c.layouts c.block false)))
 
 -- where all components of a function are parameters, what its body sees as one has the type of that one
 abbrev pub AreOwnSeen : Type 0

@@ -14,7 +14,7 @@ use Rattle.stl_types.specs.Variables.{own_variable}
 use Rattle.stl_types.specs.declared.parameters.Formal.{Formal}
 use Rattle.stl_types.specs.declared.views.Resolution.TheVariants.{Resolved}
 use Rattle.stl_types.specs.declared.views.ResolvedOperand.TheVariants as view
-use Rattle.stl_list.specs.Signatures.{formals_of}
+use Rattle.stl_list.specs.Signatures.{formals_of_block}
 use Rattle.sem_kept.specs.Accepted.{IsAccepted, program_in}
 use Rattle.listing_laws.specs.Again.{IsMadeOf, IsWholeAgain, again_at, context_at}
 use Rattle.listing_laws.specs.Declared.{signatures_in}
@@ -35,4 +35,4 @@ AreParametersAgain =
     → IsWholeAgain symbols t others → (again place : ℕ) (b : Block) (l : BlockLayout) (id : BlockId)
     → IsMadeOf symbols t again place b l id
     → AreOwnAgain (context_at symbols t place) (again_at symbols t others again)
-    (formals_of (signatures_in (program_in symbols t)) id)
+    (formals_of_block (signatures_in (program_in symbols t)) id)

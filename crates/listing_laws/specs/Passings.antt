@@ -15,34 +15,34 @@ use Rattle.stl_ast.specs.declared.statements.Actual.{Actual}
 use Rattle.stl_ast.specs.declared.statements.Statement.{Statement}
 use Rattle.block_layout.specs.Offsets.{width_of}
 use Rattle.stl_types.specs.Actuals.{formal_named, is_input_section, takes_section}
-use Rattle.stl_types.specs.Calls.{lacks_actual, misfits, names_none, sees_date, supplied_twice}
+use Rattle.stl_types.specs.Calls.{lacks_actual, misfits_formal, names_no_formal, sees_date, actuals_supplied_twice}
 use Rattle.stl_types.specs.Context.{Context, data_number}
 use Rattle.stl_types.specs.Parameters.{Callee}
-use Rattle.stl_types.specs.Resolution.{seen}
+use Rattle.stl_types.specs.Resolution.{resolution_of}
 use Rattle.stl_types.specs.declared.parameters.Formal.{Formal}
 use Rattle.stl_types.specs.declared.views.Resolution.TheVariants.{Resolved}
 use Rattle.stl_types.specs.declared.views.ResolvedOperand.TheVariants as view
-use Rattle.stl_codegen.specs.Emitted.{passing}
-use Rattle.stl_codegen.specs.Instruction.{block_at, in_order, passings_to}
+use Rattle.stl_codegen.specs.Emitted.{pass_ops}
+use Rattle.stl_codegen.specs.Instruction.{source_block_at, in_parameter_order, passings_to}
 use Rattle.stl_list.specs.Actuals.{actuals_before}
-use Rattle.stl_list.specs.Operands.{data_block_name, own_parameter}
-use Rattle.listing_laws.specs.Chains.{is_listed}
+use Rattle.stl_list.specs.Operands.{name_of_data_block, own_parameter}
+use Rattle.listing_laws.specs.Chains.{is_listed_type}
 
 -- ---- what fits
 
 -- what is passed for a listed parameter, in a body with parameters of its own
 abbrev pub FitsListed : Context → (own : List Formal) → Formal → Passed → Type 0
 FitsListed c own f (passed.Literal value) =
-    (is_input_section f.section ≡ true) × (is_listed f.kind ≡ true)
+    (is_input_section f.section ≡ true) × (is_listed_type f.kind ≡ true)
     × (literal_fits (width_number (width_of f.kind)) value ≡ true) × (value < 2 ^ 32)
 FitsListed c own f (passed.Direct a width byte bit) = width ≡ width_of f.kind
 FitsListed c own f (passed.InBlock number a width byte bit) =
     (width ≡ width_of f.kind) × (a ≡ area.Db) × (nat_eq number 0 ≡ false)
-    × (data_number c (data_block_name number) ≡ Some number)
+    × (data_number c (name_of_data_block number) ≡ Some number)
 FitsListed c own f (passed.Parameter index width) =
     (g : Formal) × (width ≡ width_of g.kind) × (g.kind ≡ f.kind)
     × (takes_section f.section g.section ≡ true)
-    × (seen c (own_parameter own index) ≡ Resolved (view.Parameter index g.section g.kind))
+    × (resolution_of c (own_parameter own index) ≡ Resolved (view.Parameter index g.section g.kind))
 
 -- what is passed for a parameter that the called block has
 pub record IsPassable (c : Context) (own called : List Formal) (p : Passing) : Type 0 where
@@ -62,8 +62,8 @@ AreNamedApart called =
     → bytes_eq (upper_case_name f.name) (upper_case_name g.name) ≡ (i == j)
 
 -- a parameter as the rules know it: with its name in upper case
-abbrev pub upper : Formal → Formal
-upper f = record f { name = upper_case_name f.name }
+abbrev pub in_upper_case : Formal → Formal
+in_upper_case f = record f { name = upper_case_name f.name }
 
 -- ---- what is passed
 
@@ -71,8 +71,8 @@ upper f = record f { name = upper_case_name f.name }
 -- called block as the rules find it, `called` are its parameters in the listing, by their index
 pub record IsListedCall (c : Context) (own called : List Formal) (callee : Callee)
     (ps : List Passing) (s : Statement) : Type 0 where
-  pub actuals : s.actuals ≡ actuals_before s.line own called (passing ps)
-  pub order : in_order (block_at c.blocks callee.place) callee.formals ≡ map upper called
+  pub actuals : s.actuals ≡ actuals_before s.line own called (pass_ops ps)
+  pub order : in_parameter_order (source_block_at c.blocks callee.place) callee.formals ≡ map in_upper_case called
   pub named : AreNamedApart called
   pub passable : AllByRecursion (IsPassable c own called) ps
   pub rising : AreRising 0 ps
@@ -93,11 +93,11 @@ AreAllPassed called ps =
 -- of the rules of its actual parameters it breaks none: 24, 34, 35, 37, and 36 where all are passed that
 -- have to be
 pub record BreaksNone (c : Context) (callee : Callee) (s : Statement) : Type 0 where
-  pub by_24 : AllByRecursion (λ (a : Actual). sees_date (seen c a.value) ≡ false) s.actuals
-  pub by_34 : AllByRecursion (λ (a : Actual). names_none callee.formals a ≡ false) s.actuals
-  pub by_35 : supplied_twice callee.formals [] s.actuals ≡ []
+  pub by_24 : AllByRecursion (λ (a : Actual). sees_date (resolution_of c a.value) ≡ false) s.actuals
+  pub by_34 : AllByRecursion (λ (a : Actual). names_no_formal callee.formals a ≡ false) s.actuals
+  pub by_35 : actuals_supplied_twice callee.formals [] s.actuals ≡ []
   pub by_37 : AllByRecursion
-      (λ (a : Actual). misfits c a (formal_named callee.formals a.name) ≡ false) s.actuals
+      (λ (a : Actual). misfits_formal c a (formal_named callee.formals a.name) ≡ false) s.actuals
 
 -- what a listed call passes breaks none of rules 34, 35 and 37
 abbrev pub AreActualsRight : Type 0

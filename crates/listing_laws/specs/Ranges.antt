@@ -5,7 +5,7 @@ use Rattle.flat_code.specs.Image.{IsProgram}
 use Rattle.flat_code.specs.Programs.{CodeBlock, Program}
 use Rattle.flat_code.specs.declared.operands.Operand.{Operand}
 use Rattle.flat_code.specs.declared.operands.Operand.TheVariants as flat
-use Rattle.stl_lexer.specs.Pieces.{Show, tokens_of}
+use Rattle.stl_lexer.specs.Pieces.{ShowPieces, tokens_of}
 use Rattle.stl_lexer.specs.Tokens.{AreTokens}
 use Rattle.stl_ast.specs.WellFormed.{IsWellFormed}
 use Rattle.stl_ast.specs.declared.blocks.Tree.{Tree}
@@ -13,17 +13,17 @@ use Rattle.stl_symbols.specs.Symbol.{Symbol}
 use Rattle.block_layout.specs.declared.blocks.BlockLayout.{BlockLayout}
 use Rattle.stl_codegen.specs.Generated.{program_of}
 use Rattle.stl_list.specs.Listing.{listed_source, listed_tree}
-use Rattle.stl_print.specs.Trees.{pieces}
-use Rattle.print_laws.specs.Standing.{IsPrintable}
+use Rattle.stl_print.specs.Trees.{pieces_of_tree}
+use Rattle.print_laws.specs.Standing.{HasPrintableTokens}
 
 -- an offset to an address register is one that a pointer constant writes, as P#65535.7 is
-abbrev pub IsWritten : Operand → Type 0
-IsWritten (flat.ByRegister area width register bits) = bits < 8 * 65536
-IsWritten _ = Unit {0}
+abbrev pub IsOffsetWritable : Operand → Type 0
+IsOffsetWritable (flat.ByRegister area width register bits) = bits < 8 * 65536
+IsOffsetWritable _ = Unit {0}
 
 -- the same of all ops of a block
 abbrev pub IsWrittenBlock : CodeBlock → Type 0
-IsWrittenBlock b = AllByRecursion (λ op. IsWritten op.operand) b.code
+IsWrittenBlock b = AllByRecursion (λ op. IsOffsetWritable op.operand) b.code
 
 -- and of a program
 abbrev pub IsWrittenProgram : Program → Type 0
@@ -31,14 +31,14 @@ IsWrittenProgram p = AllByRecursion IsWrittenBlock p.code_blocks
 
 -- the listing of a program with such offsets is a printable tree
 abbrev pub AreListedPrintable : Type 0
-AreListedPrintable = (p : Program) → IsProgram p → IsWrittenProgram p → IsPrintable (listed_tree p)
+AreListedPrintable = (p : Program) → IsProgram p → IsWrittenProgram p → HasPrintableTokens (listed_tree p)
 
 -- so its text has just the tokens that were printed
 abbrev pub AreListedTokens : Type 0
 AreListedTokens =
     (p : Program) → IsProgram p → IsWrittenProgram p
-    → AreTokens (listed_source p) (tokens_of 0 1 (pieces (listed_tree p)))
-    × Show (listed_source p) (pieces (listed_tree p)) (tokens_of 0 1 (pieces (listed_tree p)))
+    → AreTokens (listed_source p) (tokens_of 0 1 (pieces_of_tree (listed_tree p)))
+    × ShowPieces (listed_source p) (pieces_of_tree (listed_tree p)) (tokens_of 0 1 (pieces_of_tree (listed_tree p)))
 
 -- the program of a source that is well-formed has such offsets
 abbrev pub AreCompiledWritten : Type 0

@@ -6,7 +6,7 @@ use Rattle.stl_ast.specs.declared.blocks.Block.{Block}
 use Rattle.stl_ast.specs.declared.blocks.Tree.{Tree}
 use Rattle.stl_symbols.specs.Symbol.{Symbol}
 use Rattle.block_layout.specs.Layouts.{layouts_of}
-use Rattle.block_layout.specs.Measures.{types_of}
+use Rattle.block_layout.specs.Measures.{types_of_source}
 use Rattle.block_layout.specs.Operands.{in_body}
 use Rattle.block_layout.specs.Rule23.{operand_23}
 use Rattle.block_layout.specs.Rule42.{bodies_42}
@@ -56,6 +56,6 @@ AreListedBodiesRight =
     (source file : List ℕ) (symbols : List Symbol) (t : Tree)
     → IsAccepted source file symbols t → AreBytes source → AreBytes file → (others : List Symbol)
     → IsWholeAgain symbols t others
-    → AreBodiesRight (types_of others (listed_again symbols t).blocks)
+    → AreBodiesRight (types_of_source others (listed_again symbols t).blocks)
     (first_context others (layouts_of (listed_again symbols t) others) (listed_again symbols t).blocks)
     (listed_again symbols t).blocks

@@ -5,7 +5,7 @@ use Rattle.stl_ast.specs.Literals.{AreBytes}
 use Rattle.stl_ast.specs.declared.blocks.Block.{Block}
 use Rattle.stl_ast.specs.declared.blocks.Tree.{Tree}
 use Rattle.stl_symbols.specs.Symbol.{Symbol}
-use Rattle.block_layout.specs.Around.{in_block}
+use Rattle.block_layout.specs.Around.{refusals_in_block}
 use Rattle.block_layout.specs.Rule21.{broken_21}
 use Rattle.block_layout.specs.Rule23.{broken_23}
 use Rattle.block_layout.specs.Rule41.{broken_41}
@@ -23,11 +23,11 @@ use Rattle.listing_laws.specs.Declared.{signatures_in}
 
 -- the declarations of a block break none of the rules of declarations, whatever types stand beside it
 pub record AreDeclarationsRight (y : Types) (b : Block) : Type 0 where
-  pub by_21 : in_block broken_21 b ≡ []
-  pub by_23 : in_block (broken_23 y) b ≡ []
-  pub by_41 : in_block broken_41 b ≡ []
-  pub by_42 : in_block broken_42 b ≡ []
-  pub by_56 : in_block (broken_56 y) b ≡ []
+  pub by_21 : refusals_in_block broken_21 b ≡ []
+  pub by_23 : refusals_in_block (broken_23 y) b ≡ []
+  pub by_41 : refusals_in_block broken_41 b ≡ []
+  pub by_42 : refusals_in_block broken_42 b ≡ []
+  pub by_56 : refusals_in_block (broken_56 y) b ≡ []
 
 -- a block is no data type that contains itself, has a number that its kind may have, and no more than
 -- 1,024 bytes of local data, whatever blocks and symbols stand beside it

@@ -12,17 +12,17 @@ use Rattle.stl_symbols.specs.Symbol.{Symbol}
 use Rattle.block_layout.specs.declared.blocks.BlockLayout.{BlockLayout}
 use Rattle.stl_types.specs.Bodies.{first_context}
 use Rattle.stl_types.specs.Context.{Context}
-use Rattle.stl_types.specs.Resolved.{resolved}
+use Rattle.stl_types.specs.Resolved.{resolved_operand}
 use Rattle.stl_types.specs.declared.views.ResolvedOperand.TheVariants as view
-use Rattle.stl_codegen.specs.Compiled.{compiled}
+use Rattle.stl_codegen.specs.Compiled.{compiled_block}
 use Rattle.stl_codegen.specs.Generated.{code_blocks_of, params_of, program_of}
-use Rattle.listing_laws.specs.Chains.{AreKept}
-use Rattle.listing_laws.specs.HandedOn.{HandOn, OwesCall, SeesOwn, declared_in}
+use Rattle.listing_laws.specs.Chains.{AreTypesAsDeclared}
+use Rattle.listing_laws.specs.HandedOn.{HandOn, OwesCall, SeesOwn, declared_type_in}
 
 -- a statement of a source owes what it calls
 abbrev pub OwesStatement : (kinds : BlockId → List Simple) → List CodeBlock → Context → Statement → Type 0
 OwesStatement kinds all c s =
-    (id : BlockId) (instance : Option ℕ) → resolved c s ≡ Some (view.Called id instance)
+    (id : BlockId) (instance : Option ℕ) → resolved_operand c s ≡ Some (view.Called id instance)
     → OwesCall kinds all c s id
 
 -- a code block of a source: the types are those of its parameters, which its body sees so, and each
@@ -44,7 +44,7 @@ OweBodies kinds all c (b ∷ bs) (l ∷ ls) =
 -- and of a source
 abbrev pub OwesSource : (kinds : BlockId → List Simple) → Tree → List Symbol → List BlockLayout → Type 0
 OwesSource kinds t symbols layouts =
-    OweBodies kinds (map compiled (code_blocks_of t symbols layouts))
+    OweBodies kinds (map compiled_block (code_blocks_of t symbols layouts))
     (first_context symbols layouts t.blocks) t.blocks layouts
 
 -- then the calls of its program hand types on
@@ -59,5 +59,5 @@ abbrev pub AreSourceTypesKept : Type 0
 AreSourceTypesKept =
     (kinds : BlockId → List Simple) (t : Tree) (symbols : List Symbol) (layouts : List BlockLayout)
     → OwesSource kinds t symbols layouts
-    → AreKept (program_of t symbols layouts).code_blocks
-    (declared_in kinds (program_of t symbols layouts).code_blocks)
+    → AreTypesAsDeclared (program_of t symbols layouts).code_blocks
+    (declared_type_in kinds (program_of t symbols layouts).code_blocks)

@@ -36,14 +36,14 @@ AreListingsRead =
     × IsTree (listed_source p) tokens (listed_tree p)
 
 -- a place that is passed has a bit number as in a source
-abbrev pub PassesOn : Passed → Type 0
-PassesOn (passed.Direct a w byte bit) = IsPlace a w bit
-PassesOn (passed.InBlock number a w byte bit) = IsPlace a w bit
-PassesOn _ = Unit {0}
+abbrev pub PassesPlaceOn : Passed → Type 0
+PassesPlaceOn (passed.Direct a w byte bit) = IsPlace a w bit
+PassesPlaceOn (passed.InBlock number a w byte bit) = IsPlace a w bit
+PassesPlaceOn _ = Unit {0}
 
 -- the same of an op before a call
 abbrev pub PreparesOn : Operand → Type 0
-PreparesOn (flat.Pass index p) = PassesOn p
+PreparesOn (flat.Pass index p) = PassesPlaceOn p
 PreparesOn _ = Unit {0}
 
 -- and of the last op of a statement, whose call is one of a source
@@ -53,13 +53,13 @@ ActsOn before code (flat.Called kind number instance) = IsCallBy before code kin
 ActsOn before code _ = Unit {0}
 
 -- what a statement acts on, calls and passes is named as in a source
-pub record IsNamed (r : Run) : Type 0 where
+pub record IsRunNamed (r : Run) : Type 0 where
   pub prepares : AllByRecursion (λ op. PreparesOn op.operand) r.before
   pub acts : ActsOn r.before r.op.code r.op.operand
 
 -- so it is in the blocks of a program
 abbrev pub IsNamedProgram : Program → Type 0
-IsNamedProgram p = AllByRecursion (λ b. AllByRecursion IsNamed (runs b.code)) p.code_blocks
+IsNamedProgram p = AllByRecursion (λ b. AllByRecursion IsRunNamed (runs b.code)) p.code_blocks
 
 -- the listing of the program of a source, each of whose jumps has its label, is read as its tree
 abbrev pub AreSourcesRead : Type 0

@@ -5,46 +5,46 @@ use Rattle.flat_code.specs.Instr.{Instr, Does, Jumps, JumpsByList, Calls, Return
 use Rattle.flat_code.specs.declared.kinds.JumpOperation.TheVariants as jump
 use Rattle.flat_code.specs.declared.operands.Operand.{Operand}
 use Rattle.flat_code.specs.declared.operands.Operand.TheVariants as operand
-use Rattle.stl_codegen.specs.Compiled.{Stated, aimed, code_in, offset_of, ops_in}
-use Rattle.stl_codegen.specs.Emitted.{call_op, end_op, ending, jump_op, opening, passing}
-use Rattle.stl_list.specs.Runs.{Run, number_at, runs, starts, targets}
+use Rattle.stl_codegen.specs.Compiled.{SourceInstruction, operand_with_target, code_in, offset_of_statement, ops_in}
+use Rattle.stl_codegen.specs.Emitted.{call_op, end_op, op_with_end_mark, jump_op, use_db_ops, pass_ops}
+use Rattle.stl_list.specs.Runs.{Run, number_at, runs, statement_starts, target_marks}
 
 -- the ops of an instruction as a listing takes them: those that prepare, and the last one. A function
 -- of positions makes byte offsets of its targets
 abbrev pub run_of : (ℕ → ℕ) → Instr → Run
-run_of f (Does use_db w o) = record { before = opening use_db; op = ending w (aimed f o) }
+run_of f (Does use_db w o) = record { before = use_db_ops use_db; op = op_with_end_mark w (operand_with_target f o) }
 run_of f (Jumps how target) = record { before = []; op = jump_op how (f target) }
 run_of f (JumpsByList targets otherwise) = record { before = []; op = jump_op jump.Jl (f otherwise) }
 run_of f (Calls how block instance passings) =
-    record { before = passing passings; op = call_op how block instance }
+    record { before = pass_ops passings; op = call_op how block instance }
 run_of f (Returns how) = record { before = []; op = end_op how }
 
 -- the byte offset of the statement of a number, in the code of these statements
-abbrev pub offset_in : List Stated → ℕ → ℕ
-offset_in statements n = offset_of (ops_in statements) n
+abbrev pub statement_offset : List SourceInstruction → ℕ → ℕ
+statement_offset statements n = offset_of_statement (ops_in statements) n
 
 -- the statements that a listing finds are these
 abbrev pub AreRunsFound : Type 0
 AreRunsFound =
-    (statements : List Stated)
-    → runs (code_in statements) ≡ map (λ s. run_of (offset_in statements) s.instr) statements
+    (statements : List SourceInstruction)
+    → runs (code_in statements) ≡ map (λ s. run_of (statement_offset statements) s.instr) statements
 
 -- it finds the start of each, and no other
 abbrev pub AreStartsFound : Type 0
 AreStartsFound =
-    (statements : List Stated) (n : ℕ) → n < length statements
-    → slice_get (starts (code_in statements)) n ≡ Some (offset_in statements n)
+    (statements : List SourceInstruction) (n : ℕ) → n < length statements
+    → slice_get (statement_starts (code_in statements)) n ≡ Some (statement_offset statements n)
 
 -- the code has as many starts of statements as there are statements
 abbrev pub IsCountFound : Type 0
-IsCountFound = (statements : List Stated) → length (starts (code_in statements)) ≡ length statements
+IsCountFound = (statements : List SourceInstruction) → length (statement_starts (code_in statements)) ≡ length statements
 
 -- where a jump goes to a statement, or to the end of the code, it finds the number of this statement, or
 -- how many statements there are
 abbrev pub AreNumbersFound : Type 0
 AreNumbersFound =
-    (statements : List Stated) (n : ℕ)
-    → number_at (starts (code_in statements)) (offset_in statements n) ≡ min n (length statements)
+    (statements : List SourceInstruction) (n : ℕ)
+    → number_at (statement_starts (code_in statements)) (statement_offset statements n) ≡ min n (length statements)
 
 -- whether an operand is that of a jump to the statement of a number
 abbrev pub goes_to : (n : ℕ) → Operand → Bool
@@ -63,6 +63,6 @@ jumps_to n (Returns how) = false
 -- the statements that it finds jumps to are those to which one jumps
 abbrev pub AreTargetsFound : Type 0
 AreTargetsFound =
-    (statements : List Stated) (n : ℕ) → n < length statements
-    → unwrap_or (slice_get (targets (starts (code_in statements)) (code_in statements)) n) false
+    (statements : List SourceInstruction) (n : ℕ) → n < length statements
+    → unwrap_or (slice_get (target_marks (statement_starts (code_in statements)) (code_in statements)) n) false
     ≡ list_any (λ s. jumps_to n s.instr) statements

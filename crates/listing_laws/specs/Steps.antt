@@ -8,18 +8,18 @@ use Rattle.flat_code.specs.Instr.{Passing, Calls}
 use Rattle.flat_code.specs.declared.operands.Passed.TheVariants as passed
 use Rattle.flat_code.specs.declared.operations.CallOperation.{CallOperation}
 use Rattle.stl_types.specs.declared.parameters.Formal.{Formal}
-use Rattle.stl_codegen.specs.Compiled.{Stated, StatedBlock, compiled}
-use Rattle.stl_list.specs.Joined.{first_of, links, parameter_count, system_parameters}
+use Rattle.stl_codegen.specs.Compiled.{SourceInstruction, StatedBlock, compiled_block}
+use Rattle.stl_list.specs.Joined.{first_of, links, total_parameter_count, system_parameters}
 use Rattle.listing_laws.specs.Chains.{HasStep, HasTyped}
 
 -- a statement of a block passes a parameter of the block to a block, for its parameter of an index
-pub record PassesOn (b : StatedBlock) (id : BlockId) (index own : ℕ) : Type 0 where
+pub record PassesParameterOn (b : StatedBlock) (id : BlockId) (index own : ℕ) : Type 0 where
   pub how : CallOperation
   pub instance : Option ℕ
   pub line : ℕ
   pub width : Width
-  pub before : List Stated
-  pub after : List Stated
+  pub before : List SourceInstruction
+  pub after : List SourceInstruction
   pub lower : List Passing
   pub higher : List Passing
   pub callable : is_callable id.kind ≡ true
@@ -36,23 +36,23 @@ pub record PassesOn (b : StatedBlock) (id : BlockId) (index own : ℕ) : Type 0 
 abbrev pub AreStepsFound : Type 0
 AreStepsFound =
     (front back : List StatedBlock) (b : StatedBlock) (id : BlockId) (index own : ℕ)
-    → PassesOn b id index own → is_system_function id.kind ≡ false
-    → HasStep (links (map compiled (front ++ b ∷ back)))
-    (parameter_count (map compiled front) + own)
-    (first_of (map compiled (front ++ b ∷ back)) id + index)
+    → PassesParameterOn b id index own → is_system_function id.kind ≡ false
+    → HasStep (links (map compiled_block (front ++ b ∷ back)))
+    (total_parameter_count (map compiled_block front) + own)
+    (first_of (map compiled_block (front ++ b ∷ back)) id + index)
 
 -- for one of a system function, the parameter has the type that this asks for
 abbrev pub AreSeedsFound : Type 0
 AreSeedsFound =
     (front back : List StatedBlock) (b : StatedBlock) (id : BlockId) (index own : ℕ) (f : Formal)
-    → PassesOn b id index own → is_system_function id.kind ≡ true
+    → PassesParameterOn b id index own → is_system_function id.kind ≡ true
     → slice_get (system_parameters id.number) index ≡ Some f
-    → HasTyped (links (map compiled (front ++ b ∷ back)))
-    (parameter_count (map compiled front) + own) f.kind
+    → HasTyped (links (map compiled_block (front ++ b ∷ back)))
+    (total_parameter_count (map compiled_block front) + own) f.kind
 
 -- the parameters of a block begin behind those of the blocks in front of it
 abbrev pub AreFirstFound : Type 0
 AreFirstFound =
     (front back : List StatedBlock) (b : StatedBlock)
     → AllByRecursion (λ (a : StatedBlock). is_same_block a.id b.id ≡ false) front
-    → first_of (map compiled (front ++ b ∷ back)) b.id ≡ parameter_count (map compiled front)
+    → first_of (map compiled_block (front ++ b ∷ back)) b.id ≡ total_parameter_count (map compiled_block front)

@@ -5,10 +5,10 @@ use Rattle.stl_ast.specs.declared.blocks.Block.{Block}
 use Rattle.stl_ast.specs.declared.blocks.Tree.{Tree}
 use Rattle.stl_symbols.specs.Symbol.{Symbol}
 use Rattle.flat_code.specs.Programs.{CodeBlock, DataBlock, Program}
-use Rattle.block_layout.specs.Around.{in_blocks}
+use Rattle.block_layout.specs.Around.{refusals_in_blocks}
 use Rattle.block_layout.specs.Heads.{on_heads}
 use Rattle.block_layout.specs.Layouts.{layouts_of}
-use Rattle.block_layout.specs.Measures.{types_of}
+use Rattle.block_layout.specs.Measures.{types_of_source}
 use Rattle.block_layout.specs.Rule21.{rule_21}
 use Rattle.block_layout.specs.Rule22.{rule_22}
 use Rattle.block_layout.specs.Rule23.{broken_23, has_unknown_head}
@@ -37,20 +37,20 @@ use Rattle.listing_laws.specs.Ids.{data_id}
 -- settings and of operands
 pub record AreBlocksRight (symbols : List Symbol) (blocks : List Block) : Type 0 where
   pub by_21 : rule_21 blocks ≡ []
-  pub by_22 : rule_22 (types_of symbols blocks) blocks ≡ []
-  pub heads_23 : on_heads (λ before b. has_unknown_head (types_of symbols blocks) b) 23 blocks ≡ []
-  pub declared_23 : in_blocks (broken_23 (types_of symbols blocks)) blocks ≡ []
-  pub declared_41 : in_blocks broken_41 blocks ≡ []
-  pub declared_42 : in_blocks broken_42 blocks ≡ []
-  pub by_43 : rule_43 (types_of symbols blocks) blocks ≡ []
+  pub by_22 : rule_22 (types_of_source symbols blocks) blocks ≡ []
+  pub heads_23 : on_heads (λ before b. has_unknown_head (types_of_source symbols blocks) b) 23 blocks ≡ []
+  pub declared_23 : refusals_in_blocks (broken_23 (types_of_source symbols blocks)) blocks ≡ []
+  pub declared_41 : refusals_in_blocks broken_41 blocks ≡ []
+  pub declared_42 : refusals_in_blocks broken_42 blocks ≡ []
+  pub by_43 : rule_43 (types_of_source symbols blocks) blocks ≡ []
   pub by_44 : rule_44 symbols blocks ≡ []
-  pub by_50 : rule_50 (types_of symbols blocks) blocks ≡ []
-  pub by_51 : rule_51 (types_of symbols blocks) blocks ≡ []
+  pub by_50 : rule_50 (types_of_source symbols blocks) blocks ≡ []
+  pub by_51 : rule_51 (types_of_source symbols blocks) blocks ≡ []
   pub by_52 : rule_52 blocks ≡ []
   pub by_53 : rule_53 blocks ≡ []
-  pub by_54 : rule_54 (types_of symbols blocks) blocks ≡ []
+  pub by_54 : rule_54 (types_of_source symbols blocks) blocks ≡ []
   pub by_55 : rule_55 blocks ≡ []
-  pub by_56 : rule_56 (types_of symbols blocks) blocks ≡ []
+  pub by_56 : rule_56 (types_of_source symbols blocks) blocks ≡ []
 
 -- so it is with the listing of each accepted source's program, whatever symbols stand beside it
 abbrev pub AreBlocksRightAgain : Type 0

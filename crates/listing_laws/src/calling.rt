@@ -1,7 +1,7 @@
-ghost use Rattle.listing_laws.specs.Calling.{AreCallsKept};
+ghost use Rattle.listing_laws.specs.Calling.{AreBareCallsKept};
 
 /// A listed call that passes nothing, as UC and CC, breaks no rule by its operand, and comes to the
 /// instruction of the statement of the source.
 pub fn law_of_listed_bare_calls()
-    ensures kept { AreCallsKept }
+    ensures kept { AreBareCallsKept }
 {}

@@ -11,7 +11,7 @@ use Rattle.plc_base.specs.declared.blocks.BlockKind.{BlockKind}
 use Rattle.plc_base.specs.declared.blocks.BlockKind.TheVariants as kinds
 use Rattle.plc_base.specs.Widths.{bit_count}
 use Rattle.plc_mem.specs.Areas.{Areas}
-use Rattle.plc_mem.specs.Number.{number_at}
+use Rattle.plc_mem.specs.Number.{number_at_place}
 use Rattle.frames.specs.Bound.{binding_set as bound_at_index}
 use Rattle.frames.specs.Locals.{LocalData, local_number}
 use Rattle.frames.specs.declared.bindings.Binding.{Binding}
@@ -42,7 +42,7 @@ pub place_exists :
 place_exists frames l m at fits there = by at.place.area there
   where
     by : (area : Area)
-        → IsSome (cond (is_area_l area) (local_number l at.frame at.place.byte at.place.bit at.width) (number_at m at.place at.width))
+        → IsSome (cond (is_area_l area) (local_number l at.frame at.place.byte at.place.bit at.width) (number_at_place m at.place at.width))
         → ExistsIn area at frames m
     by areas.L there = local_lies frames l at.frame at.place.byte at.place.bit at.width fits there
     by areas.I there = there

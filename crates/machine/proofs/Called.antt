@@ -20,14 +20,14 @@ use Rattle.flat_code.specs.Programs.{CodeBlock, Program}
 use Rattle.image_file.specs.Readers.{block_by_id}
 use Rattle.machine.specs.Bindings.{param_bindings}
 use Rattle.machine.specs.Code.{BlockHead}
-use Rattle.machine.specs.Entering.{Stops, call, called_with, caller_at, di_of, entered_if, fresh as fresh_frame, going_on, instance_supplied}
+use Rattle.machine.specs.Entering.{Stops, block_call, call_with_bindings, caller_at, di_of, entry_or_stop, called_frame as fresh_frame, activation_continued_at, instance_supplied}
 use Rattle.machine.specs.Fitting.{IsOpen, HasLength, AreBound, HasInstance, FrameFits, open_in_frame}
 use Rattle.machine.specs.Flat.{code_of, block_head_of}
 use Rattle.machine.specs.ImageLaws.{ImageLaws}
-use Rattle.machine.specs.Lasting.{FitsProgram, Lasts}
+use Rattle.machine.specs.Lasting.{FitsProgram, StepFitsAgain}
 use Rattle.machine.specs.OpenBrackets.{open_codes}
 use Rattle.machine.specs.ExecState.{LocalMemory, local_of, local_memory_of, with_local}
-use Rattle.machine.specs.Statement.{World, call_step, called_block, block_called}
+use Rattle.machine.specs.Statement.{GlobalStore, call_step, called_block, block_called}
 use Rattle.machine.proofs.BindingLemmas.{Bindings, PassingsFit, is_among, all_supplied, call_binds, call_told}
 use Rattle.machine.proofs.Errors.{IfTold}
 use Rattle.machine.proofs.FrameBytes.{locals_moved, locals_opened}
@@ -42,7 +42,7 @@ use Rattle.machine.proofs.Standing.{Stood, stood_there, nothing_open, entry_stoo
 -- at a position, with other registers
 pub going_fits :
     (l : ImageLaws) (p : Program) (m : Areas) (a : Activation) (next : ℕ) (r : Regs) → FitsProgram p m a
-    → Stood p a.running.frame.block next (frame_open a.running.frame) → FitsProgram p m (going_on next r a)
+    → Stood p a.running.frame.block next (frame_open a.running.frame) → FitsProgram p m (activation_continued_at next r a)
 going_fits l p m a next r h stood =
     let was = stands_of (code_of p) (open_codes p) m a h.fits in
     activation_follows l p m m a (record a.running { regs = r; frame = record a.running.frame { at = next } }) (same_sizes m) h
@@ -155,28 +155,28 @@ entered_fits l p m a next block b o bs h found bound instance =
     }
 
 supplied_lasts :
-    (l : ImageLaws) (p : Program) (a after : Activation) (w : World) (next : ℕ) (o : Option ℕ) (ps : List Param)
-    → Verifies p → FitsProgram p w.memory after → Lasts p w (call_step (instance_supplied o ps after w.memory) next a w)
+    (l : ImageLaws) (p : Program) (a after : Activation) (w : GlobalStore) (next : ℕ) (o : Option ℕ) (ps : List Param)
+    → Verifies p → FitsProgram p w.memory after → StepFitsAgain p w (call_step (instance_supplied o ps after w.memory) next a w)
 supplied_lasts l p a after w next None ps verifies h = record { sizes = same_sizes w.memory; fits = h }
 supplied_lasts l p a after w next (Some number) ps verifies h =
     let kept = params_in_kept ps 0 after.running.frame.bindings number (local_memory_of after.running w.memory) in
     record { sizes = kept.memory; fits = scene_fits l p w.memory after _ verifies h kept }
 
-stops_told : (p : Program) (a : Activation) (w : World) (next : ℕ) (fault : FrameFault) → Lasts p w (call_step (Stops fault) next a w)
+stops_told : (p : Program) (a : Activation) (w : GlobalStore) (next : ℕ) (fault : FrameFault) → StepFitsAgain p w (call_step (Stops fault) next a w)
 stops_told p a w next Depth = inl refl
 stops_told p a w next LocalFull = inr refl
 
 called_lasts :
-    (l : ImageLaws) (p : Program) (a : Activation) (w : World) (next : ℕ) (block : BlockId) (b : CodeBlock) (o : Option ℕ)
+    (l : ImageLaws) (p : Program) (a : Activation) (w : GlobalStore) (next : ℕ) (block : BlockId) (b : CodeBlock) (o : Option ℕ)
     (r : Result (List Binding) ℕ) → Caller p w.memory a next → block_by_id block p.code_blocks ≡ Some b → IfTold r
     → IfDone (AreBound block.kind b.params (caller a next ∷ a.below) w.memory) r → HasInstance block.kind (block_head_of b) w.memory o
-    → Lasts p w (call_step (called_with r (called_block block o (block_head_of b)) next a w.memory) next a w)
+    → StepFitsAgain p w (call_step (call_with_bindings r (called_block block o (block_head_of b)) next a w.memory) next a w)
 called_lasts l p a w next block b o (Err code) h found told bound instance =
     (told, going_fits l p w.memory a next a.running.regs h.fits h.stood)
 called_lasts l p a w next block b o (Ok bs) h found told bound instance = by (entry_fault b.local_len a)
   where
     by : (fault : Option FrameFault)
-        → Lasts p w (call_step (entered_if fault (called_block block o (block_head_of b)) bs next a w.memory) next a w)
+        → StepFitsAgain p w (call_step (entry_or_stop fault (called_block block o (block_head_of b)) bs next a w.memory) next a w)
     by (Some fault) = stops_told p a w next fault
     by None =
         supplied_lasts l p a (block_entered (fresh_frame (called_block block o (block_head_of b)) bs a.running.frame) (caller_at next a)) w next o b.params h.verifies
@@ -223,13 +223,13 @@ caller_told p m a own ps xs found h fits =
     call_told a.running.frame.block.kind own.params ps a.below (local_of a.running) m xs (own_bound p m a own found h) fits
 
 pub function_lasts :
-    (l : ImageLaws) (p : Program) (a : Activation) (w : World) (next number : ℕ) (own b : CodeBlock) (xs : List Passing)
+    (l : ImageLaws) (p : Program) (a : Activation) (w : GlobalStore) (next number : ℕ) (own b : CodeBlock) (xs : List Passing)
     → Caller p w.memory a next → block_by_id a.running.frame.block p.code_blocks ≡ Some own
     → block_by_id (record { kind = kinds.Fc; number = number }) p.code_blocks ≡ Some b
     → PassingsFit a.running.frame.block.kind own.params b.params xs
     → ((i : ℕ) (q : Param) → slice_get b.params i ≡ Some q → is_among i xs ≡ true)
-    → Lasts p w (block_called (Some (block_head_of b)) (record { kind = kinds.Fc; number = number }) None xs next a w)
-unfolding call
+    → StepFitsAgain p w (block_called (Some (block_head_of b)) (record { kind = kinds.Fc; number = number }) None xs next a w)
+unfolding block_call
 function_lasts l p a w next number own b xs h own_is found fits each =
     let bound = caller_binds p w.memory a own b.params next xs own_is h.fits fits in
     called_lasts l p a w next (record { kind = kinds.Fc; number = number }) b None
@@ -237,12 +237,12 @@ function_lasts l p a w next number own b xs h own_is found fits each =
     (function_bound b.params (caller a next ∷ a.below) w.memory xs (param_bindings b.params xs (local_of a.running) w.memory) each bound) tt
 
 pub function_block_lasts :
-    (l : ImageLaws) (p : Program) (a : Activation) (w : World) (next number : ℕ) (own b : CodeBlock) (o : Option ℕ) (xs : List Passing)
+    (l : ImageLaws) (p : Program) (a : Activation) (w : GlobalStore) (next number : ℕ) (own b : CodeBlock) (o : Option ℕ) (xs : List Passing)
     → Caller p w.memory a next → block_by_id a.running.frame.block p.code_blocks ≡ Some own
     → block_by_id (record { kind = kinds.Fb; number = number }) p.code_blocks ≡ Some b
     → PassingsFit a.running.frame.block.kind own.params b.params xs → HasInstance kinds.Fb (block_head_of b) w.memory o
-    → Lasts p w (block_called (Some (block_head_of b)) (record { kind = kinds.Fb; number = number }) o xs next a w)
-unfolding call
+    → StepFitsAgain p w (block_called (Some (block_head_of b)) (record { kind = kinds.Fb; number = number }) o xs next a w)
+unfolding block_call
 function_block_lasts l p a w next number own b o xs h own_is found fits instance =
     let bound = caller_binds p w.memory a own b.params next xs own_is h.fits fits in
     called_lasts l p a w next (record { kind = kinds.Fb; number = number }) b o

@@ -21,12 +21,12 @@ use Rattle.flat_code.specs.declared.operands.Operand.TheVariants as operand
 use Rattle.flat_code.specs.declared.operands.Passed.{Passed}
 use Rattle.flat_code.specs.declared.operands.Passed.TheVariants as passed
 use Rattle.flat_code.specs.declared.programs.Param.{Param}
-use Rattle.flat_code.specs.Blocks.{Around, CalleeSeen, callee, parameter_meant, literal_fits, misfits_parameter, is_index, pass_index, is_passed, are_passed, is_short, length_of_data}
+use Rattle.flat_code.specs.Blocks.{Environment, CalleeSeen, callee_among, parameter_meant, literal_fits, misfits_parameter, is_index, pass_index, is_passed, are_all_passed, is_short_instance, length_of_data}
 use Rattle.flat_code.specs.Forms.{payload_fits, passed_coding as flat_actual, width_of_number}
 use Rattle.flat_code.specs.Image.{record_of_block, record_of_param, param_of_record}
-use Rattle.flat_code.specs.Loading.{lens_of, around_block}
+use Rattle.flat_code.specs.Loading.{lens_of, environment_of_block}
 use Rattle.flat_code.specs.Ops.{OpData, is_op}
-use Rattle.flat_code.specs.Placed.{Placed, last_op}
+use Rattle.flat_code.specs.Placed.{PlacedOp, last_op}
 use Rattle.flat_code.specs.Programs.{CodeBlock, DataBlock, Program}
 use Rattle.flat_code.specs.Table.{admits, takes_of}
 use Rattle.image_file.specs.Verified.{IsVerifiedOp, HasParam, FitsPassed, FitsPrepared, block_signatures}
@@ -112,8 +112,8 @@ literal_small p r value is fits small = one (eqb r.width 1) refl fits
     one true e h = let le = leb-true value 1 h in at widths.Bit (eqb-true r.width 1 e) (omega (arith, le))
     one false e h = two (eqb r.width 2) refl h
 
-abbrev around_in : Program → CodeBlock → Around
-around_in p b = around_block (Some (lens_of p.data_blocks)) (map record_of_block p.code_blocks) (record_of_block b)
+abbrev around_in : Program → CodeBlock → Environment
+around_in p b = environment_of_block (Some (lens_of p.data_blocks)) (map record_of_block p.code_blocks) (record_of_block b)
 
 record_at : (ps : List Param) (index : ℕ) (p : Param) → slice_get ps index ≡ Some p → slice_get (map record_of_param ps) index ≡ Some (record_of_param p)
 record_at [] index p found = absurd cc
@@ -170,7 +170,7 @@ literal_of code index value actual right is =
 
 op_passing :
     (l : ImageLaws) (p : Program) (b : CodeBlock) (ps : List Param) (kind number instance : ℕ) (called : CalleeSeen) (last : OpData)
-    (q : Placed) (index : ℕ) (actual : Passed) → AreParams ps called.2 → callee (block_signatures p) kind number ≡ Some called
+    (q : PlacedOp) (index : ℕ) (actual : Passed) → AreParams ps called.2 → callee_among (block_signatures p) kind number ≡ Some called
     → last.operand ≡ operand.Called kind number instance → IsVerifiedOp p b q → last_op q ≡ last
     → q.op.operand ≡ operand.Pass index actual
     → (x : Param) × (slice_get ps index ≡ Some x) × FitsActual b.id.kind b.params x actual
@@ -183,7 +183,7 @@ op_passing l p b ps kind number instance called last q index actual params there
 
 pub passings_fit :
     (l : ImageLaws) (p : Program) (b : CodeBlock) (ps : List Param) (kind number instance : ℕ) (called : CalleeSeen) (last : OpData)
-    (ops : List OpData) → AreParams ps called.2 → callee (block_signatures p) kind number ≡ Some called
+    (ops : List OpData) → AreParams ps called.2 → callee_among (block_signatures p) kind number ≡ Some called
     → last.operand ≡ operand.Called kind number instance → AllBefore p b last ops
     → PassingsFit b.id.kind b.params ps (passings_of ops)
 passings_fit l p b ps kind number instance called last [] params there calls all = tt
@@ -212,18 +212,18 @@ among_passed i (op ∷ ops) h = by op.operand h (λ e. among_passed i ops e)
 
 -- where each is passed, each index is among the passings
 each_passed :
-    (from i : ℕ) (rs : List ParameterRecord) (r : ParameterRecord) (ops : List OpData) → are_passed from rs ops ≡ true
+    (from i : ℕ) (rs : List ParameterRecord) (r : ParameterRecord) (ops : List OpData) → are_all_passed from rs ops ≡ true
     → slice_get rs i ≡ Some r → is_passed (from + i) ops ≡ true
 each_passed from i [] r ops all found = absurd cc
 each_passed from zero (q ∷ rs) r ops all found =
     let e : from + 0 ≡ from = omega arith in
-    rw e (and_parts (is_passed from ops) (are_passed (suc from) rs ops) all).0
+    rw e (and_parts (is_passed from ops) (are_all_passed (suc from) rs ops) all).0
 each_passed from (suc i) (q ∷ rs) r ops all found =
     let e : from + suc i ≡ suc from + i = omega arith in
-    rw e (each_passed (suc from) i rs r ops (and_parts (is_passed from ops) (are_passed (suc from) rs ops) all).1 found)
+    rw e (each_passed (suc from) i rs r ops (and_parts (is_passed from ops) (are_all_passed (suc from) rs ops) all).1 found)
 
 pub all_among :
-    (i : ℕ) (rs : List ParameterRecord) (r : ParameterRecord) (ops : List OpData) → are_passed 0 rs ops ≡ true
+    (i : ℕ) (rs : List ParameterRecord) (r : ParameterRecord) (ops : List OpData) → are_all_passed 0 rs ops ≡ true
     → slice_get rs i ≡ Some r → is_among i (passings_of ops) ≡ true
 all_among i rs r ops all found =
     let e : 0 + i ≡ i = omega arith in
@@ -248,13 +248,13 @@ fresh_len : (f : Profile) (ds : List DataBlock) (number : ℕ) → len_in (initi
 unfolding initial_memory
 fresh_len f ds number = ap (λ (o : Option (List ℕ)). option_map length o) (get-from_entries nat_cmp_total (numbered_bytes ds) number) ∙ find_len ds number
 
-long_by : (needed : ℕ) (o : Option (List ℕ)) (len : Option ℕ) → option_map length o ≡ len → is_short needed len ≡ false → HasLength needed o
-long_by needed None len is h = absurd (let e : is_short needed None ≡ false = rw (sym is) at h in cc)
+long_by : (needed : ℕ) (o : Option (List ℕ)) (len : Option ℕ) → option_map length o ≡ len → is_short_instance needed len ≡ false → HasLength needed o
+long_by needed None len is h = absurd (let e : is_short_instance needed None ≡ false = rw (sym is) at h in cc)
 long_by needed (Some bytes) len is h = ltb-false (length bytes) needed (rw (sym is) at h)
 
 pub instance_long :
     (f : Profile) (p : Program) (m : Areas) (number needed : ℕ) → SameSizes (initial_memory f (numbered_bytes p.data_blocks)) m
-    → is_short needed (length_of_data number (lens_of p.data_blocks)) ≡ false
+    → is_short_instance needed (length_of_data number (lens_of p.data_blocks)) ≡ false
     → HasLength needed (finmap.get m.data_blocks number)
 instance_long f p m number needed sizes h =
     long_by needed (finmap.get m.data_blocks number) (length_of_data number (lens_of p.data_blocks))

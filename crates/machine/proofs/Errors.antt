@@ -35,20 +35,20 @@ use Rattle.flat_code.specs.Table.{admits, takes_of_operation, takes_timer, takes
 use Rattle.machine.specs.declared.places.Access.{Access}
 use Rattle.machine.specs.declared.places.Access.TheVariants.{Reading, Writing}
 use Rattle.machine.specs.declared.places.Location.{Location}
-use Rattle.machine.specs.BitLogic.{checking, put_bit, bit_as_number, with_local_regs, bit_before, bit_assigned, assigned_at, bit_set, bit_set_at, edge, edge_at}
+use Rattle.machine.specs.BitLogic.{regs_after_bit_check, put_bit, bit_as_number, with_local_regs, bit_before, bit_assigned, assigned_at, bit_set, bit_set_at, local_memory_after_edge, local_memory_after_edge_at}
 use Rattle.machine.specs.DataBlocks.{is_block_loaded, opened_if, block_opened_by, loading_open_block}
-use Rattle.machine.specs.Effect.{effect_on_regs, on_local, on_local_memory, on_timers, on_counters, kind_named, set_of, reset_of, free_of, effect}
+use Rattle.machine.specs.Effect.{effect_on_regs, on_local, on_local_memory, on_timers, on_counters, kind_of_numbered_operand, set_effect, reset_effect, enable_effect, operation_effect}
 use Rattle.machine.specs.Lasting.{is_error_code}
-use Rattle.machine.specs.Loads.{loading, loading_bcd, number_transferred}
-use Rattle.machine.specs.Nesting.{with_open_brackets, nesting, unnesting, bracket_closed}
+use Rattle.machine.specs.Loads.{regs_after_load, regs_after_bcd_load, number_transferred}
+use Rattle.machine.specs.Nesting.{with_open_brackets, nesting_opened, nesting_closed, bracket_closed}
 use Rattle.machine.specs.Relay.{is_writing_off, opening_zone, ending_zone, relay_effect}
 use Rattle.status_word.specs.Brackets.{entry_of, bracket_begun}
 use Rattle.machine.specs.Numbers.{from_bcd, number_effect}
 use Rattle.machine.specs.ExecState.{Local, LocalMemory, ExecState, then_ok}
-use Rattle.machine.specs.Places.{error_of, open_block_location, open_area_location, absent, location_number, read, direct_number, pointer_number, is_aligned, at_pointer, by_pointer, is_bit_width, is_area_p, area_location, in_named, by_crossing, register_address, register_location, of_binding, operand_location, no_operand}
+use Rattle.machine.specs.Places.{error_of, open_block_location, open_area_location, error_of_absent_place, location_number, number_read_at, direct_number, pointer_number, is_aligned, location_at_pointer, pointer_location, is_bit_width, is_area_p, area_location, location_in_named_area, area_crossing_location, register_address, register_location, binding_location, operand_location, no_operand}
 use Rattle.machine.specs.Pointers.{pointer_effect, address_loaded, address_transferred}
 use Rattle.machine.specs.Timing.{timer_start, timer_reset, timer_freed, counting_up, counting_down, counter_set, counter_reset, counter_freed}
-use Rattle.machine.specs.Values.{number_of_binding, operand_number, faulty, is_timer_kind, bit_of_numbered, value_of_numbered, bcd_of_numbered, number_named, is_one, checked_bit, load_value, bcd_loaded, stored_at, write}
+use Rattle.machine.specs.Values.{number_of_binding, operand_number, with_timer_error, is_timer_kind, bit_of_numbered, value_of_numbered, bcd_of_numbered, number_named, bit_of_number, checked_bit, load_value, bcd_loaded, stored_at, number_written_at}
 
 -- a code that an error may have
 abbrev pub Told : ℕ → Type 0
@@ -76,7 +76,7 @@ error_told : (access : Access) (code : ℕ) → Told code → Told (code + 1) �
 error_told Reading code one two = one
 error_told Writing code one two = two
 
-pub absent_told : (access : Access) (area : Area) → Told (absent access area)
+pub absent_told : (access : Access) (area : Area) → Told (error_of_absent_place access area)
 absent_told access areas.P = error_told access 0x42 refl refl
 absent_told access _ = error_told access 0x22 refl refl
 
@@ -91,19 +91,19 @@ area_told areas.Di byte bit width s = register_told s.inner.di 0x33 byte bit wid
 area_told areas.L byte bit width s = tt
 area_told _ byte bit width s = tt
 
-read_told : (at : Location) (s : Local) (m : Areas) → IfTold (read at s m)
-unfolding read
-read_told at s m = or_told (location_number at s.locals m) (absent Reading at.place.area) (absent_told Reading at.place.area)
+read_told : (at : Location) (s : Local) (m : Areas) → IfTold (number_read_at at s m)
+unfolding number_read_at
+read_told at s m = or_told (location_number at s.locals m) (error_of_absent_place Reading at.place.area) (absent_told Reading at.place.area)
 
 pointer_told : (from : Area) (byte : ℕ) (width : Width) (s : Local) (m : Areas) → IfTold (pointer_number from byte width s m)
 unfolding direct_number
 pointer_told from byte width s m =
-    then_told (open_area_location from byte 0 width s) (λ at. read at s m) (area_told from byte 0 width s) (λ at. read_told at s m)
+    then_told (open_area_location from byte 0 width s) (λ at. number_read_at at s m) (area_told from byte 0 width s) (λ at. read_told at s m)
 
-by_pointer_told : (access : Access) (area : Area) (width : Width) (n : ℕ) (s : Local) → IfTold (by_pointer access area width n s)
-unfolding by_pointer
+by_pointer_told : (access : Access) (area : Area) (width : Width) (n : ℕ) (s : Local) → IfTold (pointer_location access area width n s)
+unfolding pointer_location
 by_pointer_told access area width n s =
-    either_told (is_aligned width n) (at_pointer area width n s) (Err (error_of access 0x28))
+    either_told (is_aligned width n) (location_at_pointer area width n s) (Err (error_of access 0x28))
     (area_told area (n / 2 ^ 3 % 2 ^ 16) (n % 2 ^ 3) width s) (error_told access 0x28 refl refl)
 
 pub placed_told : (access : Access) (area : Area) (byte bit : ℕ) (width : Width) (s : Local) → IfTold (area_location access area byte bit width s)
@@ -111,14 +111,14 @@ placed_told access area byte bit width s =
     either_told (is_area_p area && is_bit_width width) (Err (error_of access 0x24)) (open_area_location area byte bit width s)
     (error_told access 0x24 refl refl) (area_told area byte bit width s)
 
-named_told : (access : Access) (named : Option Place) (width : Width) (n : ℕ) (s : Local) → IfTold (in_named access named width n s)
+named_told : (access : Access) (named : Option Place) (width : Width) (n : ℕ) (s : Local) → IfTold (location_in_named_area access named width n s)
 named_told access None width n s = error_told access 0x24 refl refl
 named_told access (Some at) width n s = placed_told access at.area (n / 2 ^ 3 % 2 ^ 16) (n % 2 ^ 3) width s
 
-crossing_told : (access : Access) (width : Width) (address n : ℕ) (s : Local) → IfTold (by_crossing access width address n s)
-unfolding by_crossing
+crossing_told : (access : Access) (width : Width) (address n : ℕ) (s : Local) → IfTold (area_crossing_location access width address n s)
+unfolding area_crossing_location
 crossing_told access width address n s =
-    either_told (is_aligned width n) (in_named access (place_at_pointer address) width n s) (Err (error_of access 0x28))
+    either_told (is_aligned width n) (location_in_named_area access (place_at_pointer address) width n s) (Err (error_of access 0x28))
     (named_told access (place_at_pointer address) width n s) (error_told access 0x28 refl refl)
 
 by_register_told : (access : Access) (area : Option Area) (width : Width) (address bits : ℕ) (s : Local) → IfTold (register_location access area width address bits s)
@@ -150,7 +150,7 @@ HasPlace s (operand.Parameter index width) =
     (b : Binding) × (slice_get s.inner.bindings index ≡ Some b) × IsPlace b
 HasPlace s o = ⊥
 
-binding_told : (b : Binding) → IsPlace b → IfTold (of_binding (Some b))
+binding_told : (b : Binding) → IsPlace b → IfTold (binding_location (Some b))
 binding_told (binding.Bound at width frame) is = tt
 binding_told (binding.Constant value) is = absurd is
 binding_told binding.Unsupplied is = absurd is
@@ -159,7 +159,7 @@ located_told : (access : Access) (o : Operand) (s : Local) (m : Areas) → HasPl
 unfolding operand_location
 located_told access (operand.Direct area width byte bit) s m has = placed_told access area byte bit width s
 located_told access (operand.ByMemory area width from byte) s m has =
-    then_told (pointer_number from byte widths.Dword s m) (λ n. by_pointer access area width n s) (pointer_told from byte widths.Dword s m)
+    then_told (pointer_number from byte widths.Dword s m) (λ n. pointer_location access area width n s) (pointer_told from byte widths.Dword s m)
     (λ n. by_pointer_told access area width n s)
 located_told access (operand.ByRegister area width register bits) s m has = by_register_told access area width (register_address register s) bits s
 located_told access (operand.Parameter index width) s m has = rw has.1 (binding_told has.0 has.2)
@@ -180,8 +180,8 @@ number_binding_told (binding.Bound at width frame) s m is = read_told (record { 
 number_binding_told (binding.Constant value) s m is = tt
 number_binding_told binding.Unsupplied s m is = absurd is
 
-located_read : (o : Operand) (s : Local) (m : Areas) → HasPlace s o → IfTold (then_ok (operand_location Reading o s m) (λ at. read at s m))
-located_read o s m has = then_told (operand_location Reading o s m) (λ at. read at s m) (located_told Reading o s m has) (λ at. read_told at s m)
+located_read : (o : Operand) (s : Local) (m : Areas) → HasPlace s o → IfTold (then_ok (operand_location Reading o s m) (λ at. number_read_at at s m))
+located_read o s m has = then_told (operand_location Reading o s m) (λ at. number_read_at at s m) (located_told Reading o s m has) (λ at. read_told at s m)
 
 number_told : (o : Operand) (s : Local) (m : Areas) → IsRead s o → IfTold (operand_number o s m)
 unfolding operand_number
@@ -194,7 +194,7 @@ number_told _ s m has = absurd has
 
 -- ---- timers and counters
 
-faulty_told : {A : Type 0} (code : ℕ) (r : Result A TimerFault) → Told code → IfTold (faulty code r)
+faulty_told : {A : Type 0} (code : ℕ) (r : Result A TimerFault) → Told code → IfTold (with_timer_error code r)
 faulty_told code (Ok x) some = tt
 faulty_told code (Err NoNumber) some = some
 faulty_told code (Err BadBcd) some = refl
@@ -224,23 +224,23 @@ named_number_told _ s m has = absurd has
 
 -- ---- writing
 
-write_told : (at : Location) (value : ℕ) (s : Local) (m : Areas) → IfTold (write at value s m)
-unfolding write
-write_told at value s m = or_told (stored_at at value s m) (absent Writing at.place.area) (absent_told Writing at.place.area)
+write_told : (at : Location) (value : ℕ) (s : Local) (m : Areas) → IfTold (number_written_at at value s m)
+unfolding number_written_at
+write_told at value s m = or_told (stored_at at value s m) (error_of_absent_place Writing at.place.area) (absent_told Writing at.place.area)
 
 put_told : (at : Location) (bit : Bool) (r : Regs) (s : Local) (m : Areas) → IfTold (put_bit at bit r s m)
 unfolding put_bit
-put_told at bit r s m = then_told (write at (bit_as_number bit) s m) (λ c. Ok (with_local_regs r c)) (write_told at (bit_as_number bit) s m) (λ c. tt)
+put_told at bit r s m = then_told (number_written_at at (bit_as_number bit) s m) (λ c. Ok (with_local_regs r c)) (write_told at (bit_as_number bit) s m) (λ c. tt)
 
 before_told : (at : Location) (s : Local) (m : Areas) → IfTold (bit_before at s m)
 unfolding bit_before
 before_told at s m =
-    then_told (ok_or (location_number at s.locals m) (absent Writing at.place.area)) (λ n. Ok (n == 1))
-    (or_told (location_number at s.locals m) (absent Writing at.place.area) (absent_told Writing at.place.area)) (λ n. tt)
+    then_told (ok_or (location_number at s.locals m) (error_of_absent_place Writing at.place.area)) (λ n. Ok (n == 1))
+    (or_told (location_number at s.locals m) (error_of_absent_place Writing at.place.area) (absent_told Writing at.place.area)) (λ n. tt)
 
 -- ---- families
 
-one_told : (r : Result ℕ ℕ) → IfTold r → IfTold (is_one r)
+one_told : (r : Result ℕ ℕ) → IfTold r → IfTold (bit_of_number r)
 one_told (Ok n) told = tt
 one_told (Err code) told = told
 
@@ -329,9 +329,9 @@ counters_told : (p : ExecState) (r : Result (List Counter) ℕ) → IfTold r →
 counters_told p (Ok r) told = tt
 counters_told p (Err code) told = told
 
-numbered_told : {A : Type 0} (code : ℕ) (o : Operand) (s : Local) (m : Areas) (f : ℕ → Result A TimerFault) → Told code → IsNumbered o → IfTold (then_ok (number_named o s m) (λ number. faulty code (f number)))
+numbered_told : {A : Type 0} (code : ℕ) (o : Operand) (s : Local) (m : Areas) (f : ℕ → Result A TimerFault) → Told code → IsNumbered o → IfTold (then_ok (number_named o s m) (λ number. with_timer_error code (f number)))
 numbered_told code o s m f some has =
-    then_told (number_named o s m) (λ number. faulty code (f number)) (named_number_told o s m has) (λ number. faulty_told code (f number) some)
+    then_told (number_named o s m) (λ number. with_timer_error code (f number)) (named_number_told o s m has) (λ number. faulty_told code (f number) some)
 
 starting_told : (how : TimerKind) (o : Operand) (s : Local) (m : Areas) (t : List Timer) → IsNumbered o → IfTold (timer_start how o s m t)
 unfolding timer_start
@@ -365,16 +365,16 @@ counter_freed_told : (o : Operand) (s : Local) (m : Areas) (n : List Counter) �
 unfolding counter_freed
 counter_freed_told o s m n has = numbered_told 0x27 o s m _ refl has
 
-checking_told : (o : Operand) (p : ExecState) (with : _) → admits takes.Check o ≡ true → ParamHas p.local false o → IfTold (checking with o p.local p.memory p.timers p.counters)
-unfolding checking
+checking_told : (o : Operand) (p : ExecState) (with : _) → admits takes.Check o ≡ true → ParamHas p.local false o → IfTold (regs_after_bit_check with o p.local p.memory p.timers p.counters)
+unfolding regs_after_bit_check
 checking_told o p with h has = then_told (checked_bit o p.local p.memory p.timers p.counters) _ (tested_told o p.local p.memory p.timers p.counters h has) (λ bit. tt)
 
-loading_told : (o : Operand) (p : ExecState) → admits takes.Load o ≡ true → ParamHas p.local false o → IfTold (loading o p.local p.memory p.timers p.counters)
-unfolding loading
+loading_told : (o : Operand) (p : ExecState) → admits takes.Load o ≡ true → ParamHas p.local false o → IfTold (regs_after_load o p.local p.memory p.timers p.counters)
+unfolding regs_after_load
 loading_told o p h has = then_told (load_value o p.local p.memory p.timers p.counters) _ (loaded_told o p.local p.memory p.timers p.counters h has) (λ x. tt)
 
-loading_bcd_told : (o : Operand) (p : ExecState) → IsNumbered o → IfTold (loading_bcd o p.local p.memory p.timers p.counters)
-unfolding loading_bcd
+loading_bcd_told : (o : Operand) (p : ExecState) → IsNumbered o → IfTold (regs_after_bcd_load o p.local p.memory p.timers p.counters)
+unfolding regs_after_bcd_load
 loading_bcd_told o p has = then_told (bcd_loaded o p.local p.memory p.timers p.counters) _ (bcd_loaded_told o p.local p.memory p.timers p.counters has) (λ x. tt)
 
 transferred_told : (n : ℕ) (o : Operand) (s : Local) (m : Areas) → HasPlace s o → IfTold (number_transferred n o s m)
@@ -391,14 +391,14 @@ bit_set_told value o s m has =
     then_told (operand_location Writing o s m) (λ at. then_ok (bit_before at s m) (λ before. bit_set_at value at before s m)) (located_told Writing o s m has)
     (λ at. then_told (bit_before at s m) (λ before. bit_set_at value at before s m) (before_told at s m) (λ before. put_told at _ _ s m))
 
-edge_told : (rising : Bool) (o : Operand) (s : Local) (m : Areas) → HasPlace s o → IfTold (edge rising o s m)
-unfolding edge
+edge_told : (rising : Bool) (o : Operand) (s : Local) (m : Areas) → HasPlace s o → IfTold (local_memory_after_edge rising o s m)
+unfolding local_memory_after_edge
 edge_told rising o s m has =
-    then_told (operand_location Writing o s m) (λ at. then_ok (bit_before at s m) (λ before. edge_at rising at before s m)) (located_told Writing o s m has)
-    (λ at. then_told (bit_before at s m) (λ before. edge_at rising at before s m) (before_told at s m) (λ before. put_told at _ _ s m))
+    then_told (operand_location Writing o s m) (λ at. then_ok (bit_before at s m) (λ before. local_memory_after_edge_at rising at before s m)) (located_told Writing o s m has)
+    (λ at. then_told (bit_before at s m) (λ before. local_memory_after_edge_at rising at before s m) (before_told at s m) (λ before. put_told at _ _ s m))
 
 -- S and R of a bit, a timer or a counter; FR of a timer or a counter
-set_told : (o : Operand) (p : ExecState) → admits takes.BitOrCounter o ≡ true → ParamHas p.local true o → IfTold (set_of (kind_named o) o p)
+set_told : (o : Operand) (p : ExecState) → admits takes.BitOrCounter o ≡ true → ParamHas p.local true o → IfTold (set_effect (kind_of_numbered_operand o) o p)
 unfolding admits
 set_told (operand.Direct area width byte bit) p h has = scene_told p _ (bit_set_told true (operand.Direct area width byte bit) p.local p.memory tt)
 set_told (operand.ByMemory area width from byte) p h has = scene_told p _ (bit_set_told true (operand.ByMemory area width from byte) p.local p.memory tt)
@@ -408,12 +408,12 @@ set_told (operand.Numbered kind number) p h has = counters_told p _ (set_counter
 set_told (operand.NumberedBy kind from byte) p h has = counters_told p _ (set_counter_told (operand.NumberedBy kind from byte) p.local p.memory p.counters tt)
 set_told _ p h has = absurd cc
 
-reset_numbered_told : (kind : ℕ) (o : Operand) (p : ExecState) → IsNumbered o → IfTold (reset_of (Some kind) o p)
+reset_numbered_told : (kind : ℕ) (o : Operand) (p : ExecState) → IsNumbered o → IfTold (reset_effect (Some kind) o p)
 reset_numbered_told kind o p has =
     either_told (is_timer_kind kind) (on_timers p (timer_reset o p.local p.memory p.timers)) (on_counters p (counter_reset o p.local p.memory p.counters))
     (timers_told p _ (timer_reset_told o p.local p.memory p.timers has)) (counters_told p _ (reset_counter_told o p.local p.memory p.counters has))
 
-reset_told : (o : Operand) (p : ExecState) → admits takes.BitOrNumbered o ≡ true → ParamHas p.local true o → IfTold (reset_of (kind_named o) o p)
+reset_told : (o : Operand) (p : ExecState) → admits takes.BitOrNumbered o ≡ true → ParamHas p.local true o → IfTold (reset_effect (kind_of_numbered_operand o) o p)
 unfolding admits
 reset_told (operand.Direct area width byte bit) p h has = scene_told p _ (bit_set_told false (operand.Direct area width byte bit) p.local p.memory tt)
 reset_told (operand.ByMemory area width from byte) p h has = scene_told p _ (bit_set_told false (operand.ByMemory area width from byte) p.local p.memory tt)
@@ -423,12 +423,12 @@ reset_told (operand.Numbered kind number) p h has = reset_numbered_told kind (op
 reset_told (operand.NumberedBy kind from byte) p h has = reset_numbered_told kind (operand.NumberedBy kind from byte) p tt
 reset_told _ p h has = absurd cc
 
-free_numbered_told : (kind : ℕ) (o : Operand) (p : ExecState) → IsNumbered o → IfTold (free_of (Some kind) o p)
+free_numbered_told : (kind : ℕ) (o : Operand) (p : ExecState) → IsNumbered o → IfTold (enable_effect (Some kind) o p)
 free_numbered_told kind o p has =
     either_told (is_timer_kind kind) (on_timers p (timer_freed o p.local p.memory p.timers)) (on_counters p (counter_freed o p.local p.memory p.counters))
     (timers_told p _ (timer_freed_told o p.local p.memory p.timers has)) (counters_told p _ (counter_freed_told o p.local p.memory p.counters has))
 
-free_told : (o : Operand) (p : ExecState) → IsNumbered o → IfTold (free_of (kind_named o) o p)
+free_told : (o : Operand) (p : ExecState) → IsNumbered o → IfTold (enable_effect (kind_of_numbered_operand o) o p)
 free_told (operand.Numbered kind number) p has = free_numbered_told kind (operand.Numbered kind number) p tt
 free_told (operand.NumberedBy kind from byte) p has = free_numbered_told kind (operand.NumberedBy kind from byte) p tt
 free_told _ p has = absurd has
@@ -525,8 +525,8 @@ pub record Suits (v : Operation) (o : Operand) (p : ExecState) : Type 0 where
   pub other : goes_by_statement v o ≡ false
   pub room : HasRoom v p.local.inner.brackets p.local.inner.relay
 
-nest_done : (p : ExecState) (with : _) → (length p.local.inner.brackets ≡ 7 → ⊥) → IfTold (nesting with p.local)
-unfolding nesting
+nest_done : (p : ExecState) (with : _) → (length p.local.inner.brackets ≡ 7 → ⊥) → IfTold (nesting_opened with p.local)
+unfolding nesting_opened
 nest_done p with room = by (length p.local.inner.brackets == 7) refl
   where
     by : (t : Bool) → (length p.local.inner.brackets == 7) ≡ t → IfTold (cond t (Err no_operand) (Ok (with_open_brackets (entry_of with p.local.regs ∷ p.local.inner.brackets) (record p.local { regs = bracket_begun p.local.regs }))))
@@ -537,8 +537,8 @@ unnest_done : (s : Local) (brackets : List Bracket) → (brackets ≡ [] → ⊥
 unnest_done s [] room = absurd (room refl)
 unnest_done s (b ∷ rest) room = tt
 
-unnesting_done : (s : Local) → (s.inner.brackets ≡ [] → ⊥) → IfTold (unnesting s)
-unfolding unnesting
+unnesting_done : (s : Local) → (s.inner.brackets ≡ [] → ⊥) → IfTold (nesting_closed s)
+unfolding nesting_closed
 unnesting_done s room = unnest_done s s.inner.brackets room
 
 pub zone_room : (s : Local) → (length s.inner.relay.zones ≡ most_zones → ⊥) → (length s.inner.relay.zones == most_zones) ≡ false
@@ -579,8 +579,8 @@ no_code (operand.Numbered kind number) h = kind_none kind takes.NoCode refl refl
 no_code (operand.NumberedBy kind from byte) h = kind_none kind takes.NoCode refl refl h
 no_code _ h = cc
 
-pub effect_told : (v : Operation) (o : Operand) (p : ExecState) → Suits v o p → IfTold (effect v o p)
-unfolding effect
+pub effect_told : (v : Operation) (o : Operand) (p : ExecState) → Suits v o p → IfTold (operation_effect v o p)
+unfolding operation_effect
 effect_told operation.Nop o p s = tt
 effect_told operation.Bld o p s = tt
 effect_told (operation.Check with) o p s = registers_told p _ (checking_told o p with s.admitted s.has)

@@ -34,8 +34,8 @@ use Rattle.flat_code.specs.declared.table.Takes.TheVariants as takes
 use Rattle.flat_code.specs.declared.operations.TheConstants.{OPERATIONS}
 use Rattle.flat_code.specs.declared.operations.Operation.{Operation}
 use Rattle.flat_code.specs.declared.operations.Operation.TheVariants as operation
-use Rattle.flat_code.specs.Blocks.{CalleeSeen, callee, system_params, are_passed, is_bad_instance, is_short, length_of_data, leads, is_ju_operand, is_in_db, prepares, writes_operand}
-use Rattle.flat_code.specs.Codes.{size}
+use Rattle.flat_code.specs.Blocks.{CalleeSeen, callee_among, system_params, are_all_passed, is_bad_instance, is_short_instance, length_of_data, leads_to_target, is_ju_operand, is_in_db, prepares_statement, writes_operand}
+use Rattle.flat_code.specs.Codes.{size_of_op}
 use Rattle.flat_code.specs.Instr.{Instr, Does, Jumps, JumpsByList, Calls, Returns}
 use Rattle.flat_code.specs.Kinds.{jump_of_number}
 use Rattle.flat_code.specs.Loading.{Verifies, lens_of}
@@ -52,20 +52,20 @@ use Rattle.flat_code.specs.Operations.{operation_of}
 use Rattle.image_file.specs.Readers.{is_same_id, block_by_id}
 use Rattle.image_file.specs.Verified.{FitsCall, FitsOperand, FitsPrepared, block_signatures}
 use Rattle.machine.specs.DataBlocks.{is_block_loaded}
-use Rattle.machine.specs.Effect.{on_local, effect, with_db, effect_with}
-use Rattle.machine.specs.Entering.{going_on}
+use Rattle.machine.specs.Effect.{on_local, operation_effect, with_db_opened, statement_effect}
+use Rattle.machine.specs.Entering.{activation_continued_at}
 use Rattle.machine.specs.Fitting.{HasInstance, IsBound, IsMemoryOf, OpenAt, codes_of}
 use Rattle.machine.specs.Flat.{call_by_number, code_of, block_head_of, instance_named, instr_of, is_jl, jump_by_operation, list_of, listed_with, most_listed, passings_of, use_db_of, use_db_first}
 use Rattle.machine.specs.Jumps.{regs_after_jump, jump_goal, is_jump_taken, list_goal, rlo_tested}
 use Rattle.machine.specs.ImageLaws.{ImageLaws}
-use Rattle.machine.specs.Lasting.{FitsProgram, Lasts}
-use Rattle.machine.specs.Nesting.{with_open_brackets, nesting, unnesting, bracket_closed}
+use Rattle.machine.specs.Lasting.{FitsProgram, StepFitsAgain}
+use Rattle.machine.specs.Nesting.{with_open_brackets, nesting_opened, nesting_closed, bracket_closed}
 use Rattle.machine.specs.OpenBrackets.{check_named, checks_of, open_at, open_codes}
 use Rattle.machine.specs.Relay.{opening_zone, ending_zone}
 use Rattle.machine.specs.ExecState.{Local, ExecState, local_of, exec_state_of, with_local}
 use Rattle.machine.specs.Places.{no_operand}
 use Rattle.machine.specs.SystemCalls.{system_function}
-use Rattle.machine.specs.Statement.{World, Went, statement, step_of, continue_with, jump_step, is_ended, is_call_made, not_called, call_made, return_made, with_exec_state}
+use Rattle.machine.specs.Statement.{GlobalStore, Went, statement_step, instruction_step, continue_with, jump_step, is_return_made, is_call_made, regs_after_call_not_made, call_made, return_made, with_exec_state}
 use Rattle.machine.proofs.BindingLemmas.{PassingsFit, bound_of}
 use Rattle.machine.proofs.Called.{Caller, own_bound, function_lasts, function_block_lasts, going_fits, head_there}
 use Rattle.machine.proofs.Entered.{AreParams, of_blocks, of_functions, passings_fit, all_among, instance_long}
@@ -80,12 +80,12 @@ use Rattle.machine.proofs.OpenBehind.{is_other, nest_opens, opening_word, two_or
 use Rattle.machine.proofs.Standing.{Stood, Statement, AllBefore, ends_here, none_before, stood_there, statement_there, next_stood, target_stood, next_op, op_here}
 
 -- an activation that fits a program that verifies, and the statement at which it stands
-pub record At (p : Program) (a : Activation) (w : World) : Type 0 where
+pub record At (p : Program) (a : Activation) (w : GlobalStore) : Type 0 where
   pub verifies : Verifies p
   pub fits : FitsProgram p w.memory a
   pub here : Statement p a.running.frame.block a.running.frame.at (frame_open a.running.frame)
 
-pub at_of : (l : ImageLaws) (p : Program) (a : Activation) (w : World) → Verifies p → FitsProgram p w.memory a → At p a w
+pub at_of : (l : ImageLaws) (p : Program) (a : Activation) (w : GlobalStore) → Verifies p → FitsProgram p w.memory a → At p a w
 at_of l p a w verifies h =
     let f = a.running.frame in
     let was = stands_of (code_of p) (open_codes p) w.memory a h.fits in
@@ -107,7 +107,7 @@ code_goes_on code h is = let e : true ≡ false = rw is at h in cc
 
 -- behind a statement that ends no block, and opens and closes nothing, the next one stands
 next_same :
-    (l : ImageLaws) (p : Program) (a : Activation) (w : World) (at : At p a w) (v : Operation)
+    (l : ImageLaws) (p : Program) (a : Activation) (w : GlobalStore) (at : At p a w) (v : Operation)
     → operation_of at.here.run.last.code ≡ v → is_be v ≡ false → Quiet v
     → Stood p a.running.frame.block at.here.run.next (frame_open a.running.frame)
 next_same l p a w at v is goes quiet =
@@ -119,9 +119,9 @@ next_same l p a w at v is goes quiet =
 -- ---- instructions that touch no position
 
 went_fits :
-    (l : ImageLaws) (p : Program) (a : Activation) (w : World) (at : At p a w) (v : Operation) (q : ExecState)
+    (l : ImageLaws) (p : Program) (a : Activation) (w : GlobalStore) (at : At p a w) (v : Operation) (q : ExecState)
     → operation_of at.here.run.last.code ≡ v → is_be v ≡ false → Keeps v (exec_state_of a.running w.memory w.timers w.counters) q
-    → FitsProgram p q.memory (going_on at.here.run.next q.local.regs (with_exec_state q a))
+    → FitsProgram p q.memory (activation_continued_at at.here.run.next q.local.regs (with_exec_state q a))
 went_fits l p a w at v q is goes kept =
     let f = a.running.frame in
     let was = stands_of (code_of p) (open_codes p) w.memory a at.fits.fits in
@@ -151,10 +151,10 @@ IfErring v (Ok q) = Unit {0}
 IfErring v (Err code) = Erring v code
 
 does_lasts :
-    (l : ImageLaws) (p : Program) (a : Activation) (w : World) (at : At p a w) (v : Operation) (r : Result ExecState ℕ)
+    (l : ImageLaws) (p : Program) (a : Activation) (w : GlobalStore) (at : At p a w) (v : Operation) (r : Result ExecState ℕ)
     → operation_of at.here.run.last.code ≡ v → is_be v ≡ false
     → IfDone (Keeps v (exec_state_of a.running w.memory w.timers w.counters)) r → IfErring v r
-    → Lasts p w (continue_with r at.here.run.next a)
+    → StepFitsAgain p w (continue_with r at.here.run.next a)
 does_lasts l p a w at v (Ok q) is goes kept erring = record { sizes = kept.memory; fits = went_fits l p a w at v q is goes kept }
 does_lasts l p a w at v (Err code) is goes kept erring =
     (erring.told, going_fits l p w.memory a at.here.run.next a.running.regs at.fits (next_same l p a w at v is goes erring.quiet))
@@ -162,12 +162,12 @@ does_lasts l p a w at v (Err code) is goes kept erring =
 -- ---- jumps
 
 jump_lasts :
-    (l : ImageLaws) (p : Program) (a : Activation) (w : World) (at : At p a w) (how : JumpOperation) (kind target : ℕ)
+    (l : ImageLaws) (p : Program) (a : Activation) (w : GlobalStore) (at : At p a w) (how : JumpOperation) (kind target : ℕ)
     → operation_of at.here.run.last.code ≡ operation.Jump → at.here.run.last.operand ≡ operand.Jump kind target
-    → Lasts p w (jump_step how target at.here.run.next a w)
+    → StepFitsAgain p w (jump_step how target at.here.run.next a w)
 jump_lasts l p a w at how kind target is operand_is = record { sizes = same_sizes w.memory; fits = by (is_jump_taken how a.running.regs) }
   where
-    by : (taken : Bool) → FitsProgram p w.memory (going_on (jump_goal taken target at.here.run.next) (regs_after_jump how a.running.regs) a)
+    by : (taken : Bool) → FitsProgram p w.memory (activation_continued_at (jump_goal taken target at.here.run.next) (regs_after_jump how a.running.regs) a)
     by true =
         going_fits l p w.memory a target (regs_after_jump how a.running.regs) at.fits
         (target_stood l p a.running.frame.block a.running.frame.at (frame_open a.running.frame) at.here kind target operand_is)
@@ -225,15 +225,15 @@ takes_jump code kind target right =
     let taken = and_parts (ltb code 128 && is_jump_form (takes_of_operation (operation_of code))) (payload_fits (operand.Jump kind target)) right in
     (and_parts (ltb code 128) (is_jump_form (takes_of_operation (operation_of code))) taken.0).1
 
-jump_ends : (code : ℕ) (last : Bool) → is_jump_form (takes_of_operation (operation_of code)) ≡ true → last ≡ not (prepares code) → last ≡ true
+jump_ends : (code : ℕ) (last : Bool) → is_jump_form (takes_of_operation (operation_of code)) ≡ true → last ≡ not (prepares_statement code) → last ≡ true
 unfolding operation_of
-jump_ends code last h ended = by (prepares code) refl ended
+jump_ends code last h ended = by (prepares_statement code) refl ended
   where
     none : (code ≡ 2) ⊎ (code ≡ 4) → ⊥
     none (inl e) = let f : false ≡ true = rw e at h in cc
     none (inr e) = let f : false ≡ true = rw e at h in cc
 
-    by : (t : Bool) → prepares code ≡ t → last ≡ not t → last ≡ true
+    by : (t : Bool) → prepares_statement code ≡ t → last ≡ not t → last ≡ true
     by true e is = absurd (none (two_or_four code e))
     by false e is = is
 
@@ -249,19 +249,19 @@ AtRest p block b held at (op ∷ ops) =
 
 op_listed :
     (p : Program) (block : BlockId) (b : CodeBlock) (at : ℕ) (held : OpenAt) (s : Stood p block at held) (op : OpData)
-    → s.b ≡ b → s.q.op ≡ op → op_placed 0 b.code at ≡ Some (op, at + size op)
+    → s.b ≡ b → s.q.op ≡ op → op_placed 0 b.code at ≡ Some (op, at + size_of_op op)
 op_listed p block b at held s op is same =
     ap (λ (z : CodeBlock). op_placed 0 z.code at) (sym is)
     ∙ ap (op_placed 0 s.b.code) (sym s.offset)
     ∙ op_here 0 [] [] [] s.b.code s.q.at s.q s.op.place
-    ∙ ap (λ (k : ℕ). Some (s.q.op, k + size s.q.op)) s.offset
-    ∙ ap (λ (z : OpData). Some (z, at + size z)) same
+    ∙ ap (λ (k : ℕ). Some (s.q.op, k + size_of_op s.q.op)) s.offset
+    ∙ ap (λ (z : OpData). Some (z, at + size_of_op z)) same
 
 -- behind a jump the next statement stands
 behind_jump :
     (l : ImageLaws) (p : Program) (block : BlockId) (b : CodeBlock) (at : ℕ) (held : OpenAt) (s : Stood p block at held)
     (kind target : ℕ) (op : OpData) (rest : List OpData) → s.b ≡ b → s.q.op ≡ op → s.q.rest ≡ rest
-    → op.operand ≡ operand.Jump kind target → AtRest p block b held (at + size op) rest
+    → op.operand ≡ operand.Jump kind target → AtRest p block b held (at + size_of_op op) rest
 behind_jump l p block b at held s kind target op [] is same split jumps = tt
 behind_jump l p block b at held s kind target op (n ∷ ops) is same split jumps =
     let right : is_op s.q.op.code (operand.Jump kind target) ≡ true =
@@ -273,7 +273,7 @@ behind_jump l p block b at held s kind target op (n ∷ ops) is same split jumps
         q = behind_op s.q n ops;
         found = s.found;
         op = next_op l p s.b s.q n ops s.op split;
-        offset = ap (λ (k : ℕ). k + size s.q.op) s.offset ∙ ap (λ (z : OpData). at + size z) same;
+        offset = ap (λ (k : ℕ). k + size_of_op s.q.op) s.offset ∙ ap (λ (z : OpData). at + size_of_op z) same;
         begun = rw ended refl;
         same = left_behind s.q n ops ∙ ap (left_open (operation_of s.q.op.code)) s.same ∙ jump_quiet (operation_of s.q.op.code) taken held;
       },
@@ -285,7 +285,7 @@ behind_jump l p block b at held s kind target op (n ∷ ops) is same split jumps
 -- each target of a list is the place of a JU
 list_stood :
     (l : ImageLaws) (p : Program) (block : BlockId) (b : CodeBlock) (held : OpenAt) (target most at : ℕ) (rest : List OpData)
-    → leads most target at rest ≡ true → AtRest p block b held at rest
+    → leads_to_target most target at rest ≡ true → AtRest p block b held at rest
     → AllStood p block held (list_of most b.code target at)
 unfolding list_of
 list_stood l p block b held target zero at rest leading s = tt
@@ -295,32 +295,32 @@ list_stood l p block b held target (suc most) at [] leading s = by (eqb at targe
     by true e = tt
     by false e = absurd cc
 list_stood l p block b held target (suc most) at (op ∷ ops) leading s =
-    by (eqb at target) leading (λ rest leads_on. list_stood l p block b held target most (at + size op) ops leads_on rest)
+    by (eqb at target) leading (λ rest leads_on. list_stood l p block b held target most (at + size_of_op op) ops leads_on rest)
   where
-    by : (t : Bool) → (t || (is_ju_operand op.operand && leads most target (at + size op) ops)) ≡ true
-        → (AtRest p block b held (at + size op) ops → leads most target (at + size op) ops ≡ true → AllStood p block held (list_of most b.code target (at + size op)))
+    by : (t : Bool) → (t || (is_ju_operand op.operand && leads_to_target most target (at + size_of_op op) ops)) ≡ true
+        → (AtRest p block b held (at + size_of_op op) ops → leads_to_target most target (at + size_of_op op) ops ≡ true → AllStood p block held (list_of most b.code target (at + size_of_op op)))
         → AllStood p block held (cond t [] (listed_with (op_placed 0 b.code at) at (λ next. list_of most b.code target next)))
     by true e more = tt
     by false e more =
-        let parts = and_parts (is_ju_operand op.operand) (leads most target (at + size op) ops) e in
+        let parts = and_parts (is_ju_operand op.operand) (leads_to_target most target (at + size_of_op op) ops) e in
         let ju = ju_is op.operand parts.0 in
         rw (op_listed p block b at held s.0 op s.1 s.2)
         (s.0, more (behind_jump l p block b at held s.0 0 ju.0 op ops s.1 s.2 s.3 ju.1) parts.1)
 
 jump_list_lasts :
-    (l : ImageLaws) (p : Program) (a : Activation) (w : World) (at : At p a w) (target : ℕ)
+    (l : ImageLaws) (p : Program) (a : Activation) (w : GlobalStore) (at : At p a w) (target : ℕ)
     → operation_of at.here.run.last.code ≡ operation.Jump → at.here.run.last.operand ≡ operand.Jump 1 target
-    → Lasts p w (step_of (code_of p) (JumpsByList (list_of most_listed at.here.stood.b.code target at.here.run.next) target) at.here.run.next a w)
+    → StepFitsAgain p w (instruction_step (code_of p) (JumpsByList (list_of most_listed at.here.stood.b.code target at.here.run.next) target) at.here.run.next a w)
 unfolding list_goal
 jump_list_lasts l p a w at target is operand_is =
     let f = a.running.frame in
     let held = frame_open f in
     let s = at.here in
     let last_is : s.ran.last.op.operand ≡ operand.Jump 1 target = ap (λ (z : OpData). z.operand) s.ran.same ∙ operand_is in
-    let next_is : s.run.next ≡ s.ran.last.at + size s.ran.last.op = s.ran.next in
+    let next_is : s.run.next ≡ s.ran.last.at + size_of_op s.ran.last.op = s.ran.next in
     let here : Stood p f.block s.run.next held = next_same l p a w at operation.Jump is refl (λ held. refl) in
     let list = list_stood l p f.block s.stood.b held target most_listed s.run.next s.ran.last.rest
-    (ap (λ (k : ℕ). leads 255 target k s.ran.last.rest) next_is ∙ l.lists p s.stood.b s.ran.last target s.ran.op last_is)
+    (ap (λ (k : ℕ). leads_to_target 255 target k s.ran.last.rest) next_is ∙ l.lists p s.stood.b s.ran.last target s.ran.op last_is)
     (behind_last s.ran.last.rest refl) in
     record {
       sizes = same_sizes w.memory;
@@ -349,19 +349,19 @@ jump_list_lasts l p a w at target is operand_is =
 
 -- ---- ends
 
-bec_alone : (how : EndOperation) (rlo : Bool) → is_ended how rlo ≡ false → is_be (operation.End how) ≡ false
+bec_alone : (how : EndOperation) (rlo : Bool) → is_return_made how rlo ≡ false → is_be (operation.End how) ≡ false
 bec_alone ends.Be rlo h = absurd cc
 bec_alone ends.Bec rlo h = refl
 bec_alone ends.Beu rlo h = refl
 
 end_lasts :
-    (l : ImageLaws) (p : Program) (a : Activation) (w : World) (at : At p a w) (how : EndOperation)
+    (l : ImageLaws) (p : Program) (a : Activation) (w : GlobalStore) (at : At p a w) (how : EndOperation)
     → operation_of at.here.run.last.code ≡ operation.End how
-    → Lasts p w (step_of (code_of p) (Returns how) at.here.run.next a w)
-end_lasts l p a w at how is = by (is_ended how a.running.regs.status.rlo) refl
+    → StepFitsAgain p w (instruction_step (code_of p) (Returns how) at.here.run.next a w)
+end_lasts l p a w at how is = by (is_return_made how a.running.regs.status.rlo) refl
   where
-    by : (t : Bool) → is_ended how a.running.regs.status.rlo ≡ t
-        → Lasts p w (cond t (return_made ((code_of p).head a.running.frame.block) a w) (Went (going_on at.here.run.next (rlo_tested a.running.regs) a) w))
+    by : (t : Bool) → is_return_made how a.running.regs.status.rlo ≡ t
+        → StepFitsAgain p w (cond t (return_made ((code_of p).head a.running.frame.block) a w) (Went (activation_continued_at at.here.run.next (rlo_tested a.running.regs) a) w))
     by true e = returned_lasts p a w at.fits
     by false e = record {
       sizes = same_sizes w.memory;
@@ -429,13 +429,13 @@ mapped_got f [] i y found = absurd cc
 mapped_got f (x ∷ xs) zero y found = (x, refl)
 mapped_got f (x ∷ xs) (suc i) y found = mapped_got f xs i y found
 
-fit_of : (l : ImageLaws) (p : Program) (a : Activation) (w : World) (at : At p a w) (kind number instance : ℕ) → at.here.run.last.operand ≡ operand.Called kind number instance → FitsCall p at.here.ran.last kind number instance
+fit_of : (l : ImageLaws) (p : Program) (a : Activation) (w : GlobalStore) (at : At p a w) (kind number instance : ℕ) → at.here.run.last.operand ≡ operand.Called kind number instance → FitsCall p at.here.ran.last kind number instance
 fit_of l p a w at kind number instance is =
     l.calls p at.here.stood.b at.here.ran.last kind number instance at.here.ran.op (ap (λ (z : OpData). z.operand) at.here.ran.same ∙ is)
 
 -- what it passes fits
 call_passes :
-    (l : ImageLaws) (p : Program) (a : Activation) (w : World) (at : At p a w) (kind number instance : ℕ) (ps : List Param)
+    (l : ImageLaws) (p : Program) (a : Activation) (w : GlobalStore) (at : At p a w) (kind number instance : ℕ) (ps : List Param)
     (is : at.here.run.last.operand ≡ operand.Called kind number instance)
     → AreParams ps (fit_of l p a w at kind number instance is).called.2
     → PassingsFit a.running.frame.block.kind at.here.stood.b.params ps (passings_of at.here.run.before)
@@ -446,18 +446,18 @@ call_passes l p a w at kind number instance ps is params =
     (passings_fit l p at.here.stood.b ps kind number instance fit.called at.here.run.last at.here.run.before params fit.there is at.here.ran.passes)
 
 call_all :
-    (l : ImageLaws) (p : Program) (a : Activation) (w : World) (at : At p a w) (kind number instance : ℕ)
+    (l : ImageLaws) (p : Program) (a : Activation) (w : GlobalStore) (at : At p a w) (kind number instance : ℕ)
     (is : at.here.run.last.operand ≡ operand.Called kind number instance)
     → ((fit_of l p a w at kind number instance is).called.0 ≡ 3 → ⊥)
-    → are_passed 0 (fit_of l p a w at kind number instance is).called.2 at.here.run.before ≡ true
+    → are_all_passed 0 (fit_of l p a w at kind number instance is).called.2 at.here.run.before ≡ true
 call_all l p a w at kind number instance is other =
     let fit = fit_of l p a w at kind number instance is in
     let before : at.here.ran.last.before ≡ at.here.run.before =
     at.here.ran.before ∙ ap (λ (z : List OpData). z ++ at.here.run.before) (none_before at.here.stood.q.before at.here.stood.begun) in
-    ap (are_passed 0 fit.called.2) (sym before) ∙ fit.all other
+    ap (are_all_passed 0 fit.called.2) (sym before) ∙ fit.all other
 
 behind_call :
-    (l : ImageLaws) (p : Program) (a : Activation) (w : World) (at : At p a w) (how : CallOperation)
+    (l : ImageLaws) (p : Program) (a : Activation) (w : GlobalStore) (at : At p a w) (how : CallOperation)
     → operation_of at.here.run.last.code ≡ operation.Call how → Caller p w.memory a at.here.run.next
 behind_call l p a w at how is = record {
   fits = at.fits;
@@ -484,15 +484,15 @@ has_instance p m b called instance is memory h = by (eqb instance 0) (rw is at h
     no_params [] e = refl
     no_params (q ∷ ps) e = absurd cc
 
-    by : (t : Bool) → cond t (not (nothing (map record_of_param b.params))) (is_short b.instance_len (length_of_data instance (lens_of p.data_blocks))) ≡ false
+    by : (t : Bool) → cond t (not (nothing (map record_of_param b.params))) (is_short_instance b.instance_len (length_of_data instance (lens_of p.data_blocks))) ≡ false
         → HasInstance kinds.Fb (block_head_of b) m (cond t None (Some instance))
     by true e = no_params b.params e
     by false e = instance_long memory.profile p m instance b.instance_len memory.sizes e
 
 call_function :
-    (l : ImageLaws) (p : Program) (a : Activation) (w : World) (at : At p a w) (how : CallOperation) (number instance : ℕ)
+    (l : ImageLaws) (p : Program) (a : Activation) (w : GlobalStore) (at : At p a w) (how : CallOperation) (number instance : ℕ)
     → operation_of at.here.run.last.code ≡ operation.Call how → at.here.run.last.operand ≡ operand.Called 2 number instance
-    → Lasts p w (call_made (code_of p) (record { kind = kinds.Fc; number = number }) (instance_named instance) (passings_of at.here.run.before) at.here.run.next a w)
+    → StepFitsAgain p w (call_made (code_of p) (record { kind = kinds.Fc; number = number }) (instance_named instance) (passings_of at.here.run.before) at.here.run.next a w)
 call_function l p a w at how number instance word_is is =
     let fit = fit_of l p a w at 2 number instance is in
     let one = l.called p 2 number fit.called (inl refl) fit.there in
@@ -500,17 +500,17 @@ call_function l p a w at how number instance word_is is =
     let other : fit.called.0 ≡ 3 → ⊥ = λ e. let two : fit.called.0 ≡ 2 = ap (λ (z : CalleeSeen). z.0) one.same in omega (arith, e, two) in
     let rs : fit.called.2 ≡ map record_of_param b.params = ap (λ (z : CalleeSeen). z.2) one.same in
     let params : AreParams b.params fit.called.2 = subst (λ (z : List ParameterRecord). AreParams b.params z) (sym rs) (of_blocks b.params) in
-    let all : are_passed 0 (map record_of_param b.params) at.here.run.before ≡ true =
-    ap (λ (z : List ParameterRecord). are_passed 0 z at.here.run.before) (sym rs) ∙ call_all l p a w at 2 number instance is other in
+    let all : are_all_passed 0 (map record_of_param b.params) at.here.run.before ≡ true =
+    ap (λ (z : List ParameterRecord). are_all_passed 0 z at.here.run.before) (sym rs) ∙ call_all l p a w at 2 number instance is other in
     rw (no_instance (lens_of p.data_blocks) fit.called instance other fit.instance_fits, head_there p (record { kind = kinds.Fc; number = number }) b one.there)
     (function_lasts l p a w at.here.run.next number at.here.stood.b b (passings_of at.here.run.before) (behind_call l p a w at how word_is)
     at.here.stood.found one.there (call_passes l p a w at 2 number instance b.params is params)
     (λ i q found. all_among i (map record_of_param b.params) (record_of_param q) at.here.run.before all (get_mapped record_of_param b.params i q found)))
 
 call_function_block :
-    (l : ImageLaws) (p : Program) (a : Activation) (w : World) (at : At p a w) (how : CallOperation) (number instance : ℕ)
+    (l : ImageLaws) (p : Program) (a : Activation) (w : GlobalStore) (at : At p a w) (how : CallOperation) (number instance : ℕ)
     → operation_of at.here.run.last.code ≡ operation.Call how → at.here.run.last.operand ≡ operand.Called 3 number instance
-    → Lasts p w (call_made (code_of p) (record { kind = kinds.Fb; number = number }) (instance_named instance) (passings_of at.here.run.before) at.here.run.next a w)
+    → StepFitsAgain p w (call_made (code_of p) (record { kind = kinds.Fb; number = number }) (instance_named instance) (passings_of at.here.run.before) at.here.run.next a w)
 call_function_block l p a w at how number instance word_is is =
     let fit = fit_of l p a w at 3 number instance is in
     let one = l.called p 3 number fit.called (inr refl) fit.there in
@@ -532,17 +532,17 @@ function_found : (o : Option (List ParameterRecord)) (called : CalleeSeen) → o
 function_found (Some rs) called e = (rs, refl, sym (same_Some (5, 0, rs) called e))
 function_found None called e = absurd cc
 
-is_function : (p : Program) (number : ℕ) (called : CalleeSeen) → callee (block_signatures p) 5 number ≡ Some called → IsFunction number called
-unfolding callee
+is_function : (p : Program) (number : ℕ) (called : CalleeSeen) → callee_among (block_signatures p) 5 number ≡ Some called → IsFunction number called
+unfolding callee_among
 is_function p number called e = let r = function_found (system_params number) called e in record { records = r.0; is = r.1; same = r.2 }
 
 function_known : (number : ℕ) (rs : List ParameterRecord) → system_params number ≡ Some rs → system_function number ≡ Some (map param_of_record rs)
 function_known number rs is = rw is refl
 
 call_system_function :
-    (l : ImageLaws) (p : Program) (a : Activation) (w : World) (at : At p a w) (how : CallOperation) (number instance : ℕ)
+    (l : ImageLaws) (p : Program) (a : Activation) (w : GlobalStore) (at : At p a w) (how : CallOperation) (number instance : ℕ)
     → operation_of at.here.run.last.code ≡ operation.Call how → at.here.run.last.operand ≡ operand.Called 5 number instance
-    → Lasts p w (call_made (code_of p) (record { kind = kinds.Sfc; number = number }) (instance_named instance) (passings_of at.here.run.before) at.here.run.next a w)
+    → StepFitsAgain p w (call_made (code_of p) (record { kind = kinds.Sfc; number = number }) (instance_named instance) (passings_of at.here.run.before) at.here.run.next a w)
 call_system_function l p a w at how number instance word_is is =
     let fit = fit_of l p a w at 5 number instance is in
     let one = is_function p number fit.called fit.there in
@@ -550,8 +550,8 @@ call_system_function l p a w at how number instance word_is is =
     let other : fit.called.0 ≡ 3 → ⊥ = λ e. let five : fit.called.0 ≡ 5 = ap (λ (z : CalleeSeen). z.0) one.same in omega (arith, e, five) in
     let params : AreParams (map param_of_record one.records) fit.called.2 =
     subst (λ (z : List ParameterRecord). AreParams (map param_of_record one.records) z) (sym rs) (of_functions one.records) in
-    let all : are_passed 0 one.records at.here.run.before ≡ true =
-    ap (λ (z : List ParameterRecord). are_passed 0 z at.here.run.before) (sym rs) ∙ call_all l p a w at 5 number instance is other in
+    let all : are_all_passed 0 one.records at.here.run.before ≡ true =
+    ap (λ (z : List ParameterRecord). are_all_passed 0 z at.here.run.before) (sym rs) ∙ call_all l p a w at 5 number instance is other in
     rw one.is
     (function_called_lasts l p a w at.here.run.next number at.here.stood.b (map param_of_record one.records) (passings_of at.here.run.before)
     (behind_call l p a w at how word_is) (function_known number one.records one.is) at.here.stood.found
@@ -560,26 +560,26 @@ call_system_function l p a w at how number instance word_is is =
 
 -- where CC doesn't call, the caller goes on
 either_called :
-    (l : ImageLaws) (p : Program) (a : Activation) (w : World) (at : At p a w) (how : CallOperation) (block : BlockId) (instance : Option ℕ)
+    (l : ImageLaws) (p : Program) (a : Activation) (w : GlobalStore) (at : At p a w) (how : CallOperation) (block : BlockId) (instance : Option ℕ)
     → operation_of at.here.run.last.code ≡ operation.Call how
-    → Lasts p w (call_made (code_of p) block instance (passings_of at.here.run.before) at.here.run.next a w)
-    → Lasts p w (step_of (code_of p) (Calls how block instance (passings_of at.here.run.before)) at.here.run.next a w)
+    → StepFitsAgain p w (call_made (code_of p) block instance (passings_of at.here.run.before) at.here.run.next a w)
+    → StepFitsAgain p w (instruction_step (code_of p) (Calls how block instance (passings_of at.here.run.before)) at.here.run.next a w)
 either_called l p a w at how block instance is lasts = by (is_call_made how a.running.regs.status.rlo)
   where
     by : (t : Bool)
-        → Lasts p w (cond t (call_made (code_of p) block instance (passings_of at.here.run.before) at.here.run.next a w)
-        (Went (going_on at.here.run.next (not_called a.running.regs) a) w))
+        → StepFitsAgain p w (cond t (call_made (code_of p) block instance (passings_of at.here.run.before) at.here.run.next a w)
+        (Went (activation_continued_at at.here.run.next (regs_after_call_not_made a.running.regs) a) w))
     by true = lasts
     by false = record {
       sizes = same_sizes w.memory;
-      fits = going_fits l p w.memory a at.here.run.next (not_called a.running.regs) at.fits
+      fits = going_fits l p w.memory a at.here.run.next (regs_after_call_not_made a.running.regs) at.fits
           (next_same l p a w at (operation.Call how) is refl (λ held. refl));
     }
 
 call_lasts :
-    (l : ImageLaws) (p : Program) (a : Activation) (w : World) (at : At p a w) (how : CallOperation) (kind number instance : ℕ) (other : Instr)
+    (l : ImageLaws) (p : Program) (a : Activation) (w : GlobalStore) (at : At p a w) (how : CallOperation) (kind number instance : ℕ) (other : Instr)
     → operation_of at.here.run.last.code ≡ operation.Call how → at.here.run.last.operand ≡ operand.Called kind number instance
-    → Lasts p w (step_of (code_of p) (call_by_number (kind_of_code kind) how number instance (passings_of at.here.run.before) other) at.here.run.next a w)
+    → StepFitsAgain p w (instruction_step (code_of p) (call_by_number (kind_of_code kind) how number instance (passings_of at.here.run.before) other) at.here.run.next a w)
 call_lasts l p a w at how kind number instance other is operand_is =
     by (callable_kind kind (kind_callable at.here.run.last.code kind number instance right))
   where
@@ -593,7 +593,7 @@ call_lasts l p a w at how kind number instance other is operand_is =
     with_kind k e = operand_is ∙ ap (λ (z : ℕ). operand.Called z number instance) e
 
     by : IsCallable kind
-        → Lasts p w (step_of (code_of p) (call_by_number (kind_of_code kind) how number instance (passings_of at.here.run.before) other) at.here.run.next a w)
+        → StepFitsAgain p w (instruction_step (code_of p) (call_by_number (kind_of_code kind) how number instance (passings_of at.here.run.before) other) at.here.run.next a w)
     by (inl e) =
         rw e
         (either_called l p a w at how (record { kind = kinds.Fc; number = number }) (instance_named instance) is
@@ -609,7 +609,7 @@ call_lasts l p a w at how kind number instance other is operand_is =
 
 -- ---- instructions that touch no position: their operands are right
 
-last_right : (l : ImageLaws) (p : Program) (a : Activation) (w : World) (at : At p a w) → is_op at.here.run.last.code at.here.run.last.operand ≡ true
+last_right : (l : ImageLaws) (p : Program) (a : Activation) (w : GlobalStore) (at : At p a w) → is_op at.here.run.last.code at.here.run.last.operand ≡ true
 last_right l p a w at =
     subst (λ (z : OpData). is_op z.code z.operand ≡ true) at.here.ran.same (l.table p at.here.stood.b at.here.ran.last at.here.ran.op)
 
@@ -655,7 +655,7 @@ bound_place_is q below m (binding.Constant value) other is = absurd (other is.0)
 bound_place_is q below m binding.Unsupplied other is = absurd is
 
 param_has :
-    (l : ImageLaws) (p : Program) (a : Activation) (w : World) (at : At p a w) (v : Operation) (o : Operand)
+    (l : ImageLaws) (p : Program) (a : Activation) (w : GlobalStore) (at : At p a w) (v : Operation) (o : Operand)
     → operation_of at.here.run.last.code ≡ v → at.here.run.last.operand ≡ o
     → ParamHas (local_of a.running) (is_writing v) o
 param_has l p a w at v (operand.Parameter index width) is o_is =
@@ -682,7 +682,7 @@ length_codes : (bs : List OpenBracket) → length (bracket_codes bs) ≡ length 
 length_codes [] = refl
 length_codes (b ∷ bs) = ap suc (length_codes bs)
 
-as_many : (l : ImageLaws) (p : Program) (a : Activation) (w : World) (at : At p a w) → length at.here.ran.last.brackets ≡ length a.running.frame.brackets
+as_many : (l : ImageLaws) (p : Program) (a : Activation) (w : GlobalStore) (at : At p a w) → length at.here.ran.last.brackets ≡ length a.running.frame.brackets
 as_many l p a w at =
     let bs = at.here.ran.last.brackets in
     let own = a.running.frame.brackets in
@@ -691,7 +691,7 @@ as_many l p a w at =
     ∙ ap length same ∙ length-map own (λ (b : Bracket). b.code)
 
 nest_room :
-    (l : ImageLaws) (p : Program) (a : Activation) (w : World) (at : At p a w) (with : Check)
+    (l : ImageLaws) (p : Program) (a : Activation) (w : GlobalStore) (at : At p a w) (with : Check)
     → operation_of at.here.run.last.code ≡ operation.Nest with → length a.running.frame.brackets ≡ 7 → ⊥
 unfolding operation_of
 nest_room l p a w at with is full =
@@ -716,7 +716,7 @@ unnest_code code is = by (eqb code (op_code operation.Unnest)) refl
         absurd cc
 
 unnest_room :
-    (l : ImageLaws) (p : Program) (a : Activation) (w : World) (at : At p a w)
+    (l : ImageLaws) (p : Program) (a : Activation) (w : GlobalStore) (at : At p a w)
     → operation_of at.here.run.last.code ≡ operation.Unnest → a.running.frame.brackets ≡ [] → ⊥
 unnest_room l p a w at is none =
     let last = at.here.ran.last in
@@ -726,11 +726,11 @@ unnest_room l p a w at is none =
     let zero : length a.running.frame.brackets ≡ 0 = ap length none in
     omega (arith, there, many, zero)
 
-zones_as_many : (l : ImageLaws) (p : Program) (a : Activation) (w : World) (at : At p a w) → length at.here.ran.last.zones ≡ length a.running.frame.relay.zones
+zones_as_many : (l : ImageLaws) (p : Program) (a : Activation) (w : GlobalStore) (at : At p a w) → length at.here.ran.last.zones ≡ length a.running.frame.relay.zones
 zones_as_many l p a w at = ap (λ (z : OpenAt). z.zones) (at.here.ran.held ∙ at.here.stood.same)
 
 zone_has_room :
-    (l : ImageLaws) (p : Program) (a : Activation) (w : World) (at : At p a w)
+    (l : ImageLaws) (p : Program) (a : Activation) (w : GlobalStore) (at : At p a w)
     → operation_of at.here.run.last.code ≡ operation.Relay relay.Open → length a.running.frame.relay.zones ≡ most_zones → ⊥
 zone_has_room l p a w at is full =
     let last = at.here.ran.last in
@@ -740,7 +740,7 @@ zone_has_room l p a w at is full =
     omega (arith, room, many, full)
 
 zone_is_there :
-    (l : ImageLaws) (p : Program) (a : Activation) (w : World) (at : At p a w)
+    (l : ImageLaws) (p : Program) (a : Activation) (w : GlobalStore) (at : At p a w)
     → operation_of at.here.run.last.code ≡ operation.Relay relay.Close → a.running.frame.relay.zones ≡ [] → ⊥
 zone_is_there l p a w at is none =
     let last = at.here.ran.last in
@@ -752,17 +752,17 @@ zone_is_there l p a w at is none =
 
 -- what prepares ends no statement
 last_prepared :
-    (l : ImageLaws) (p : Program) (a : Activation) (w : World) (at : At p a w) (o : Operand) → at.here.run.last.operand ≡ o
+    (l : ImageLaws) (p : Program) (a : Activation) (w : GlobalStore) (at : At p a w) (o : Operand) → at.here.run.last.operand ≡ o
     → FitsPrepared at.here.stood.b at.here.ran.last o
 last_prepared l p a w at o is =
     subst (λ (z : Operand). FitsPrepared at.here.stood.b at.here.ran.last z) (ap (λ (z : OpData). z.operand) at.here.ran.same ∙ is)
     (l.prepared p at.here.stood.b at.here.ran.last at.here.ran.op)
 
-last_is_last : (p : Program) (a : Activation) (w : World) (at : At p a w) → last_op at.here.ran.last ≡ at.here.run.last
+last_is_last : (p : Program) (a : Activation) (w : GlobalStore) (at : At p a w) → last_op at.here.ran.last ≡ at.here.run.last
 last_is_last p a w at = ends_here at.here.ran.last.op at.here.ran.last.rest at.here.ran.ended ∙ at.here.ran.same
 
 no_use_db_last :
-    (l : ImageLaws) (p : Program) (a : Activation) (w : World) (at : At p a w) (o : Operand) → at.here.run.last.operand ≡ o
+    (l : ImageLaws) (p : Program) (a : Activation) (w : GlobalStore) (at : At p a w) (o : Operand) → at.here.run.last.operand ≡ o
     → admits takes.UseDb o ≡ true → ⊥
 unfolding admits
 no_use_db_last l p a w at (operand.UseDb number) is h =
@@ -775,7 +775,7 @@ no_use_db_last l p a w at (operand.NumberedBy kind from byte) is h = kind_none k
 no_use_db_last l p a w at _ is h = cc
 
 no_pass_last :
-    (l : ImageLaws) (p : Program) (a : Activation) (w : World) (at : At p a w) (o : Operand) → at.here.run.last.operand ≡ o
+    (l : ImageLaws) (p : Program) (a : Activation) (w : GlobalStore) (at : At p a w) (o : Operand) → at.here.run.last.operand ≡ o
     → operation_of at.here.run.last.code ≡ operation.Pass → admits takes.Pass o ≡ true → ⊥
 unfolding admits operation_of
 no_pass_last l p a w at (operand.Pass index actual) is word_is h =
@@ -790,7 +790,7 @@ no_pass_last l p a w at (operand.NumberedBy kind from byte) is word_is h = kind_
 no_pass_last l p a w at _ is word_is h = cc
 
 has_room :
-    (l : ImageLaws) (p : Program) (a : Activation) (w : World) (at : At p a w) (v : Operation) (o : Operand)
+    (l : ImageLaws) (p : Program) (a : Activation) (w : GlobalStore) (at : At p a w) (v : Operation) (o : Operand)
     → operation_of at.here.run.last.code ≡ v → at.here.run.last.operand ≡ o → admits (takes_of_operation v) o ≡ true
     → HasRoom v a.running.frame.brackets a.running.frame.relay
 has_room l p a w at (operation.Nest with) o is o_is h = nest_room l p a w at with is
@@ -804,7 +804,7 @@ has_room l p a w at operation.Pass o is o_is h = no_pass_last l p a w at o o_is 
 has_room l p a w at _ o is o_is h = tt
 
 suits_here :
-    (l : ImageLaws) (p : Program) (a : Activation) (w : World) (at : At p a w) (v : Operation) (o : Operand)
+    (l : ImageLaws) (p : Program) (a : Activation) (w : GlobalStore) (at : At p a w) (v : Operation) (o : Operand)
     → operation_of at.here.run.last.code ≡ v → at.here.run.last.operand ≡ o → goes_by_statement v o ≡ false
     → Suits v o (exec_state_of a.running w.memory w.timers w.counters)
 suits_here l p a w at v o is o_is other =
@@ -823,14 +823,14 @@ param_moved : (s t : Local) (written : Bool) (o : Operand) → t.inner.bindings 
 param_moved s t written (operand.Parameter index width) same has = (has.0, ap (λ (z : List Binding). slice_get z index) same ∙ has.1, has.2, has.3)
 param_moved s t written _ same has = tt
 
-with_told : (u : Option ℕ) (v : Operation) (o : Operand) (q : ExecState) → Suits v o q → IfTold (effect_with u v o q)
-unfolding effect_with
+with_told : (u : Option ℕ) (v : Operation) (o : Operand) (q : ExecState) → Suits v o q → IfTold (statement_effect u v o q)
+unfolding statement_effect
 with_told None v o q s = effect_told v o q s
 with_told (Some number) v o q s =
-    either_told (is_block_loaded number q.memory) (effect v o (with_db number q)) (Err 0x3A)
-    (effect_told v o (with_db number q) (record {
+    either_told (is_block_loaded number q.memory) (operation_effect v o (with_db_opened number q)) (Err 0x3A)
+    (effect_told v o (with_db_opened number q) (record {
       admitted = s.admitted;
-      has = param_moved q.local (with_db number q).local (is_writing v) o refl s.has;
+      has = param_moved q.local (with_db_opened number q).local (is_writing v) o refl s.has;
       other = s.other;
       room = s.room;
     })) refl
@@ -839,8 +839,8 @@ quiet_erring : (v : Operation) (r : Result ExecState ℕ) → Quiet v → IfTold
 quiet_erring v (Ok q) quiet told = tt
 quiet_erring v (Err code) quiet told = record { quiet = quiet; told = told }
 
-nest_erring : (with : Check) (o : Operand) (q : ExecState) → (length q.local.inner.brackets ≡ 7 → ⊥) → IfErring (operation.Nest with) (effect (operation.Nest with) o q)
-unfolding effect nesting
+nest_erring : (with : Check) (o : Operand) (q : ExecState) → (length q.local.inner.brackets ≡ 7 → ⊥) → IfErring (operation.Nest with) (operation_effect (operation.Nest with) o q)
+unfolding operation_effect nesting_opened
 nest_erring with o q room = by (eqb (length q.local.inner.brackets) 7) refl
   where
     by : (t : Bool) → eqb (length q.local.inner.brackets) 7 ≡ t
@@ -848,8 +848,8 @@ nest_erring with o q room = by (eqb (length q.local.inner.brackets) 7) refl
     by true e = absurd (room (eqb-true (length q.local.inner.brackets) 7 e))
     by false e = tt
 
-unnest_erring : (o : Operand) (q : ExecState) → (q.local.inner.brackets ≡ [] → ⊥) → IfErring operation.Unnest (effect operation.Unnest o q)
-unfolding effect unnesting
+unnest_erring : (o : Operand) (q : ExecState) → (q.local.inner.brackets ≡ [] → ⊥) → IfErring operation.Unnest (operation_effect operation.Unnest o q)
+unfolding operation_effect nesting_closed
 unnest_erring o q room = by q.local.inner.brackets room
   where
     by : (brackets : List Bracket) → (brackets ≡ [] → ⊥) → IfErring operation.Unnest (on_local q (bracket_closed brackets q.local))
@@ -858,8 +858,8 @@ unnest_erring o q room = by q.local.inner.brackets room
 
 relay_erring :
     (which : RelayOperation) (o : Operand) (q : ExecState) → HasRoom (operation.Relay which) q.local.inner.brackets q.local.inner.relay
-    → IfErring (operation.Relay which) (effect (operation.Relay which) o q)
-unfolding effect opening_zone ending_zone
+    → IfErring (operation.Relay which) (operation_effect (operation.Relay which) o q)
+unfolding operation_effect opening_zone ending_zone
 relay_erring relay.Activate o q room = tt
 relay_erring relay.Deactivate o q room = tt
 relay_erring relay.Open o q room = rw (zone_room q.local room) tt
@@ -872,12 +872,12 @@ is_opening operation.Unnest = true
 is_opening (operation.Relay which) = true
 is_opening _ = false
 
-erring : (u : Option ℕ) (v : Operation) (o : Operand) (q : ExecState) → Suits v o q → (is_opening v ≡ true → u ≡ None) → IfErring v (effect_with u v o q)
-unfolding effect_with
+erring : (u : Option ℕ) (v : Operation) (o : Operand) (q : ExecState) → Suits v o q → (is_opening v ≡ true → u ≡ None) → IfErring v (statement_effect u v o q)
+unfolding statement_effect
 erring u (operation.Nest with) o q s none = rw (none refl) (nest_erring with o q s.room)
 erring u operation.Unnest o q s none = rw (none refl) (unnest_erring o q s.room)
 erring u (operation.Relay which) o q s none = rw (none refl) (relay_erring which o q s.room)
-erring u v o q s none = quiet_erring v (effect_with u v o q) (λ held. refl) (with_told u v o q s)
+erring u v o q s none = quiet_erring v (statement_effect u v o q) (λ held. refl) (with_told u v o q s)
 
 nothing_in_db : (o : Operand) → admits takes.Nothing o ≡ true → is_in_db o ≡ false
 unfolding admits
@@ -902,14 +902,14 @@ opening_takes (operation.Relay which) h = refl
 opening_takes _ h = absurd cc
 
 plain_lasts :
-    (l : ImageLaws) (p : Program) (a : Activation) (w : World) (at : At p a w) (v : Operation) (o : Operand)
+    (l : ImageLaws) (p : Program) (a : Activation) (w : GlobalStore) (at : At p a w) (v : Operation) (o : Operand)
     → operation_of at.here.run.last.code ≡ v → at.here.run.last.operand ≡ o → is_be v ≡ false → goes_by_statement v o ≡ false
-    → Lasts p w (step_of (code_of p) (Does (use_db_of at.here.run.before) v o) at.here.run.next a w)
+    → StepFitsAgain p w (instruction_step (code_of p) (Does (use_db_of at.here.run.before) v o) at.here.run.next a w)
 plain_lasts l p a w at v o is o_is goes other =
     let u = use_db_of at.here.run.before in
     let parts = exec_state_of a.running w.memory w.timers w.counters in
     let s = suits_here l p a w at v o is o_is other in
-    does_lasts l p a w at v (effect_with u v o parts) is goes (does_with_keeps u v o parts)
+    does_lasts l p a w at v (statement_effect u v o parts) is goes (does_with_keeps u v o parts)
     (erring u v o parts s (λ opening.
     let none : is_in_db at.here.run.last.operand ≡ false =
     ap is_in_db o_is ∙ nothing_in_db o (ap (λ (t : Takes). admits t o) (sym (opening_takes v opening)) ∙ s.admitted) in
@@ -918,29 +918,29 @@ plain_lasts l p a w at v o is o_is goes other =
 -- ---- all
 
 jump_or_list_lasts :
-    (l : ImageLaws) (p : Program) (a : Activation) (w : World) (at : At p a w) (kind target : ℕ)
+    (l : ImageLaws) (p : Program) (a : Activation) (w : GlobalStore) (at : At p a w) (kind target : ℕ)
     → operation_of at.here.run.last.code ≡ operation.Jump → at.here.run.last.operand ≡ operand.Jump kind target
-    → Lasts p w (step_of (code_of p) (jump_by_operation (jump_of_number kind) target at.here.run.next at.here.stood.b.code) at.here.run.next a w)
+    → StepFitsAgain p w (instruction_step (code_of p) (jump_by_operation (jump_of_number kind) target at.here.run.next at.here.stood.b.code) at.here.run.next a w)
 jump_or_list_lasts l p a w at kind target is o_is = by (is_jl (jump_of_number kind)) refl
   where
     by : (t : Bool) → is_jl (jump_of_number kind) ≡ t
-        → Lasts p w (step_of (code_of p) (cond t (JumpsByList (list_of most_listed at.here.stood.b.code target at.here.run.next) target) (Jumps (jump_of_number kind) target)) at.here.run.next a w)
+        → StepFitsAgain p w (instruction_step (code_of p) (cond t (JumpsByList (list_of most_listed at.here.stood.b.code target at.here.run.next) target) (Jumps (jump_of_number kind) target)) at.here.run.next a w)
     by true e = jump_list_lasts l p a w at target is (o_is ∙ ap (λ (k : ℕ). operand.Jump k target) (jl_kind kind e))
     by false e = jump_lasts l p a w at (jump_of_number kind) kind target is o_is
 
 instruction_lasts :
-    (l : ImageLaws) (p : Program) (a : Activation) (w : World) (at : At p a w) (v : Operation) (o : Operand)
+    (l : ImageLaws) (p : Program) (a : Activation) (w : GlobalStore) (at : At p a w) (v : Operation) (o : Operand)
     → operation_of at.here.run.last.code ≡ v → at.here.run.last.operand ≡ o
-    → Lasts p w (step_of (code_of p) (instr_of v o (use_db_of at.here.run.before) (passings_of at.here.run.before) at.here.run.next at.here.stood.b.code) at.here.run.next a w)
+    → StepFitsAgain p w (instruction_step (code_of p) (instr_of v o (use_db_of at.here.run.before) (passings_of at.here.run.before) at.here.run.next at.here.stood.b.code) at.here.run.next a w)
 instruction_lasts l p a w at operation.Jump (operand.Jump kind target) is o_is = jump_or_list_lasts l p a w at kind target is o_is
 instruction_lasts l p a w at (operation.Call how) (operand.Called kind number instance) is o_is = call_lasts l p a w at how kind number instance _ is o_is
 instruction_lasts l p a w at (operation.End how) o is o_is = end_lasts l p a w at how is
 instruction_lasts l p a w at v o is o_is = plain_lasts l p a w at v o is o_is refl refl
 
 pub statement_lasts :
-    (l : ImageLaws) (p : Program) (a : Activation) (w : World) → Verifies p → FitsProgram p w.memory a
-    → Lasts p w (statement (code_of p) a w)
-unfolding statement
+    (l : ImageLaws) (p : Program) (a : Activation) (w : GlobalStore) → Verifies p → FitsProgram p w.memory a
+    → StepFitsAgain p w (statement_step (code_of p) a w)
+unfolding statement_step
 statement_lasts l p a w verifies h =
     let at = at_of l p a w verifies h in
     rw at.here.fetched (instruction_lasts l p a w at (operation_of at.here.run.last.code) at.here.run.last.operand refl refl)

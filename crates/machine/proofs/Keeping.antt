@@ -30,16 +30,16 @@ use Rattle.flat_code.specs.declared.operations.Operation.TheVariants as operatio
 use Rattle.machine.specs.declared.places.Access.TheVariants.{Writing}
 use Rattle.machine.specs.declared.places.Location.{Location}
 use Rattle.machine.specs.ExecState.{Local, LocalMemory, ExecState, then_ok}
-use Rattle.machine.specs.Places.{operand_location, absent, is_area_l, pointer_number, no_operand}
-use Rattle.machine.specs.Values.{is_timer_kind, with_locals, stored_at, write}
-use Rattle.machine.specs.BitLogic.{put_bit, bit_as_number, with_local_regs, bit_before, bit_assigned, assigned_at, bit_set, bit_set_at, edge, edge_at}
-use Rattle.machine.specs.Nesting.{with_open_brackets, nesting, unnesting, bracket_closed}
+use Rattle.machine.specs.Places.{operand_location, error_of_absent_place, is_area_l, pointer_number, no_operand}
+use Rattle.machine.specs.Values.{is_timer_kind, with_locals, stored_at, number_written_at}
+use Rattle.machine.specs.BitLogic.{put_bit, bit_as_number, with_local_regs, bit_before, bit_assigned, assigned_at, bit_set, bit_set_at, local_memory_after_edge, local_memory_after_edge_at}
+use Rattle.machine.specs.Nesting.{with_open_brackets, nesting_opened, nesting_closed, bracket_closed}
 use Rattle.machine.specs.Relay.{is_writing_off, with_frame_relay, with_relay_zones, opening_zone, ending_zone, relay_effect}
-use Rattle.machine.specs.Loads.{number_transferred, transferring}
+use Rattle.machine.specs.Loads.{number_transferred, local_memory_after_transfer}
 use Rattle.machine.specs.Timing.{timer_reset, counter_reset, timer_freed, counter_freed}
 use Rattle.machine.specs.Pointers.{pointer_effect, address_loaded, address_transferred, regs_set}
 use Rattle.machine.specs.DataBlocks.{is_block_loaded, opened_if, block_opened_by, registers_exchanged}
-use Rattle.machine.specs.Effect.{effect_on_regs, on_local, on_local_memory, on_timers, on_counters, kind_named, set_of, reset_of, free_of, effect, with_db, effect_with}
+use Rattle.machine.specs.Effect.{effect_on_regs, on_local, on_local_memory, on_timers, on_counters, kind_of_numbered_operand, set_effect, reset_effect, enable_effect, operation_effect, with_db_opened, statement_effect}
 use Rattle.machine.specs.Fitting.{OpenAt, codes_of, open_in_frame, IsOpen, SameSizes}
 use Rattle.machine.proofs.Sizes.{same_sizes, writing_sizes}
 use Rattle.machine.proofs.Staying.{open_still}
@@ -113,17 +113,17 @@ stored_if s m (Some c) code h = h c refl
 stored_if s m None code h = tt
 
 pub write_keeps :
-    (at : Location) (value : ℕ) (s : Local) (m : Areas) → IfDone (KeepsScene s m) (write at value s m)
-unfolding write
+    (at : Location) (value : ℕ) (s : Local) (m : Areas) → IfDone (KeepsScene s m) (number_written_at at value s m)
+unfolding number_written_at
 write_keeps at value s m =
-    stored_if s m (stored_at at value s m) (absent Writing at.place.area)
+    stored_if s m (stored_at at value s m) (error_of_absent_place Writing at.place.area)
     (λ c is. either_stored at value s m c (is_area_l at.place.area) is)
 
 put_keeps :
     (at : Location) (bit : Bool) (r : Regs) (s : Local) (m : Areas) → IfDone (KeepsScene s m) (put_bit at bit r s m)
 unfolding put_bit
 put_keeps at bit r s m =
-    done_then (KeepsScene s m) (KeepsScene s m) (write at (bit_as_number bit) s m) (λ c. Ok (with_local_regs r c))
+    done_then (KeepsScene s m) (KeepsScene s m) (number_written_at at (bit_as_number bit) s m) (λ c. Ok (with_local_regs r c))
     (write_keeps at (bit_as_number bit) s m)
     (λ c kept. record { inner = kept.inner; starts = kept.starts; len = kept.len; memory = kept.memory })
 
@@ -138,11 +138,11 @@ set_keeps value o s m =
     then_done (KeepsScene s m) (operand_location Writing o s m) (λ at. then_ok (bit_before at s m) (λ before. bit_set_at value at before s m))
     (λ at. then_done (KeepsScene s m) (bit_before at s m) (λ before. bit_set_at value at before s m) (λ before. put_keeps at _ _ s m))
 
-edge_keeps : (rising : Bool) (o : Operand) (s : Local) (m : Areas) → IfDone (KeepsScene s m) (edge rising o s m)
-unfolding edge
+edge_keeps : (rising : Bool) (o : Operand) (s : Local) (m : Areas) → IfDone (KeepsScene s m) (local_memory_after_edge rising o s m)
+unfolding local_memory_after_edge
 edge_keeps rising o s m =
-    then_done (KeepsScene s m) (operand_location Writing o s m) (λ at. then_ok (bit_before at s m) (λ before. edge_at rising at before s m))
-    (λ at. then_done (KeepsScene s m) (bit_before at s m) (λ before. edge_at rising at before s m) (λ before. put_keeps at _ _ s m))
+    then_done (KeepsScene s m) (operand_location Writing o s m) (λ at. then_ok (bit_before at s m) (λ before. local_memory_after_edge_at rising at before s m))
+    (λ at. then_done (KeepsScene s m) (bit_before at s m) (λ before. local_memory_after_edge_at rising at before s m) (λ before. put_keeps at _ _ s m))
 
 transferred_keeps : (n : ℕ) (o : Operand) (s : Local) (m : Areas) → IfDone (KeepsScene s m) (number_transferred n o s m)
 unfolding number_transferred
@@ -293,8 +293,8 @@ scene_kept w p (Err e) quiet kept = tt
 -- ---- brackets
 
 nesting_keeps :
-    (with : Check) (p : ExecState) → IfDone (Keeps (operation.Nest with) p) (on_local p (nesting with p.local))
-unfolding nesting
+    (with : Check) (p : ExecState) → IfDone (Keeps (operation.Nest with) p) (on_local p (nesting_opened with p.local))
+unfolding nesting_opened
 nesting_keeps with p = by (length p.local.inner.brackets == 7)
   where
     by : (full : Bool)
@@ -327,8 +327,8 @@ unnested_keeps p (bracket ∷ rest) is = record {
   held = rw is refl;
 }
 
-unnesting_keeps : (p : ExecState) → IfDone (Keeps operation.Unnest p) (on_local p (unnesting p.local))
-unfolding unnesting
+unnesting_keeps : (p : ExecState) → IfDone (Keeps operation.Unnest p) (on_local p (nesting_closed p.local))
+unfolding nesting_closed
 unnesting_keeps p = unnested_keeps p p.local.inner.brackets refl
 
 -- ---- the relay
@@ -448,12 +448,12 @@ exchanged_keeps w p quiet = record {
 -- ---- by kind of operand
 
 set_of_keeps :
-    (w : Operation) (kind : Option ℕ) (o : Operand) (p : ExecState) → Quiet w → IfDone (Keeps w p) (set_of kind o p)
+    (w : Operation) (kind : Option ℕ) (o : Operand) (p : ExecState) → Quiet w → IfDone (Keeps w p) (set_effect kind o p)
 set_of_keeps w None o p quiet = scene_kept w p (bit_set true o p.local p.memory) quiet (set_keeps true o p.local p.memory)
 set_of_keeps w (Some kind) o p quiet = counters_kept w p _ quiet
 
 reset_of_keeps :
-    (w : Operation) (kind : Option ℕ) (o : Operand) (p : ExecState) → Quiet w → IfDone (Keeps w p) (reset_of kind o p)
+    (w : Operation) (kind : Option ℕ) (o : Operand) (p : ExecState) → Quiet w → IfDone (Keeps w p) (reset_effect kind o p)
 reset_of_keeps w None o p quiet = scene_kept w p (bit_set false o p.local p.memory) quiet (set_keeps false o p.local p.memory)
 reset_of_keeps w (Some kind) o p quiet = by (is_timer_kind kind)
   where
@@ -463,7 +463,7 @@ reset_of_keeps w (Some kind) o p quiet = by (is_timer_kind kind)
     by false = counters_kept w p _ quiet
 
 free_of_keeps :
-    (w : Operation) (kind : Option ℕ) (o : Operand) (p : ExecState) → Quiet w → IfDone (Keeps w p) (free_of kind o p)
+    (w : Operation) (kind : Option ℕ) (o : Operand) (p : ExecState) → Quiet w → IfDone (Keeps w p) (enable_effect kind o p)
 free_of_keeps w None o p quiet = tt
 free_of_keeps w (Some kind) o p quiet = by (is_timer_kind kind)
   where
@@ -474,8 +474,8 @@ free_of_keeps w (Some kind) o p quiet = by (is_timer_kind kind)
 
 -- ---- all
 
-pub effect_keeps : (w : Operation) (o : Operand) (p : ExecState) → IfDone (Keeps w p) (effect w o p)
-unfolding effect
+pub effect_keeps : (w : Operation) (o : Operand) (p : ExecState) → IfDone (Keeps w p) (operation_effect w o p)
+unfolding operation_effect
 effect_keeps operation.Nop o p = same_keeps operation.Nop p (λ held. refl)
 effect_keeps operation.Bld o p = same_keeps operation.Bld p (λ held. refl)
 effect_keeps (operation.Check with) o p = regs_kept (operation.Check with) p _ (λ held. refl)
@@ -485,13 +485,13 @@ effect_keeps operation.Unnest o p = unnesting_keeps p
 effect_keeps (operation.Relay which) o p = relayed_keeps which p
 effect_keeps operation.Load o p = regs_kept operation.Load p _ (λ held. refl)
 effect_keeps operation.Transfer o p =
-    scene_kept operation.Transfer p (transferring o p.local p.memory) (λ held. refl) (transferred_keeps (if is_writing_off p.local then 0 else p.local.regs.a1) o p.local p.memory)
+    scene_kept operation.Transfer p (local_memory_after_transfer o p.local p.memory) (λ held. refl) (transferred_keeps (if is_writing_off p.local then 0 else p.local.regs.a1) o p.local p.memory)
 effect_keeps operation.Assign o p =
     scene_kept operation.Assign p (bit_assigned o p.local p.memory) (λ held. refl) (assigned_keeps o p.local p.memory)
-effect_keeps operation.Set o p = set_of_keeps operation.Set (kind_named o) o p (λ held. refl)
-effect_keeps operation.Reset o p = reset_of_keeps operation.Reset (kind_named o) o p (λ held. refl)
+effect_keeps operation.Set o p = set_of_keeps operation.Set (kind_of_numbered_operand o) o p (λ held. refl)
+effect_keeps operation.Reset o p = reset_of_keeps operation.Reset (kind_of_numbered_operand o) o p (λ held. refl)
 effect_keeps (operation.Edge rising) o p =
-    scene_kept (operation.Edge rising) p (edge rising o p.local p.memory) (λ held. refl) (edge_keeps rising o p.local p.memory)
+    scene_kept (operation.Edge rising) p (local_memory_after_edge rising o p.local p.memory) (λ held. refl) (edge_keeps rising o p.local p.memory)
 effect_keeps operation.SetRlo o p = regs_kept operation.SetRlo p (Ok _) (λ held. refl)
 effect_keeps operation.ClearRlo o p = regs_kept operation.ClearRlo p (Ok _) (λ held. refl)
 effect_keeps operation.NegateRlo o p = regs_kept operation.NegateRlo p (Ok _) (λ held. refl)
@@ -509,7 +509,7 @@ effect_keeps (operation.CompareDint how) o p = regs_kept (operation.CompareDint 
 effect_keeps (operation.Logic what) o p = regs_kept (operation.Logic what) p (Ok _) (λ held. refl)
 effect_keeps (operation.Shift what) o p = regs_kept (operation.Shift what) p (Ok _) (λ held. refl)
 effect_keeps (operation.Start how) o p = timers_kept (operation.Start how) p _ (λ held. refl)
-effect_keeps operation.Free o p = free_of_keeps operation.Free (kind_named o) o p (λ held. refl)
+effect_keeps operation.Free o p = free_of_keeps operation.Free (kind_of_numbered_operand o) o p (λ held. refl)
 effect_keeps operation.CountUp o p = counters_kept operation.CountUp p _ (λ held. refl)
 effect_keeps operation.CountDown o p = counters_kept operation.CountDown p _ (λ held. refl)
 effect_keeps operation.OpenBlock o p = opening_keeps operation.OpenBlock o p (λ held. refl)
@@ -522,7 +522,7 @@ effect_keeps operation.Pass o p = tt
 effect_keeps operation.NoOperation o p = tt
 
 opened_first :
-    (w : Operation) (number : ℕ) (p q : ExecState) → is_block_loaded number p.memory ≡ true → Keeps w (with_db number p) q
+    (w : Operation) (number : ℕ) (p q : ExecState) → is_block_loaded number p.memory ≡ true → Keeps w (with_db_opened number p) q
     → Keeps w p q
 opened_first w number p q loaded kept = record {
   memory = kept.memory;
@@ -540,14 +540,14 @@ done_more P Q (Ok y) f h = f y h
 done_more P Q (Err e) f h = tt
 
 pub does_with_keeps :
-    (use_db : Option ℕ) (w : Operation) (o : Operand) (p : ExecState) → IfDone (Keeps w p) (effect_with use_db w o p)
-unfolding effect_with
+    (use_db : Option ℕ) (w : Operation) (o : Operand) (p : ExecState) → IfDone (Keeps w p) (statement_effect use_db w o p)
+unfolding statement_effect
 does_with_keeps None w o p = effect_keeps w o p
 does_with_keeps (Some number) w o p = by (is_block_loaded number p.memory) refl
   where
     by : (loaded : Bool) → is_block_loaded number p.memory ≡ loaded
-        → IfDone (Keeps w p) (if loaded then effect w o (with_db number p) else Err 0x3A)
+        → IfDone (Keeps w p) (if loaded then operation_effect w o (with_db_opened number p) else Err 0x3A)
     by true is =
-        done_more (Keeps w (with_db number p)) (Keeps w p) (effect w o (with_db number p))
-        (λ q kept. opened_first w number p q is kept) (effect_keeps w o (with_db number p))
+        done_more (Keeps w (with_db_opened number p)) (Keeps w p) (operation_effect w o (with_db_opened number p))
+        (λ q kept. opened_first w number p q is kept) (effect_keeps w o (with_db_opened number p))
     by false is = tt

@@ -9,9 +9,9 @@ use Rattle.machine.specs.declared.outcomes.Outcome.{Outcome}
 use Rattle.machine.specs.declared.outcomes.Outcome.TheVariants as outcome
 use Rattle.machine.specs.Flat.{code_of}
 use Rattle.machine.specs.ImageLaws.{ImageLaws}
-use Rattle.machine.specs.Lasting.{FitsProgram, IsStatementReady, Lasts, LeavesActivation, LeavesFit}
+use Rattle.machine.specs.Lasting.{FitsProgram, IsStatementReady, StepFitsAgain, LeavesActivation, LeavesFit}
 use Rattle.machine.specs.OpenBrackets.{open_codes}
-use Rattle.machine.specs.Statement.{World, Step, Went, Ended, SyncError, SysCall, Stop, Stuck, statement, IsOutcomeOf}
+use Rattle.machine.specs.Statement.{GlobalStore, StatementStep, Went, Ended, SyncError, SysCall, Stop, Stuck, statement_step, IsOutcomeOf}
 use Rattle.machine.proofs.FrameBytes.{depth_is}
 use Rattle.machine.proofs.Instructions.{statement_lasts}
 use Rattle.machine.proofs.Ready.{fits_goes}
@@ -25,12 +25,12 @@ ready_is l p m a verifies h = record {
 }
 
 -- the same memory
-unchanged : (p : Program) (old new : World) (a : Activation) (answer : Outcome) → new ≡ old → LeavesActivation p old.memory a answer → LeavesFit p old.memory new.memory a answer
+unchanged : (p : Program) (old new : GlobalStore) (a : Activation) (answer : Outcome) → new ≡ old → LeavesActivation p old.memory a answer → LeavesFit p old.memory new.memory a answer
 unchanged p old new a answer same leaves = rw same (record { sizes = same_sizes old.memory; leaves = leaves })
 
 step_leaves :
-    (p : Program) (step : Step) (old new : Activation) (w after : World) (answer : Outcome) → FitsProgram p w.memory old
-    → Lasts p w step → IsOutcomeOf step old new w after answer → LeavesFit p w.memory after.memory new answer
+    (p : Program) (step : StatementStep) (old new : Activation) (w after : GlobalStore) (answer : Outcome) → FitsProgram p w.memory old
+    → StepFitsAgain p w step → IsOutcomeOf step old new w after answer → LeavesFit p w.memory after.memory new answer
 step_leaves p (Went a world) old new w after outcome.Went h lasts comes =
     rw (comes.0, comes.1) (record { sizes = lasts.sizes; leaves = lasts.fits })
 step_leaves p (Ended regs world) old new w after outcome.Ended h lasts comes =
@@ -45,8 +45,8 @@ step_leaves p Stuck old new w after answer h lasts comes = absurd lasts
 step_leaves p step old new w after answer h lasts comes = absurd comes
 
 pub call_leaves :
-    (l : ImageLaws) (p : Program) (old new : Activation) (w after : World) (answer : Outcome) → Verifies p
-    → FitsProgram p w.memory old → IsOutcomeOf (statement (code_of p) old w) old new w after answer
+    (l : ImageLaws) (p : Program) (old new : Activation) (w after : GlobalStore) (answer : Outcome) → Verifies p
+    → FitsProgram p w.memory old → IsOutcomeOf (statement_step (code_of p) old w) old new w after answer
     → LeavesFit p w.memory after.memory new answer
 call_leaves l p old new w after answer verifies h comes =
-    step_leaves p (statement (code_of p) old w) old new w after answer h (statement_lasts l p old w verifies h) comes
+    step_leaves p (statement_step (code_of p) old w) old new w after answer h (statement_lasts l p old w verifies h) comes

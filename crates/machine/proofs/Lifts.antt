@@ -7,7 +7,7 @@ use Rattle.timers_counters.specs.Counter.{Counter}
 use Rattle.frames.specs.declared.running.Running.{Running}
 use Rattle.machine.specs.ExecState.{Local, LocalMemory, exec_state_of}
 use Rattle.machine.specs.Outcomes.{ErrorAnswer, ChangesExecState, ChangesLocalMemory, ChangesRunningRegs, ChangesRegs, ChangesLocal}
-use Rattle.machine.specs.Timing.{Times}
+use Rattle.machine.specs.Timing.{HasTimerOrCounterEffect}
 use Rattle.machine.specs.Effect.{effect_on_regs, on_local, on_local_memory, on_timers, on_counters}
 
 pub checks_meet :
@@ -47,7 +47,7 @@ acts_meet (Err e) old new m m' t n (Ok answer) h = absurd h
 
 pub times_meet :
     (e : Result (List Timer) ℕ) (old new : Running) (m : Areas) (t t' : List Timer) (n : List Counter) (r : ErrorAnswer)
-    → Times e old new t t' r → ChangesExecState (on_timers (exec_state_of old m t n) e) old new m m t t' n n r
+    → HasTimerOrCounterEffect e old new t t' r → ChangesExecState (on_timers (exec_state_of old m t n) e) old new m m t t' n n r
 times_meet (Ok x) old new m t t' n (Ok answer) h = (h.0, refl, h.1, refl)
 times_meet (Err e) old new m t t' n (Err code) h = (h.0, (h.1.0, refl, h.1.1, refl))
 times_meet (Ok x) old new m t t' n (Err code) h = absurd h
@@ -55,7 +55,7 @@ times_meet (Err e) old new m t t' n (Ok answer) h = absurd h
 
 pub counts_meet :
     (e : Result (List Counter) ℕ) (old new : Running) (m : Areas) (t : List Timer) (n n' : List Counter) (r : ErrorAnswer)
-    → Times e old new n n' r → ChangesExecState (on_counters (exec_state_of old m t n) e) old new m m t t n n' r
+    → HasTimerOrCounterEffect e old new n n' r → ChangesExecState (on_counters (exec_state_of old m t n) e) old new m m t t n n' r
 counts_meet (Ok x) old new m t n n' (Ok answer) h = (h.0, refl, refl, h.1)
 counts_meet (Err e) old new m t n n' (Err code) h = (h.0, (h.1.0, refl, refl, h.1.1))
 counts_meet (Ok x) old new m t n n' (Err code) h = absurd h

@@ -10,11 +10,11 @@ use Rattle.flat_code.specs.declared.operations.RelayOperation.TheVariants as rel
 use Rattle.flat_code.specs.declared.operations.Operation.{Operation}
 use Rattle.flat_code.specs.declared.operations.Operation.TheVariants as operation
 use Rattle.flat_code.specs.declared.operations.TheConstants.{OPERATIONS}
-use Rattle.flat_code.specs.Blocks.{prepares}
-use Rattle.flat_code.specs.Codes.{size}
+use Rattle.flat_code.specs.Blocks.{prepares_statement}
+use Rattle.flat_code.specs.Codes.{size_of_op}
 use Rattle.flat_code.specs.OpCodes.{op_code_of as op_code}
 use Rattle.flat_code.specs.Ops.{OpData}
-use Rattle.flat_code.specs.Placed.{Placed, bracket_codes, is_opening, brackets_after, zones_behind_op, outer_brackets, before_next}
+use Rattle.flat_code.specs.Placed.{PlacedOp, bracket_codes, is_opening, brackets_after, zones_behind_op, outer_brackets, before_next}
 use Rattle.flat_code.specs.Operations.{operation_of}
 use Rattle.machine.specs.Fitting.{OpenAt}
 use Rattle.machine.specs.OpenBrackets.{check_named, checks_of, open_at}
@@ -265,9 +265,9 @@ pub same_open : (codes checks : List Check) (zones count : ℕ) → codes ≡ ch
 same_open codes checks zones count a b = rw (a, b) refl
 
 -- the place behind an op
-abbrev pub behind_op : Placed → OpData → List OpData → Placed
+abbrev pub behind_op : PlacedOp → OpData → List OpData → PlacedOp
 behind_op q op rest = record {
-  at = q.at + size q.op;
+  at = q.at + size_of_op q.op;
   brackets = brackets_after q.at q.op.code q.brackets;
   zones = zones_behind_op q.at q.op.code q.zones;
   before = before_next q.op q.before;
@@ -276,24 +276,24 @@ behind_op q op rest = record {
 }
 
 -- behind an op that stands behind these
-pub left_behind : (q : Placed) (op : OpData) (rest : List OpData) → open_at (behind_op q op rest) ≡ left_open (operation_of q.op.code) (open_at q)
+pub left_behind : (q : PlacedOp) (op : OpData) (rest : List OpData) → open_at (behind_op q op rest) ≡ left_open (operation_of q.op.code) (open_at q)
 left_behind q op rest =
     same_open (checks_of (brackets_after q.at q.op.code q.brackets)) (codes_after (operation_of q.op.code) (checks_of q.brackets))
     (length (zones_behind_op q.at q.op.code q.zones)) (zones_after (operation_of q.op.code) (length q.zones))
     (checks_behind q.at q.op.code q.brackets) (count_behind q.at q.op.code q.zones)
 
 -- ops that prepare leave brackets and zones
-pub two_or_four : (code : ℕ) → prepares code ≡ true → (code ≡ 2) ⊎ (code ≡ 4)
+pub two_or_four : (code : ℕ) → prepares_statement code ≡ true → (code ≡ 2) ⊎ (code ≡ 4)
 two_or_four code h = grind (arith, nat_tests, h)
 
-pub prepared_same : (at code : ℕ) (bs : List OpenBracket) → prepares code ≡ true → brackets_after at code bs ≡ bs
+pub prepared_same : (at code : ℕ) (bs : List OpenBracket) → prepares_statement code ≡ true → brackets_after at code bs ≡ bs
 prepared_same at code bs h = by (two_or_four code h)
   where
     by : (code ≡ 2) ⊎ (code ≡ 4) → brackets_after at code bs ≡ bs
     by (inl e) = rw e refl
     by (inr e) = rw e refl
 
-pub prepared_zones : (at code : ℕ) (zones : List ℕ) → prepares code ≡ true → zones_behind_op at code zones ≡ zones
+pub prepared_zones : (at code : ℕ) (zones : List ℕ) → prepares_statement code ≡ true → zones_behind_op at code zones ≡ zones
 prepared_zones at code zones h = by (two_or_four code h)
   where
     by : (code ≡ 2) ⊎ (code ≡ 4) → zones_behind_op at code zones ≡ zones

@@ -32,16 +32,16 @@ use Rattle.machine.specs.declared.places.Access.{Access}
 use Rattle.machine.specs.declared.places.Access.TheVariants.{Writing}
 use Rattle.machine.specs.declared.places.Location.{Location}
 use Rattle.machine.specs.ExecState.{Local, LocalMemory, ExecState, then_ok}
-use Rattle.machine.specs.Places.{absent, register_address, at_pointer, by_pointer, error_of, open_area_location, open_block_location, is_aligned, is_bit_width, is_area_l, is_area_p, operand_location, address_moved_by, of_binding, pointer_number}
-use Rattle.machine.specs.Values.{is_timer_kind, with_locals, stored_at, write}
-use Rattle.machine.specs.BitLogic.{put_bit, bit_as_number, with_local_regs, bit_before, bit_assigned, assigned_at, bit_set, bit_set_at, edge, edge_at}
-use Rattle.machine.specs.Copies.{comes_in, in_instance, scene_or, number_put, number_copied, passed_to, param_in, params_copied_in}
+use Rattle.machine.specs.Places.{error_of_absent_place, register_address, location_at_pointer, pointer_location, error_of, open_area_location, open_block_location, is_aligned, is_bit_width, is_area_l, is_area_p, operand_location, address_moved_by, binding_location, pointer_number}
+use Rattle.machine.specs.Values.{is_timer_kind, with_locals, stored_at, number_written_at}
+use Rattle.machine.specs.BitLogic.{put_bit, bit_as_number, with_local_regs, bit_before, bit_assigned, assigned_at, bit_set, bit_set_at, local_memory_after_edge, local_memory_after_edge_at}
+use Rattle.machine.specs.Copies.{is_copied_in, instance_parameter_location, local_memory_or, number_stored, number_copied, actual_copied_to, param_in, params_copied_in}
 use Rattle.machine.specs.Relay.{is_writing_off, relay_effect}
-use Rattle.machine.specs.Loads.{number_transferred, transferring}
+use Rattle.machine.specs.Loads.{number_transferred, local_memory_after_transfer}
 use Rattle.machine.specs.Timing.{timer_reset, counter_reset, timer_freed, counter_freed}
 use Rattle.machine.specs.Pointers.{pointer_effect, address_loaded, address_transferred}
 use Rattle.machine.specs.DataBlocks.{is_block_loaded}
-use Rattle.machine.specs.Effect.{effect_on_regs, on_local, on_local_memory, on_timers, on_counters, kind_named, set_of, reset_of, free_of, effect, with_db, effect_with}
+use Rattle.machine.specs.Effect.{effect_on_regs, on_local, on_local_memory, on_timers, on_counters, kind_of_numbered_operand, set_effect, reset_effect, enable_effect, operation_effect, with_db_opened, statement_effect}
 use Rattle.machine.specs.Silent.{is_inside_area, is_bound_inside, has_place_inside, keeps_outputs}
 use Rattle.machine.proofs.Keeping.{IfDone, then_done, done_then}
 
@@ -130,10 +130,10 @@ stored_if m None code h = tt
 
 pub write_stays :
     (at : Location) (value : ℕ) (s : Local) (m : Areas) → is_area_p at.place.area ≡ false
-    → IfDone (MemoryStays m) (write at value s m)
-unfolding write
+    → IfDone (MemoryStays m) (number_written_at at value s m)
+unfolding number_written_at
 write_stays at value s m inside =
-    stored_if m (stored_at at value s m) (absent Writing at.place.area)
+    stored_if m (stored_at at value s m) (error_of_absent_place Writing at.place.area)
     (λ c is. either_stored at value s m c (is_area_l at.place.area) inside is)
 
 put_stays :
@@ -141,7 +141,7 @@ put_stays :
     → IfDone (MemoryStays m) (put_bit at bit r s m)
 unfolding put_bit
 put_stays at bit r s m inside =
-    done_then (MemoryStays m) (MemoryStays m) (write at (bit_as_number bit) s m) (λ c. Ok (with_local_regs r c))
+    done_then (MemoryStays m) (MemoryStays m) (number_written_at at (bit_as_number bit) s m) (λ c. Ok (with_local_regs r c))
     (write_stays at (bit_as_number bit) s m inside) (λ c stays. stays)
 
 -- ---- places
@@ -189,14 +189,14 @@ where_right false e x h = tt
 
 pointer_inside :
     (access : Access) (area : Area) (width : Width) (n : ℕ) (s : Local) → is_inside_area area ≡ true
-    → IfDone IsPlacedInside (by_pointer access area width n s)
-unfolding by_pointer
+    → IfDone IsPlacedInside (pointer_location access area width n s)
+unfolding pointer_location
 pointer_inside access area width n s h =
-    where_right (is_aligned width n) (error_of access 0x28) (at_pointer area width n s)
+    where_right (is_aligned width n) (error_of access 0x28) (location_at_pointer area width n s)
     (area_inside area (n / 2 ^ 3 % 2 ^ 16) (n % 2 ^ 3) width s h)
 
 binding_inside :
-    (b : Option Binding) → is_bound_inside b ≡ true → IfDone IsPlacedInside (of_binding b)
+    (b : Option Binding) → is_bound_inside b ≡ true → IfDone IsPlacedInside (binding_location b)
 binding_inside (Some (binding.Bound place width frame)) h = inside_is place.area h
 binding_inside (Some (binding.Constant value)) h = tt
 binding_inside (Some binding.Unsupplied) h = tt
@@ -210,7 +210,7 @@ located_inside access (operand.Direct area width byte bit) s m h =
     unless_error (is_area_p area && is_bit_width width) (error_of access 0x24) (open_area_location area byte bit width s)
     (area_inside area byte bit width s h)
 located_inside access (operand.ByMemory area width from byte) s m h =
-    then_done IsPlacedInside (pointer_number from byte widths.Dword s m) (λ n. by_pointer access area width n s)
+    then_done IsPlacedInside (pointer_number from byte widths.Dword s m) (λ n. pointer_location access area width n s)
     (λ n. pointer_inside access area width n s h)
 located_inside access (operand.ByRegister (Some area) width register bits) s m h =
     pointer_inside access area width (address_moved_by (register_address register s) bits) s h
@@ -241,13 +241,13 @@ set_stays value o s m h =
 
 edge_stays :
     (rising : Bool) (o : Operand) (s : Local) (m : Areas) → has_place_inside o s.inner.bindings ≡ true
-    → IfDone (MemoryStays m) (edge rising o s m)
-unfolding edge
+    → IfDone (MemoryStays m) (local_memory_after_edge rising o s m)
+unfolding local_memory_after_edge
 edge_stays rising o s m h =
     done_then IsPlacedInside (MemoryStays m) (operand_location Writing o s m)
-    (λ at. then_ok (bit_before at s m) (λ before. edge_at rising at before s m))
+    (λ at. then_ok (bit_before at s m) (λ before. local_memory_after_edge_at rising at before s m))
     (located_inside Writing o s m h)
-    (λ at inside. then_done (MemoryStays m) (bit_before at s m) (λ before. edge_at rising at before s m)
+    (λ at inside. then_done (MemoryStays m) (bit_before at s m) (λ before. local_memory_after_edge_at rising at before s m)
     (λ before. put_stays at _ _ s m inside))
 
 transferred_stays :
@@ -319,13 +319,13 @@ scene_stays p (Err e) stays = tt
 
 set_of_stays :
     (kind : Option ℕ) (o : Operand) (p : ExecState) → has_place_inside o p.local.inner.bindings ≡ true
-    → IfDone (StateStays p) (set_of kind o p)
+    → IfDone (StateStays p) (set_effect kind o p)
 set_of_stays None o p h = scene_stays p (bit_set true o p.local p.memory) (set_stays true o p.local p.memory h)
 set_of_stays (Some kind) o p h = counters_stay p _
 
 reset_of_stays :
     (kind : Option ℕ) (o : Operand) (p : ExecState) → has_place_inside o p.local.inner.bindings ≡ true
-    → IfDone (StateStays p) (reset_of kind o p)
+    → IfDone (StateStays p) (reset_effect kind o p)
 reset_of_stays None o p h = scene_stays p (bit_set false o p.local p.memory) (set_stays false o p.local p.memory h)
 reset_of_stays (Some kind) o p h = by (is_timer_kind kind)
   where
@@ -334,7 +334,7 @@ reset_of_stays (Some kind) o p h = by (is_timer_kind kind)
     by true = timers_stay p _
     by false = counters_stay p _
 
-free_of_stays : (kind : Option ℕ) (o : Operand) (p : ExecState) → IfDone (StateStays p) (free_of kind o p)
+free_of_stays : (kind : Option ℕ) (o : Operand) (p : ExecState) → IfDone (StateStays p) (enable_effect kind o p)
 free_of_stays None o p = tt
 free_of_stays (Some kind) o p = by (is_timer_kind kind)
   where
@@ -345,8 +345,8 @@ free_of_stays (Some kind) o p = by (is_timer_kind kind)
 
 effect_stays :
     (w : Operation) (o : Operand) (p : ExecState) → keeps_outputs w o p.local.inner.bindings ≡ true
-    → IfDone (StateStays p) (effect w o p)
-unfolding effect
+    → IfDone (StateStays p) (operation_effect w o p)
+unfolding operation_effect
 effect_stays operation.Nop o p h = refl
 effect_stays operation.Bld o p h = refl
 effect_stays (operation.Check with) o p h = regs_stay p _
@@ -355,11 +355,11 @@ effect_stays (operation.Nest with) o p h = own_stays p _
 effect_stays operation.Unnest o p h = own_stays p _
 effect_stays (operation.Relay which) o p h = own_stays p (relay_effect which p.local)
 effect_stays operation.Load o p h = regs_stay p _
-effect_stays operation.Transfer o p h = scene_stays p (transferring o p.local p.memory) (transferred_stays (if is_writing_off p.local then 0 else p.local.regs.a1) o p.local p.memory h)
+effect_stays operation.Transfer o p h = scene_stays p (local_memory_after_transfer o p.local p.memory) (transferred_stays (if is_writing_off p.local then 0 else p.local.regs.a1) o p.local p.memory h)
 effect_stays operation.Assign o p h = scene_stays p (bit_assigned o p.local p.memory) (assigned_stays o p.local p.memory h)
-effect_stays operation.Set o p h = set_of_stays (kind_named o) o p h
-effect_stays operation.Reset o p h = reset_of_stays (kind_named o) o p h
-effect_stays (operation.Edge rising) o p h = scene_stays p (edge rising o p.local p.memory) (edge_stays rising o p.local p.memory h)
+effect_stays operation.Set o p h = set_of_stays (kind_of_numbered_operand o) o p h
+effect_stays operation.Reset o p h = reset_of_stays (kind_of_numbered_operand o) o p h
+effect_stays (operation.Edge rising) o p h = scene_stays p (local_memory_after_edge rising o p.local p.memory) (edge_stays rising o p.local p.memory h)
 effect_stays operation.SetRlo o p h = refl
 effect_stays operation.ClearRlo o p h = refl
 effect_stays operation.NegateRlo o p h = refl
@@ -376,7 +376,7 @@ effect_stays (operation.CompareDint how) o p h = refl
 effect_stays (operation.Logic what) o p h = refl
 effect_stays (operation.Shift what) o p h = refl
 effect_stays (operation.Start how) o p h = timers_stay p _
-effect_stays operation.Free o p h = free_of_stays (kind_named o) o p
+effect_stays operation.Free o p h = free_of_stays (kind_of_numbered_operand o) o p
 effect_stays operation.CountUp o p h = counters_stay p _
 effect_stays operation.CountDown o p h = counters_stay p _
 effect_stays operation.OpenBlock o p h = own_stays p _
@@ -390,39 +390,39 @@ effect_stays operation.NoOperation o p h = tt
 
 pub effect_with_stays :
     (use_db : Option ℕ) (w : Operation) (o : Operand) (p : ExecState) → keeps_outputs w o p.local.inner.bindings ≡ true
-    → IfDone (StateStays p) (effect_with use_db w o p)
-unfolding effect_with
+    → IfDone (StateStays p) (statement_effect use_db w o p)
+unfolding statement_effect
 effect_with_stays None w o p h = effect_stays w o p h
 effect_with_stays (Some number) w o p h = by (is_block_loaded number p.memory)
   where
-    by : (loaded : Bool) → IfDone (StateStays p) (if loaded then effect w o (with_db number p) else Err 0x3A)
-    by true = effect_stays w o (with_db number p) h
+    by : (loaded : Bool) → IfDone (StateStays p) (if loaded then operation_effect w o (with_db_opened number p) else Err 0x3A)
+    by true = effect_stays w o (with_db_opened number p) h
     by false = tt
 
 -- ---- parameters of a function block that come in
 
 put_in_stays :
-    (to : Location) (n : ℕ) (c : LocalMemory) → is_area_p to.place.area ≡ false → Stay c.memory (number_put to n c).memory
-put_in_stays to n c inside = by (write to (n % 2 ^ bit_count to.width) c.local c.memory) (write_stays to _ c.local c.memory inside)
+    (to : Location) (n : ℕ) (c : LocalMemory) → is_area_p to.place.area ≡ false → Stay c.memory (number_stored to n c).memory
+put_in_stays to n c inside = by (number_written_at to (n % 2 ^ bit_count to.width) c.local c.memory) (write_stays to _ c.local c.memory inside)
   where
-    by : (r : Result LocalMemory ℕ) → IfDone (MemoryStays c.memory) r → Stay c.memory (scene_or c r).memory
+    by : (r : Result LocalMemory ℕ) → IfDone (MemoryStays c.memory) r → Stay c.memory (local_memory_or c r).memory
     by (Ok after) stays = stays
     by (Err e) stays = refl
 
 passed_stays :
     (b : Option Binding) (to : Location) (c : LocalMemory) → is_area_p to.place.area ≡ false
-    → Stay c.memory (passed_to b to c).memory
-unfolding passed_to number_copied
+    → Stay c.memory (actual_copied_to b to c).memory
+unfolding actual_copied_to number_copied
 passed_stays (Some (binding.Bound place width frame)) to c inside = put_in_stays to _ c inside
 passed_stays (Some (binding.Constant value)) to c inside = put_in_stays to value c inside
 passed_stays (Some binding.Unsupplied) to c inside = refl
 passed_stays None to c inside = refl
 
 param_stays : (p : Param) (b : Option Binding) (instance : ℕ) (c : LocalMemory) → Stay c.memory (param_in p b instance c).memory
-param_stays p b instance c = by (comes_in p)
+param_stays p b instance c = by (is_copied_in p)
   where
-    by : (comes : Bool) → Stay c.memory (if comes then passed_to b (in_instance p instance) c else c).memory
-    by true = passed_stays b (in_instance p instance) c refl
+    by : (comes : Bool) → Stay c.memory (if comes then actual_copied_to b (instance_parameter_location p instance) c else c).memory
+    by true = passed_stays b (instance_parameter_location p instance) c refl
     by false = refl
 
 pub params_in_stay :

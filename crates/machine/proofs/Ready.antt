@@ -11,7 +11,7 @@ use Rattle.plc_base.specs.declared.blocks.BlockKind.TheVariants as kinds
 use Rattle.plc_mem.specs.Areas.{Areas}
 use Rattle.frames.specs.declared.Activation.{Activation}
 use Rattle.frames.specs.declared.frame.Frame.{Frame}
-use Rattle.flat_code.specs.Blocks.{CalleeSeen, callee, system_params}
+use Rattle.flat_code.specs.Blocks.{CalleeSeen, callee_among, system_params}
 use Rattle.flat_code.specs.Image.{param_of_record, kind_of_number}
 use Rattle.flat_code.specs.Instr.{Does, Passing}
 use Rattle.flat_code.specs.Kinds.{jump_of_number}
@@ -31,9 +31,9 @@ use Rattle.image_file.specs.Verified.{placed_at, IsVerifiedOp, IsReaderOp, OpsAr
 use Rattle.machine.specs.Code.{Code, BlockHead}
 use Rattle.machine.specs.Fitting.{OpenCodes, FrameFits, FramesFit, FitsBlock, ActivationFits}
 use Rattle.flat_code.specs.Forms.{is_callable_number, kind_of_code, payload_fits}
-use Rattle.machine.specs.Flat.{OpRun, op_run_at, run_with, with_op, most_ops, code_of, block_head_of, call_by_number, instr_of, fetched_of, use_db_of, passings_of, statement_fetched}
-use Rattle.machine.specs.Statement.{World, statement, IsNotStuck}
-use Rattle.machine.specs.There.{is_callee, is_there, is_complete}
+use Rattle.machine.specs.Flat.{OpRun, op_run_at, run_with, with_op, most_ops_of_statement, code_of, block_head_of, call_by_number, instr_of, fetched_of, use_db_of, passings_of, statement_fetched}
+use Rattle.machine.specs.Statement.{GlobalStore, statement_step, IsNotStuck}
+use Rattle.machine.specs.There.{is_block_callable, is_called_block_there, is_statement_complete}
 use Rattle.machine.proofs.FetchLemmas.{none_some}
 use Rattle.machine.proofs.Going.{fetched_goes, jump_is_there}
 
@@ -81,7 +81,7 @@ some_below None f g y h = absurd (none_some y (sym h))
 some_below (Some x) f g y h = refl
 
 abbrev There : Program → (number : ℕ) → BlockKind → Type 0
-There p number kind = is_callee (code_of p) (record { kind = kind; number = number }) ≡ true
+There p number kind = is_block_callable (code_of p) (record { kind = kind; number = number }) ≡ true
 
 head_there :
     (p : Program) (number : ℕ) (found kind : BlockKind) (b : CodeBlock) → found ≡ kind
@@ -91,7 +91,7 @@ head_there p number found kind b e h = rw (sym e) (rw h refl)
 
 fc_there :
     (p : Program) (kind number : ℕ) (called : CalleeSeen) → CalledAreThere → kind ≡ 2
-    → callee (block_signatures p) kind number ≡ Some called → There p number kinds.Fc
+    → callee_among (block_signatures p) kind number ≡ Some called → There p number kinds.Fc
 fc_there p kind number called law e h =
     let is : IsCalledBlock p kind number called = law p kind number called (inl e) h
     in let same : kind_of_number kind ≡ kinds.Fc = rw e refl
@@ -99,7 +99,7 @@ fc_there p kind number called law e h =
 
 fb_there :
     (p : Program) (kind number : ℕ) (called : CalleeSeen) → CalledAreThere → kind ≡ 3
-    → callee (block_signatures p) kind number ≡ Some called → There p number kinds.Fb
+    → callee_among (block_signatures p) kind number ≡ Some called → There p number kinds.Fb
 fb_there p kind number called law e h =
     let is : IsCalledBlock p kind number called = law p kind number called (inr e) h
     in let same : kind_of_number kind ≡ kinds.Fb = rw e refl
@@ -107,8 +107,8 @@ fb_there p kind number called law e h =
 
 sfc_there :
     (p : Program) (kind number : ℕ) (called : CalleeSeen) → kind ≡ 5
-    → callee (block_signatures p) kind number ≡ Some called → There p number kinds.Sfc
-unfolding callee
+    → callee_among (block_signatures p) kind number ≡ Some called → There p number kinds.Sfc
+unfolding callee_among
 sfc_there p kind number called e h =
     some_below (system_params number) (λ params. (5, 0, params)) (map param_of_record) called (rw e at h)
 
@@ -128,7 +128,7 @@ callable_kind kind h = grind (arith, nat_tests, h)
 
 called_there :
     (p : Program) (kind number : ℕ) (called : CalleeSeen) (k : BlockKind) → IsCallable kind → CalledAreThere
-    → callee (block_signatures p) kind number ≡ Some called → kind_of_code kind ≡ Some k → There p number k
+    → callee_among (block_signatures p) kind number ≡ Some called → kind_of_code kind ≡ Some k → There p number k
 called_there p kind number called k (inl e) law h is =
     rw (sym (same_Some kinds.Fc k (sym (ap kind_of_code e) ∙ is))) (fc_there p kind number called law e h)
 called_there p kind number called k (inr (inl e)) law h is =
@@ -160,14 +160,14 @@ call_by :
     (p : Program) (own : BlockId) (how : CallOperation) (k : Option BlockKind) (number instance : ℕ) (passings : List Passing)
     (use_db : Option ℕ) (w : Operation) (o : Operand)
     → ((kind : BlockKind) → k ≡ Some kind → There p number kind)
-    → is_there (code_of p) (call_by_number k how number instance passings (Does use_db w o)) own ≡ true
+    → is_called_block_there (code_of p) (call_by_number k how number instance passings (Does use_db w o)) own ≡ true
 call_by p own how None number instance passings use_db w o needs = refl
 call_by p own how (Some kind) number instance passings use_db w o needs = needs kind refl
 
 op_there :
     (p : Program) (b : CodeBlock) (own : BlockId) (w : Operation) (o : Operand) (use_db : Option ℕ) (passings : List Passing)
     (next : ℕ) (ops : List OpData) → CallsThere p b o → is_some ((code_of p).head own) ≡ true
-    → is_there (code_of p) (instr_of w o use_db passings next ops) own ≡ true
+    → is_called_block_there (code_of p) (instr_of w o use_db passings next ops) own ≡ true
 op_there p b own operation.NoOperation o use_db passings next ops calls head = refl
 op_there p b own operation.Nop o use_db passings next ops calls head = refl
 op_there p b own operation.Bld o use_db passings next ops calls head = refl
@@ -245,7 +245,7 @@ with_line :
     (p : Program) (b : CodeBlock) (own : BlockId) (line : Option ℕ) (found : Option OpRun)
     → ((r : OpRun) → found ≡ Some r → CallsThere p b r.last.operand) → is_some ((code_of p).head own) ≡ true
     → is_some (option_and_then (λ line. option_map (fetched_of b.code line) found) line) ≡ true
-    → is_complete (code_of p) (option_and_then (λ line. option_map (fetched_of b.code line) found) line) own ≡ true
+    → is_statement_complete (code_of p) (option_and_then (λ line. option_map (fetched_of b.code line) found) line) own ≡ true
 with_line p b own None found calls head there = there
 with_line p b own (Some line) None calls head there = there
 with_line p b own (Some line) (Some r) calls head there =
@@ -257,12 +257,12 @@ at_block :
     → CalledAreThere → block_by_id own p.code_blocks ≡ found
     → is_some (option_map block_head_of found) ≡ true
     → is_some (option_and_then (λ b. statement_fetched b at) found) ≡ true
-    → is_complete (code_of p) (option_and_then (λ b. statement_fetched b at) found) own ≡ true
+    → is_statement_complete (code_of p) (option_and_then (λ b. statement_fetched b at) found) own ≡ true
 unfolding statement_fetched
 at_block p own at None verifies placed_law table_law calls_law called_law block head there = there
 at_block p own at (Some b) verifies placed_law table_law calls_law called_law block head there =
-    with_line p b own (line_placed 0 true b.code b.lines at) (op_run_at most_ops b.code at)
-    (λ r is. let last : HasLast b.code r = last_placed most_ops b.code at r is
+    with_line p b own (line_placed 0 true b.code b.lines at) (op_run_at most_ops_of_statement b.code at)
+    (λ r is. let last : HasLast b.code r = last_placed most_ops_of_statement b.code at r is
     in last_calls p own b last.0 r.next r.last verifies placed_law table_law calls_law called_law block last.1)
     (rw block head) there
 
@@ -272,11 +272,11 @@ block_there (Some h) f below m fits = refl
 block_there None f below m fits = absurd fits
 
 frame_goes :
-    (p : Program) (brackets : OpenCodes) (m : Areas) (a : Activation) (w : World) → Verifies p
+    (p : Program) (brackets : OpenCodes) (m : Areas) (a : Activation) (w : GlobalStore) → Verifies p
     → OpsArePlaced → OpsAreOfTable → CallsFit → CalledAreThere
     → FrameFits (code_of p) brackets m a.below a.running.frame
-    → IsNotStuck (statement (code_of p) a w)
-unfolding statement
+    → IsNotStuck (statement_step (code_of p) a w)
+unfolding statement_step
 frame_goes p brackets m a w verifies placed_law table_law calls_law called_law fits =
     let own : BlockId = a.running.frame.block
     in let at : ℕ = a.running.frame.at
@@ -292,9 +292,9 @@ innermost_fits c brackets m a true is e fits = absurd (true≢false e)
 innermost_fits c brackets m a false is e fits = fits.0
 
 pub fits_goes :
-    (p : Program) (brackets : OpenCodes) (m : Areas) (a : Activation) (w : World) → Verifies p
+    (p : Program) (brackets : OpenCodes) (m : Areas) (a : Activation) (w : GlobalStore) → Verifies p
     → OpsArePlaced → OpsAreOfTable → CallsFit → CalledAreThere → ActivationFits (code_of p) brackets m a
-    → IsNotStuck (statement (code_of p) a w)
+    → IsNotStuck (statement_step (code_of p) a w)
 fits_goes p brackets m a w verifies placed_law table_law calls_law called_law fits =
     frame_goes p brackets m a w verifies placed_law table_law calls_law called_law
     (innermost_fits (code_of p) brackets m a a.left refl fits.stands fits.frames)

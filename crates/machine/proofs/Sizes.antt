@@ -15,7 +15,7 @@ use Rattle.plc_mem.specs.Areas.{Areas, PeripheralBytes}
 use Rattle.plc_mem.specs.BitPlace.{BitPlace, Region, Inputs, Outputs, BitMemory, PeripheralInputs, PeripheralOutputs, DataBlock}
 use Rattle.plc_mem.specs.Bits.{bit_at, bit_of_byte, is_bit_one, region_byte, peripheral_byte}
 use Rattle.plc_mem.specs.Fresh.{initial_memory}
-use Rattle.plc_mem.specs.Number.{number_at, EachBitExists, region_read, region_written, operand_bit}
+use Rattle.plc_mem.specs.Number.{number_at_place, EachBitExists, region_read, region_written, operand_bit}
 use Rattle.plc_mem.specs.Writing.{put_number, put_peripheral, put_in_block, number_written, number_written_in}
 use Rattle.plc_mem.proofs.Lawful.{reads_where_each_bit_exists}
 use Rattle.plc_mem.proofs.Runs.{PartPut, part_put, block_put, length-put, chained, mapped, in_low, in_high}
@@ -120,8 +120,8 @@ each_bit m n (Some region) place width same all =
     λ j below. bits_there m n (operand_bit region place width j) same ∙ all j below
 
 pub numbers_there :
-    (m n : Areas) (place : Place) (width : Width) → SameSizes m n → IsSome (number_at m place width)
-    → IsSome (number_at n place width)
+    (m n : Areas) (place : Place) (width : Width) → SameSizes m n → IsSome (number_at_place m place width)
+    → IsSome (number_at_place n place width)
 numbers_there m n place width same there =
     let before = reads_where_each_bit_exists m place width in
     let after = reads_where_each_bit_exists n place width in

@@ -8,18 +8,18 @@ use Rattle.plc_base.specs.declared.BlockId.{BlockId}
 use Rattle.flat_code.specs.declared.image_fields.OpenBracket.{OpenBracket}
 use Rattle.flat_code.specs.declared.operations.EndOperation.TheVariants as ends
 use Rattle.flat_code.specs.declared.operations.Operation.TheVariants as operation
-use Rattle.flat_code.specs.Blocks.{prepares}
-use Rattle.flat_code.specs.Codes.{size}
+use Rattle.flat_code.specs.Blocks.{prepares_statement}
+use Rattle.flat_code.specs.Codes.{size_of_op}
 use Rattle.flat_code.specs.Loading.{Verifies}
 use Rattle.flat_code.specs.OpCodes.{op_code_of as op_code}
 use Rattle.flat_code.specs.Ops.{OpData}
 use Rattle.flat_code.specs.declared.operands.Operand.TheVariants as operand
-use Rattle.flat_code.specs.Placed.{Placed, ops_placed, code_places, op_placed, line_placed, begins, is_empty_list, brackets_after, zones_behind_op, before_next, ending_op, last_op}
+use Rattle.flat_code.specs.Placed.{PlacedOp, ops_placed, code_places, op_placed, line_placed, begins_its_statement, is_empty_list, brackets_after, zones_behind_op, before_next, ending_op, last_op}
 use Rattle.flat_code.specs.Programs.{CodeBlock, Program}
 use Rattle.flat_code.specs.Operations.{operation_of}
 use Rattle.image_file.specs.Readers.{block_by_id}
 use Rattle.image_file.specs.Verified.{placed_at, IsVerifiedOp, HasNext}
-use Rattle.machine.specs.Flat.{OpRun, op_run_at, with_op, most_ops, fetched_of, statement_fetched, code_of}
+use Rattle.machine.specs.Flat.{OpRun, op_run_at, with_op, most_ops_of_statement, fetched_of, statement_fetched, code_of}
 use Rattle.machine.specs.ImageLaws.{ImageLaws}
 use Rattle.machine.specs.Fitting.{OpenAt}
 use Rattle.machine.specs.OpenBrackets.{check_named, checks_of, open_at, open_before, open_in, open_codes}
@@ -28,23 +28,23 @@ use Rattle.machine.proofs.OpenBehind.{same_open, prepared_same, prepared_zones, 
 
 -- ---- ops in their places
 
-pub op_here : (from : ℕ) (brackets : List OpenBracket) (zones : List ℕ) (before ops : List OpData) (at : ℕ) (q : Placed) → placed_at at (ops_placed from brackets zones before ops) ≡ Some q → op_placed from ops at ≡ Some (q.op, q.at + size q.op)
+pub op_here : (from : ℕ) (brackets : List OpenBracket) (zones : List ℕ) (before ops : List OpData) (at : ℕ) (q : PlacedOp) → placed_at at (ops_placed from brackets zones before ops) ≡ Some q → op_placed from ops at ≡ Some (q.op, q.at + size_of_op q.op)
 op_here from brackets zones before [] at q found = absurd cc
 op_here from brackets zones before (o ∷ ops) at q found =
     by (eqb from at) found
-    (λ e. op_here (from + size o) (brackets_after from o.code brackets) (zones_behind_op from o.code zones) (before_next o before) ops at q e)
+    (λ e. op_here (from + size_of_op o) (brackets_after from o.code brackets) (zones_behind_op from o.code zones) (before_next o before) ops at q e)
   where
-    here : Placed
+    here : PlacedOp
     here = record { at = from; brackets = brackets; zones = zones; before = before; op = o; rest = ops }
 
-    behind : Option Placed
-    behind = placed_at at (ops_placed (from + size o) (brackets_after from o.code brackets) (zones_behind_op from o.code zones) (before_next o before) ops)
+    behind : Option PlacedOp
+    behind = placed_at at (ops_placed (from + size_of_op o) (brackets_after from o.code brackets) (zones_behind_op from o.code zones) (before_next o before) ops)
 
-    by : (t : Bool) → cond t (Some here) behind ≡ Some q → (behind ≡ Some q → op_placed (from + size o) ops at ≡ Some (q.op, q.at + size q.op)) → cond t (Some (o, from + size o)) (op_placed (from + size o) ops at) ≡ Some (q.op, q.at + size q.op)
-    by true e more = ap (λ (z : Placed). Some (z.op, z.at + size z.op)) (same_Some here q e)
+    by : (t : Bool) → cond t (Some here) behind ≡ Some q → (behind ≡ Some q → op_placed (from + size_of_op o) ops at ≡ Some (q.op, q.at + size_of_op q.op)) → cond t (Some (o, from + size_of_op o)) (op_placed (from + size_of_op o) ops at) ≡ Some (q.op, q.at + size_of_op q.op)
+    by true e more = ap (λ (z : PlacedOp). Some (z.op, z.at + size_of_op z.op)) (same_Some here q e)
     by false e more = more e
 
-pub next_op : (l : ImageLaws) (p : Program) (b : CodeBlock) (q : Placed) (op : OpData) (rest : List OpData) → IsVerifiedOp p b q → q.rest ≡ op ∷ rest → IsVerifiedOp p b (behind_op q op rest)
+pub next_op : (l : ImageLaws) (p : Program) (b : CodeBlock) (q : PlacedOp) (op : OpData) (rest : List OpData) → IsVerifiedOp p b q → q.rest ≡ op ∷ rest → IsVerifiedOp p b (behind_op q op rest)
 next_op l p b q op rest h is = record {
   verifies = h.verifies;
   id = h.id;
@@ -52,12 +52,12 @@ next_op l p b q op rest h is = record {
   place = subst (λ (z : List OpData). HasNext b q z) is (l.goes_on p b q h);
 }
 
-pub last_ends : (l : ImageLaws) (p : Program) (b : CodeBlock) (q : Placed) → IsVerifiedOp p b q → q.rest ≡ [] → (q.op.code ≡ op_code (operation.End ends.Be)) × (q.op.last ≡ true)
+pub last_ends : (l : ImageLaws) (p : Program) (b : CodeBlock) (q : PlacedOp) → IsVerifiedOp p b q → q.rest ≡ [] → (q.op.code ≡ op_code (operation.End ends.Be)) × (q.op.last ≡ true)
 last_ends l p b q h is = let e = subst (λ (z : List OpData). HasNext b q z) is (l.goes_on p b q h) in (e.0, e.1)
 
 -- ---- the run of a statement is there
 
-run_there : (l : ImageLaws) (p : Program) (b : CodeBlock) (most : ℕ) (q : Placed) → IsVerifiedOp p b q → most + length q.before ≡ 64 → IsSome (op_run_at most b.code q.at)
+run_there : (l : ImageLaws) (p : Program) (b : CodeBlock) (most : ℕ) (q : PlacedOp) → IsVerifiedOp p b q → most + length q.before ≡ 64 → IsSome (op_run_at most b.code q.at)
 unfolding op_run_at
 run_there l p b zero q h e = let few = (l.statements p b q h).few in absurd (omega (arith, e, few))
 run_there l p b (suc most) q h e =
@@ -76,11 +76,11 @@ run_there l p b (suc most) q h e =
     with_first None there = there
 
     by : (last : Bool) → q.op.last ≡ last → (rest : List OpData) → q.rest ≡ rest
-        → ((op : OpData) (rest : List OpData) → q.rest ≡ op ∷ rest → most + length (before_next q.op q.before) ≡ 64 → IsSome (op_run_at most b.code (q.at + size q.op)))
-        → IsSome (cond last (Some (record { before = []; last = q.op; next = q.at + size q.op })) (option_map (with_op q.op) (op_run_at most b.code (q.at + size q.op))))
+        → ((op : OpData) (rest : List OpData) → q.rest ≡ op ∷ rest → most + length (before_next q.op q.before) ≡ 64 → IsSome (op_run_at most b.code (q.at + size_of_op q.op)))
+        → IsSome (cond last (Some (record { before = []; last = q.op; next = q.at + size_of_op q.op })) (option_map (with_op q.op) (op_run_at most b.code (q.at + size_of_op q.op))))
     by true is rest e more = refl
     by false is [] e more = absurd (true≢false (sym (last_ends l p b q h e).1 ∙ is))
-    by false is (op ∷ rest) e more = with_first (op_run_at most b.code (q.at + size q.op)) (more op rest e (longer is))
+    by false is (op ∷ rest) e more = with_first (op_run_at most b.code (q.at + size_of_op q.op)) (more op rest e (longer is))
 
 -- ---- where a run ends
 
@@ -88,13 +88,13 @@ run_there l p b (suc most) q h e =
 abbrev pub AllBefore : Program → CodeBlock → (last : OpData) → List OpData → Type 0
 AllBefore p b last [] = Unit {0}
 AllBefore p b last (op ∷ ops) =
-    ((q : Placed) × IsVerifiedOp p b q × (q.op ≡ op) × (last_op q ≡ last)) × AllBefore p b last ops
+    ((q : PlacedOp) × IsVerifiedOp p b q × (q.op ≡ op) × (last_op q ≡ last)) × AllBefore p b last ops
 
-pub record Ran (p : Program) (b : CodeBlock) (q : Placed) (r : OpRun) : Type 0 where
-  pub last : Placed
+pub record Ran (p : Program) (b : CodeBlock) (q : PlacedOp) (r : OpRun) : Type 0 where
+  pub last : PlacedOp
   pub op : IsVerifiedOp p b last
   pub same : last.op ≡ r.last
-  pub next : r.next ≡ last.at + size last.op
+  pub next : r.next ≡ last.at + size_of_op last.op
   pub ended : last.op.last ≡ true
   pub held : open_at last ≡ open_at q
   pub before : last.before ≡ q.before ++ r.before
@@ -109,14 +109,14 @@ pub ends_here : (op : OpData) (rest : List OpData) → op.last ≡ true → endi
 ends_here op [] is = refl
 ends_here op (n ∷ rest) is = rw is refl
 
-pub run_is : (l : ImageLaws) (p : Program) (b : CodeBlock) (most : ℕ) (q : Placed) (r : OpRun) → IsVerifiedOp p b q → op_run_at most b.code q.at ≡ Some r → Ran p b q r
+pub run_is : (l : ImageLaws) (p : Program) (b : CodeBlock) (most : ℕ) (q : PlacedOp) (r : OpRun) → IsVerifiedOp p b q → op_run_at most b.code q.at ≡ Some r → Ran p b q r
 unfolding op_run_at
 run_is l p b zero q r h e = absurd cc
 run_is l p b (suc most) q r h e =
     by q.op.last refl q.rest refl (rw (op_here 0 [] [] [] b.code q.at q h.place) at e)
     (λ op rest is s. run_is l p b most (behind_op q op rest) s (next_op l p b q op rest h is))
   where
-    only : q.op.last ≡ true → Ran p b q (record { before = []; last = q.op; next = q.at + size q.op })
+    only : q.op.last ≡ true → Ran p b q (record { before = []; last = q.op; next = q.at + size_of_op q.op })
     only is = record {
       last = q;
       op = h;
@@ -129,8 +129,8 @@ run_is l p b (suc most) q r h e =
       passes = tt;
     }
 
-    prepared : q.op.last ≡ false → prepares q.op.code ≡ true
-    prepared is = not_not (prepares q.op.code) (sym (l.statements p b q h).ended ∙ is)
+    prepared : q.op.last ≡ false → prepares_statement q.op.code ≡ true
+    prepared is = not_not (prepares_statement q.op.code) (sym (l.statements p b q h).ended ∙ is)
       where
         not_not : (x : Bool) → not x ≡ false → x ≡ true
         not_not true e = refl
@@ -162,24 +162,24 @@ run_is l p b (suc most) q r h e =
     found (Some s) e f = subst (λ (z : OpRun). Ran p b q z) (same_Some (with_op q.op s) r e) (f s refl)
 
     by : (last : Bool) → q.op.last ≡ last → (rest : List OpData) → q.rest ≡ rest
-        → cond last (Some (record { before = []; last = q.op; next = q.at + size q.op })) (option_map (with_op q.op) (op_run_at most b.code (q.at + size q.op))) ≡ Some r
-        → ((op : OpData) (rest : List OpData) → q.rest ≡ op ∷ rest → (s : OpRun) → op_run_at most b.code (q.at + size q.op) ≡ Some s → Ran p b (behind_op q op rest) s)
+        → cond last (Some (record { before = []; last = q.op; next = q.at + size_of_op q.op })) (option_map (with_op q.op) (op_run_at most b.code (q.at + size_of_op q.op))) ≡ Some r
+        → ((op : OpData) (rest : List OpData) → q.rest ≡ op ∷ rest → (s : OpRun) → op_run_at most b.code (q.at + size_of_op q.op) ≡ Some s → Ran p b (behind_op q op rest) s)
         → Ran p b q r
-    by true is rest split e more = subst (λ (z : OpRun). Ran p b q z) (same_Some (record { before = []; last = q.op; next = q.at + size q.op }) r e) (only is)
+    by true is rest split e more = subst (λ (z : OpRun). Ran p b q z) (same_Some (record { before = []; last = q.op; next = q.at + size_of_op q.op }) r e) (only is)
     by false is [] split e more = absurd (true≢false (sym (last_ends l p b q h split).1 ∙ is))
     by false is (op ∷ rest) split e more =
-        found (op_run_at most b.code (q.at + size q.op)) e (λ s s_is. longer op rest s is split (more op rest split s s_is))
+        found (op_run_at most b.code (q.at + size_of_op q.op)) e (λ s s_is. longer op rest s is split (more op rest split s s_is))
 
 -- ---- a statement begins
 
 -- a statement of a block begins at an offset, and this is open before it
 pub record Stood (p : Program) (block : BlockId) (at : ℕ) (held : OpenAt) : Type 0 where
   pub b : CodeBlock
-  pub q : Placed
+  pub q : PlacedOp
   pub found : block_by_id block p.code_blocks ≡ Some b
   pub op : IsVerifiedOp p b q
   pub offset : q.at ≡ at
-  pub begun : begins q ≡ true
+  pub begun : begins_its_statement q ≡ true
   pub same : open_at q ≡ held
 
 pub none_before : (before : List OpData) → is_empty_list before ≡ true → before ≡ []
@@ -200,7 +200,7 @@ run_found None there = absurd cc
 
 fetched_there :
     (b : CodeBlock) (at line : ℕ) (r : OpRun) → line_placed 0 true b.code b.lines at ≡ Some line
-    → op_run_at most_ops b.code at ≡ Some r → statement_fetched b at ≡ Some (fetched_of b.code line r)
+    → op_run_at most_ops_of_statement b.code at ≡ Some r → statement_fetched b at ≡ Some (fetched_of b.code line r)
 unfolding statement_fetched
 fetched_there b at line r has run = rw (has, run) refl
 
@@ -208,8 +208,8 @@ pub statement_there :
     (l : ImageLaws) (p : Program) (block : BlockId) (at : ℕ) (held : OpenAt) → Stood p block at held
     → Statement p block at held
 statement_there l p block at held s =
-    let few : most_ops + length s.q.before ≡ 64 = ap (λ (z : List OpData). 64 + length z) (none_before s.q.before s.begun) in
-    let r = run_found (op_run_at most_ops s.b.code s.q.at) (run_there l p s.b most_ops s.q s.op few) in
+    let few : most_ops_of_statement + length s.q.before ≡ 64 = ap (λ (z : List OpData). 64 + length z) (none_before s.q.before s.begun) in
+    let r = run_found (op_run_at most_ops_of_statement s.b.code s.q.at) (run_there l p s.b most_ops_of_statement s.q s.op few) in
     let line = l.lines p s.b s.q s.op s.begun in
     let there : statement_fetched s.b at ≡ Some (fetched_of s.b.code line.line r.0) =
     ap (statement_fetched s.b) (sym s.offset) ∙ fetched_there s.b s.q.at line.line r.0 line.is r.1 in
@@ -218,7 +218,7 @@ statement_there l p block at held s =
       line = line.line;
       run = r.0;
       fetched = rw s.found there;
-      ran = run_is l p s.b most_ops s.q r.0 s.op r.1;
+      ran = run_is l p s.b most_ops_of_statement s.q r.0 s.op r.1;
     }
 
 pub opens_there :
@@ -228,12 +228,12 @@ opens_there p block at held s =
     let place : placed_at at (code_places s.b.code) ≡ Some s.q = ap (λ (k : ℕ). placed_at k (code_places s.b.code)) (sym s.offset) ∙ s.op.place in
     rw (s.found, place, s.begun) (ap (λ (z : OpenAt). Some z) s.same)
 
-place_offset : (qs : List Placed) (at : ℕ) (q : Placed) → placed_at at qs ≡ Some q → q.at ≡ at
+place_offset : (qs : List PlacedOp) (at : ℕ) (q : PlacedOp) → placed_at at qs ≡ Some q → q.at ≡ at
 place_offset [] at q found = absurd cc
 place_offset (p ∷ qs) at q found = by (eqb p.at at) refl found (λ e. place_offset qs at q e)
   where
     by : (t : Bool) → eqb p.at at ≡ t → cond t (Some p) (placed_at at qs) ≡ Some q → (placed_at at qs ≡ Some q → q.at ≡ at) → q.at ≡ at
-    by true is e more = sym (ap (λ (z : Placed). z.at) (same_Some p q e)) ∙ eqb-true p.at at is
+    by true is e more = sym (ap (λ (z : PlacedOp). z.at) (same_Some p q e)) ∙ eqb-true p.at at is
     by false is e more = more e
 
 pub stood_there :
@@ -241,7 +241,7 @@ pub stood_there :
     → Stood p block at held
 stood_there p block at held verifies h = by_block (block_by_id block p.code_blocks) refl h
   where
-    begun : (b : CodeBlock) (q : Placed) (t : Bool) → block_by_id block p.code_blocks ≡ Some b → placed_at at (code_places b.code) ≡ Some q → begins q ≡ t
+    begun : (b : CodeBlock) (q : PlacedOp) (t : Bool) → block_by_id block p.code_blocks ≡ Some b → placed_at at (code_places b.code) ≡ Some q → begins_its_statement q ≡ t
         → cond t (Some (open_at q)) None ≡ Some held → Stood p block at held
     begun b q true found place is e =
         let offset = place_offset (code_places b.code) at q place in
@@ -261,9 +261,9 @@ stood_there p block at held verifies h = by_block (block_by_id block p.code_bloc
         }
     begun b q false found place is e = absurd cc
 
-    by_place : (b : CodeBlock) (o : Option Placed) → block_by_id block p.code_blocks ≡ Some b → placed_at at (code_places b.code) ≡ o → open_before o ≡ Some held → Stood p block at held
+    by_place : (b : CodeBlock) (o : Option PlacedOp) → block_by_id block p.code_blocks ≡ Some b → placed_at at (code_places b.code) ≡ o → open_before o ≡ Some held → Stood p block at held
     by_place b None found place e = absurd cc
-    by_place b (Some q) found place e = begun b q (begins q) found place refl e
+    by_place b (Some q) found place e = begun b q (begins_its_statement q) found place refl e
 
     by_block : (o : Option CodeBlock) → block_by_id block p.code_blocks ≡ o → option_and_then (λ b. open_in b at) o ≡ Some held → Stood p block at held
     by_block None found e = absurd cc

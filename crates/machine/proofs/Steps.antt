@@ -11,8 +11,8 @@ use Rattle.machine.specs.declared.outcomes.Outcome.TheVariants as outcome
 use Rattle.machine.specs.ExecState.{ExecState}
 use Rattle.machine.specs.Outcomes.{ChangesExecState}
 use Rattle.machine.specs.Entering.{Call, Fails, Stops, Enters, LeavesCall}
-use Rattle.machine.specs.Returning.{Return, GoesOn, Ends, Returns}
-use Rattle.machine.specs.Statement.{Step, Went, Ended, SyncError, SysCall, Stop, Stuck, World, world, advance, cause_of, continue_with, call_step, after_return, is_sync_error, IsNotStuck, IsOutcomeOf, IsPerformed}
+use Rattle.machine.specs.Returning.{Return, GoesOn, Ends, IsReturnOf}
+use Rattle.machine.specs.Statement.{StatementStep, Went, Ended, SyncError, SysCall, Stop, Stuck, GlobalStore, global_store, activation_advanced_to, cause_of, continue_with, call_step, after_return, is_sync_error, IsNotStuck, IsOutcomeOf, IsPerformed}
 
 abbrev pub moved_to : ℕ → Activation → Running → Activation
 moved_to next a s =
@@ -20,7 +20,7 @@ moved_to next a s =
 
 worlds :
     {m m' : Areas} {t t' : List Timer} {n n' : List Counter}
-    → m' ≡ m → t' ≡ t → n' ≡ n → world m' t' n' ≡ world m t n
+    → m' ≡ m → t' ≡ t → n' ≡ n → global_store m' t' n' ≡ global_store m t n
 worlds a b c = cc
 
 -- ---- an instruction that touches no position
@@ -28,7 +28,7 @@ worlds a b c = cc
 pub went_performs :
     (e : Result ExecState ℕ) (next : ℕ) (a : Activation) (s : Running) (m m' : Areas) (t t' : List Timer) (n n' : List Counter)
     (other : Outcome) → ChangesExecState e a.running s m m' t t' n n' (Ok tt)
-    → IsPerformed (continue_with e next a) next a (moved_to next a s) (world m t n) (world m' t' n') true other
+    → IsPerformed (continue_with e next a) next a (moved_to next a s) (global_store m t n) (global_store m' t' n') true other
 went_performs (Ok p) next a s m m' t t' n n' other h =
     (ap (moved_to next a) h.0, worlds h.1 h.2 h.3)
 went_performs (Err e) next a s m m' t t' n n' other h = absurd h
@@ -36,7 +36,7 @@ went_performs (Err e) next a s m m' t t' n n' other h = absurd h
 pub failed_performs :
     (e : Result ExecState ℕ) (next : ℕ) (a : Activation) (s : Running) (m m' : Areas) (t t' : List Timer) (n n' : List Counter) (code : ℕ)
     → ChangesExecState e a.running s m m' t t' n n' (Err code)
-    → IsPerformed (continue_with e next a) next a (record a { running = s }) (world m t n) (world m' t' n') false (outcome.SyncError code)
+    → IsPerformed (continue_with e next a) next a (record a { running = s }) (global_store m t n) (global_store m' t' n') false (outcome.SyncError code)
 failed_performs (Ok p) next a s m m' t t' n n' code h = absurd h
 failed_performs (Err e) next a s m m' t t' n n' code h =
     (h.0, refl, ap (λ (z : Running). let r : Activation = record a { running = z } in r) h.1.0, worlds h.1.1 h.1.2 h.1.3)
@@ -46,39 +46,39 @@ failed_performs (Err e) next a s m m' t t' n n' code h =
 pub call_performs :
     (c : Call) (next : ℕ) (a after : Activation) (m m' : Areas) (t : List Timer) (n : List Counter) (other : Outcome)
     → LeavesCall c a after m m' (Ok tt)
-    → IsPerformed (call_step c next a (world m t n)) next a after (world m t n) (world m' t n) true other
+    → IsPerformed (call_step c next a (global_store m t n)) next a after (global_store m t n) (global_store m' t n) true other
 call_performs (Fails code) next a after m m' t n other h = absurd h
 call_performs (Stops fault) next a after m m' t n other h = absurd h
 call_performs (Enters to memory) next a after m m' t n other h =
-    (h.0, ap (λ z. world z t n) h.1)
+    (h.0, ap (λ z. global_store z t n) h.1)
 
 pub call_stops :
     (c : Call) (next : ℕ) (a after : Activation) (m m' : Areas) (t : List Timer) (n : List Counter) (fault : FrameFault)
     (cause : ℕ) → cause ≡ cause_of fault → LeavesCall c a after m m' (Err fault)
-    → IsPerformed (call_step c next a (world m t n)) next a after (world m t n) (world m' t n) false (outcome.Stop cause)
+    → IsPerformed (call_step c next a (global_store m t n)) next a after (global_store m t n) (global_store m' t n) false (outcome.Stop cause)
 call_stops (Fails code) next a after m m' t n fault cause is h = absurd h
 call_stops (Stops why) next a after m m' t n fault cause is h =
-    (is ∙ ap cause_of h.0, h.1, ap (λ z. world z t n) h.2)
+    (is ∙ ap cause_of h.0, h.1, ap (λ z. global_store z t n) h.2)
 call_stops (Enters to memory) next a after m m' t n fault cause is h = absurd h
 
 pub return_performs :
     (r : Return) (next : ℕ) (a after : Activation) (m m' : Areas) (t : List Timer) (n : List Counter) (other : Outcome)
-    → Returns r a after m' true
-    → IsPerformed (after_return r (world m t n)) next a after (world m t n) (world m' t n) true other
-return_performs (GoesOn to memory) next a after m m' t n other h = (h.0, ap (λ z. world z t n) h.1)
+    → IsReturnOf r a after m' true
+    → IsPerformed (after_return r (global_store m t n)) next a after (global_store m t n) (global_store m' t n) true other
+return_performs (GoesOn to memory) next a after m m' t n other h = (h.0, ap (λ z. global_store z t n) h.1)
 return_performs (Ends regs memory) next a after m m' t n other h = absurd h
 
 pub return_ends :
     (r : Return) (next : ℕ) (a after : Activation) (m m' : Areas) (t : List Timer) (n : List Counter)
-    → Returns r a after m' false
-    → IsPerformed (after_return r (world m t n)) next a after (world m t n) (world m' t n) false outcome.Ended
+    → IsReturnOf r a after m' false
+    → IsPerformed (after_return r (global_store m t n)) next a after (global_store m t n) (global_store m' t n) false outcome.Ended
 return_ends (GoesOn to memory) next a after m m' t n h = absurd h
-return_ends (Ends regs memory) next a after m m' t n h = (h.0, ap (λ z. world z t n) h.1)
+return_ends (Ends regs memory) next a after m m' t n h = (h.0, ap (λ z. global_store z t n) h.1)
 
 -- ---- a statement: its instruction was performed
 
 pub goes_comes :
-    (step : Step) (next : ℕ) (old new : Activation) (w v : World) (other : Outcome) → IsNotStuck step
+    (step : StatementStep) (next : ℕ) (old new : Activation) (w v : GlobalStore) (other : Outcome) → IsNotStuck step
     → IsPerformed step next old new w v true other → IsOutcomeOf step old new w v outcome.Went
 goes_comes (Went a after) next old new w v other there h = h
 goes_comes (Ended regs after) next old new w v other there h = absurd h
@@ -89,8 +89,8 @@ goes_comes Stuck next old new w v other there h = absurd there
 
 -- a synchronous error goes on at the next statement
 pub error_comes :
-    (step : Step) (next : ℕ) (old new : Activation) (w v : World) (other : Outcome) → is_sync_error other ≡ true → IsNotStuck step
-    → IsPerformed step next old new w v false other → IsOutcomeOf step old (advance next new) w v other
+    (step : StatementStep) (next : ℕ) (old new : Activation) (w v : GlobalStore) (other : Outcome) → is_sync_error other ≡ true → IsNotStuck step
+    → IsPerformed step next old new w v false other → IsOutcomeOf step old (activation_advanced_to next new) w v other
 error_comes (Went a after) next old new w v other error there h = absurd h
 error_comes (Ended regs after) next old new w v (outcome.SyncError code) error there h = absurd h
 error_comes (Ended regs after) next old new w v outcome.Ended error there h = absurd cc
@@ -98,7 +98,7 @@ error_comes (Ended regs after) next old new w v outcome.Went error there h = abs
 error_comes (Ended regs after) next old new w v (outcome.SysCall function inputs result) error there h = absurd h
 error_comes (Ended regs after) next old new w v (outcome.Stop answer) error there h = absurd h
 error_comes (SyncError code a) next old new w v (outcome.SyncError answer) error there h =
-    (h.0, ap (advance next) h.2 ∙ sym h.1, h.3)
+    (h.0, ap (activation_advanced_to next) h.2 ∙ sym h.1, h.3)
 error_comes (SyncError code a) next old new w v outcome.Went error there h = absurd h
 error_comes (SyncError code a) next old new w v outcome.Ended error there h = absurd h
 error_comes (SyncError code a) next old new w v (outcome.SysCall function inputs result) error there h = absurd h
@@ -116,7 +116,7 @@ error_comes (Stop cause) next old new w v (outcome.Stop answer) error there h = 
 error_comes Stuck next old new w v other error there h = absurd there
 
 pub other_comes :
-    (step : Step) (next : ℕ) (old new : Activation) (w v : World) (other : Outcome) → is_sync_error other ≡ false → IsNotStuck step
+    (step : StatementStep) (next : ℕ) (old new : Activation) (w v : GlobalStore) (other : Outcome) → is_sync_error other ≡ false → IsNotStuck step
     → IsPerformed step next old new w v false other → IsOutcomeOf step old new w v other
 other_comes (Went a after) next old new w v other error there h = absurd h
 other_comes (Ended regs after) next old new w v other error there h = h

@@ -12,7 +12,7 @@ use Rattle.plc_mem.specs.Areas.{Areas}
 use Rattle.plc_mem.specs.BitPlace.{PeripheralInputs, PeripheralOutputs}
 use Rattle.plc_mem.specs.Bits.{bit_at, bit_of_byte, region_byte}
 use Rattle.plc_mem.specs.Fresh.{initial_memory}
-use Rattle.plc_mem.specs.Number.{number_at, EachBitExists, region_of, operand_bit}
+use Rattle.plc_mem.specs.Number.{number_at_place, EachBitExists, region_of, operand_bit}
 use Rattle.plc_mem.specs.Places.{HasImage}
 use Rattle.plc_mem.specs.Writing.{number_written}
 use Rattle.plc_base.specs.Widths.{bit_count}
@@ -31,16 +31,16 @@ use Rattle.flat_code.specs.Programs.{CodeBlock, Program}
 use Rattle.image_file.specs.Readers.{block_by_id}
 use Rattle.machine.specs.declared.places.Location.{Location}
 use Rattle.machine.specs.Bindings.{param_bindings}
-use Rattle.machine.specs.Entering.{at_block, going_on}
+use Rattle.machine.specs.Entering.{at_block, activation_continued_at}
 use Rattle.machine.specs.Fitting.{ExistsIn, IsBound, AreBound, IsMemoryOf, LocalsFit, SameParts}
 use Rattle.machine.specs.Flat.{code_of}
 use Rattle.machine.specs.ImageLaws.{ImageLaws}
-use Rattle.machine.specs.Lasting.{Lasts, FitWidths, TakesResult, input_widths}
+use Rattle.machine.specs.Lasting.{StepFitsAgain, FitWidths, TakesResult, input_widths}
 use Rattle.machine.specs.OpenBrackets.{open_codes}
 use Rattle.machine.specs.ExecState.{Local, LocalMemory, local_of, then_ok}
 use Rattle.machine.specs.Places.{is_area_l, location_number}
-use Rattle.machine.specs.Statement.{World, after_system_call, system_call_made}
-use Rattle.machine.specs.SystemCalls.{given_by, input_of, inputs_from, result_from, system_call, system_function}
+use Rattle.machine.specs.Statement.{GlobalStore, after_system_call, system_call_made}
+use Rattle.machine.specs.SystemCalls.{system_call_arguments, input_of, inputs_from, result_from, system_call, system_function}
 use Rattle.machine.specs.Values.{with_locals, stored_at}
 use Rattle.machine.proofs.BindingLemmas.{PassingsFit, is_among, bound_of}
 use Rattle.machine.proofs.Called.{Caller, caller, function_bound, caller_binds, caller_told, going_fits}
@@ -98,7 +98,7 @@ each_writable m areas.Di place width same all = all
 each_writable m areas.L place width same all = all
 
 writable :
-    (m : Areas) (place : Place) (width : Width) (value : ℕ) → Written m → IsSome (number_at m place width)
+    (m : Areas) (place : Place) (width : Width) (value : ℕ) → Written m → IsSome (number_at_place m place width)
     → IsSome (number_written m place width value)
 writable m place width value w there =
     let reads = reads_where_each_bit_exists m place width in
@@ -110,7 +110,7 @@ stored_there :
     → ExistsIn at.place.area at frames m → IsSome (stored_at at value s m)
 stored_there frames m at value s fits w exists = by at.place.area exists
   where
-    in_memory : IsSome (number_at m at.place at.width)
+    in_memory : IsSome (number_at_place m at.place at.width)
         → IsSome (option_map (λ (memory : Areas). let r : LocalMemory = record { local = s; memory = memory } in r) (number_written m at.place at.width value))
     in_memory there = mapped_there _ (number_written m at.place at.width value) (writable m at.place at.width value w there)
 
@@ -146,7 +146,7 @@ local_fits l frame at bit width n is =
 place_fits : (at : Location) (l : LocalData) (m : Areas) (n : ℕ) → location_number at l m ≡ Some n → n < 2 ^ bit_count at.width
 place_fits at l m n is = by (is_area_l at.place.area) is
   where
-    by : (local : Bool) → cond local (local_number l at.frame at.place.byte at.place.bit at.width) (number_at m at.place at.width) ≡ Some n → n < 2 ^ bit_count at.width
+    by : (local : Bool) → cond local (local_number l at.frame at.place.byte at.place.bit at.width) (number_at_place m at.place at.width) ≡ Some n → n < 2 ^ bit_count at.width
     by true is = local_fits l at.frame at.place.byte at.place.bit at.width n is
     by false is = number_fits m at.place at.width n is
 
@@ -213,9 +213,9 @@ result_taken (p ∷ ps) frames m bs i a fits w each =
     by false e more = more
 
 system_lasts :
-    (l : ImageLaws) (p : Program) (a : Activation) (w : World) (next number : ℕ) (ps : List Param) (r : Result (List Binding) ℕ)
+    (l : ImageLaws) (p : Program) (a : Activation) (w : GlobalStore) (next number : ℕ) (ps : List Param) (r : Result (List Binding) ℕ)
     → Caller p w.memory a next → system_function number ≡ Some ps → IfTold r → IfDone (AreBound kinds.Fc ps (caller a next ∷ a.below) w.memory) r
-    → Lasts p w (after_system_call (then_ok r (λ bs. Ok (given_by ps bs (local_of a.running) w.memory))) number next a)
+    → StepFitsAgain p w (after_system_call (then_ok r (λ bs. Ok (system_call_arguments ps bs (local_of a.running) w.memory))) number next a)
 system_lasts l p a w next number ps (Err code) h known told bound = (told, going_fits l p w.memory a next a.running.regs h.fits h.stood)
 system_lasts l p a w next number ps (Ok bs) h known told bound =
     let was = stands_of (code_of p) (open_codes p) w.memory a h.fits.fits in (
@@ -223,7 +223,7 @@ system_lasts l p a w next number ps (Ok bs) h known told bound =
           let one = bound_of kinds.Fc ps (caller a next ∷ a.below) w.memory bs j q bound found in
           let at : 0 + j ≡ j = omega arith in
           (one.0, ap (slice_get bs) at ∙ one.1, one.2))),
-      result_taken ps (caller a next ∷ a.below) w.memory bs 0 (going_on next (at_block a.running.regs) a)
+      result_taken ps (caller a next ∷ a.below) w.memory bs 0 (activation_continued_at next (at_block a.running.regs) a)
           (locals_moved a.running.frame (caller a next) a.below a.running.locals refl was.locals)
           (of_program p w.memory h.fits.memory)
           (λ j q found.
@@ -234,11 +234,11 @@ system_lasts l p a w next number ps (Ok bs) h known told bound =
     )
 
 pub function_called_lasts :
-    (l : ImageLaws) (p : Program) (a : Activation) (w : World) (next number : ℕ) (own : CodeBlock) (ps : List Param) (xs : List Passing)
+    (l : ImageLaws) (p : Program) (a : Activation) (w : GlobalStore) (next number : ℕ) (own : CodeBlock) (ps : List Param) (xs : List Passing)
     → Caller p w.memory a next → system_function number ≡ Some ps → block_by_id a.running.frame.block p.code_blocks ≡ Some own
     → PassingsFit a.running.frame.block.kind own.params ps xs
     → ((i : ℕ) (q : Param) → slice_get ps i ≡ Some q → is_among i xs ≡ true)
-    → Lasts p w (system_call_made (Some ps) number xs next a w)
+    → StepFitsAgain p w (system_call_made (Some ps) number xs next a w)
 unfolding system_call
 function_called_lasts l p a w next number own ps xs h known own_is fits each =
     let bound = caller_binds p w.memory a own ps next xs own_is h.fits fits in

@@ -11,7 +11,7 @@ use Rattle.flat_code.specs.declared.operands.Operand.TheVariants as operand
 use Rattle.flat_code.specs.declared.programs.Param.{Param}
 use Rattle.machine.specs.ExecState.{Local, then_ok}
 use Rattle.machine.specs.Flat.{OpRun, op_run_at, run_with, use_db_of, use_db_first, list_of, listed_with, with_op}
-use Rattle.machine.specs.Walking.{Walk, walk_by, walk_with, first_some, opens_after, list_jump, bound_from, binding_by, bound_next}
+use Rattle.machine.specs.Walking.{Walk, walk_by, walk_with, first_present, opens_after, list_jump, bound_from, binding_by, bound_next}
 
 -- what is behind a count of which some are done
 one_less : (k most : ℕ) → k < most → most - k ≡ suc (most - suc k)
@@ -33,13 +33,13 @@ run_none : (ops : List OpData) (at : ℕ) → op_run_at 0 ops at ≡ None
 unfolding op_run_at
 run_none ops at = refl
 
-first_alone : (opens : Option ℕ) → first_some opens None ≡ opens
+first_alone : (opens : Option ℕ) → first_present opens None ≡ opens
 first_alone None = refl
 first_alone (Some number) = refl
 
 first_moves_none :
     (more : Option ℕ) (o : Operand)
-    → use_db_first o more ≡ first_some (use_db_first o None) more
+    → use_db_first o more ≡ first_present (use_db_first o None) more
 first_moves_none more (operand.UseDb number) = refl
 first_moves_none more operand.Nothing = refl
 first_moves_none more (operand.Literal value) = refl
@@ -58,7 +58,7 @@ first_moves_none more (operand.OpenBy register from byte) = refl
 
 first_moves :
     (opens more : Option ℕ) (o : Operand)
-    → first_some opens (use_db_first o more) ≡ first_some (opens_after opens o) more
+    → first_present opens (use_db_first o more) ≡ first_present (opens_after opens o) more
 first_moves (Some number) more o = refl
 first_moves None more o = first_moves_none more o
 

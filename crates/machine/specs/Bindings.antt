@@ -15,7 +15,7 @@ use Rattle.machine.specs.declared.places.Access.{Access}
 use Rattle.machine.specs.declared.places.Access.TheVariants.{Reading, Writing}
 use Rattle.machine.specs.declared.places.Location.{Location}
 use Rattle.machine.specs.ExecState.{Local, then_ok}
-use Rattle.machine.specs.Places.{location_at, area_location, location_number, absent, no_operand}
+use Rattle.machine.specs.Places.{location_at, area_location, location_number, error_of_absent_place, no_operand}
 use Rattle.machine.specs.DataBlocks.{is_block_loaded}
 
 -- of the sections of a declaration OUT alone is tested as a place that is written
@@ -24,7 +24,7 @@ param_access p = if p.section == section_out then Writing else Reading
 
 -- a place is bound if it exists
 abbrev pub bound_if : Access → Location → Option ℕ → Result Binding ℕ
-bound_if access at None = Err (absent access at.place.area)
+bound_if access at None = Err (error_of_absent_place access at.place.area)
 bound_if access at (Some n) = Ok (binding.Bound at.place at.width at.frame)
 
 -- a place exists where a number is read, for OUT too; else 22, 23, in the peripheral area 42, 43
@@ -32,9 +32,9 @@ unfoldable pub bound_place : Access → Location → Local → Areas → Result 
 bound_place access at s m = bound_if access at (location_number at s.locals m)
 
 -- a parameter that is passed on stands for what it stands for in the caller
-abbrev pub passed_on : Option Binding → Result Binding ℕ
-passed_on (Some b) = Ok b
-passed_on None = Err no_operand
+abbrev pub binding_of_caller : Option Binding → Result Binding ℕ
+binding_of_caller (Some b) = Ok b
+binding_of_caller None = Err no_operand
 
 -- what is passed: constants by value, places as they are at the call. A place in a data block that
 -- is named opens nothing: 3A where the block isn't loaded
@@ -43,7 +43,7 @@ bound_actual access (passed.Literal value) s m = Ok (binding.Constant value)
 bound_actual access (passed.Direct area width byte bit) s m =
     then_ok (area_location access area byte bit width s) (λ at. bound_place access at s m)
 bound_actual access (passed.Parameter index width) s m =
-    passed_on (slice_get s.inner.bindings index)
+    binding_of_caller (slice_get s.inner.bindings index)
 bound_actual access (passed.InBlock number area width byte bit) s m =
     if is_block_loaded number m then bound_place access (location_at areas.Db number byte bit width 0) s m
     else Err errors.no_data_block

@@ -13,13 +13,13 @@ use Rattle.flat_code.specs.declared.operands.Operand.{Operand}
 use Rattle.machine.specs.declared.places.Access.TheVariants.{Writing}
 use Rattle.machine.specs.declared.places.Location.{Location}
 use Rattle.machine.specs.ExecState.{Local, LocalMemory, then_ok}
-use Rattle.machine.specs.Places.{operand_location, location_number, absent}
-use Rattle.machine.specs.Values.{checked_bit, write}
+use Rattle.machine.specs.Places.{operand_location, location_number, error_of_absent_place}
+use Rattle.machine.specs.Values.{checked_bit, number_written_at}
 use Rattle.machine.specs.Relay.{power_flow}
 
 -- A AN O ON X XN
-unfoldable pub checking : Check → Operand → Local → Areas → List Timer → List Counter → Result Regs ℕ
-checking with o s m t n =
+unfoldable pub regs_after_bit_check : Check → Operand → Local → Areas → List Timer → List Counter → Result Regs ℕ
+regs_after_bit_check with o s m t n =
     then_ok (checked_bit o s m t n) (λ bit. Ok (after_check with bit s.regs))
 
 -- the number of a bit operand: 1 where the bit is true, else 0
@@ -32,12 +32,12 @@ with_local_regs r c = record c { local = record c.local { regs = r } }
 
 -- a bit written to a place, and other registers
 unfoldable pub put_bit : Location → Bool → Regs → Local → Areas → Result LocalMemory ℕ
-put_bit at bit r s m = then_ok (write at (bit_as_number bit) s m) (λ c. Ok (with_local_regs r c))
+put_bit at bit r s m = then_ok (number_written_at at (bit_as_number bit) s m) (λ c. Ok (with_local_regs r c))
 
 -- the bit at a place that is written; its errors are those of writing
 unfoldable pub bit_before : Location → Local → Areas → Result Bool ℕ
 bit_before at s m =
-    then_ok (ok_or (location_number at s.locals m) (absent Writing at.place.area)) (λ n. Ok (n == 1))
+    then_ok (ok_or (location_number at s.locals m) (error_of_absent_place Writing at.place.area)) (λ n. Ok (n == 1))
 
 -- =: RLO, and 0 while the relay is closed, to the bit and to STA
 abbrev pub assigned_at : Location → Local → Areas → Result LocalMemory ℕ
@@ -64,11 +64,11 @@ bit_set value o s m =
     then_ok (bit_before at s m) (λ before. bit_set_at value at before s m))
 
 -- FP (rising) and FN: the edge bit gets the RLO as it was before
-abbrev pub edge_at : (rising : Bool) → Location → (before : Bool) → Local → Areas → Result LocalMemory ℕ
-edge_at rising at before s m = put_bit at s.regs.status.rlo (after_edge rising before s.regs) s m
+abbrev pub local_memory_after_edge_at : (rising : Bool) → Location → (before : Bool) → Local → Areas → Result LocalMemory ℕ
+local_memory_after_edge_at rising at before s m = put_bit at s.regs.status.rlo (after_edge rising before s.regs) s m
 
 -- the operand is the edge bit; its place is tested as one that is written
-unfoldable pub edge : (rising : Bool) → Operand → Local → Areas → Result LocalMemory ℕ
-edge rising o s m =
+unfoldable pub local_memory_after_edge : (rising : Bool) → Operand → Local → Areas → Result LocalMemory ℕ
+local_memory_after_edge rising o s m =
     then_ok (operand_location Writing o s m) (λ at.
-    then_ok (bit_before at s m) (λ before. edge_at rising at before s m))
+    then_ok (bit_before at s m) (λ before. local_memory_after_edge_at rising at before s m))

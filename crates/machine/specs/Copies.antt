@@ -10,53 +10,53 @@ use Rattle.flat_code.specs.Records.{section_in, section_in_out, section_out}
 use Rattle.machine.specs.declared.places.Location.{Location}
 use Rattle.machine.specs.ExecState.{LocalMemory}
 use Rattle.machine.specs.Places.{location_at, location_number}
-use Rattle.machine.specs.Values.{write}
+use Rattle.machine.specs.Values.{number_written_at}
 
 -- IN and IN_OUT come in, OUT and IN_OUT go out
-abbrev pub comes_in : Param → Bool
-comes_in p = p.section == section_in || p.section == section_in_out
+abbrev pub is_copied_in : Param → Bool
+is_copied_in p = p.section == section_in || p.section == section_in_out
 
 -- OUT and IN_OUT: copied out of the instance by the return
-abbrev pub goes_out : Param → Bool
-goes_out p = p.section == section_out || p.section == section_in_out
+abbrev pub is_copied_out : Param → Bool
+is_copied_out p = p.section == section_out || p.section == section_in_out
 
 -- the place of a parameter in an instance
-abbrev pub in_instance : Param → (instance : ℕ) → Location
-in_instance p instance = location_at areas.Db instance p.byte p.bit p.width 0
+abbrev pub instance_parameter_location : Param → (instance : ℕ) → Location
+instance_parameter_location p instance = location_at areas.Db instance p.byte p.bit p.width 0
 
 -- what comes of writing to a place; where it doesn't exist all is as before
-abbrev pub scene_or : LocalMemory → Result LocalMemory ℕ → LocalMemory
-scene_or before (Ok after) = after
-scene_or before (Err e) = before
+abbrev pub local_memory_or : LocalMemory → Result LocalMemory ℕ → LocalMemory
+local_memory_or before (Ok after) = after
+local_memory_or before (Err e) = before
 
 -- a number to a place
-abbrev pub number_put : Location → ℕ → LocalMemory → LocalMemory
-number_put to n c = scene_or c (write to (n % 2 ^ bit_count to.width) c.local c.memory)
+abbrev pub number_stored : Location → ℕ → LocalMemory → LocalMemory
+number_stored to n c = local_memory_or c (number_written_at to (n % 2 ^ bit_count to.width) c.local c.memory)
 
 -- the number at a place to a place
 unfoldable pub number_copied : (from to : Location) → LocalMemory → LocalMemory
-number_copied from to c = number_put to (unwrap_or (location_number from c.local.locals c.memory) 0) c
+number_copied from to c = number_stored to (unwrap_or (location_number from c.local.locals c.memory) 0) c
 
 -- what was passed to a place; a parameter that isn't supplied keeps its value
-unfoldable pub passed_to : Option Binding → Location → LocalMemory → LocalMemory
-passed_to (Some (binding.Bound place width frame)) to c =
+unfoldable pub actual_copied_to : Option Binding → Location → LocalMemory → LocalMemory
+actual_copied_to (Some (binding.Bound place width frame)) to c =
     number_copied (record { place = place; width = width; frame = frame }) to c
-passed_to (Some (binding.Constant value)) to c = number_put to value c
-passed_to _ to c = c
+actual_copied_to (Some (binding.Constant value)) to c = number_stored to value c
+actual_copied_to _ to c = c
 
 -- a place to what was passed
-unfoldable pub given_to : Location → Option Binding → LocalMemory → LocalMemory
-given_to from (Some (binding.Bound place width frame)) c =
+unfoldable pub copied_to_actual : Location → Option Binding → LocalMemory → LocalMemory
+copied_to_actual from (Some (binding.Bound place width frame)) c =
     number_copied from (record { place = place; width = width; frame = frame }) c
-given_to from _ c = c
+copied_to_actual from _ c = c
 
 -- an IN or IN_OUT parameter gets in its instance what was passed; an OUT parameter keeps its value
 abbrev pub param_in : Param → Option Binding → (instance : ℕ) → LocalMemory → LocalMemory
-param_in p b instance c = if comes_in p then passed_to b (in_instance p instance) c else c
+param_in p b instance c = if is_copied_in p then actual_copied_to b (instance_parameter_location p instance) c else c
 
 -- an OUT or IN_OUT parameter goes to the place that was bound; where none was it goes nowhere
 abbrev pub param_out : Param → Option Binding → (instance : ℕ) → LocalMemory → LocalMemory
-param_out p b instance c = if goes_out p then given_to (in_instance p instance) b c else c
+param_out p b instance c = if is_copied_out p then copied_to_actual (instance_parameter_location p instance) b c else c
 
 -- each sees what those before it wrote
 abbrev pub params_copied_in : List Param → (index : ℕ) → List Binding → (instance : ℕ) → LocalMemory → LocalMemory

@@ -4,7 +4,7 @@ use Rattle.plc_base.specs.ErrorCodes as errors
 use Rattle.status_word.specs.declared.Regs.{Regs}
 use Rattle.status_word.specs.BareOr.{or_bare}
 use Rattle.status_word.specs.SetClear.{rlo_set_to_1, clr, rlo_negated, rlo_saved_in_br}
-use Rattle.alu.specs.Comparison.{compared}
+use Rattle.alu.specs.Comparison.{accumulators_compared}
 use Rattle.timers_counters.specs.Timer.{Timer}
 use Rattle.timers_counters.specs.Counter.{Counter}
 use Rattle.flat_code.specs.declared.operands.Operand.{Operand}
@@ -14,10 +14,10 @@ use Rattle.flat_code.specs.declared.operations.Operation.TheVariants as operatio
 use Rattle.machine.specs.ExecState.{Local, LocalMemory, ExecState}
 use Rattle.machine.specs.Places.{no_operand}
 use Rattle.machine.specs.Values.{is_timer_kind}
-use Rattle.machine.specs.BitLogic.{checking, bit_assigned, bit_set, edge}
-use Rattle.machine.specs.Nesting.{nesting, unnesting}
+use Rattle.machine.specs.BitLogic.{regs_after_bit_check, bit_assigned, bit_set, local_memory_after_edge}
+use Rattle.machine.specs.Nesting.{nesting_opened, nesting_closed}
 use Rattle.machine.specs.Relay.{relay_effect}
-use Rattle.machine.specs.Loads.{loading, loading_bcd, transferring, status_loaded, status_transferred}
+use Rattle.machine.specs.Loads.{regs_after_load, regs_after_bcd_load, local_memory_after_transfer, status_loaded, status_transferred}
 use Rattle.machine.specs.Numbers.{number_effect, with_constant, word_logic_effect, shift_effect}
 use Rattle.machine.specs.Timing.{logic_string_ended, timer_start, timer_reset, timer_freed, counting_up, counting_down, counter_set, counter_reset, counter_freed}
 use Rattle.machine.specs.Pointers.{pointer_effect}
@@ -51,80 +51,80 @@ on_counters p (Ok all) =
 on_counters p (Err e) = Err e
 
 -- the kind of an operand that is a timer (1) or counter (2)
-abbrev pub kind_named : Operand → Option ℕ
-kind_named (operand.Numbered kind number) = Some kind
-kind_named (operand.NumberedBy kind from byte) = Some kind
-kind_named _ = None
+abbrev pub kind_of_numbered_operand : Operand → Option ℕ
+kind_of_numbered_operand (operand.Numbered kind number) = Some kind
+kind_of_numbered_operand (operand.NumberedBy kind from byte) = Some kind
+kind_of_numbered_operand _ = None
 
 -- S of a bit or a counter
-abbrev pub set_of : Option ℕ → Operand → ExecState → Result ExecState ℕ
-set_of None o p = on_local_memory p (bit_set true o p.local p.memory)
-set_of (Some kind) o p = on_counters p (counter_set o p.local p.memory p.counters)
+abbrev pub set_effect : Option ℕ → Operand → ExecState → Result ExecState ℕ
+set_effect None o p = on_local_memory p (bit_set true o p.local p.memory)
+set_effect (Some kind) o p = on_counters p (counter_set o p.local p.memory p.counters)
 
 -- R of a bit, a timer or a counter
-abbrev pub reset_of : Option ℕ → Operand → ExecState → Result ExecState ℕ
-reset_of None o p = on_local_memory p (bit_set false o p.local p.memory)
-reset_of (Some kind) o p =
+abbrev pub reset_effect : Option ℕ → Operand → ExecState → Result ExecState ℕ
+reset_effect None o p = on_local_memory p (bit_set false o p.local p.memory)
+reset_effect (Some kind) o p =
     if is_timer_kind kind then on_timers p (timer_reset o p.local p.memory p.timers)
     else on_counters p (counter_reset o p.local p.memory p.counters)
 
 -- FR of a timer or a counter
-abbrev pub free_of : Option ℕ → Operand → ExecState → Result ExecState ℕ
-free_of None o p = Err no_operand
-free_of (Some kind) o p =
+abbrev pub enable_effect : Option ℕ → Operand → ExecState → Result ExecState ℕ
+enable_effect None o p = Err no_operand
+enable_effect (Some kind) o p =
     if is_timer_kind kind then on_timers p (timer_freed o p.local p.memory p.timers)
     else on_counters p (counter_freed o p.local p.memory p.counters)
 
 -- each instruction word with its operand: what it makes of the parts, or its synchronous error
-unfoldable pub effect : Operation → Operand → ExecState → Result ExecState ℕ
-effect operation.Nop o p = Ok p
-effect operation.Bld o p = Ok p
-effect (operation.Check with) o p = effect_on_regs p (checking with o p.local p.memory p.timers p.counters)
-effect operation.OrBare o p = effect_on_regs p (Ok (or_bare p.local.regs))
-effect (operation.Nest with) o p = on_local p (nesting with p.local)
-effect operation.Unnest o p = on_local p (unnesting p.local)
-effect (operation.Relay which) o p = on_local p (relay_effect which p.local)
-effect operation.Load o p = effect_on_regs p (loading o p.local p.memory p.timers p.counters)
-effect operation.Transfer o p = on_local_memory p (transferring o p.local p.memory)
-effect operation.Assign o p = on_local_memory p (bit_assigned o p.local p.memory)
-effect operation.Set o p = set_of (kind_named o) o p
-effect operation.Reset o p = reset_of (kind_named o) o p
-effect (operation.Edge rising) o p = on_local_memory p (edge rising o p.local p.memory)
-effect operation.SetRlo o p = effect_on_regs p (Ok (rlo_set_to_1 p.local.regs))
-effect operation.ClearRlo o p = effect_on_regs p (Ok (clr p.local.regs))
-effect operation.NegateRlo o p = effect_on_regs p (Ok (rlo_negated p.local.regs))
-effect operation.SaveRlo o p = effect_on_regs p (Ok (rlo_saved_in_br p.local.regs))
-effect operation.LoadBcd o p = effect_on_regs p (loading_bcd o p.local p.memory p.timers p.counters)
-effect operation.LoadStatus o p = effect_on_regs p (Ok (status_loaded p.local.regs))
-effect operation.TransferStatus o p = effect_on_regs p (Ok (status_transferred p.local.regs))
-effect operation.LoadOpenBlock o p = effect_on_regs p (loading_open_block o p.local p.memory)
-effect (operation.Pointer what) o p = on_local_memory p (pointer_effect what o p.local p.memory)
-effect (operation.Number what) o p = effect_on_regs p (number_effect what p.local.regs)
-effect (operation.Add what) o p = effect_on_regs p (Ok (with_constant what o p.local.regs))
-effect (operation.CompareInt how) o p = effect_on_regs p (Ok (compared 16 how p.local.regs))
-effect (operation.CompareDint how) o p = effect_on_regs p (Ok (compared 32 how p.local.regs))
-effect (operation.Logic what) o p = effect_on_regs p (Ok (word_logic_effect what o p.local.regs))
-effect (operation.Shift what) o p = effect_on_regs p (Ok (shift_effect what o p.local.regs))
-effect (operation.Start how) o p = on_timers p (timer_start how o p.local p.memory p.timers)
-effect operation.Free o p = free_of (kind_named o) o p
-effect operation.CountUp o p = on_counters p (counting_up o p.local p.memory p.counters)
-effect operation.CountDown o p = on_counters p (counting_down o p.local p.memory p.counters)
-effect operation.OpenBlock o p = on_local p (block_opened_by o p.local p.memory)
-effect operation.Exchange o p = on_local p (Ok (registers_exchanged p.local))
+unfoldable pub operation_effect : Operation → Operand → ExecState → Result ExecState ℕ
+operation_effect operation.Nop o p = Ok p
+operation_effect operation.Bld o p = Ok p
+operation_effect (operation.Check with) o p = effect_on_regs p (regs_after_bit_check with o p.local p.memory p.timers p.counters)
+operation_effect operation.OrBare o p = effect_on_regs p (Ok (or_bare p.local.regs))
+operation_effect (operation.Nest with) o p = on_local p (nesting_opened with p.local)
+operation_effect operation.Unnest o p = on_local p (nesting_closed p.local)
+operation_effect (operation.Relay which) o p = on_local p (relay_effect which p.local)
+operation_effect operation.Load o p = effect_on_regs p (regs_after_load o p.local p.memory p.timers p.counters)
+operation_effect operation.Transfer o p = on_local_memory p (local_memory_after_transfer o p.local p.memory)
+operation_effect operation.Assign o p = on_local_memory p (bit_assigned o p.local p.memory)
+operation_effect operation.Set o p = set_effect (kind_of_numbered_operand o) o p
+operation_effect operation.Reset o p = reset_effect (kind_of_numbered_operand o) o p
+operation_effect (operation.Edge rising) o p = on_local_memory p (local_memory_after_edge rising o p.local p.memory)
+operation_effect operation.SetRlo o p = effect_on_regs p (Ok (rlo_set_to_1 p.local.regs))
+operation_effect operation.ClearRlo o p = effect_on_regs p (Ok (clr p.local.regs))
+operation_effect operation.NegateRlo o p = effect_on_regs p (Ok (rlo_negated p.local.regs))
+operation_effect operation.SaveRlo o p = effect_on_regs p (Ok (rlo_saved_in_br p.local.regs))
+operation_effect operation.LoadBcd o p = effect_on_regs p (regs_after_bcd_load o p.local p.memory p.timers p.counters)
+operation_effect operation.LoadStatus o p = effect_on_regs p (Ok (status_loaded p.local.regs))
+operation_effect operation.TransferStatus o p = effect_on_regs p (Ok (status_transferred p.local.regs))
+operation_effect operation.LoadOpenBlock o p = effect_on_regs p (loading_open_block o p.local p.memory)
+operation_effect (operation.Pointer what) o p = on_local_memory p (pointer_effect what o p.local p.memory)
+operation_effect (operation.Number what) o p = effect_on_regs p (number_effect what p.local.regs)
+operation_effect (operation.Add what) o p = effect_on_regs p (Ok (with_constant what o p.local.regs))
+operation_effect (operation.CompareInt how) o p = effect_on_regs p (Ok (accumulators_compared 16 how p.local.regs))
+operation_effect (operation.CompareDint how) o p = effect_on_regs p (Ok (accumulators_compared 32 how p.local.regs))
+operation_effect (operation.Logic what) o p = effect_on_regs p (Ok (word_logic_effect what o p.local.regs))
+operation_effect (operation.Shift what) o p = effect_on_regs p (Ok (shift_effect what o p.local.regs))
+operation_effect (operation.Start how) o p = on_timers p (timer_start how o p.local p.memory p.timers)
+operation_effect operation.Free o p = enable_effect (kind_of_numbered_operand o) o p
+operation_effect operation.CountUp o p = on_counters p (counting_up o p.local p.memory p.counters)
+operation_effect operation.CountDown o p = on_counters p (counting_down o p.local p.memory p.counters)
+operation_effect operation.OpenBlock o p = on_local p (block_opened_by o p.local p.memory)
+operation_effect operation.Exchange o p = on_local p (Ok (registers_exchanged p.local))
 -- jumps, calls and ends go by the statement; the others stand before the last op of one
-effect operation.Jump o p = Err no_operand
-effect (operation.Call how) o p = Err no_operand
-effect (operation.End how) o p = Err no_operand
-effect operation.UseDb o p = Err no_operand
-effect operation.Pass o p = Err no_operand
-effect operation.NoOperation o p = Err no_operand
+operation_effect operation.Jump o p = Err no_operand
+operation_effect (operation.Call how) o p = Err no_operand
+operation_effect (operation.End how) o p = Err no_operand
+operation_effect operation.UseDb o p = Err no_operand
+operation_effect operation.Pass o p = Err no_operand
+operation_effect operation.NoOperation o p = Err no_operand
 
 -- a statement that opens a data block first: 3A where it isn't loaded; after an error it isn't open
-abbrev pub with_db : ℕ → ExecState → ExecState
-with_db number p = record p { local = block_opened 1 number p.local }
+abbrev pub with_db_opened : ℕ → ExecState → ExecState
+with_db_opened number p = record p { local = block_opened 1 number p.local }
 
 -- USEDB: 3A comes before every error of the operand; without USEDB the instruction alone
-unfoldable pub effect_with : Option ℕ → Operation → Operand → ExecState → Result ExecState ℕ
-effect_with None w o p = effect w o p
-effect_with (Some number) w o p =
-    if is_block_loaded number p.memory then effect w o (with_db number p) else Err errors.no_data_block
+unfoldable pub statement_effect : Option ℕ → Operation → Operand → ExecState → Result ExecState ℕ
+statement_effect None w o p = operation_effect w o p
+statement_effect (Some number) w o p =
+    if is_block_loaded number p.memory then operation_effect w o (with_db_opened number p) else Err errors.no_data_block

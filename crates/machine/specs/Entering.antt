@@ -34,8 +34,8 @@ di_of (Some instance) di = Some instance
 
 -- the frame of the called block: it begins with the caller's data blocks, no open bracket, and its own
 -- relay, which is inactive
-abbrev pub fresh : CalledBlock → List Binding → Frame → Frame
-fresh called bindings caller =
+abbrev pub called_frame : CalledBlock → List Binding → Frame → Frame
+called_frame called bindings caller =
     record (frame_begun called.block called.local_len) {
       db = caller.db;
       di = di_of called.instance caller.di;
@@ -44,15 +44,15 @@ fresh called bindings caller =
     }
 
 -- the running block goes on at a position, with other registers
-abbrev pub going_on : (at : ℕ) → Regs → Activation → Activation
-going_on at r a =
+abbrev pub activation_continued_at : (at : ℕ) → Regs → Activation → Activation
+activation_continued_at at r a =
     record a {
       running = record a.running { regs = r; frame = record a.running.frame { at = at } };
     }
 
 -- the caller goes on behind the call
 abbrev pub caller_at : (next : ℕ) → Activation → Activation
-caller_at next a = going_on next (at_block a.running.regs) a
+caller_at next a = activation_continued_at next (at_block a.running.regs) a
 
 -- a call: a synchronous error, a stop, or the called block runs
 pub data Call : Type 0 where
@@ -61,33 +61,33 @@ pub data Call : Type 0 where
   Enters : (a : Activation) (m : Areas) → Call
 
 -- the called block runs, with what copying its parameters left of it and of memory
-abbrev pub with_scene : Activation → LocalMemory → Call
-with_scene a c = Enters (record a { running = with_local a.running c.local }) c.memory
+abbrev pub entered_with_parameters : Activation → LocalMemory → Call
+entered_with_parameters a c = Enters (record a { running = with_local a.running c.local }) c.memory
 
 -- IN and IN_OUT parameters are copied into the instance; a call that names none copies nothing
 abbrev pub instance_supplied : Option ℕ → List Param → Activation → Areas → Call
 instance_supplied None params a m = Enters a m
 instance_supplied (Some instance) params a m =
-    with_scene a (params_copied_in params 0 a.running.frame.bindings instance (local_memory_of a.running m))
+    entered_with_parameters a (params_copied_in params 0 a.running.frame.bindings instance (local_memory_of a.running m))
 
 -- a stop by depth or local data sets and copies nothing; else the caller stands behind the call
-abbrev pub entered_if :
+abbrev pub entry_or_stop :
     Option FrameFault → CalledBlock → List Binding → (next : ℕ) → Activation → Areas → Call
-entered_if (Some fault) called bindings next a m = Stops fault
-entered_if None called bindings next a m =
+entry_or_stop (Some fault) called bindings next a m = Stops fault
+entry_or_stop None called bindings next a m =
     instance_supplied called.instance called.params
-    (block_entered (fresh called bindings a.running.frame) (caller_at next a)) m
+    (block_entered (called_frame called bindings a.running.frame) (caller_at next a)) m
 
 -- a parameter that can't be bound is a synchronous error, and comes before depth and local data
-abbrev pub called_with : Result (List Binding) ℕ → CalledBlock → (next : ℕ) → Activation → Areas → Call
-called_with (Err code) called next a m = Fails code
-called_with (Ok bindings) called next a m =
-    entered_if (entry_fault called.local_len a) called bindings next a m
+abbrev pub call_with_bindings : Result (List Binding) ℕ → CalledBlock → (next : ℕ) → Activation → Areas → Call
+call_with_bindings (Err code) called next a m = Fails code
+call_with_bindings (Ok bindings) called next a m =
+    entry_or_stop (entry_fault called.local_len a) called bindings next a m
 
 -- after the call the caller goes on at `next`
-unfoldable pub call : CalledBlock → List Passing → (next : ℕ) → Activation → Areas → Call
-call called passings next a m =
-    called_with (param_bindings called.params passings (local_of a.running) m) called next a m
+unfoldable pub block_call : CalledBlock → List Passing → (next : ℕ) → Activation → Areas → Call
+block_call called passings next a m =
+    call_with_bindings (param_bindings called.params passings (local_of a.running) m) called next a m
 
 -- a call whose parameters are bound leaves its arguments as that says; after a stop as they were
 abbrev pub LeavesCall :

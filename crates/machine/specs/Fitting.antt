@@ -14,7 +14,7 @@ use Rattle.plc_base.specs.declared.Width.TheVariants as widths
 use Rattle.plc_base.specs.Widths.{bit_count, byte_count}
 use Rattle.plc_mem.specs.Areas.{Areas, PeripheralBytes}
 use Rattle.plc_mem.specs.Fresh.{initial_memory}
-use Rattle.plc_mem.specs.Number.{number_at}
+use Rattle.plc_mem.specs.Number.{number_at_place}
 use Rattle.status_word.specs.declared.Bracket.{Bracket}
 use Rattle.status_word.specs.declared.Check.{Check}
 use Rattle.frames.specs.Activations.{frames_of}
@@ -57,7 +57,7 @@ LiesIn (Some len) byte bit width = (byte + byte_count width ≤ len) × HasBit w
 abbrev pub ExistsIn : Area → Location → (below : List Frame) → Areas → Type 0
 ExistsIn areas.L at below m =
     LiesIn (local_len_at below at.frame) at.place.byte at.place.bit at.width
-ExistsIn _ at below m = IsSome (number_at m at.place at.width)
+ExistsIn _ at below m = IsSome (number_at_place m at.place at.width)
 
 -- a binding of a parameter: a place of its width that exists, a constant that fits an IN parameter,
 -- or not supplied in a function block. `below` has the frames below, the innermost one first

@@ -43,8 +43,8 @@ op_run_at zero ops at = None
 op_run_at (suc most) ops at = run_with (op_placed 0 ops at) (λ next. op_run_at most ops next)
 
 -- a statement has at most 64 ops
-abbrev pub most_ops : ℕ
-most_ops = 64
+abbrev pub most_ops_of_statement : ℕ
+most_ops_of_statement = 64
 
 -- USEDB: the data block that the statement opens first
 abbrev pub use_db_first : Operand → Option ℕ → Option ℕ
@@ -129,7 +129,7 @@ fetched_of ops line r = record {
 -- the statement of a block that begins at an offset
 unfoldable pub statement_fetched : CodeBlock → ℕ → Option Fetched
 statement_fetched b at =
-    option_and_then (λ line. option_map (fetched_of b.code line) (op_run_at most_ops b.code at))
+    option_and_then (λ line. option_map (fetched_of b.code line) (op_run_at most_ops_of_statement b.code at))
     (line_placed 0 true b.code b.lines at)
 
 -- of a code block all but its kind, number, ops and source lines

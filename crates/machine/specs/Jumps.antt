@@ -4,13 +4,13 @@ use Rattle.std.specs.Prelude.{ℕ, ◌%◌, ◌^◌, ◌==◌, Bool, true, false
 use Rattle.plc_base.specs.declared.flags.Flag.TheVariants as flag
 use Rattle.status_word.specs.declared.Regs.{Regs}
 use Rattle.status_word.specs.Flags.{flag_value}
-use Rattle.alu.specs.Accumulators.{increased}
+use Rattle.alu.specs.Accumulators.{accumulator_increased}
 use Rattle.flat_code.specs.declared.kinds.JumpOperation.{JumpOperation}
 use Rattle.flat_code.specs.declared.kinds.JumpOperation.TheVariants as jump
 
 -- LOOP takes 1 from ACCU 1-L, modulo 65,536
-abbrev pub counted_down : Regs → Regs
-counted_down r = increased 16 65535 r
+abbrev pub loop_counter_decremented : Regs → Regs
+loop_counter_decremented r = accumulator_increased 16 65535 r
 
 -- by the registers as they stand before the jump; LOOP tests what it leaves in ACCU 1-L
 unfoldable pub is_jump_taken : JumpOperation → Regs → Bool
@@ -30,7 +30,7 @@ is_jump_taken jump.Jm r = flag_value flag.LtZero r.status
 is_jump_taken jump.Jpz r = flag_value flag.GeZero r.status
 is_jump_taken jump.Jmz r = flag_value flag.LeZero r.status
 is_jump_taken jump.Juo r = flag_value flag.Uo r.status
-is_jump_taken jump.Loop r = not ((counted_down r).a1 % 2 ^ 16 == 0)
+is_jump_taken jump.Loop r = not ((loop_counter_decremented r).a1 % 2 ^ 16 == 0)
 -- the list of a JL goes by `list_goal`
 is_jump_taken jump.Jl r = false
 
@@ -60,7 +60,7 @@ regs_after_jump jump.Jnb r = rlo_tested (rlo_saved r)
 regs_after_jump jump.Jbi r = br_tested r
 regs_after_jump jump.Jnbi r = br_tested r
 regs_after_jump jump.Jos r = os_reset r
-regs_after_jump jump.Loop r = counted_down r
+regs_after_jump jump.Loop r = loop_counter_decremented r
 regs_after_jump _ r = r
 
 -- where a jump goes on

@@ -23,7 +23,7 @@ use Rattle.machine.specs.Fitting.{IsMemoryOf, SameSizes, ActivationFits}
 use Rattle.machine.specs.Flat.{code_of}
 use Rattle.machine.specs.OpenBrackets.{open_codes}
 use Rattle.machine.specs.SystemCalls.{system_function}
-use Rattle.machine.specs.Statement.{World, Step, Went, Ended, SyncError, SysCall, Stop, Stuck, IsNotStuck, statement}
+use Rattle.machine.specs.Statement.{GlobalStore, StatementStep, Went, Ended, SyncError, SysCall, Stop, Stuck, IsNotStuck, statement_step}
 
 -- an activation fits a program and its memory
 pub record FitsProgram (p : Program) (m : Areas) (a : Activation) : Type 0 where
@@ -35,7 +35,7 @@ pub record FitsProgram (p : Program) (m : Areas) (a : Activation) : Type 0 where
 pub record IsStatementReady (p : Program) (a : Activation) : Type 0 where
   pub stands : a.left ≡ false
   pub depth : length a.running.locals.starts ≡ length (frames_of a)
-  pub there : (w : World) → IsNotStuck (statement (code_of p) a w)
+  pub there : (w : GlobalStore) → IsNotStuck (statement_step (code_of p) a w)
 
 -- an organization block by its number
 abbrev pub ob_block : ℕ → BlockId
@@ -83,15 +83,15 @@ is_error_code code =
     || nat_le errors.no_peripheral code && nat_le code errors.no_peripheral_to_write
 
 -- what comes of a statement of an activation that fits: it fits again
-abbrev pub Lasts : Program → World → Step → Type 0
-Lasts p w (Went a after) = GoesOnFitting p w.memory after.memory a
-Lasts p w (Ended regs after) = SameSizes w.memory after.memory
-Lasts p w (SyncError code a) = (is_error_code code ≡ true) × FitsProgram p w.memory a
-Lasts p w (SysCall number given a) =
+abbrev pub StepFitsAgain : Program → GlobalStore → StatementStep → Type 0
+StepFitsAgain p w (Went a after) = GoesOnFitting p w.memory after.memory a
+StepFitsAgain p w (Ended regs after) = SameSizes w.memory after.memory
+StepFitsAgain p w (SyncError code a) = (is_error_code code ≡ true) × FitsProgram p w.memory a
+StepFitsAgain p w (SysCall number given a) =
     TakesInputs (system_function number) given.inputs × TakesResult given.result a w.memory
     × FitsProgram p w.memory a
-Lasts p w (Stop cause) = (cause ≡ causes.block_depth) ⊎ (cause ≡ causes.local_data)
-Lasts p w Stuck = ⊥
+StepFitsAgain p w (Stop cause) = (cause ≡ causes.block_depth) ⊎ (cause ≡ causes.local_data)
+StepFitsAgain p w Stuck = ⊥
 
 -- the same of what a call of a statement answers and leaves
 abbrev pub LeavesActivation : Program → Areas → Activation → Outcome → Type 0

@@ -11,7 +11,7 @@ use Rattle.flat_code.specs.declared.operands.Operand.{Operand}
 use Rattle.machine.specs.declared.places.Access.TheVariants.{Writing}
 use Rattle.machine.specs.ExecState.{Local, LocalMemory, then_ok}
 use Rattle.machine.specs.Places.{operand_location}
-use Rattle.machine.specs.Values.{load_value, bcd_loaded, write}
+use Rattle.machine.specs.Values.{load_value, bcd_loaded, number_written_at}
 use Rattle.machine.specs.Relay.{is_writing_off}
 
 -- accumulator 1 goes to accumulator 2, and the number to accumulator 1
@@ -19,21 +19,21 @@ abbrev pub with_accu_loaded : ℕ → Regs → Regs
 with_accu_loaded n r = record r { a1 = n; a2 = r.a1 }
 
 -- L
-unfoldable pub loading : Operand → Local → Areas → List Timer → List Counter → Result Regs ℕ
-loading o s m t n = then_ok (load_value o s m t n) (λ x. Ok (with_accu_loaded x s.regs))
+unfoldable pub regs_after_load : Operand → Local → Areas → List Timer → List Counter → Result Regs ℕ
+regs_after_load o s m t n = then_ok (load_value o s m t n) (λ x. Ok (with_accu_loaded x s.regs))
 
 -- LC
-unfoldable pub loading_bcd : Operand → Local → Areas → List Timer → List Counter → Result Regs ℕ
-loading_bcd o s m t n = then_ok (bcd_loaded o s m t n) (λ x. Ok (with_accu_loaded x s.regs))
+unfoldable pub regs_after_bcd_load : Operand → Local → Areas → List Timer → List Counter → Result Regs ℕ
+regs_after_bcd_load o s m t n = then_ok (bcd_loaded o s m t n) (λ x. Ok (with_accu_loaded x s.regs))
 
 -- the lowest bits of a number at the place of an operand
 unfoldable pub number_transferred : ℕ → Operand → Local → Areas → Result LocalMemory ℕ
 number_transferred n o s m =
-    then_ok (operand_location Writing o s m) (λ at. write at (n % 2 ^ bit_count at.width) s m)
+    then_ok (operand_location Writing o s m) (λ at. number_written_at at (n % 2 ^ bit_count at.width) s m)
 
 -- T: accumulator 1, and 0 while the relay is closed
-abbrev pub transferring : Operand → Local → Areas → Result LocalMemory ℕ
-transferring o s m = number_transferred (if is_writing_off s then 0 else s.regs.a1) o s m
+abbrev pub local_memory_after_transfer : Operand → Local → Areas → Result LocalMemory ℕ
+local_memory_after_transfer o s m = number_transferred (if is_writing_off s then 0 else s.regs.a1) o s m
 
 -- L STW: /FC, STA and OR read as 0
 unfoldable pub status_loaded : Regs → Regs

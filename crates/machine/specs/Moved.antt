@@ -7,7 +7,7 @@ use Rattle.flat_code.specs.Instr.{Instr, Does, Jumps, JumpsByList, Calls, Return
 use Rattle.frames.specs.declared.Activation.{Activation}
 use Rattle.frames.specs.declared.frame.Frame.{Frame}
 use Rattle.machine.specs.Code.{Code, Fetched}
-use Rattle.machine.specs.Statement.{World, Step, Went, Ended, SyncError, SysCall, Stop, Stuck, statement}
+use Rattle.machine.specs.Statement.{GlobalStore, StatementStep, Went, Ended, SyncError, SysCall, Stop, Stuck, statement_step}
 
 -- an instruction with other targets
 abbrev pub aimed_instr : (ℕ → ℕ) → Instr → Instr
@@ -23,7 +23,7 @@ moved_fetched f s = record { instr = aimed_instr f s.instr; next = f s.next; lin
 
 -- one code follows another: at the position of each position is the same statement, and everything
 -- else is the same. Blocks begin at position 0 in both
-pub record Follows (f : BlockId → ℕ → ℕ) (c d : Code) : Type 0 where
+pub record FollowsCode (f : BlockId → ℕ → ℕ) (c d : Code) : Type 0 where
   pub start : (b : BlockId) → f b 0 ≡ 0
   pub fetch : (b : BlockId) (at : ℕ) → d.fetch b (f b at) ≡ option_map (moved_fetched (f b)) (c.fetch b at)
   pub head : (b : BlockId) → d.head b ≡ c.head b
@@ -42,7 +42,7 @@ moved_activation f a =
     }
 
 -- of the activation that comes of a statement the frames move; codes, causes and memory stay
-abbrev pub moved_step : (BlockId → ℕ → ℕ) → Step → Step
+abbrev pub moved_step : (BlockId → ℕ → ℕ) → StatementStep → StatementStep
 moved_step f (Went a w) = Went (moved_activation f a) w
 moved_step f (Ended regs w) = Ended regs w
 moved_step f (SyncError code a) = SyncError code (moved_activation f a)
@@ -53,5 +53,5 @@ moved_step f Stuck = Stuck
 -- a statement does the same in a code that follows, at the position there
 abbrev pub StatementsMove : Type 0
 StatementsMove =
-    (f : BlockId → ℕ → ℕ) (c d : Code) (a : Activation) (w : World) → Follows f c d
-    → statement d (moved_activation f a) w ≡ moved_step f (statement c a w)
+    (f : BlockId → ℕ → ℕ) (c d : Code) (a : Activation) (w : GlobalStore) → FollowsCode f c d
+    → statement_step d (moved_activation f a) w ≡ moved_step f (statement_step c a w)

@@ -12,8 +12,8 @@ abbrev pub with_open_brackets : List Bracket → Local → Local
 with_open_brackets brackets s = record s { inner = record s.inner { brackets = brackets } }
 
 -- A( to XN(; an eighth bracket stands in no program that is loaded
-unfoldable pub nesting : Check → Local → Result Local ℕ
-nesting with s =
+unfoldable pub nesting_opened : Check → Local → Result Local ℕ
+nesting_opened with s =
     if length s.inner.brackets == 7 then Err no_operand
     else Ok (with_open_brackets (entry_of with s.regs ∷ s.inner.brackets)
     (record s { regs = bracket_begun s.regs }))
@@ -25,5 +25,5 @@ bracket_closed (bracket ∷ rest) s =
     Ok (with_open_brackets rest (record s { regs = bracket_ended bracket s.regs }))
 
 -- of the open brackets of the innermost frame it closes the one that was opened last
-unfoldable pub unnesting : Local → Result Local ℕ
-unnesting s = bracket_closed s.inner.brackets s
+unfoldable pub nesting_closed : Local → Result Local ℕ
+nesting_closed s = bracket_closed s.inner.brackets s

@@ -13,12 +13,12 @@ use Rattle.flat_code.specs.declared.operations.Logic.{Logic}
 use Rattle.flat_code.specs.declared.operations.Logic.TheVariants as logic
 use Rattle.flat_code.specs.declared.operations.Shift.{Shift}
 use Rattle.flat_code.specs.declared.operations.Shift.TheVariants as shift
-use Rattle.alu.specs.Accumulators.{toggled, pushed, popped, with_word_reversed, with_bytes_reversed, increased, decreased}
-use Rattle.alu.specs.Sums.{added, subtracted, accu_negated}
-use Rattle.alu.specs.Products.{multiplied}
+use Rattle.alu.specs.Accumulators.{accumulators_toggled, accumulator_pushed, accumulator_popped, with_word_reversed, with_bytes_reversed, accumulator_increased, accumulator_decreased}
+use Rattle.alu.specs.Sums.{accumulators_added, accumulators_subtracted, accu_negated}
+use Rattle.alu.specs.Products.{accumulators_multiplied}
 use Rattle.alu.specs.Division.{divided_i, divided_d, remainder_d}
-use Rattle.alu.specs.Conversions.{inverted, widened, from_bcd_word, from_bcd_dword, to_bcd_word, to_bcd_dword}
-use Rattle.alu.specs.WordLogic.{anded, ored, xored}
+use Rattle.alu.specs.Conversions.{accumulator_inverted, accumulator_widened, from_bcd_word, from_bcd_dword, to_bcd_word, to_bcd_dword}
+use Rattle.alu.specs.WordLogic.{accumulator_anded, accumulator_ored, accumulator_xored}
 use Rattle.alu.specs.Shifts.{places_of, shifted_left, shifted_right, shifted_signed}
 use Rattle.alu.specs.Rotations.{rotated_left, rotated_right, rotated_left_through, rotated_right_through}
 
@@ -28,27 +28,27 @@ from_bcd found = ok_or found errors.bad_bcd
 
 -- instructions without operand
 unfoldable pub number_effect : Number → Regs → Result Regs ℕ
-number_effect number.Tak r = Ok (toggled r)
-number_effect number.Push r = Ok (pushed r)
-number_effect number.Pop r = Ok (popped r)
+number_effect number.Tak r = Ok (accumulators_toggled r)
+number_effect number.Push r = Ok (accumulator_pushed r)
+number_effect number.Pop r = Ok (accumulator_popped r)
 number_effect number.Caw r = Ok (with_word_reversed r)
 number_effect number.Cad r = Ok (with_bytes_reversed r)
-number_effect number.AddI r = Ok (added 16 r)
-number_effect number.SubI r = Ok (subtracted 16 r)
-number_effect number.MulI r = Ok (multiplied 16 r)
+number_effect number.AddI r = Ok (accumulators_added 16 r)
+number_effect number.SubI r = Ok (accumulators_subtracted 16 r)
+number_effect number.MulI r = Ok (accumulators_multiplied 16 r)
 number_effect number.DivI r = Ok (divided_i r)
-number_effect number.AddD r = Ok (added 32 r)
-number_effect number.SubD r = Ok (subtracted 32 r)
-number_effect number.MulD r = Ok (multiplied 32 r)
+number_effect number.AddD r = Ok (accumulators_added 32 r)
+number_effect number.SubD r = Ok (accumulators_subtracted 32 r)
+number_effect number.MulD r = Ok (accumulators_multiplied 32 r)
 number_effect number.DivD r = Ok (divided_d r)
 number_effect number.Mod r = Ok (remainder_d r)
 number_effect number.Bti r = from_bcd (from_bcd_word r)
 number_effect number.Itb r = Ok (to_bcd_word r)
 number_effect number.Btd r = from_bcd (from_bcd_dword r)
 number_effect number.Dtb r = Ok (to_bcd_dword r)
-number_effect number.Itd r = Ok (widened r)
-number_effect number.Invi r = Ok (inverted 16 r)
-number_effect number.Invd r = Ok (inverted 32 r)
+number_effect number.Itd r = Ok (accumulator_widened r)
+number_effect number.Invi r = Ok (accumulator_inverted 16 r)
+number_effect number.Invd r = Ok (accumulator_inverted 32 r)
 number_effect number.Negi r = Ok (accu_negated 16 r)
 number_effect number.Negd r = Ok (accu_negated 32 r)
 number_effect number.Rlda r = Ok (rotated_left_through r)
@@ -66,19 +66,19 @@ constant_or_zero w _ = 0
 
 -- INC, DEC, and + with 16 or 32 bits
 unfoldable pub with_constant : Adding → Operand → Regs → Regs
-with_constant adding.Inc o r = increased 8 (constant_or_zero 8 o) r
-with_constant adding.Dec o r = decreased 8 (constant_or_zero 8 o) r
-with_constant adding.Word o r = increased 16 (constant_or_zero 16 o) r
-with_constant adding.Dword o r = increased 32 (constant_or_zero 32 o) r
+with_constant adding.Inc o r = accumulator_increased 8 (constant_or_zero 8 o) r
+with_constant adding.Dec o r = accumulator_decreased 8 (constant_or_zero 8 o) r
+with_constant adding.Word o r = accumulator_increased 16 (constant_or_zero 16 o) r
+with_constant adding.Dword o r = accumulator_increased 32 (constant_or_zero 32 o) r
 
 -- AW OW XOW AD OD XOD, with a constant or accumulator 2
 unfoldable pub word_logic_effect : Logic → Operand → Regs → Regs
-word_logic_effect logic.Aw o r = anded 16 (constant_in 16 o) r
-word_logic_effect logic.Ow o r = ored 16 (constant_in 16 o) r
-word_logic_effect logic.Xow o r = xored 16 (constant_in 16 o) r
-word_logic_effect logic.Ad o r = anded 32 (constant_in 32 o) r
-word_logic_effect logic.Od o r = ored 32 (constant_in 32 o) r
-word_logic_effect logic.Xod o r = xored 32 (constant_in 32 o) r
+word_logic_effect logic.Aw o r = accumulator_anded 16 (constant_in 16 o) r
+word_logic_effect logic.Ow o r = accumulator_ored 16 (constant_in 16 o) r
+word_logic_effect logic.Xow o r = accumulator_xored 16 (constant_in 16 o) r
+word_logic_effect logic.Ad o r = accumulator_anded 32 (constant_in 32 o) r
+word_logic_effect logic.Od o r = accumulator_ored 32 (constant_in 32 o) r
+word_logic_effect logic.Xod o r = accumulator_xored 32 (constant_in 32 o) r
 
 -- shifts and rotations, by a constant or the lowest byte of accumulator 2
 unfoldable pub shift_effect : Shift → Operand → Regs → Regs

@@ -6,7 +6,7 @@ use Rattle.status_word.specs.declared.Check.TheVariants as check
 use Rattle.flat_code.specs.declared.image_fields.OpenBracket.{OpenBracket}
 use Rattle.flat_code.specs.OpCodes.{op_code_of}
 use Rattle.flat_code.specs.declared.operations.Operation.TheVariants as operation
-use Rattle.flat_code.specs.Placed.{Placed, code_places, begins, bracket_codes}
+use Rattle.flat_code.specs.Placed.{PlacedOp, code_places, begins_its_statement, bracket_codes}
 use Rattle.flat_code.specs.Programs.{CodeBlock, Program}
 use Rattle.image_file.specs.Readers.{block_by_id}
 use Rattle.image_file.specs.Verified.{placed_at}
@@ -27,13 +27,13 @@ abbrev pub checks_of : List OpenBracket → List Check
 checks_of brackets = reverse (map check_named (bracket_codes brackets))
 
 -- what stands open before an op
-abbrev pub open_at : Placed → OpenAt
+abbrev pub open_at : PlacedOp → OpenAt
 open_at q = record { codes = checks_of q.brackets; zones = length q.zones }
 
 -- before an op that begins a statement
-abbrev pub open_before : Option Placed → Option OpenAt
+abbrev pub open_before : Option PlacedOp → Option OpenAt
 open_before None = None
-open_before (Some q) = if begins q then Some (open_at q) else None
+open_before (Some q) = if begins_its_statement q then Some (open_at q) else None
 
 -- before the statement of a block that begins at an offset
 abbrev pub open_in : CodeBlock → (at : ℕ) → Option OpenAt

@@ -9,7 +9,7 @@ use Rattle.plc_base.specs.declared.Place.{Place}
 use Rattle.plc_base.specs.ErrorCodes as errors
 use Rattle.plc_base.specs.Pointer.{place_at_pointer}
 use Rattle.plc_mem.specs.Areas.{Areas}
-use Rattle.plc_mem.specs.Number.{number_at}
+use Rattle.plc_mem.specs.Number.{number_at_place}
 use Rattle.frames.specs.Locals.{LocalData, local_number}
 use Rattle.frames.specs.declared.bindings.Binding.{Binding}
 use Rattle.frames.specs.declared.bindings.Binding.TheVariants as binding
@@ -34,8 +34,8 @@ location_at area number byte bit width frame = record {
 }
 
 -- the innermost frame's place in the list, the outermost frame's being 0
-abbrev pub innermost : Local → ℕ
-innermost s = length s.locals.starts - 1
+abbrev pub innermost_frame_index : Local → ℕ
+innermost_frame_index s = length s.locals.starts - 1
 
 -- a place in the data block of the DB or DI register; an error where none is open
 abbrev pub open_block_location : Option ℕ → (error byte bit : ℕ) → Width → Result Location ℕ
@@ -46,13 +46,13 @@ open_block_location None error byte bit width = Err error
 unfoldable pub open_area_location : Area → (byte bit : ℕ) → Width → Local → Result Location ℕ
 open_area_location areas.Db byte bit width s = open_block_location s.inner.db errors.no_db_open byte bit width
 open_area_location areas.Di byte bit width s = open_block_location s.inner.di errors.no_di_open byte bit width
-open_area_location areas.L byte bit width s = Ok (location_at areas.L 0 byte bit width (innermost s))
+open_area_location areas.L byte bit width s = Ok (location_at areas.L 0 byte bit width (innermost_frame_index s))
 open_area_location area byte bit width s = Ok (location_at area 0 byte bit width 0)
 
 -- a place that doesn't exist: 22 reading, 23 writing; in the peripheral area 42 and 43
-abbrev pub absent : Access → Area → ℕ
-absent access areas.P = error_of access errors.no_peripheral
-absent access _ = error_of access errors.no_place
+abbrev pub error_of_absent_place : Access → Area → ℕ
+error_of_absent_place access areas.P = error_of access errors.no_peripheral
+error_of_absent_place access _ = error_of access errors.no_place
 
 -- L: local bytes, which belong to a frame and are no part of memory
 abbrev pub is_area_l : Area → Bool
@@ -64,15 +64,15 @@ abbrev pub location_number : Location → LocalData → Areas → Option ℕ
 location_number at locals memory =
     if is_area_l at.place.area
     then local_number locals at.frame at.place.byte at.place.bit at.width
-    else number_at memory at.place at.width
+    else number_at_place memory at.place at.width
 
 -- the number that is read there; where the place doesn't exist 22, in the peripheral area 42
-unfoldable pub read : Location → Local → Areas → Result ℕ ℕ
-read at s m = ok_or (location_number at s.locals m) (absent Reading at.place.area)
+unfoldable pub number_read_at : Location → Local → Areas → Result ℕ ℕ
+number_read_at at s m = ok_or (location_number at s.locals m) (error_of_absent_place Reading at.place.area)
 
 -- the number at a place of an area
 unfoldable pub direct_number : Area → (byte bit : ℕ) → Width → Local → Areas → Result ℕ ℕ
-direct_number area byte bit width s m = then_ok (open_area_location area byte bit width s) (λ at. read at s m)
+direct_number area byte bit width s m = then_ok (open_area_location area byte bit width s) (λ at. number_read_at at s m)
 
 -- what stands at a pointer's own place: a double word, or a word for a timer, counter or data block
 abbrev pub pointer_number : Area → (byte : ℕ) → Width → Local → Areas → Result ℕ ℕ
@@ -89,13 +89,13 @@ is_aligned widths.Bit n = true
 is_aligned _ n = n % 2 ^ 3 == 0
 
 -- a pointer has the bit in bits 0 to 2 and the byte in bits 3 to 18
-abbrev pub at_pointer : Area → Width → ℕ → Local → Result Location ℕ
-at_pointer area width n s = open_area_location area (n / 2 ^ 3 % 2 ^ 16) (n % 2 ^ 3) width s
+abbrev pub location_at_pointer : Area → Width → ℕ → Local → Result Location ℕ
+location_at_pointer area width n s = open_area_location area (n / 2 ^ 3 % 2 ^ 16) (n % 2 ^ 3) width s
 
 -- the place of a pointer within an area: 28 and 29 where it isn't aligned
-unfoldable pub by_pointer : Access → Area → Width → ℕ → Local → Result Location ℕ
-by_pointer access area width n s =
-    if is_aligned width n then at_pointer area width n s else Err (error_of access errors.unaligned)
+unfoldable pub pointer_location : Access → Area → Width → ℕ → Local → Result Location ℕ
+pointer_location access area width n s =
+    if is_aligned width n then location_at_pointer area width n s else Err (error_of access errors.alignment_error)
 
 -- P: read as peripheral inputs, written as peripheral outputs
 abbrev pub is_area_p : Area → Bool
@@ -109,16 +109,16 @@ area_location access area byte bit width s =
     else open_area_location area byte bit width s
 
 -- 24 and 25, too, where the pointer names no area
-abbrev pub in_named : Access → Option Place → Width → ℕ → Local → Result Location ℕ
-in_named access None width n s = Err (error_of access errors.bad_area)
-in_named access (Some named) width n s =
+abbrev pub location_in_named_area : Access → Option Place → Width → ℕ → Local → Result Location ℕ
+location_in_named_area access None width n s = Err (error_of access errors.bad_area)
+location_in_named_area access (Some named) width n s =
     area_location access named.area (n / 2 ^ 3 % 2 ^ 16) (n % 2 ^ 3) width s
 
 -- the place of a pointer that names the area itself (manual: area-crossing)
-unfoldable pub by_crossing : Access → Width → (address n : ℕ) → Local → Result Location ℕ
-by_crossing access width address n s =
-    if is_aligned width n then in_named access (place_at_pointer address) width n s
-    else Err (error_of access errors.unaligned)
+unfoldable pub area_crossing_location : Access → Width → (address n : ℕ) → Local → Result Location ℕ
+area_crossing_location access width address n s =
+    if is_aligned width n then location_in_named_area access (place_at_pointer address) width n s
+    else Err (error_of access errors.alignment_error)
 
 -- what address register 1 or 2 holds
 abbrev pub register_address : ℕ → Local → ℕ
@@ -131,26 +131,26 @@ address_moved_by address bits = (address % 2 ^ 19 + bits % 2 ^ 19) % 2 ^ 19
 -- register-indirect; with no area it is that of the address register
 abbrev pub register_location : Access → Option Area → Width → (address bits : ℕ) → Local → Result Location ℕ
 register_location access (Some area) width address bits s =
-    by_pointer access area width (address_moved_by address bits) s
+    pointer_location access area width (address_moved_by address bits) s
 register_location access None width address bits s =
-    by_crossing access width address (address_moved_by address bits) s
+    area_crossing_location access width address (address_moved_by address bits) s
 
 -- of an operand that the instruction doesn't take: never in a program that is loaded
 abbrev pub no_operand : ℕ
 no_operand = 0
 
 -- a parameter of a function is the place that was bound to it
-abbrev pub of_binding : Option Binding → Result Location ℕ
-of_binding (Some (binding.Bound place width frame)) =
+abbrev pub binding_location : Option Binding → Result Location ℕ
+binding_location (Some (binding.Bound place width frame)) =
     Ok (record { place = place; width = width; frame = frame })
-of_binding _ = Err no_operand
+binding_location _ = Err no_operand
 
 -- the place of an operand that is to be read or written
 unfoldable pub operand_location : Access → Operand → Local → Areas → Result Location ℕ
 operand_location access (operand.Direct area width byte bit) s m = area_location access area byte bit width s
 operand_location access (operand.ByMemory area width from byte) s m =
-    then_ok (pointer_number from byte widths.Dword s m) (λ n. by_pointer access area width n s)
+    then_ok (pointer_number from byte widths.Dword s m) (λ n. pointer_location access area width n s)
 operand_location access (operand.ByRegister area width register bits) s m =
     register_location access area width (register_address register s) bits s
-operand_location access (operand.Parameter index width) s m = of_binding (slice_get s.inner.bindings index)
+operand_location access (operand.Parameter index width) s m = binding_location (slice_get s.inner.bindings index)
 operand_location access _ s m = Err no_operand

@@ -18,21 +18,21 @@ pub record ReturnState : Type 0 where
   pub memory : Areas
 
 -- with what a scene has of the running block and of memory; the frames below stay
-abbrev pub with_copied : Activation → LocalMemory → ReturnState
-with_copied a c = record {
+abbrev pub return_state_of : Activation → LocalMemory → ReturnState
+return_state_of a c = record {
   activation = record a { running = with_local a.running c.local };
   memory = c.memory;
 }
 
 -- copied out of the instance that the call named, whatever DI holds now, to the places bound then
-abbrev pub given_back : Option ℕ → List Param → Activation → Areas → ReturnState
-given_back None params a m = record { activation = a; memory = m }
-given_back (Some instance) params a m =
-    with_copied a (params_out params 0 a.running.frame.bindings instance (local_memory_of a.running m))
+abbrev pub outputs_copied_back : Option ℕ → List Param → Activation → Areas → ReturnState
+outputs_copied_back None params a m = record { activation = a; memory = m }
+outputs_copied_back (Some instance) params a m =
+    return_state_of a (params_out params 0 a.running.frame.bindings instance (local_memory_of a.running m))
 
 -- the frame below is the innermost one: its own data blocks, brackets and relay are as it left them
-abbrev pub left_to : (caller : Frame) (rest : List Frame) → Activation → Activation
-left_to caller rest a =
+abbrev pub activation_of_caller : (caller : Frame) (rest : List Frame) → Activation → Activation
+activation_of_caller caller rest a =
     record a {
       running = record a.running {
         regs = at_block a.running.regs;
@@ -56,26 +56,26 @@ pub data Return : Type 0 where
   Ends : (regs : Regs) (m : Areas) → Return
 
 -- OS 0, OR 0, STA 1, /FC 0 in both cases; without a frame below the outermost block has ended
-abbrev pub left : List Frame → ReturnState → Return
-left [] s = Ends (at_block s.activation.running.regs) s.memory
-left (caller ∷ rest) s = GoesOn (left_to caller rest s.activation) s.memory
+abbrev pub return_to_caller : List Frame → ReturnState → Return
+return_to_caller [] s = Ends (at_block s.activation.running.regs) s.memory
+return_to_caller (caller ∷ rest) s = GoesOn (activation_of_caller caller rest s.activation) s.memory
 
 -- the innermost block returns: the parameters of its head are copied out, then its frame is left
 unfoldable pub block_return : List Param → Activation → Areas → Return
-block_return params a m = left a.below (given_back a.running.frame.instance params a m)
+block_return params a m = return_to_caller a.below (outputs_copied_back a.running.frame.instance params a m)
 
 -- the innermost block is left; the answer says whether the caller goes on
 abbrev pub LeavesTo : List Frame → (old new : Activation) → Bool → Type 0
 LeavesTo [] old new false = HasReturnedLast old new (at_block old.running.regs)
-LeavesTo (caller ∷ rest) old new true = new ≡ left_to caller rest old
+LeavesTo (caller ∷ rest) old new true = new ≡ activation_of_caller caller rest old
 LeavesTo below old new answer = ⊥
 
 -- by the frames that stand below; the answer is false where there are none
-abbrev pub Left : (old new : Activation) → Bool → Type 0
-Left old new answer = LeavesTo old.below old new answer
+abbrev pub LeavesRunningBlock : (old new : Activation) → Bool → Type 0
+LeavesRunningBlock old new answer = LeavesTo old.below old new answer
 
 -- the same of a return
-abbrev pub Returns : Return → (old new : Activation) (m' : Areas) → Bool → Type 0
-Returns (GoesOn a m) old new m' true = (new ≡ a) × (m' ≡ m)
-Returns (Ends regs m) old new m' false = HasReturnedLast old new regs × (m' ≡ m)
-Returns r old new m' answer = ⊥
+abbrev pub IsReturnOf : Return → (old new : Activation) (m' : Areas) → Bool → Type 0
+IsReturnOf (GoesOn a m) old new m' true = (new ≡ a) × (m' ≡ m)
+IsReturnOf (Ends regs m) old new m' false = HasReturnedLast old new regs × (m' ≡ m)
+IsReturnOf r old new m' answer = ⊥

@@ -19,24 +19,24 @@ use Rattle.machine.specs.declared.running.Silent.TheVariants as silent
 use Rattle.machine.specs.Flat.{code_of}
 use Rattle.machine.specs.Lasting.{IsStatementReady}
 use Rattle.machine.specs.Places.{is_area_p}
-use Rattle.machine.specs.Statement.{World, Step, Went, is_call_made, is_ended, statement}
+use Rattle.machine.specs.Statement.{GlobalStore, StatementStep, Went, is_call_made, is_return_made, statement_step}
 
 -- the activation goes on, with no change of the peripheral outputs
-pub record GoesSilently (step : Step) (w : World) (next : Activation) (after : World) : Type 0 where
+pub record GoesSilently (step : StatementStep) (w : GlobalStore) (next : Activation) (after : GlobalStore) : Type 0 where
   pub goes : step ≡ Went next after
   pub outputs : after.memory.peripheral_outputs ≡ w.memory.peripheral_outputs
 
 -- so many statements of this kind, one after another
-abbrev pub RunsSilently : Code → (count : ℕ) → (a b : Activation) (w after : World) → Type 0
+abbrev pub RunsSilently : Code → (count : ℕ) → (a b : Activation) (w after : GlobalStore) → Type 0
 RunsSilently code zero a b w after = (b ≡ a) × (after ≡ w)
 RunsSilently code (suc count) a b w after =
-    (next : Activation) × (mid : World) × GoesSilently (statement code a w) w next mid
+    (next : Activation) × (mid : GlobalStore) × GoesSilently (statement_step code a w) w next mid
     × RunsSilently code count next b mid after
 
--- after however many of them `statement` may be called
-abbrev pub StaysReady : Program → Activation → World → Type 0
+-- after however many of them `statement_step` may be called
+abbrev pub StaysReady : Program → Activation → GlobalStore → Type 0
 StaysReady p a w =
-    (count : ℕ) (b : Activation) (after : World)
+    (count : ℕ) (b : Activation) (after : GlobalStore)
     → RunsSilently (code_of p) count a b w after → IsStatementReady p b
 
 -- the instructions that write to the place of their operand
@@ -80,16 +80,16 @@ keeps_outputs w o bindings = not (may_write w) || has_place_inside o bindings
 -- ---- before which statements it stops
 
 -- not after a synchronous error, a system function, a stop or the end of the organization block
-abbrev pub is_going_on : Step → Bool
+abbrev pub is_going_on : StatementStep → Bool
 is_going_on (Went a w) = true
 is_going_on _ = false
 
 -- an instruction that jumps, calls or returns
-abbrev pub moves : Operation → Bool
-moves operation.Jump = true
-moves (operation.Call how) = true
-moves (operation.End how) = true
-moves _ = false
+abbrev pub is_control_transfer : Operation → Bool
+is_control_transfer operation.Jump = true
+is_control_transfer (operation.Call how) = true
+is_control_transfer (operation.End how) = true
+is_control_transfer _ = false
 
 -- a frame below the innermost one, to which a return goes; the outermost block has none
 abbrev pub has_caller : List Frame → Bool
@@ -100,12 +100,12 @@ has_caller (caller ∷ rest) = true
 -- peripheral place; a jump but JL; a call that is made of a function or function block; a return that
 -- is made from a block without an instance to its caller
 abbrev pub is_silent : Instr → Activation → Bool
-is_silent (Does use_db w o) a = not (moves w) && keeps_outputs w o a.running.frame.bindings
+is_silent (Does use_db w o) a = not (is_control_transfer w) && keeps_outputs w o a.running.frame.bindings
 is_silent (Jumps w target) a = true
 is_silent (Calls how block instance passings) a =
     is_call_made how a.running.regs.status.rlo && not (is_system_function block.kind)
 is_silent (Returns how) a =
-    is_ended how a.running.regs.status.rlo && not (is_some a.running.frame.instance)
+    is_return_made how a.running.regs.status.rlo && not (is_some a.running.frame.instance)
     && has_caller a.below
 is_silent _ a = false
 
@@ -116,20 +116,20 @@ stays_in_block (Returns how) = false
 stays_in_block _ = true
 
 -- the statement has an instruction of a kind
-abbrev pub is_of : (Instr → Activation → Bool) → Option Fetched → Activation → Bool
-is_of kind None a = false
-is_of kind (Some f) a = kind f.instr a
+abbrev pub is_statement_of_kind : (Instr → Activation → Bool) → Option Fetched → Activation → Bool
+is_statement_of_kind kind None a = false
+is_statement_of_kind kind (Some f) a = kind f.instr a
 
 -- the next statement is of a kind
-abbrev pub is_next : (Instr → Activation → Bool) → Code → Activation → Bool
-is_next kind code a = is_of kind (code.fetch a.running.frame.block a.running.frame.at) a
+abbrev pub is_next_statement_of_kind : (Instr → Activation → Bool) → Code → Activation → Bool
+is_next_statement_of_kind kind code a = is_statement_of_kind kind (code.fetch a.running.frame.block a.running.frame.at) a
 
 -- and the activation goes on after it
-abbrev pub goes_as : (Instr → Activation → Bool) → Code → Activation → World → Bool
-goes_as kind code a w = is_next kind code a && is_going_on (statement code a w)
+abbrev pub goes_on_by_kind : (Instr → Activation → Bool) → Code → Activation → GlobalStore → Bool
+goes_on_by_kind kind code a w = is_next_statement_of_kind kind code a && is_going_on (statement_step code a w)
 
 -- one such statement was executed, or nothing was done, since it isn't of the kind or doesn't go on
-abbrev pub GoesOrStays : Step → (kind : Bool) → (old new : Activation) (w after : World) → Bool → Type 0
+abbrev pub GoesOrStays : StatementStep → (kind : Bool) → (old new : Activation) (w after : GlobalStore) → Bool → Type 0
 GoesOrStays step kind old new w after true = GoesSilently step w new after
 GoesOrStays step kind old new w after false =
     (new ≡ old) × (after ≡ w) × ((kind && is_going_on step) ≡ false)

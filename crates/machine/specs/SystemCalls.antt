@@ -20,7 +20,7 @@ abbrev pub system_function : ℕ → Option (List Param)
 system_function number = option_map (map param_of_record) (system_params number)
 
 -- a system call: the numbers of its IN parameters, and what RET_VAL is bound to
-pub record Given : Type 0 where
+pub record SystemCallArguments : Type 0 where
   pub inputs : List ℕ
   pub result : Option Binding
 
@@ -52,17 +52,17 @@ result_from (p ∷ rest) index bindings =
     if p.section == section_out then slice_get bindings index else result_from rest (index + 1) bindings
 
 -- a call gives the numbers of the IN parameters as they are now, and what RET_VAL stands for
-abbrev pub given_by : List Param → List Binding → Local → Areas → Given
-given_by params bindings s m = record {
+abbrev pub system_call_arguments : List Param → List Binding → Local → Areas → SystemCallArguments
+system_call_arguments params bindings s m = record {
   inputs = inputs_from params 0 bindings s m;
   result = result_from params 0 bindings;
 }
 
 -- the same of an activation
-abbrev pub given_now : List Param → List Binding → Activation → Areas → Given
-given_now params bindings a m = given_by params bindings (local_of a.running) m
+abbrev pub arguments_of_activation : List Param → List Binding → Activation → Areas → SystemCallArguments
+arguments_of_activation params bindings a m = system_call_arguments params bindings (local_of a.running) m
 
 -- parameters are bound as in each call: the error is that of the first that can't be bound
-unfoldable pub system_call : List Param → List Passing → Local → Areas → Result Given ℕ
+unfoldable pub system_call : List Param → List Passing → Local → Areas → Result SystemCallArguments ℕ
 system_call params passings s m =
-    then_ok (param_bindings params passings s m) (λ bindings. Ok (given_by params bindings s m))
+    then_ok (param_bindings params passings s m) (λ bindings. Ok (system_call_arguments params bindings s m))

@@ -20,12 +20,12 @@ use Rattle.flat_code.specs.declared.operands.Operand.TheVariants as operand
 use Rattle.machine.specs.declared.places.Access.TheVariants.{Reading, Writing}
 use Rattle.machine.specs.declared.places.Location.{Location}
 use Rattle.machine.specs.ExecState.{Local, LocalMemory, then_ok}
-use Rattle.machine.specs.Places.{operand_location, read, absent, is_area_l, pointer_number, no_operand}
+use Rattle.machine.specs.Places.{operand_location, number_read_at, error_of_absent_place, is_area_l, pointer_number, no_operand}
 
 -- what a parameter of a function reads as: the number at its place, or its constant
 abbrev pub number_of_binding : Option Binding → Local → Areas → Result ℕ ℕ
 number_of_binding (Some (binding.Bound place width frame)) s m =
-    read (record { place = place; width = width; frame = frame }) s m
+    number_read_at (record { place = place; width = width; frame = frame }) s m
 number_of_binding (Some (binding.Constant value)) s m = Ok value
 number_of_binding _ s m = Err no_operand
 
@@ -34,14 +34,14 @@ unfoldable pub operand_number : Operand → Local → Areas → Result ℕ ℕ
 operand_number (operand.Literal value) s m = Ok value
 operand_number (operand.Parameter index width) s m =
     number_of_binding (slice_get s.inner.bindings index) s m
-operand_number o s m = then_ok (operand_location Reading o s m) (λ at. read at s m)
+operand_number o s m = then_ok (operand_location Reading o s m) (λ at. number_read_at at s m)
 
 -- the error of a timer or counter: its own where there is none of the number, and 21 for a digit
 -- above 9
-abbrev pub faulty : {A : Type 0} → ℕ → Result A TimerFault → Result A ℕ
-faulty code (Ok x) = Ok x
-faulty code (Err NoNumber) = Err code
-faulty code (Err BadBcd) = Err errors.bad_bcd
+abbrev pub with_timer_error : {A : Type 0} → ℕ → Result A TimerFault → Result A ℕ
+with_timer_error code (Ok x) = Ok x
+with_timer_error code (Err NoNumber) = Err code
+with_timer_error code (Err BadBcd) = Err errors.bad_bcd
 
 -- timers (kind 1) have the error 26, counters (kind 2) 27
 abbrev pub is_timer_kind : ℕ → Bool
@@ -50,20 +50,20 @@ is_timer_kind kind = kind == 1
 -- of a timer its output, of a counter whether its value is above 0
 unfoldable pub bit_of_numbered : (kind number : ℕ) → List Timer → List Counter → Result Bool ℕ
 bit_of_numbered kind number t n =
-    if is_timer_kind kind then faulty errors.no_timer (read_at_number (λ (timer : Timer). timer.output) t number)
-    else faulty errors.no_counter (read_at_number is_counting n number)
+    if is_timer_kind kind then with_timer_error errors.no_timer (read_at_number (λ (timer : Timer). timer.output) t number)
+    else with_timer_error errors.no_counter (read_at_number is_counting n number)
 
 -- of a timer the time left in units of its base, of a counter its value
 unfoldable pub value_of_numbered : (kind number : ℕ) → List Timer → List Counter → Result ℕ ℕ
 value_of_numbered kind number t n =
-    if is_timer_kind kind then faulty errors.no_timer (read_at_number units_left t number)
-    else faulty errors.no_counter (read_at_number (λ (counter : Counter). counter.value) n number)
+    if is_timer_kind kind then with_timer_error errors.no_timer (read_at_number units_left t number)
+    else with_timer_error errors.no_counter (read_at_number (λ (counter : Counter). counter.value) n number)
 
 -- the same in BCD
 unfoldable pub bcd_of_numbered : (kind number : ℕ) → List Timer → List Counter → Result ℕ ℕ
 bcd_of_numbered kind number t n =
-    if is_timer_kind kind then faulty errors.no_timer (read_at_number time_left t number)
-    else faulty errors.no_counter (read_at_number count_bcd n number)
+    if is_timer_kind kind then with_timer_error errors.no_timer (read_at_number time_left t number)
+    else with_timer_error errors.no_counter (read_at_number count_bcd n number)
 
 -- the number of a timer or counter: its own, or the word at a place
 unfoldable pub number_named : Operand → Local → Areas → Result ℕ ℕ
@@ -72,9 +72,9 @@ number_named (operand.NumberedBy kind from byte) s m = pointer_number from byte 
 number_named _ s m = Err no_operand
 
 -- the bit that is read as the number 0 or 1; an error stays
-abbrev pub is_one : Result ℕ ℕ → Result Bool ℕ
-is_one (Ok n) = Ok (n == 1)
-is_one (Err e) = Err e
+abbrev pub bit_of_number : Result ℕ ℕ → Result Bool ℕ
+bit_of_number (Ok n) = Ok (n == 1)
+bit_of_number (Err e) = Err e
 
 -- the bit that a check reads
 unfoldable pub checked_bit : Operand → Local → Areas → List Timer → List Counter → Result Bool ℕ
@@ -83,7 +83,7 @@ checked_bit (operand.NumberedBy kind from byte) s m t n =
     then_ok (pointer_number from byte widths.Word s m) (λ number. bit_of_numbered kind number t n)
 checked_bit (operand.OfStatus condition) s m t n =
     Ok (flag_value (flag_of condition) s.regs.status)
-checked_bit o s m t n = is_one (operand_number o s m)
+checked_bit o s m t n = bit_of_number (operand_number o s m)
 
 -- the number that L reads
 unfoldable pub load_value : Operand → Local → Areas → List Timer → List Counter → Result ℕ ℕ
@@ -113,5 +113,5 @@ stored_at at value s m =
     (number_written m at.place at.width value)
 
 -- a number written to a place
-unfoldable pub write : Location → ℕ → Local → Areas → Result LocalMemory ℕ
-write at value s m = ok_or (stored_at at value s m) (absent Writing at.place.area)
+unfoldable pub number_written_at : Location → ℕ → Local → Areas → Result LocalMemory ℕ
+number_written_at at value s m = ok_or (stored_at at value s m) (error_of_absent_place Writing at.place.area)

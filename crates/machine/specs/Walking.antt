@@ -14,7 +14,7 @@ use Rattle.flat_code.specs.Operations.{operation_of}
 use Rattle.machine.specs.Code.{Fetched}
 use Rattle.machine.specs.ExecState.{Local, then_ok}
 use Rattle.machine.specs.Bindings.{bound_for, no_bindings}
-use Rattle.machine.specs.Flat.{OpRun, use_db_of, use_db_first, list_of, most_ops, with_passing, instr_of}
+use Rattle.machine.specs.Flat.{OpRun, use_db_of, use_db_first, list_of, most_ops_of_statement, with_passing, instr_of}
 
 -- what a statement opens first, its last op, and the offset behind it
 pub record Walk : Type 0 where
@@ -23,14 +23,14 @@ pub record Walk : Type 0 where
   pub next : ℕ
 
 -- the first of two
-abbrev pub first_some : Option ℕ → Option ℕ → Option ℕ
-first_some None more = more
-first_some (Some number) more = Some number
+abbrev pub first_present : Option ℕ → Option ℕ → Option ℕ
+first_present None more = more
+first_present (Some number) more = Some number
 
 -- of a run of ops; what was opened before it counts first, then the first USEDB in it
 abbrev pub walk_with : Option ℕ → OpRun → Walk
 walk_with opens r = record {
-  opens = first_some opens (use_db_of r.before);
+  opens = first_present opens (use_db_of r.before);
   last = r.last;
   next = r.next;
 }
@@ -41,7 +41,7 @@ walk_by opens r = record { opens = opens; last = r.0; next = r.1 }
 
 -- what stands open after a further op
 abbrev pub opens_after : Option ℕ → Operand → Option ℕ
-opens_after opens o = first_some opens (use_db_first o None)
+opens_after opens o = first_present opens (use_db_first o None)
 
 -- the jump of a number in the list of a JL, or the list's end
 abbrev pub list_jump : (most : ℕ) → List OpData → (target at number : ℕ) → ℕ
@@ -74,7 +74,7 @@ bound_from (suc most) ops at params bindings s m =
 
 -- what all parameters stand for, by the ops of the statement at an offset
 abbrev pub bound_all : List OpData → ℕ → List Param → Local → Areas → Result (List Binding) ℕ
-bound_all ops at params s m = bound_from most_ops ops at params (no_bindings params) s m
+bound_all ops at params s m = bound_from most_ops_of_statement ops at params (no_bindings params) s m
 
 -- what a further op passes, and those behind it; the last op of a statement passes nothing
 abbrev pub passings_with : Option (OpData × ℕ) → (ℕ → List Passing) → List Passing
@@ -89,7 +89,7 @@ passings_up_to (suc most) ops at =
 
 -- what the statement at an offset passes
 abbrev pub passings_at : List OpData → ℕ → List Passing
-passings_at ops at = passings_up_to most_ops ops at
+passings_at ops at = passings_up_to most_ops_of_statement ops at
 
 -- the statement at an offset of a block, by what was found along its ops
 abbrev pub fetched_at : CodeBlock → ℕ → Walk → Fetched

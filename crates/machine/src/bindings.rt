@@ -1,7 +1,7 @@
 //! CALL: what each parameter of the called block stands for.
 ghost use Rattle.std.specs.Prelude.{◌≡◌, ◌≤◌, ◌<◌, length, slice_get, Ok, Err};
 ghost use Rattle.machine.specs.ExecState.{local_of};
-ghost use Rattle.machine.specs.Bindings.{param_access as access_of_param, bound_place as bound_place_of, passed_on as passed_on_of, bound_actual as bound_actual_of, bound_for as bound_for_of, no_bindings as unsupplied_of};
+ghost use Rattle.machine.specs.Bindings.{param_access as access_of_param, bound_place as bound_place_of, binding_of_caller as passed_on_of, bound_actual as bound_actual_of, bound_for as bound_for_of, no_bindings as unsupplied_of};
 
 use crate::data_blocks::is_loaded;
 use crate::places::{Access, Location, number_at, placed};

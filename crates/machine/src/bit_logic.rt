@@ -2,7 +2,7 @@
 ghost use Rattle.std.specs.Prelude.{◌≡◌, ◌<◌};
 ghost use Rattle.machine.specs.ExecState.{local_of, then_ok};
 ghost use Rattle.machine.specs.Outcomes.{ChangesLocalMemory, ChangesRunningRegs};
-ghost use Rattle.machine.specs.BitLogic.{checking, put_bit as put_bit_of, bit_before as bit_before_of, bit_after_set as bit_after_of, bit_as_number as number_of_bit, bit_assigned, assigned_at, bit_set_at as set_at_of, bit_set as bit_set_of, edge as edge_of};
+ghost use Rattle.machine.specs.BitLogic.{regs_after_bit_check, put_bit as put_bit_of, bit_before as bit_before_of, bit_after_set as bit_after_of, bit_as_number as number_of_bit, bit_assigned, assigned_at, bit_set_at as set_at_of, bit_set as bit_set_of, local_memory_after_edge as edge_of};
 
 use crate::places::{Access, Location, located, number_at, placed};
 use crate::relay::power_flow;
@@ -15,7 +15,7 @@ use status_word::Regs;
 use timers_counters::{Counters, Timers};
 
 /// A, AN, O, ON, X, XN.
-#[tactic(auto, unfolding(crate::specs::BitLogic::checking))]
+#[tactic(auto, unfolding(crate::specs::BitLogic::regs_after_bit_check))]
 #[inline(always)]
 pub(crate) fn check(
     with: Check,
@@ -25,7 +25,7 @@ pub(crate) fn check(
     t: &Timers,
     n: &Counters,
 ) -> Result<(), u8>
-    ensures { ChangesRunningRegs (checking with operand.now (local_of s.old) m.now t.now n.now)
+    ensures { ChangesRunningRegs (regs_after_bit_check with operand.now (local_of s.old) m.now t.now n.now)
         s.old s.new result }
 {
     let bit = tested(operand, s, m, t, n)?;
@@ -203,7 +203,7 @@ pub(crate) fn set_bit(
 }
 
 /// FP and FN.
-#[tactic(auto, unfolding(crate::specs::BitLogic::edge))]
+#[tactic(auto, unfolding(crate::specs::BitLogic::local_memory_after_edge))]
 #[inline(never)]
 pub(crate) fn edge(
     rising: bool,

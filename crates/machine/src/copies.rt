@@ -2,7 +2,7 @@
 ghost use Rattle.std.specs.Prelude.{◌≡◌, ◌≤◌, length};
 ghost use Rattle.machine.specs.ExecState.{local_memory_of};
 ghost use Rattle.machine.specs.Outcomes.{BecomesLocalMemory};
-ghost use Rattle.machine.specs.Copies.{comes_in as comes_in_of, goes_out as goes_out_of, in_instance as in_instance_of, number_put as put_of, number_copied, passed_to as passed_to_of, given_to as given_to_of, param_in as param_in_of, param_out as param_out_of, params_copied_in as params_in_of, params_out as params_out_of};
+ghost use Rattle.machine.specs.Copies.{is_copied_in as comes_in_of, is_copied_out as goes_out_of, instance_parameter_location as in_instance_of, number_stored as put_of, number_copied, actual_copied_to as passed_to_of, copied_to_actual as given_to_of, param_in as param_in_of, param_out as param_out_of, params_copied_in as params_in_of, params_out as params_out_of};
 
 use crate::loads::low;
 use crate::places::{Location, number_at};
@@ -61,7 +61,7 @@ fn copy(from: &Location, to: &Location, s: &mut Running, m: &mut Memory)
     put(to, number, s, m);
 }
 
-#[tactic(auto, unfolding(crate::specs::Copies::passed_to))]
+#[tactic(auto, unfolding(crate::specs::Copies::actual_copied_to))]
 fn passed_to(binding: Option<Binding>, to: &Location, s: &mut Running, m: &mut Memory)
     ensures { BecomesLocalMemory (passed_to_of binding to.now (local_memory_of s.old m.old)) s.old s.new m.new }
 {
@@ -85,7 +85,7 @@ fn passed_to(binding: Option<Binding>, to: &Location, s: &mut Running, m: &mut M
     }
 }
 
-#[tactic(auto, unfolding(crate::specs::Copies::given_to))]
+#[tactic(auto, unfolding(crate::specs::Copies::copied_to_actual))]
 fn given_to(from: &Location, binding: Option<Binding>, s: &mut Running, m: &mut Memory)
     ensures { BecomesLocalMemory (given_to_of from.now binding (local_memory_of s.old m.old)) s.old s.new m.new }
 {

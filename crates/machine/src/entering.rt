@@ -1,7 +1,7 @@
 //! CALL, UC and CC of a function or function block.
 ghost use Rattle.std.specs.Prelude.{◌≡◌, ◌<◌, ◌≤◌, length, None};
 ghost use Rattle.frames.specs.Activations.{block_entered, entry_fault, frames_of};
-ghost use Rattle.machine.specs.Entering.{at_block as at_block_of, di_of as di_of_instance, fresh as fresh_of, caller_at, instance_supplied, entered_if, Enters, LeavesCall};
+ghost use Rattle.machine.specs.Entering.{at_block as at_block_of, di_of as di_of_instance, called_frame as fresh_of, caller_at, instance_supplied, entry_or_stop, Enters, LeavesCall};
 
 use crate::copies::params_in;
 use flat_code::Param;
@@ -109,7 +109,7 @@ pub(crate) fn enter_if_room(
 ) -> Result<(), FrameFault>
     requires depth { length a.old.running.locals.starts ≡ length (frames_of a.old) }
     requires params { length called.now.params ≤ 60 }
-    ensures { LeavesCall (entered_if (entry_fault called.now.local_len a.old) called.now bindings.now next
+    ensures { LeavesCall (entry_or_stop (entry_fault called.now.local_len a.old) called.now bindings.now next
         a.old m.old) a.old a.new m.old m.new result }
 {
     if let Some(fault) = a.refuses(called.local_len) {

@@ -1,13 +1,13 @@
 //! Jumps: whether one is taken, and what it leaves of the registers.
 ghost use Rattle.std.specs.Prelude.{◌≡◌};
-ghost use Rattle.machine.specs.Jumps.{counted_down, is_jump_taken as is_taken_of, regs_after_jump as after_jump_of, rlo_tested, rlo_saved, br_tested, jump_goal as goes_to_of};
+ghost use Rattle.machine.specs.Jumps.{loop_counter_decremented, is_jump_taken as is_taken_of, regs_after_jump as after_jump_of, rlo_tested, rlo_saved, br_tested, jump_goal as goes_to_of};
 
 use flat_code::JumpOperation;
 use plc_base::Flag;
 use status_word::Regs;
 
 fn count_down(r: &mut Regs)
-    ensures { r.new ≡ counted_down r.old }
+    ensures { r.new ≡ loop_counter_decremented r.old }
 {
     alu::add_const(r, 0xFFFF);
 }

@@ -20,16 +20,16 @@ ghost use Rattle.machine.specs.Code.{Code, BlockHead};
 ghost use Rattle.machine.specs.Fitting.{SameSizes, IsMemoryOf};
 ghost use Rattle.machine.specs.Flat.{code_of};
 ghost use Rattle.machine.specs.ImageLaws.{ImageLaws};
-ghost use Rattle.machine.specs.Lasting.{FitsProgram, GoesOnFitting, IsStatementReady, Lasts, LeavesFit, first_frame, ob_block};
+ghost use Rattle.machine.specs.Lasting.{FitsProgram, GoesOnFitting, IsStatementReady, StepFitsAgain, LeavesFit, first_frame, ob_block};
 ghost use Rattle.machine.specs.Results.{GivesResult};
-ghost use Rattle.machine.specs.Statement.{World, step_found, statement, IsNotStuck, IsOutcomeOf};
+ghost use Rattle.machine.specs.Statement.{GlobalStore, step_found, statement_step, IsNotStuck, IsOutcomeOf};
 ghost use Rattle.machine.specs.Moved.{StatementsMove};
-ghost use Rattle.machine.specs.There.{is_complete};
+ghost use Rattle.machine.specs.There.{is_statement_complete};
 
 /// A statement that is there, with what it calls, goes.
 pub fn what_is_there_goes()
-    ensures { (c : Code) (a : Activation) (w : World)
-        → is_complete c (c.fetch a.running.frame.block a.running.frame.at) a.running.frame.block
+    ensures { (c : Code) (a : Activation) (w : GlobalStore)
+        → is_statement_complete c (c.fetch a.running.frame.block a.running.frame.at) a.running.frame.block
         ≡ true
         → IsNotStuck (step_found c (c.fetch a.running.frame.block a.running.frame.at) a w) }
 {}
@@ -63,11 +63,11 @@ pub fn what_fits_goes()
 /// Of a program that verifies an activation that fits does so again after each statement, whatever
 /// comes of it: by the statement's meaning, and by what a call of `statement` answers.
 pub fn what_fits_lasts()
-    ensures step { (p : Program) (a : Activation) (w : World)
-        → Verifies p → FitsProgram p w.memory a → Lasts p w (statement (code_of p) a w) }
-    ensures answer { (p : Program) (old new : Activation) (w after : World) (answer : Outcome)
+    ensures step { (p : Program) (a : Activation) (w : GlobalStore)
+        → Verifies p → FitsProgram p w.memory a → StepFitsAgain p w (statement_step (code_of p) a w) }
+    ensures answer { (p : Program) (old new : Activation) (w after : GlobalStore) (answer : Outcome)
         → Verifies p → FitsProgram p w.memory old
-        → IsOutcomeOf (statement (code_of p) old w) old new w after answer
+        → IsOutcomeOf (statement_step (code_of p) old w) old new w after answer
         → LeavesFit p w.memory after.memory new answer }
 {
     what_verifying_gives();

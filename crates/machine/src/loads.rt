@@ -3,7 +3,7 @@ ghost use Rattle.std.specs.Prelude.{◌≡◌, ◌<◌, ◌^◌, ◌%◌};
 ghost use Rattle.plc_base.specs.Widths.{bit_count};
 ghost use Rattle.machine.specs.ExecState.{local_of};
 ghost use Rattle.machine.specs.Outcomes.{ChangesLocalMemory, ChangesRunningRegs};
-ghost use Rattle.machine.specs.Loads.{loading, loading_bcd, number_transferred, transferring, with_accu_loaded as with_loaded_of, status_loaded, status_transferred};
+ghost use Rattle.machine.specs.Loads.{regs_after_load, regs_after_bcd_load, number_transferred, local_memory_after_transfer, with_accu_loaded as with_loaded_of, status_loaded, status_transferred};
 
 use crate::places::{Access, located, placed};
 use crate::values::{bcd_loaded, loaded, write};
@@ -23,7 +23,7 @@ pub(crate) fn put_loaded(r: &mut Regs, number: u32)
 }
 
 /// L.
-#[tactic(auto, unfolding(crate::specs::Loads::loading))]
+#[tactic(auto, unfolding(crate::specs::Loads::regs_after_load))]
 #[inline(always)]
 pub(crate) fn load(
     operand: &Operand,
@@ -32,7 +32,7 @@ pub(crate) fn load(
     t: &Timers,
     n: &Counters,
 ) -> Result<(), u8>
-    ensures { ChangesRunningRegs (loading operand.now (local_of s.old) m.now t.now n.now) s.old s.new result }
+    ensures { ChangesRunningRegs (regs_after_load operand.now (local_of s.old) m.now t.now n.now) s.old s.new result }
 {
     let number = loaded(operand, s, m, t, n)?;
     put_loaded(&mut s.regs, number);
@@ -40,7 +40,7 @@ pub(crate) fn load(
 }
 
 /// LC.
-#[tactic(auto, unfolding(crate::specs::Loads::loading_bcd))]
+#[tactic(auto, unfolding(crate::specs::Loads::regs_after_bcd_load))]
 #[inline(never)]
 pub(crate) fn load_bcd(
     operand: &Operand,
@@ -49,7 +49,7 @@ pub(crate) fn load_bcd(
     t: &Timers,
     n: &Counters,
 ) -> Result<(), u8>
-    ensures { ChangesRunningRegs (loading_bcd operand.now (local_of s.old) m.now t.now n.now)
+    ensures { ChangesRunningRegs (regs_after_bcd_load operand.now (local_of s.old) m.now t.now n.now)
         s.old s.new result }
 {
     let number = bcd_loaded(operand, s, m, t, n)?;
@@ -108,7 +108,7 @@ fn put_direct(
 /// T: accumulator 1, or 0 while the relay is closed.
 #[inline(always)]
 pub(crate) fn transfer(operand: &Operand, s: &mut Running, m: &mut Memory) -> Result<(), u8>
-    ensures { ChangesLocalMemory (transferring operand.now (local_of s.old) m.old)
+    ensures { ChangesLocalMemory (local_memory_after_transfer operand.now (local_of s.old) m.old)
         s.old s.new m.old m.new result }
 {
     let number = if s.frame.relay.is_closed() {

@@ -9,14 +9,14 @@ ghost use Rattle.timers_counters.specs.Counter.{Counter};
 ghost use Rattle.frames.specs.Activations.{frames_of};
 ghost use Rattle.flat_code.specs.Instr.{Calls, Returns};
 ghost use Rattle.machine.specs.Code.{Code};
-ghost use Rattle.machine.specs.Effect.{effect_with as does_with_of};
-ghost use Rattle.machine.specs.Entering.{call as call_of, called_with, going_on};
+ghost use Rattle.machine.specs.Effect.{statement_effect as does_with_of};
+ghost use Rattle.machine.specs.Entering.{block_call as call_of, call_with_bindings, activation_continued_at};
 ghost use Rattle.machine.specs.Flat.{code_of, jump_by_operation, is_jl as is_jl_of, instance_named as instance_named_of, instr_of, block_head_of};
 ghost use Rattle.machine.specs.Jumps.{regs_after_jump, jump_goal as goes_to_of, is_jump_taken as is_taken_of, rlo_tested};
 ghost use Rattle.machine.specs.ExecState.{local_of, exec_state_of};
 ghost use Rattle.machine.specs.Returning.{block_return};
-ghost use Rattle.machine.specs.Statement.{World, world, continue_with, return_made, call_step, after_return, after_system_call, called_block, cause_of as cause_of_fault, step_of, call_made, block_called, system_call_made, is_call_made as is_called_of, is_ended as is_ended_of, not_called, IsOutcomeOf, IsPerformed};
-ghost use Rattle.machine.specs.SystemCalls.{system_function as system_function_of, system_call, count_inputs, given_now};
+ghost use Rattle.machine.specs.Statement.{GlobalStore, global_store, continue_with, return_made, call_step, after_return, after_system_call, called_block, cause_of as cause_of_fault, instruction_step, call_made, block_called, system_call_made, is_call_made as is_called_of, is_return_made as is_ended_of, regs_after_call_not_made, IsOutcomeOf, IsPerformed};
+ghost use Rattle.machine.specs.SystemCalls.{system_function as system_function_of, system_call, count_inputs, arguments_of_activation};
 ghost use Rattle.machine.specs.Walking.{passings_at};
 ghost use Rattle.machine.specs.declared.outcomes.Outcome.{Outcome as OutcomeOf};
 
@@ -53,7 +53,7 @@ fn perform_plain(
 ) -> bool
     ensures { IsPerformed (continue_with (does_with_of opens operation operand.now
         (exec_state_of a.old.running m.old t.old n.old)) next a.old) next a.old a.new
-        (world m.old t.old n.old) (world m.new t.new n.new) result other.new }
+        (global_store m.old t.old n.old) (global_store m.new t.new n.new) result other.new }
 {
     match effect_with(opens, operation, operand, &mut a.running, m, t, n) {
         Ok(()) => {
@@ -82,7 +82,7 @@ fn perform_other(
 ) -> bool
     ensures { IsPerformed (continue_with (does_with_of opens operation operand.now
         (exec_state_of a.old.running m.old t.old n.old)) next a.old) next a.old a.new
-        (world m.old t.old n.old) (world m.new t.new n.new) result other.new }
+        (global_store m.old t.old n.old) (global_store m.new t.new n.new) result other.new }
 {
     perform_plain(opens, operation, operand, next, a, m, t, n, other)
 }
@@ -95,7 +95,7 @@ pub(crate) fn is_jl(operation: JumpOperation) -> bool
 
 // A jump, JL apart.
 fn jump_to(operation: JumpOperation, target: u32, next: u32, a: &mut Activation)
-    ensures { a.new ≡ going_on (goes_to_of (is_taken_of operation a.old.running.regs) target next)
+    ensures { a.new ≡ activation_continued_at (goes_to_of (is_taken_of operation a.old.running.regs) target next)
         (regs_after_jump operation a.old.running.regs) a.old }
 {
     let taken = is_taken(operation, &a.running.regs);
@@ -106,8 +106,8 @@ fn jump_to(operation: JumpOperation, target: u32, next: u32, a: &mut Activation)
 // A jump, JL among them. The activation goes on.
 #[inline(never)]
 fn jump(code: &LoadedCode<'_>, operation: JumpOperation, target: u32, next: u32, a: &mut Activation)
-    ensures { (c : Code) (w : World) (other : OutcomeOf) →
-        IsPerformed (step_of c (jump_by_operation operation target next code.now.code) next a.old w) next
+    ensures { (c : Code) (w : GlobalStore) (other : OutcomeOf) →
+        IsPerformed (instruction_step c (jump_by_operation operation target next code.now.code) next a.old w) next
         a.old a.new w w true other }
 {
     if is_jl(operation) {
@@ -144,7 +144,7 @@ fn instance_named(number: u16) -> Option<u16>
 
 // CC with RLO 0.
 fn pass_over_call(next: u32, a: &mut Activation)
-    ensures { a.new ≡ going_on next (not_called a.old.running.regs) a.old }
+    ensures { a.new ≡ activation_continued_at next (regs_after_call_not_made a.old.running.regs) a.old }
 {
     at_block(&mut a.running.regs);
     test_rlo(&mut a.running.regs);
@@ -153,7 +153,7 @@ fn pass_over_call(next: u32, a: &mut Activation)
 
 // BEC with RLO 0.
 fn pass_over_end(next: u32, a: &mut Activation)
-    ensures { a.new ≡ going_on next (rlo_tested a.old.running.regs) a.old }
+    ensures { a.new ≡ activation_continued_at next (rlo_tested a.old.running.regs) a.old }
 {
     test_rlo(&mut a.running.regs);
     a.running.frame.at = next;
@@ -181,8 +181,8 @@ fn call_block(
     requires depth { length a.old.running.locals.starts ≡ length (frames_of a.old) }
     requires params { length called.now.params ≤ 60 }
     ensures { (t : List Timer) (n : List Counter) →
-        IsPerformed (call_step (called_with (Ok bindings.now) called.now next a.old m.old) next a.old
-        (world m.old t n)) next a.old a.new (world m.old t n) (world m.new t n) result other.new }
+        IsPerformed (call_step (call_with_bindings (Ok bindings.now) called.now next a.old m.old) next a.old
+        (global_store m.old t n)) next a.old a.new (global_store m.old t n) (global_store m.new t n) result other.new }
 {
     match enter_if_room(called, bindings, next, a, m) {
         Ok(()) => true,
@@ -210,7 +210,7 @@ fn call_with(
     requires params { length called.now.params ≤ 60 }
     ensures { (t : List Timer) (n : List Counter) →
         IsPerformed (call_step (call_of called.now (passings_at code.now.code at) next a.old m.old) next
-        a.old (world m.old t n)) next a.old a.new (world m.old t n) (world m.new t n) result other.new }
+        a.old (global_store m.old t n)) next a.old a.new (global_store m.old t n) (global_store m.new t n) result other.new }
 {
     match bind_all(code, at, called.params, &a.running, m, spare) {
         Err(error) => {
@@ -237,8 +237,8 @@ fn call_loaded(
     requires depth { length a.old.running.locals.starts ≡ length (frames_of a.old) }
     ensures { (t : List Timer) (n : List Counter) →
         IsPerformed (call_step (call_of (called_block block instance (block_head_of callee.now))
-        (passings_at code.now.code at) next a.old m.old) next a.old (world m.old t n)) next
-        a.old a.new (world m.old t n) (world m.new t n) result other.new }
+        (passings_at code.now.code at) next a.old m.old) next a.old (global_store m.old t n)) next
+        a.old a.new (global_store m.old t n) (global_store m.new t n) result other.new }
 {
     let called = Callee {
         block,
@@ -265,8 +265,8 @@ fn call_code(
     requires depth { length a.old.running.locals.starts ≡ length (frames_of a.old) }
     ensures { (t : List Timer) (n : List Counter) →
         IsPerformed (block_called ((code_of c.now.program).head block) block instance
-        (passings_at code.now.code at) next a.old (world m.old t n)) next
-        a.old a.new (world m.old t n) (world m.new t n) result other.new }
+        (passings_at code.now.code at) next a.old (global_store m.old t n)) next
+        a.old a.new (global_store m.old t n) (global_store m.new t n) result other.new }
 {
     match c.block(block) {
         Some(callee) => call_loaded(&callee, code, at, block, instance, next, a, m, spare, other),
@@ -285,8 +285,8 @@ fn call_system(
 ) -> Outcome
     requires few { length params.now ≤ 4 }
     requires inputs { count_inputs params.now ≤ 3 }
-    ensures { (w : World) →
-        IsOutcomeOf (after_system_call (Ok (given_now params.now bindings.now a.old m.now)) number next
+    ensures { (w : GlobalStore) →
+        IsOutcomeOf (after_system_call (Ok (arguments_of_activation params.now bindings.now a.old m.now)) number next
         a.old) a.old a.new w w result }
 {
     let inputs = inputs_of(params, bindings, &a.running, m);
@@ -314,7 +314,7 @@ fn call_system_with(
 )
     requires few { length params.now ≤ 4 }
     requires inputs { count_inputs params.now ≤ 3 }
-    ensures { (w : World) →
+    ensures { (w : GlobalStore) →
         IsPerformed (after_system_call (system_call params.now (passings_at code.now.code at)
         (local_of a.old.running) m.now) number next a.old) next a.old a.new w w false other.new }
 {
@@ -337,7 +337,7 @@ fn call_function(
 )
     ensures { (t : List Timer) (n : List Counter) →
         IsPerformed (system_call_made (system_function_of number) number (passings_at code.now.code at)
-        next a.old (world m.now t n)) next a.old a.new (world m.now t n) (world m.now t n)
+        next a.old (global_store m.now t n)) next a.old a.new (global_store m.now t n) (global_store m.now t n)
         false other.new }
 {
     match system_function(number) {
@@ -372,7 +372,7 @@ fn call_any(
     requires depth { length a.old.running.locals.starts ≡ length (frames_of a.old) }
     ensures { (t : List Timer) (n : List Counter) →
         IsPerformed (call_made (code_of c.now.program) block instance (passings_at code.now.code at) next
-        a.old (world m.old t n)) next a.old a.new (world m.old t n) (world m.new t n)
+        a.old (global_store m.old t n)) next a.old a.new (global_store m.old t n) (global_store m.new t n)
         result other.new }
 {
     if block.kind.is_system_function() {
@@ -400,9 +400,9 @@ fn call(
 ) -> bool
     requires depth { length a.old.running.locals.starts ≡ length (frames_of a.old) }
     ensures { (t : List Timer) (n : List Counter) →
-        IsPerformed (step_of (code_of c.now.program)
-        (Calls how block instance (passings_at code.now.code at)) next a.old (world m.old t n)) next
-        a.old a.new (world m.old t n) (world m.new t n) result other.new }
+        IsPerformed (instruction_step (code_of c.now.program)
+        (Calls how block instance (passings_at code.now.code at)) next a.old (global_store m.old t n)) next
+        a.old a.new (global_store m.old t n) (global_store m.new t n) result other.new }
 {
     if is_called(how, a.running.regs.status.rlo) {
         call_any(c, code, at, block, instance, next, a, m, spare, other)
@@ -422,8 +422,8 @@ fn end_loaded(
 ) -> bool
     requires stands { a.old.left ≡ false }
     ensures { (next : ℕ) (t : List Timer) (n : List Counter) →
-        IsPerformed (return_made (Some (block_head_of code.now)) a.old (world m.old t n)) next
-        a.old a.new (world m.old t n) (world m.new t n) result other.new }
+        IsPerformed (return_made (Some (block_head_of code.now)) a.old (global_store m.old t n)) next
+        a.old a.new (global_store m.old t n) (global_store m.new t n) result other.new }
 {
     if return_from_block(code.params(), a, m) {
         true
@@ -438,7 +438,7 @@ fn end_any(c: &Loaded, a: &mut Activation, m: &mut Memory, other: &mut Outcome) 
     requires stands { a.old.left ≡ false }
     ensures { (next : ℕ) (t : List Timer) (n : List Counter) →
         IsPerformed (return_made ((code_of c.now.program).head a.old.running.frame.block) a.old
-        (world m.old t n)) next a.old a.new (world m.old t n) (world m.new t n) result other.new }
+        (global_store m.old t n)) next a.old a.new (global_store m.old t n) (global_store m.new t n) result other.new }
 {
     match c.block(a.running.frame.block) {
         Some(code) => end_loaded(&code, a, m, other),
@@ -458,8 +458,8 @@ fn end(
 ) -> bool
     requires stands { a.old.left ≡ false }
     ensures { (t : List Timer) (n : List Counter) →
-        IsPerformed (step_of (code_of c.now.program) (Returns how) next a.old (world m.old t n)) next
-        a.old a.new (world m.old t n) (world m.new t n) result other.new }
+        IsPerformed (instruction_step (code_of c.now.program) (Returns how) next a.old (global_store m.old t n)) next
+        a.old a.new (global_store m.old t n) (global_store m.new t n) result other.new }
 {
     if is_ended(how, a.running.regs.status.rlo) {
         end_any(c, a, m, other)
@@ -488,10 +488,10 @@ fn perform_op(
 ) -> bool
     requires stands { a.old.left ≡ false }
     requires depth { length a.old.running.locals.starts ≡ length (frames_of a.old) }
-    ensures { IsPerformed (step_of (code_of c.now.program)
+    ensures { IsPerformed (instruction_step (code_of c.now.program)
         (instr_of operation operand.now opens (passings_at code.now.code at) next code.now.code) next
-        a.old (world m.old t.old n.old)) next a.old a.new (world m.old t.old n.old)
-        (world m.new t.new n.new) result other.new }
+        a.old (global_store m.old t.old n.old)) next a.old a.new (global_store m.old t.old n.old)
+        (global_store m.new t.new n.new) result other.new }
 {
     match operation {
         Operation::Jump => match *operand {
@@ -540,10 +540,10 @@ fn perform_op_apart(
 ) -> bool
     requires stands { a.old.left ≡ false }
     requires depth { length a.old.running.locals.starts ≡ length (frames_of a.old) }
-    ensures { IsPerformed (step_of (code_of c.now.program)
+    ensures { IsPerformed (instruction_step (code_of c.now.program)
         (instr_of operation operand.now opens (passings_at code.now.code at) next code.now.code) next
-        a.old (world m.old t.old n.old)) next a.old a.new (world m.old t.old n.old)
-        (world m.new t.new n.new) result other.new }
+        a.old (global_store m.old t.old n.old)) next a.old a.new (global_store m.old t.old n.old)
+        (global_store m.new t.new n.new) result other.new }
 {
     perform_op(
         c, code, at, opens, operation, operand, next, a, m, t, n, spare, other,
@@ -564,9 +564,9 @@ pub(crate) fn perform(
 ) -> bool
     requires stands { a.old.left ≡ false }
     requires depth { length a.old.running.locals.starts ≡ length (frames_of a.old) }
-    ensures { IsPerformed (step_of (code_of c.now.program) f.now.instr f.now.next a.old
-        (world m.old t.old n.old)) f.now.next a.old a.new (world m.old t.old n.old)
-        (world m.new t.new n.new) result other.new }
+    ensures { IsPerformed (instruction_step (code_of c.now.program) f.now.instr f.now.next a.old
+        (global_store m.old t.old n.old)) f.now.next a.old a.new (global_store m.old t.old n.old)
+        (global_store m.new t.new n.new) result other.new }
 {
     let last = f.last;
     perform_op(
@@ -600,9 +600,9 @@ pub(crate) fn perform_apart(
 ) -> bool
     requires stands { a.old.left ≡ false }
     requires depth { length a.old.running.locals.starts ≡ length (frames_of a.old) }
-    ensures { IsPerformed (step_of (code_of c.now.program) f.now.instr f.now.next a.old
-        (world m.old t.old n.old)) f.now.next a.old a.new (world m.old t.old n.old)
-        (world m.new t.new n.new) result other.new }
+    ensures { IsPerformed (instruction_step (code_of c.now.program) f.now.instr f.now.next a.old
+        (global_store m.old t.old n.old)) f.now.next a.old a.new (global_store m.old t.old n.old)
+        (global_store m.new t.new n.new) result other.new }
 {
     let last = f.last;
     perform_op_apart(

@@ -2,7 +2,7 @@
 ghost use Rattle.std.specs.Prelude.{◌≡◌, ◌<◌, ◌^◌, Some, IfOk, IfSome};
 ghost use Rattle.plc_base.specs.Widths.{bit_count};
 ghost use Rattle.machine.specs.ExecState.{local_of};
-ghost use Rattle.machine.specs.Places.{error_of, innermost as innermost_of, open_block_location as in_register_of, open_area_location as in_area_of, absent as absent_of, location_number, read as read_of, direct_number as direct_of, pointer_number as pointer_of, is_aligned as is_aligned_of, at_pointer as at_pointer_of, by_pointer as by_pointer_of, in_named as in_named_of, area_location as placed_of, by_crossing as by_crossing_of, address_moved_by as moved_of, register_address as address_of, register_location as by_register_of, of_binding as of_binding_of, operand_location as located_of};
+ghost use Rattle.machine.specs.Places.{error_of, innermost_frame_index as innermost_of, open_block_location as in_register_of, open_area_location as in_area_of, error_of_absent_place as absent_of, location_number, number_read_at as read_of, direct_number as direct_of, pointer_number as pointer_of, is_aligned as is_aligned_of, location_at_pointer as at_pointer_of, pointer_location as by_pointer_of, location_in_named_area as in_named_of, area_location as placed_of, area_crossing_location as by_crossing_of, address_moved_by as moved_of, register_address as address_of, register_location as by_register_of, binding_location as of_binding_of, operand_location as located_of};
 
 use flat_code::Operand;
 use frames::{Binding, Locals, Running};
@@ -151,7 +151,7 @@ pub(crate) fn number_at(at: &Location, locals: &Locals, m: &Memory) -> Option<u3
 }
 
 /// The number at a place.
-#[tactic(auto, unfolding(crate::specs::Places::read))]
+#[tactic(auto, unfolding(crate::specs::Places::number_read_at))]
 #[inline(always)]
 pub(crate) fn read(at: &Location, s: &Running, m: &Memory) -> Result<u32, u8>
     ensures value { result ≡ read_of at.now (local_of s.now) m.now }
@@ -212,7 +212,7 @@ fn at_pointer(area: Area, width: Width, n: u32, s: &Running) -> Result<Location,
     in_area(area, ((n >> 3) % 0x1_0000) as u16, (n % 8) as u8, width, s)
 }
 
-#[tactic(auto, unfolding(crate::specs::Places::by_pointer))]
+#[tactic(auto, unfolding(crate::specs::Places::pointer_location))]
 fn by_pointer(access: Access, area: Area, width: Width, n: u32, s: &Running) -> Result<Location, u8>
     ensures { result ≡ by_pointer_of access area width n (local_of s.now) }
 {
@@ -236,7 +236,7 @@ fn in_named(access: Access, area: Area, width: Width, n: u32, s: &Running) -> Re
     )
 }
 
-#[tactic(auto, unfolding(crate::specs::Places::by_crossing))]
+#[tactic(auto, unfolding(crate::specs::Places::area_crossing_location))]
 fn by_crossing(
     access: Access,
     width: Width,

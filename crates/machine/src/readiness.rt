@@ -4,8 +4,8 @@ ghost use Rattle.frames.specs.Activations.{frames_of};
 ghost use Rattle.flat_code.specs.Instr.{Passing};
 ghost use Rattle.flat_code.specs.Ops.{OpData};
 ghost use Rattle.machine.specs.Flat.{code_of, block_head_of, instr_of, statement_fetched};
-ghost use Rattle.machine.specs.Statement.{World, statement as statement_of, IsNotStuck};
-ghost use Rattle.machine.specs.There.{is_callee as is_callee_of, is_there, is_complete, is_ready as is_ready_of};
+ghost use Rattle.machine.specs.Statement.{GlobalStore, statement_step as statement_of, IsNotStuck};
+ghost use Rattle.machine.specs.There.{is_block_callable as is_callee_of, is_called_block_there, is_statement_complete, is_activation_ready as is_ready_of};
 ghost use Rattle.flat_code.specs.Placed.{line_placed};
 
 use crate::fetching::Fetched;
@@ -31,7 +31,7 @@ fn is_callee(c: &Loaded, block: BlockId) -> bool
 fn is_op_there(c: &Loaded, own: BlockId, operation: Operation, operand: &Operand) -> bool
     ensures { (use_db : Option ℕ) (passings : List Passing) (next : ℕ) (ops : List OpData)
         → is_some ((code_of c.now.program).head own) ≡ true
-        → result ≡ is_there (code_of c.now.program)
+        → result ≡ is_called_block_there (code_of c.now.program)
         (instr_of operation operand.now use_db passings next ops) own }
 {
     match operation {
@@ -49,7 +49,7 @@ fn is_op_there(c: &Loaded, own: BlockId, operation: Operation, operand: &Operand
 // The same of a statement that was found.
 fn is_found_there(c: &Loaded, own: BlockId, f: &Fetched<'_>) -> bool
     requires { is_some ((code_of c.now.program).head own) ≡ true }
-    ensures { result ≡ is_there (code_of c.now.program) f.now.instr own }
+    ensures { result ≡ is_called_block_there (code_of c.now.program) f.now.instr own }
 {
     let last = f.last;
     is_op_there(c, own, last.operation(), &last.operand)
@@ -64,7 +64,7 @@ fn has_line(code: &LoadedCode<'_>, at: u32) -> bool
 // Whether a statement begins at an offset of a block, with what it needs.
 fn is_complete_at(c: &Loaded, code: &LoadedCode<'_>, own: BlockId, at: u32) -> bool
     requires { (code_of c.now.program).head own ≡ Some (block_head_of code.now) }
-    ensures { result ≡ is_complete (code_of c.now.program) (statement_fetched code.now at) own }
+    ensures { result ≡ is_statement_complete (code_of c.now.program) (statement_fetched code.now at) own }
 {
     if !has_line(code, at) {
         return false;
@@ -92,7 +92,7 @@ pub fn is_ready(c: &Loaded, a: &Activation) -> bool
     ensures depth { result ≡ true →
         (length a.now.running.locals.starts ≡ length (frames_of a.now)) }
     ensures there { result ≡ true →
-        ((w : World) → IsNotStuck (statement_of (code_of c.now.program) a.now w)) }
+        ((w : GlobalStore) → IsNotStuck (statement_of (code_of c.now.program) a.now w)) }
 {
     if a.left || a.running.locals.depth() != a.depth() {
         return false;

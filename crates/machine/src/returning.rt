@@ -1,6 +1,6 @@
 //! BE, BEU and BEC: the return from a block.
 ghost use Rattle.std.specs.Prelude.{◌≡◌, ◌≤◌, length, false};
-ghost use Rattle.machine.specs.Returning.{given_back, block_return, Returns, Left};
+ghost use Rattle.machine.specs.Returning.{outputs_copied_back, block_return, IsReturnOf, LeavesRunningBlock};
 
 use crate::copies::params_out;
 use crate::entering::at_block;
@@ -11,7 +11,7 @@ use plc_mem::Memory;
 // The parameters of a function block are copied out.
 fn give_back(params: &[Param], a: &mut Activation, m: &mut Memory)
     requires { length params.now ≤ 60 }
-    ensures { given_back a.old.running.frame.instance params.now a.old m.old
+    ensures { outputs_copied_back a.old.running.frame.instance params.now a.old m.old
         ≡ record { activation = a.new; memory = m.new } }
 {
     match a.running.frame.instance {
@@ -26,7 +26,7 @@ fn give_back(params: &[Param], a: &mut Activation, m: &mut Memory)
 // The innermost block is left; the answer says whether the caller goes on.
 fn leave(a: &mut Activation) -> bool
     requires { a.old.left ≡ false }
-    ensures { Left a.old a.new result }
+    ensures { LeavesRunningBlock a.old a.new result }
 {
     at_block(&mut a.running.regs);
     a.leave_block()
@@ -37,7 +37,7 @@ fn leave(a: &mut Activation) -> bool
 pub(crate) fn return_from_block(params: &[Param], a: &mut Activation, m: &mut Memory) -> bool
     requires stands { a.old.left ≡ false }
     requires params { length params.now ≤ 60 }
-    ensures { Returns (block_return params.now a.old m.old) a.old a.new m.new result }
+    ensures { IsReturnOf (block_return params.now a.old m.old) a.old a.new m.new result }
 {
     give_back(params, a, m);
     leave(a)

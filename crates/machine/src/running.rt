@@ -6,10 +6,10 @@ ghost use Rattle.flat_code.specs.Ops.{OpData};
 ghost use Rattle.flat_code.specs.declared.operations.Operation.TheVariants as operation;
 ghost use Rattle.frames.specs.declared.Activation.{Activation as ActivationOf};
 ghost use Rattle.image_file.specs.Readers.{block_by_id};
-ghost use Rattle.machine.specs.Flat.{code_of, instr_of, most_ops, op_run_at};
+ghost use Rattle.machine.specs.Flat.{code_of, instr_of, most_ops_of_statement, op_run_at};
 ghost use Rattle.machine.specs.Lasting.{IsStatementReady};
-ghost use Rattle.machine.specs.Silent.{GoesOrStays, RunsSilently, StaysReady, goes_as, has_caller as has_caller_of, shows_nothing, has_place_inside as has_place_inside_of, is_bound_inside as is_bound_inside_of, is_inside_area as is_inside_of, is_named_inside as is_named_inside_of, is_next, is_silent, is_still_inside, keeps_outputs as keeps_outputs_of, may_write as may_write_of, stays_in_block};
-ghost use Rattle.machine.specs.Statement.{IsNotStuck, step_of, statement, world};
+ghost use Rattle.machine.specs.Silent.{GoesOrStays, RunsSilently, StaysReady, goes_on_by_kind, has_caller as has_caller_of, shows_nothing, has_place_inside as has_place_inside_of, is_bound_inside as is_bound_inside_of, is_inside_area as is_inside_of, is_named_inside as is_named_inside_of, is_next_statement_of_kind, is_silent, is_still_inside, keeps_outputs as keeps_outputs_of, may_write as may_write_of, stays_in_block};
+ghost use Rattle.machine.specs.Statement.{IsNotStuck, instruction_step, statement_step, global_store};
 ghost use Rattle.machine.specs.Walking.{walk_with};
 
 use crate::fetching::Fetched;
@@ -197,11 +197,11 @@ fn pass(
     other: &mut Outcome,
 ) -> Silent
     requires ready { IsStatementReady c.now.program a.old }
-    requires there { IsNotStuck (step_of (code_of c.now.program) f.now.instr f.now.next a.old
-        (world m.old t.old n.old)) }
-    ensures goes { GoesOrStays (step_of (code_of c.now.program) f.now.instr f.now.next a.old
-        (world m.old t.old n.old)) (is_silent f.now.instr a.old) a.old a.new
-        (world m.old t.old n.old) (world m.new t.new n.new) (shows_nothing result) }
+    requires there { IsNotStuck (instruction_step (code_of c.now.program) f.now.instr f.now.next a.old
+        (global_store m.old t.old n.old)) }
+    ensures goes { GoesOrStays (instruction_step (code_of c.now.program) f.now.instr f.now.next a.old
+        (global_store m.old t.old n.old)) (is_silent f.now.instr a.old) a.old a.new
+        (global_store m.old t.old n.old) (global_store m.new t.new n.new) (shows_nothing result) }
     ensures block { is_still_inside result ≡ true
         → a.new.running.frame.block ≡ a.old.running.frame.block }
 {
@@ -230,11 +230,11 @@ fn pass_further(
     requires ready { IsStatementReady c.now.program a.old }
     requires block { block_by_id a.old.running.frame.block c.now.program.code_blocks ≡ Some code.now }
     requires walk { option_map (walk_with None)
-        (op_run_at most_ops code.now.code a.old.running.frame.at)
+        (op_run_at most_ops_of_statement code.now.code a.old.running.frame.at)
         ≡ option_map (walk_with opens) (op_run_at 63 code.now.code second) }
-    ensures goes { GoesOrStays (statement (code_of c.now.program) a.old (world m.old t.old n.old))
-        (is_next is_silent (code_of c.now.program) a.old) a.old a.new
-        (world m.old t.old n.old) (world m.new t.new n.new) (shows_nothing result) }
+    ensures goes { GoesOrStays (statement_step (code_of c.now.program) a.old (global_store m.old t.old n.old))
+        (is_next_statement_of_kind is_silent (code_of c.now.program) a.old) a.old a.new
+        (global_store m.old t.old n.old) (global_store m.new t.new n.new) (shows_nothing result) }
     ensures block { is_still_inside result ≡ true
         → a.new.running.frame.block ≡ a.old.running.frame.block }
 {
@@ -268,9 +268,9 @@ fn pass_statement(
 ) -> Silent
     requires ready { IsStatementReady c.now.program a.old }
     requires block { block_by_id a.old.running.frame.block c.now.program.code_blocks ≡ Some code.now }
-    ensures goes { GoesOrStays (statement (code_of c.now.program) a.old (world m.old t.old n.old))
-        (is_next is_silent (code_of c.now.program) a.old) a.old a.new
-        (world m.old t.old n.old) (world m.new t.new n.new) (shows_nothing result) }
+    ensures goes { GoesOrStays (statement_step (code_of c.now.program) a.old (global_store m.old t.old n.old))
+        (is_next_statement_of_kind is_silent (code_of c.now.program) a.old) a.old a.new
+        (global_store m.old t.old n.old) (global_store m.new t.new n.new) (shows_nothing result) }
     ensures block { is_still_inside result ≡ true
         → a.new.running.frame.block ≡ a.old.running.frame.block }
 {
@@ -306,13 +306,13 @@ fn run_inside(
     most: u64,
     spare: &mut Bindings,
 ) -> (u64, bool)
-    requires { StaysReady c.now.program a.old (world m.old t.old n.old) }
+    requires { StaysReady c.now.program a.old (global_store m.old t.old n.old) }
     ensures few { result.0 ≤ most }
     ensures more { result.1 ≡ true → 1 ≤ result.0 }
     ensures runs { RunsSilently (code_of c.now.program) result.0 a.old a.new
-        (world m.old t.old n.old) (world m.new t.new n.new) }
+        (global_store m.old t.old n.old) (global_store m.new t.new n.new) }
     ensures stops { result.1 ≡ false → result.0 < most
-        → goes_as is_silent (code_of c.now.program) a.new (world m.new t.new n.new)
+        → goes_on_by_kind is_silent (code_of c.now.program) a.new (global_store m.new t.new n.new)
         ≡ false }
 {
     let Some(code) = c.block(a.running.frame.block) else {
@@ -346,12 +346,12 @@ pub fn run(
     most: u64,
     spare: &mut Bindings,
 ) -> u64
-    requires { StaysReady c.now.program a.old (world m.old t.old n.old) }
+    requires { StaysReady c.now.program a.old (global_store m.old t.old n.old) }
     ensures few { result ≤ most }
     ensures runs { RunsSilently (code_of c.now.program) result a.old a.new
-        (world m.old t.old n.old) (world m.new t.new n.new) }
+        (global_store m.old t.old n.old) (global_store m.new t.new n.new) }
     ensures stops { result < most
-        → goes_as is_silent (code_of c.now.program) a.new (world m.new t.new n.new) ≡ false }
+        → goes_on_by_kind is_silent (code_of c.now.program) a.new (global_store m.new t.new n.new) ≡ false }
 {
     let mut done = 0;
     while done < most {

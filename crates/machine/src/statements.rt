@@ -2,7 +2,7 @@
 ghost use Rattle.std.specs.Prelude.{◌≡◌, length, false, Some, is_some, true};
 ghost use Rattle.frames.specs.Activations.{frames_of};
 ghost use Rattle.machine.specs.Flat.{code_of, statement_fetched};
-ghost use Rattle.machine.specs.Statement.{world, is_sync_error as is_error_of, statement as statement_of, step_found, step_of, IsNotStuck, IsOutcomeOf};
+ghost use Rattle.machine.specs.Statement.{global_store, is_sync_error as is_error_of, statement_step as statement_of, step_found, instruction_step, IsNotStuck, IsOutcomeOf};
 
 use crate::fetching::Fetched;
 use crate::outcomes::Outcome;
@@ -33,10 +33,10 @@ fn execute(
 ) -> Outcome
     requires stands { a.old.left ≡ false }
     requires depth { length a.old.running.locals.starts ≡ length (frames_of a.old) }
-    requires there { IsNotStuck (step_of (code_of c.now.program) f.now.instr f.now.next a.old
-        (world m.old t.old n.old)) }
-    ensures { IsOutcomeOf (step_of (code_of c.now.program) f.now.instr f.now.next a.old
-        (world m.old t.old n.old)) a.old a.new (world m.old t.old n.old) (world m.new t.new n.new)
+    requires there { IsNotStuck (instruction_step (code_of c.now.program) f.now.instr f.now.next a.old
+        (global_store m.old t.old n.old)) }
+    ensures { IsOutcomeOf (instruction_step (code_of c.now.program) f.now.instr f.now.next a.old
+        (global_store m.old t.old n.old)) a.old a.new (global_store m.old t.old n.old) (global_store m.new t.new n.new)
         result }
 {
     let mut other = Outcome::Went;
@@ -64,10 +64,10 @@ fn execute_at(
     requires stands { a.old.left ≡ false }
     requires depth { length a.old.running.locals.starts ≡ length (frames_of a.old) }
     requires there { IsNotStuck (step_found (code_of c.now.program)
-        (statement_fetched code.now a.old.running.frame.at) a.old (world m.old t.old n.old)) }
+        (statement_fetched code.now a.old.running.frame.at) a.old (global_store m.old t.old n.old)) }
     ensures { IsOutcomeOf (step_found (code_of c.now.program)
-        (statement_fetched code.now a.old.running.frame.at) a.old (world m.old t.old n.old))
-        a.old a.new (world m.old t.old n.old) (world m.new t.new n.new) result }
+        (statement_fetched code.now a.old.running.frame.at) a.old (global_store m.old t.old n.old))
+        a.old a.new (global_store m.old t.old n.old) (global_store m.new t.new n.new) result }
 {
     let at = a.running.frame.at;
     match walk_from(code, at) {
@@ -89,7 +89,7 @@ fn execute_at(
 /// and counters, over the code of a loaded program. A frame stands, as many frames have local data
 /// as stand, and nothing that the statement needs is missing, as in an activation that fits. `spare`
 /// is room for what the parameters of a call stand for; what it holds before and after says nothing.
-#[tactic(auto, unfolding(crate::specs::Statement::statement))]
+#[tactic(auto, unfolding(crate::specs::Statement::statement_step))]
 pub fn statement(
     c: &Loaded,
     m: &mut Memory,
@@ -101,9 +101,9 @@ pub fn statement(
     requires stands { a.old.left ≡ false }
     requires depth { length a.old.running.locals.starts ≡ length (frames_of a.old) }
     requires there { IsNotStuck (statement_of (code_of c.now.program) a.old
-        (world m.old t.old n.old)) }
-    ensures { IsOutcomeOf (statement_of (code_of c.now.program) a.old (world m.old t.old n.old))
-        a.old a.new (world m.old t.old n.old) (world m.new t.new n.new) result }
+        (global_store m.old t.old n.old)) }
+    ensures { IsOutcomeOf (statement_of (code_of c.now.program) a.old (global_store m.old t.old n.old))
+        a.old a.new (global_store m.old t.old n.old) (global_store m.new t.new n.new) result }
 {
     match c.block(a.running.frame.block) {
         Some(code) => execute_at(c, &code, a, m, t, n, spare),

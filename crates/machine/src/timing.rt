@@ -1,7 +1,7 @@
 //! Timers and counters: SP SE SD SS SF, CU, CD, S of a counter, R and FR of both.
 ghost use Rattle.std.specs.Prelude.{◌≡◌};
 ghost use Rattle.machine.specs.ExecState.{local_of};
-ghost use Rattle.machine.specs.Timing.{start_word as word_of_own, logic_string_ended, timer_start, timer_reset, timer_freed, counting_up, counting_down, counter_set, counter_reset, counter_freed, Times};
+ghost use Rattle.machine.specs.Timing.{start_word as word_of_own, logic_string_ended, timer_start, timer_reset, timer_freed, counting_up, counting_down, counter_set, counter_reset, counter_freed, HasTimerOrCounterEffect};
 
 use crate::values::{fault_code, number_named};
 use flat_code::Operand;
@@ -35,7 +35,7 @@ pub(crate) fn start(
     m: &Memory,
     t: &mut Timers,
 ) -> Result<(), u8>
-    ensures { Times (timer_start how operand.now (local_of s.old) m.now t.old)
+    ensures { HasTimerOrCounterEffect (timer_start how operand.now (local_of s.old) m.now t.old)
         s.old s.new t.old t.new result }
 {
     let number = number_named(operand, s, m)?;
@@ -56,7 +56,7 @@ pub(crate) fn reset_timer(
     m: &Memory,
     t: &mut Timers,
 ) -> Result<(), u8>
-    ensures { Times (timer_reset operand.now (local_of s.old) m.now t.old)
+    ensures { HasTimerOrCounterEffect (timer_reset operand.now (local_of s.old) m.now t.old)
         s.old s.new t.old t.new result }
 {
     let number = number_named(operand, s, m)?;
@@ -77,7 +77,7 @@ pub(crate) fn free_timer(
     m: &Memory,
     t: &mut Timers,
 ) -> Result<(), u8>
-    ensures { Times (timer_freed operand.now (local_of s.old) m.now t.old)
+    ensures { HasTimerOrCounterEffect (timer_freed operand.now (local_of s.old) m.now t.old)
         s.old s.new t.old t.new result }
 {
     let number = number_named(operand, s, m)?;
@@ -98,7 +98,7 @@ pub(crate) fn count_up(
     m: &Memory,
     n: &mut Counters,
 ) -> Result<(), u8>
-    ensures { Times (counting_up operand.now (local_of s.old) m.now n.old)
+    ensures { HasTimerOrCounterEffect (counting_up operand.now (local_of s.old) m.now n.old)
         s.old s.new n.old n.new result }
 {
     let number = number_named(operand, s, m)?;
@@ -119,7 +119,7 @@ pub(crate) fn count_down(
     m: &Memory,
     n: &mut Counters,
 ) -> Result<(), u8>
-    ensures { Times (counting_down operand.now (local_of s.old) m.now n.old)
+    ensures { HasTimerOrCounterEffect (counting_down operand.now (local_of s.old) m.now n.old)
         s.old s.new n.old n.new result }
 {
     let number = number_named(operand, s, m)?;
@@ -140,7 +140,7 @@ pub(crate) fn set_counter(
     m: &Memory,
     n: &mut Counters,
 ) -> Result<(), u8>
-    ensures { Times (counter_set operand.now (local_of s.old) m.now n.old)
+    ensures { HasTimerOrCounterEffect (counter_set operand.now (local_of s.old) m.now n.old)
         s.old s.new n.old n.new result }
 {
     let number = number_named(operand, s, m)?;
@@ -161,7 +161,7 @@ pub(crate) fn reset_counter(
     m: &Memory,
     n: &mut Counters,
 ) -> Result<(), u8>
-    ensures { Times (counter_reset operand.now (local_of s.old) m.now n.old)
+    ensures { HasTimerOrCounterEffect (counter_reset operand.now (local_of s.old) m.now n.old)
         s.old s.new n.old n.new result }
 {
     let number = number_named(operand, s, m)?;
@@ -182,7 +182,7 @@ pub(crate) fn free_counter(
     m: &Memory,
     n: &mut Counters,
 ) -> Result<(), u8>
-    ensures { Times (counter_freed operand.now (local_of s.old) m.now n.old)
+    ensures { HasTimerOrCounterEffect (counter_freed operand.now (local_of s.old) m.now n.old)
         s.old s.new n.old n.new result }
 {
     let number = number_named(operand, s, m)?;

@@ -4,7 +4,7 @@ ghost use Rattle.plc_base.specs.Widths.{bit_count};
 ghost use Rattle.flat_code.specs.Kinds.{flag_of as flag_of_condition};
 ghost use Rattle.machine.specs.ExecState.{local_of};
 ghost use Rattle.machine.specs.Outcomes.{ChangesLocalMemory};
-ghost use Rattle.machine.specs.Values.{number_of_binding as number_of_binding_of, operand_number as number_of, bit_of_numbered as bit_of_numbered_of, value_of_numbered as value_of_numbered_of, bcd_of_numbered as bcd_of_numbered_of, number_named as number_named_of, bcd_loaded as bcd_loaded_of, faulty, checked_bit as tested_of, load_value as loaded_of, is_one, write as write_of};
+ghost use Rattle.machine.specs.Values.{number_of_binding as number_of_binding_of, operand_number as number_of, bit_of_numbered as bit_of_numbered_of, value_of_numbered as value_of_numbered_of, bcd_of_numbered as bcd_of_numbered_of, number_named as number_named_of, bcd_loaded as bcd_loaded_of, with_timer_error, checked_bit as tested_of, load_value as loaded_of, bit_of_number, number_written_at as write_of};
 
 use crate::places::{Access, Location, located, number_from, placed, read};
 use flat_code::{CONDITIONS, Operand};
@@ -72,7 +72,7 @@ fn direct_number(
 
 /// The code of a fault of a timer or counter, where `code` is that of a number that there isn't.
 pub(crate) fn fault_code(fault: TimerFault, code: u8) -> u8
-    ensures { faulty {A = ℕ} code (Err fault) ≡ Err result }
+    ensures { with_timer_error {A = ℕ} code (Err fault) ≡ Err result }
 {
     match fault {
         TimerFault::NoNumber => code,
@@ -81,7 +81,7 @@ pub(crate) fn fault_code(fault: TimerFault, code: u8) -> u8
 }
 
 fn bit_or(found: Result<bool, TimerFault>, code: u8) -> Result<bool, u8>
-    ensures { result ≡ faulty code found }
+    ensures { result ≡ with_timer_error code found }
 {
     match found {
         Ok(bit) => Ok(bit),
@@ -90,7 +90,7 @@ fn bit_or(found: Result<bool, TimerFault>, code: u8) -> Result<bool, u8>
 }
 
 fn number_or(found: Result<u16, TimerFault>, code: u8) -> Result<u32, u8>
-    ensures { result ≡ faulty code found }
+    ensures { result ≡ with_timer_error code found }
 {
     match found {
         Ok(number) => Ok(u32::from(number)),
@@ -154,7 +154,7 @@ fn flag_of(condition: u8) -> Flag
 
 #[inline(never)]
 fn bit(operand: &Operand, s: &Running, m: &Memory) -> Result<bool, u8>
-    ensures { result ≡ is_one (number_of operand.now (local_of s.now) m.now) }
+    ensures { result ≡ bit_of_number (number_of operand.now (local_of s.now) m.now) }
 {
     Ok(number(operand, s, m)? == 1)
 }
@@ -186,7 +186,7 @@ fn tested_elsewhere(
 // own.
 #[inline(always)]
 fn direct_bit(area: Area, byte: u16, bit: u8, s: &Running, m: &Memory) -> Result<bool, u8>
-    ensures { result ≡ is_one (number_of (Operand.Direct area Width.Bit byte bit)
+    ensures { result ≡ bit_of_number (number_of (Operand.Direct area Width.Bit byte bit)
         (local_of s.now) m.now) }
 {
     let number = match area {
@@ -291,7 +291,7 @@ pub(crate) fn bcd_loaded(
 }
 
 /// Writes a number to a place.
-#[tactic(auto, unfolding(crate::specs::Values::write))]
+#[tactic(auto, unfolding(crate::specs::Values::number_written_at))]
 #[inline(always)]
 pub(crate) fn write(at: &Location, value: u32, s: &mut Running, m: &mut Memory) -> Result<(), u8>
     requires { value < 2 ^ bit_count at.now.width }

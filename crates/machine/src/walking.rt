@@ -4,7 +4,7 @@ ghost use Rattle.std.specs.Option.{option_map};
 ghost use Rattle.flat_code.specs.Kinds.{jump_of_number as jump_of_kind};
 ghost use Rattle.flat_code.specs.Placed.{op_placed};
 ghost use Rattle.machine.specs.ExecState.{local_of};
-ghost use Rattle.machine.specs.Flat.{op_run_at, most_ops, list_of, most_listed};
+ghost use Rattle.machine.specs.Flat.{op_run_at, most_ops_of_statement, list_of, most_listed};
 ghost use Rattle.machine.specs.Jumps.{list_goal};
 ghost use Rattle.machine.specs.Walking.{walk_with, walk_by, opens_after as opens_after_op, bound_all, binding_by};
 
@@ -57,7 +57,7 @@ pub(crate) fn opens_after(opens: Option<u16>, operand: &Operand) -> Option<u16>
 #[tactic(auto, using(crate::proofs::Walks::walk_nowhere, crate::proofs::Walks::first_ends, crate::proofs::Walks::first_goes_on))]
 #[inline(always)]
 pub(crate) fn walk_from(code: &LoadedCode<'_>, at: u32) -> Option<Walk>
-    ensures { result ≡ option_map (walk_with None) (op_run_at most_ops code.now.code at) }
+    ensures { result ≡ option_map (walk_with None) (op_run_at most_ops_of_statement code.now.code at) }
 {
     let (op, next) = code.op(at)?;
     if op.last {

@@ -2,7 +2,7 @@
 ghost use Rattle.std.specs.Prelude.{◌≡◌};
 ghost use Rattle.machine.specs.ExecState.{exec_state_of};
 ghost use Rattle.machine.specs.Outcomes.{ChangesExecState};
-ghost use Rattle.machine.specs.Effect.{effect as does_of, effect_with as does_with_of, kind_named as kind_named_of, set_of, reset_of, free_of, with_db};
+ghost use Rattle.machine.specs.Effect.{operation_effect as does_of, statement_effect as does_with_of, kind_of_numbered_operand as kind_named_of, set_effect, reset_effect, enable_effect, with_db_opened};
 
 use crate::bit_logic::{assign, check, edge, set_bit};
 use crate::data_blocks::{exchange, is_loaded, load_open_block, open};
@@ -41,7 +41,7 @@ fn set(
     t: &Timers,
     n: &mut Counters,
 ) -> Result<(), u8>
-    ensures { ChangesExecState (set_of (kind_named_of operand.now) operand.now
+    ensures { ChangesExecState (set_effect (kind_named_of operand.now) operand.now
         (exec_state_of s.old m.old t.now n.old))
         s.old s.new m.old m.new t.now t.now n.old n.new result }
 {
@@ -61,7 +61,7 @@ fn reset(
     t: &mut Timers,
     n: &mut Counters,
 ) -> Result<(), u8>
-    ensures { ChangesExecState (reset_of (kind_named_of operand.now) operand.now
+    ensures { ChangesExecState (reset_effect (kind_named_of operand.now) operand.now
         (exec_state_of s.old m.old t.old n.old))
         s.old s.new m.old m.new t.old t.new n.old n.new result }
 {
@@ -82,7 +82,7 @@ fn free(
     t: &mut Timers,
     n: &mut Counters,
 ) -> Result<(), u8>
-    ensures { ChangesExecState (free_of (kind_named_of operand.now) operand.now
+    ensures { ChangesExecState (enable_effect (kind_named_of operand.now) operand.now
         (exec_state_of s.old m.now t.old n.old))
         s.old s.new m.now m.now t.old t.new n.old n.new result }
 {
@@ -94,7 +94,7 @@ fn free(
 }
 
 /// An instruction that touches no position.
-#[tactic(auto, unfolding(crate::specs::Effect::effect), using(crate::proofs::Lifts::checks_meet, crate::proofs::Lifts::changes_meet, crate::proofs::Lifts::turns_meet, crate::proofs::Lifts::acts_meet, crate::proofs::Lifts::times_meet, crate::proofs::Lifts::counts_meet))]
+#[tactic(auto, unfolding(crate::specs::Effect::operation_effect), using(crate::proofs::Lifts::checks_meet, crate::proofs::Lifts::changes_meet, crate::proofs::Lifts::turns_meet, crate::proofs::Lifts::acts_meet, crate::proofs::Lifts::times_meet, crate::proofs::Lifts::counts_meet))]
 #[inline(always)]
 pub(crate) fn effect(
     operation: Operation,
@@ -200,7 +200,7 @@ fn effect_opened(
     t: &mut Timers,
     n: &mut Counters,
 ) -> Result<(), u8>
-    ensures { ChangesExecState (does_of operation operand.now (with_db number (exec_state_of s.old m.old t.old n.old)))
+    ensures { ChangesExecState (does_of operation operand.now (with_db_opened number (exec_state_of s.old m.old t.old n.old)))
         s.old s.new m.old m.new t.old t.new n.old n.new result }
 {
     let before = s.frame.db;
@@ -215,7 +215,7 @@ fn effect_opened(
 }
 
 /// An instruction that touches no position, with the data block that its statement opens.
-#[tactic(auto, unfolding(crate::specs::Effect::effect_with))]
+#[tactic(auto, unfolding(crate::specs::Effect::statement_effect))]
 #[inline(always)]
 pub(crate) fn effect_with(
     opens: Option<u16>,

@@ -4,5 +4,5 @@ use Rattle.circular_buffer.specs.Buffer.{keep_last}
 use Rattle.monitor.specs.declared.records.DiagRecord.{DiagRecord}
 
 -- one more record (manual: the diagnostic buffer is a ring buffer); of more than 100 the last 100 stay
-abbrev pub latest : List DiagRecord → DiagRecord → List DiagRecord
-latest records newest = keep_last 100 (records ++ newest ∷ [])
+abbrev pub last_records : List DiagRecord → DiagRecord → List DiagRecord
+last_records records newest = keep_last 100 (records ++ newest ∷ [])

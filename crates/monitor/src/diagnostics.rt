@@ -1,6 +1,6 @@
 //! The last records of diagnostics.
 ghost use Rattle.std.specs.Prelude.{◌≡◌, [], ◌≤◌, length, IfOk};
-ghost use Rattle.monitor.specs.Diagnostics.{latest};
+ghost use Rattle.monitor.specs.Diagnostics.{last_records};
 
 use crate::records::DiagRecord;
 use arrayvec::ArrayVec;
@@ -84,7 +84,7 @@ impl DiagRing {
 
     /// One more record. Where 100 stand the oldest goes.
     pub fn push(&mut self, newest: DiagRecord)
-        ensures { self.new ≡ latest self.old newest }
+        ensures { self.new ≡ last_records self.old newest }
     {
         self.ring.push_back(newest);
     }

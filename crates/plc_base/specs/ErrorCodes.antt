@@ -23,8 +23,8 @@ abbrev pub no_counter : ℕ
 no_counter = 0x27
 
 -- a byte, word or double word at a pointer whose bit isn't 0, to read; to write 16#29
-abbrev pub unaligned : ℕ
-unaligned = 0x28
+abbrev pub alignment_error : ℕ
+alignment_error = 0x28
 
 -- no data block is open in the DB register
 abbrev pub no_db_open : ℕ

@@ -5,7 +5,7 @@ use Rattle.std.specs.Prelude.{if◌then◌else◌, position, unwrap_or}
 use Rattle.std.proofs.lemmas.Iterator.Adapters.{position_from-zero}
 use Rattle.std.proofs.lemmas.Slice.Eq.{bytes_eq-Decides}
 use Rattle.plc_io.specs.NamedFiles.{bytes_of, contents_of, sure_contents_of, with_file, EachNameOnce}
-use Rattle.plc_io.specs.Contents.{Agrees, SameElsewhere}
+use Rattle.plc_io.specs.Contents.{FileHoldsBytes, SameElsewhere}
 
 -- names that the test calls equal are equal, and a name equals itself
 same_name : (a b : List ℕ) → bytes_eq a b ≡ true → a ≡ b
@@ -115,11 +115,11 @@ sure_contents_of-with_file old new name bytes put = record {
 
 -- the file that was put, in those contents
 pub Agrees-with_file : (old new : List (List ℕ × List ℕ)) (name bytes : List ℕ) → new ≡ with_file old name bytes
-    → Agrees (contents_of new) name bytes
+    → FileHoldsBytes (contents_of new) name bytes
 Agrees-with_file old new name bytes put told =
     ap (λ (files : List (List ℕ × List ℕ)). bytes_of files name) put ∙ bytes_of-with_file old name bytes
 
 pub sure_Agrees-with_file : (old new : List (List ℕ × List ℕ)) (name bytes : List ℕ) → new ≡ with_file old name bytes
-    → Agrees (sure_contents_of new) name bytes
+    → FileHoldsBytes (sure_contents_of new) name bytes
 sure_Agrees-with_file old new name bytes put told =
     ap (λ (o : Option (List ℕ)). Some (unwrap_or o [])) (Agrees-with_file old new name bytes put told)

@@ -5,20 +5,20 @@ use Rattle.std.proofs.lemmas.Bool.Decides.{nat_tests}
 use Rattle.std.proofs.Math.Seq.{take-add}
 use Rattle.std.proofs.lemmas.List.{append-nil, length-take-le, take_rest}
 use Rattle.plc_io.specs.Contents.{Contents, ReadsFrom, SameFiles}
-use Rattle.plc_io.specs.Counts.{CountsAt, Rose, SameCounts, last_count}
+use Rattle.plc_io.specs.Counts.{CountsFailureByName, CountRose, SameCounts, last_count}
 use Rattle.plc_io.specs.Moments.{SinkAt}
-use Rattle.plc_io.specs.Taken.{Offered, Took, TookFront}
+use Rattle.plc_io.specs.Taken.{OfferedPiece, TookBytes, TookFront}
 use Rattle.plc_io.specs.declared.faults.IoFault.{IoFault}
 use Rattle.plc_io.specs.declared.faults.IoFault.TheVariants.{Failed, NoMemory}
 
 -- what it means that a count rose
-pub Rose-greater : (before now : ℕ) → before < now → Rose before now
+pub Rose-greater : (before now : ℕ) → before < now → CountRose before now
 Rose-greater before now greater = omega arith
 
-pub Rose-last : (before now : ℕ) → now ≡ last_count → Rose before now
+pub Rose-last : (before now : ℕ) → now ≡ last_count → CountRose before now
 Rose-last before now last = omega arith
 
-pub Rose-cases : (before now : ℕ) → Rose before now → (before < now) ⊎ (last_count ≤ now)
+pub Rose-cases : (before now : ℕ) → CountRose before now → (before < now) ⊎ (last_count ≤ now)
 Rose-cases before now rose =
     elim (nat_lt before now) as (λ t. nat_lt before now ≡ t → (before < now) ⊎ (last_count ≤ now)) [
       | true ↦ λ less. inl (grind (arith, nat_tests))
@@ -35,21 +35,21 @@ pub SameCounts-trans : (a b c : List ℕ → ℕ) → SameCounts a b → SameCou
 SameCounts-trans a b c p q name = q name ∙ p name
 
 -- calls that changed no count, and then one more
-pub CountsAt-after : {X : Type 0} (a b c : List ℕ → ℕ) (name : List ℕ) (r : Result X IoFault) → SameCounts a b → CountsAt b c name r → CountsAt a c name r
+pub CountsAt-after : {X : Type 0} (a b c : List ℕ → ℕ) (name : List ℕ) (r : Result X IoFault) → SameCounts a b → CountsFailureByName b c name r → CountsFailureByName a c name r
 CountsAt-after a b c name (Ok x) same counts = SameCounts-trans a b c same counts
 CountsAt-after a b c name (Err Failed) same counts = (λ m. omega (arith, same m, counts.0 m), omega (arith, same name, counts.1))
 CountsAt-after a b c name (Err NoMemory) same counts = SameCounts-trans a b c same counts
 
 -- the same of a failure that is handed on with another type of value
 CountsAt-failed : (X Y : Type 0) (a b c : List ℕ → ℕ) (name : List ℕ) (e : IoFault) → SameCounts a b
-    → CountsAt {X = X} b c name (Err e) → CountsAt {X = Y} a c name (Err e)
+    → CountsFailureByName {X = X} b c name (Err e) → CountsFailureByName {X = Y} a c name (Err e)
 CountsAt-failed X Y a b c name Failed same counts = (λ m. omega (arith, same m, counts.0 m), omega (arith, same name, counts.1))
 CountsAt-failed X Y a b c name NoMemory same counts = SameCounts-trans a b c same counts
 
 pub CountsAt-handed : (X Y : Type 0) (a b c : List ℕ → ℕ) (name : List ℕ) (e : IoFault) (r : Result Y IoFault) → SameCounts a b
-    → CountsAt {X = X} b c name (Err e) → r ≡ Err e → CountsAt a c name r
+    → CountsFailureByName {X = X} b c name (Err e) → r ≡ Err e → CountsFailureByName a c name r
 CountsAt-handed X Y a b c name e r same counts handed =
-    subst (λ (s : Result Y IoFault). CountsAt a c name s) (sym handed) (CountsAt-failed X Y a b c name e same counts)
+    subst (λ (s : Result Y IoFault). CountsFailureByName a c name s) (sym handed) (CountsAt-failed X Y a b c name e same counts)
 
 -- two pieces were taken one after the other
 joined : (a b c : Option (List ℕ)) (xs ys : List ℕ) → b ≡ option_map (λ had. had ++ xs) a → c ≡ option_map (λ had. had ++ ys) b
@@ -57,7 +57,7 @@ joined : (a b c : Option (List ℕ)) (xs ys : List ℕ) → b ≡ option_map (λ
 joined None b c xs ys p q = q ∙ ap (option_map (λ had. had ++ ys)) p
 joined (Some had) b c xs ys p q = q ∙ ap (option_map (λ had. had ++ ys)) p ∙ ap Some (append_assoc had xs ys)
 
-pub Took-append : (a b c : SinkAt) (xs ys : List ℕ) → Took a b xs → Took b c ys → Took a c (xs ++ ys)
+pub Took-append : (a b c : SinkAt) (xs ys : List ℕ) → TookBytes a b xs → TookBytes b c ys → TookBytes a c (xs ++ ys)
 Took-append a b c xs ys p q = joined a.taken b.taken c.taken xs ys p q
 
 -- nothing was taken
@@ -65,12 +65,12 @@ nothing : (a : Option (List ℕ)) → a ≡ option_map (λ had. had ++ []) a
 nothing None = refl
 nothing (Some had) = ap Some (sym (simp append-nil))
 
-pub Took-nothing : (a : SinkAt) → Took a a []
+pub Took-nothing : (a : SinkAt) → TookBytes a a []
 Took-nothing a = nothing a.taken
 
 -- the rest of a text was offered, and some of it was taken
-pub Took-more : (a b c : SinkAt) (bytes : List ℕ) (done n : ℕ) → done ≤ length bytes → Took a b (take done bytes)
-    → TookFront b c (take (length bytes - done) (drop done bytes)) n → (done + n ≤ length bytes) × Took a c (take (done + n) bytes)
+pub Took-more : (a b c : SinkAt) (bytes : List ℕ) (done n : ℕ) → done ≤ length bytes → TookBytes a b (take done bytes)
+    → TookFront b c (take (length bytes - done) (drop done bytes)) n → (done + n ≤ length bytes) × TookBytes a c (take (done + n) bytes)
 Took-more a b c bytes done n within had took =
     let rest : take (length bytes - done) (drop done bytes) ≡ drop done bytes = take_rest bytes done in
     let more : TookFront b c (drop done bytes) n = subst (λ (xs : List ℕ). TookFront b c xs n) rest took in
@@ -82,11 +82,11 @@ Took-more a b c bytes done n within had took =
 -- so many bytes of a text were taken, and no push failed
 pub record HasPushed (before now : SinkAt) (bytes : List ℕ) (done : ℕ) : Type 0 where
   pub within : done ≤ length bytes
-  pub took : Took before now (take done bytes)
+  pub took : TookBytes before now (take done bytes)
   pub count : now.faults ≡ before.faults
 
 pub HasPushed-more : (a b c : SinkAt) (bytes : List ℕ) (done n : ℕ) → HasPushed a b bytes done
-    → Offered b c (take (length bytes - done) (drop done bytes)) (Ok n) → HasPushed a c bytes (done + n)
+    → OfferedPiece b c (take (length bytes - done) (drop done bytes)) (Ok n) → HasPushed a c bytes (done + n)
 HasPushed-more a b c bytes done n so_far offered =
     let more = Took-more a b c bytes done n so_far.within so_far.took offered.taken in
     record { within = more.0; took = more.1; count = offered.faults ∙ so_far.count }

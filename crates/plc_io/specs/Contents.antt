@@ -7,8 +7,8 @@ pub record Contents : Type 0 where
   pub at : List ℕ → Option (List ℕ)
 
 -- where contents are told, the file of this name holds exactly these bytes
-abbrev pub Agrees : Contents → List ℕ → List ℕ → Type 0
-Agrees c name bytes = c.told ≡ true → c.at name ≡ Some bytes
+abbrev pub FileHoldsBytes : Contents → List ℕ → List ℕ → Type 0
+FileHoldsBytes c name bytes = c.told ≡ true → c.at name ≡ Some bytes
 
 -- every name holds what it held
 pub record SameFiles (before after : Contents) : Type 0 where
@@ -32,10 +32,10 @@ pub record ReadsFrom (c : Contents) (name : List ℕ) (at : ℕ) (into : List �
   pub bytes : c.told ≡ true → (all : List ℕ) × (c.at name ≡ Some all) × IsPiece all at into n
 
 -- where contents are told, the file is there and `bytes` are its first `most` bytes, or all where it has fewer
-abbrev pub IsFront : Contents → List ℕ → ℕ → List ℕ → Type 0
-IsFront c name most bytes = c.told ≡ true → (all : List ℕ) × (c.at name ≡ Some all) × (bytes ≡ take most all)
+abbrev pub IsFrontOfFile : Contents → List ℕ → ℕ → List ℕ → Type 0
+IsFrontOfFile c name most bytes = c.told ≡ true → (all : List ℕ) × (c.at name ≡ Some all) × (bytes ≡ take most all)
 
 -- where contents are told, a write that was cut short left what the file held, or the first of the bytes to write
-abbrev pub IsCutShort : Contents → Contents → List ℕ → List ℕ → Type 0
-IsCutShort before after name bytes =
+abbrev pub IsWriteCutShort : Contents → Contents → List ℕ → List ℕ → Type 0
+IsWriteCutShort before after name bytes =
     before.told ≡ true → (after.at name ≡ before.at name) ⊎ ((n : ℕ) × (after.at name ≡ Some (take n bytes)))

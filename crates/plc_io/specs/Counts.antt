@@ -8,28 +8,28 @@ abbrev pub last_count : ℕ
 last_count = 2 ^ 64 - 1
 
 -- a count rose: it is greater at the end than at the start, or stands at its last value
-abbrev pub Rose : ℕ → ℕ → Type 0
-Rose before now = min (before + 1) last_count ≤ now
+abbrev pub CountRose : ℕ → ℕ → Type 0
+CountRose before now = min (before + 1) last_count ≤ now
 
 -- no count changed
 abbrev pub SameCounts : (List ℕ → ℕ) → (List ℕ → ℕ) → Type 0
 SameCounts before now = (name : List ℕ) → now name ≡ before name
 
 -- no count fell
-abbrev pub NeverFell : (List ℕ → ℕ) → (List ℕ → ℕ) → Type 0
-NeverFell before now = (name : List ℕ) → before name ≤ now name
+abbrev pub NoCountFell : (List ℕ → ℕ) → (List ℕ → ℕ) → Type 0
+NoCountFell before now = (name : List ℕ) → before name ≤ now name
 
 -- what a call on the file `name` leaves of the counts by name: a failed one raised this name's count, and every other raised none
-abbrev pub CountsAt : {X : Type 0} → (List ℕ → ℕ) → (List ℕ → ℕ) → List ℕ → Result X IoFault → Type 0
-CountsAt before now name (Ok x) = SameCounts before now
-CountsAt before now name (Err Failed) = NeverFell before now × Rose (before name) (now name)
-CountsAt before now name (Err NoMemory) = SameCounts before now
+abbrev pub CountsFailureByName : {X : Type 0} → (List ℕ → ℕ) → (List ℕ → ℕ) → List ℕ → Result X IoFault → Type 0
+CountsFailureByName before now name (Ok x) = SameCounts before now
+CountsFailureByName before now name (Err Failed) = NoCountFell before now × CountRose (before name) (now name)
+CountsFailureByName before now name (Err NoMemory) = SameCounts before now
 
 -- what a call leaves of a single count: a failed one raised it, and every other didn't
-abbrev pub Counts : {X : Type 0} → ℕ → ℕ → Result X IoFault → Type 0
-Counts before now (Ok x) = now ≡ before
-Counts before now (Err Failed) = (before ≤ now) × Rose before now
-Counts before now (Err NoMemory) = now ≡ before
+abbrev pub CountsFailure : {X : Type 0} → ℕ → ℕ → Result X IoFault → Type 0
+CountsFailure before now (Ok x) = now ≡ before
+CountsFailure before now (Err Failed) = (before ≤ now) × CountRose before now
+CountsFailure before now (Err NoMemory) = now ≡ before
 
 -- one count for all names
 abbrev pub for_every_name : ℕ → List ℕ → ℕ

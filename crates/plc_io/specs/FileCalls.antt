@@ -1,12 +1,12 @@
 -- What calls on files leave of them, from one moment to another.
 use Rattle.std.specs.Prelude.{◌≡◌, ℕ, List, Ok, Err, Result}
 use Rattle.plc_io.specs.declared.faults.IoFault.{IoFault}
-use Rattle.plc_io.specs.Contents.{Agrees, IsCutShort, SameElsewhere, SameFiles}
-use Rattle.plc_io.specs.Counts.{CountsAt, SameCounts}
+use Rattle.plc_io.specs.Contents.{FileHoldsBytes, IsWriteCutShort, SameElsewhere, SameFiles}
+use Rattle.plc_io.specs.Counts.{CountsFailureByName, SameCounts}
 use Rattle.plc_io.specs.Moments.{FilesAt}
 
 -- neither contents nor counts changed
-pub record Unchanged (before after : FilesAt) : Type 0 where
+pub record AreFilesUnchanged (before after : FilesAt) : Type 0 where
   pub contents : SameFiles before.contents after.contents
   pub reads : SameCounts before.failed_reads after.failed_reads
   pub writes : SameCounts before.failed_writes after.failed_writes
@@ -14,18 +14,18 @@ pub record Unchanged (before after : FilesAt) : Type 0 where
 -- the file `name` was read, with this result: no contents changed, and its count of failed reads rose where the result is a failure
 pub record LeavesRead {X : Type 0} (before after : FilesAt) (name : List ℕ) (result : Result X IoFault) : Type 0 where
   pub contents : SameFiles before.contents after.contents
-  pub reads : CountsAt before.failed_reads after.failed_reads name result
+  pub reads : CountsFailureByName before.failed_reads after.failed_reads name result
   pub writes : SameCounts before.failed_writes after.failed_writes
 
 -- the file holds what was written, or, after a failure, what it held, or the first bytes of what was to be written
 abbrev pub HoldsWritten : {X : Type 0} → FilesAt → FilesAt → List ℕ → List ℕ → Result X IoFault → Type 0
-HoldsWritten before after name bytes (Ok x) = Agrees after.contents name bytes
-HoldsWritten before after name bytes (Err fault) = IsCutShort before.contents after.contents name bytes
+HoldsWritten before after name bytes (Ok x) = FileHoldsBytes after.contents name bytes
+HoldsWritten before after name bytes (Err fault) = IsWriteCutShort before.contents after.contents name bytes
 
 -- the file `name` was written whole, with this result: no other file changed, and its count of failed writes rose where the result is
 -- a failure
 pub record LeavesWritten {X : Type 0} (before after : FilesAt) (name bytes : List ℕ) (result : Result X IoFault) : Type 0 where
   pub contents : HoldsWritten before after name bytes result
   pub elsewhere : SameElsewhere before.contents after.contents name
-  pub writes : CountsAt before.failed_writes after.failed_writes name result
+  pub writes : CountsFailureByName before.failed_writes after.failed_writes name result
   pub reads : SameCounts before.failed_reads after.failed_reads

@@ -1,20 +1,20 @@
 -- What a sink has taken, from one moment to another.
 use Rattle.std.specs.Prelude.{◌≡◌, ℕ, ◌<◌, ◌≤◌, List, ◌++◌, length, take, option_map, Some, Ok, Err, Result}
 use Rattle.plc_io.specs.declared.faults.IoFault.{IoFault}
-use Rattle.plc_io.specs.Counts.{Counts}
+use Rattle.plc_io.specs.Counts.{CountsFailure}
 use Rattle.plc_io.specs.Moments.{SinkAt}
 
 -- these bytes were taken, behind those before
-abbrev pub Took : SinkAt → SinkAt → List ℕ → Type 0
-Took before after bytes = after.taken ≡ option_map (λ had. had ++ bytes) before.taken
+abbrev pub TookBytes : SinkAt → SinkAt → List ℕ → Type 0
+TookBytes before after bytes = after.taken ≡ option_map (λ had. had ++ bytes) before.taken
 
 -- some of these bytes, from the first on, were taken
 abbrev pub TookPrefix : SinkAt → SinkAt → List ℕ → Type 0
-TookPrefix before after bytes = (n : ℕ) × Took before after (take n bytes)
+TookPrefix before after bytes = (n : ℕ) × TookBytes before after (take n bytes)
 
 -- the first `n` bytes of a piece were taken, at least one of a nonempty piece
 pub record TookFront (before after : SinkAt) (bytes : List ℕ) (n : ℕ) : Type 0 where
-  pub took : Took before after (take n bytes)
+  pub took : TookBytes before after (take n bytes)
   pub within : n ≤ length bytes
   pub some : 0 < length bytes → 0 < n
 
@@ -24,19 +24,19 @@ TookOffer before after bytes (Ok n) = TookFront before after bytes n
 TookOffer before after bytes (Err fault) = after.taken ≡ before.taken
 
 -- a piece was offered, with this result
-pub record Offered (before after : SinkAt) (bytes : List ℕ) (result : Result ℕ IoFault) : Type 0 where
+pub record OfferedPiece (before after : SinkAt) (bytes : List ℕ) (result : Result ℕ IoFault) : Type 0 where
   pub taken : TookOffer before after bytes result
-  pub faults : Counts before.faults after.faults result
+  pub faults : CountsFailure before.faults after.faults result
 
 -- what the writing of a text took: all of it, or, where it failed, some of its first bytes
 abbrev pub TookText : {X : Type 0} → SinkAt → SinkAt → List ℕ → Result X IoFault → Type 0
-TookText before after text (Ok x) = Took before after text
+TookText before after text (Ok x) = TookBytes before after text
 TookText before after text (Err fault) = TookPrefix before after text
 
 -- a text was written, with this result
-pub record Wrote {X : Type 0} (before after : SinkAt) (text : List ℕ) (result : Result X IoFault) : Type 0 where
+pub record WroteText {X : Type 0} (before after : SinkAt) (text : List ℕ) (result : Result X IoFault) : Type 0 where
   pub taken : TookText before after text result
-  pub faults : Counts before.faults after.faults result
+  pub faults : CountsFailure before.faults after.faults result
 
 -- what a sink shows that tells these bytes and this count
 abbrev pub told_sink : List ℕ → ℕ → SinkAt

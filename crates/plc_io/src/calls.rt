@@ -1,6 +1,6 @@
 ghost use Rattle.std.specs.Prelude.{◌≡◌, ◌≤◌, true, false};
 ghost use Rattle.plc_io.specs.Calls.{NoCalls, after_call, is_next_to_fail};
-ghost use Rattle.plc_io.specs.Counts.{Rose};
+ghost use Rattle.plc_io.specs.Counts.{CountRose};
 
 use crate::faults::IoFault;
 use arrayvec::ArrayVec;
@@ -46,7 +46,7 @@ impl Calls {
         ensures fault { result ≡ IoFault.Failed }
         ensures after { self.new ≡ after_call self.old true }
         ensures never_falls { self.old.failed ≤ self.new.failed }
-        ensures rose { Rose self.old.failed self.new.failed }
+        ensures rose { CountRose self.old.failed self.new.failed }
     {
         self.made = self.made.saturating_add(1);
         self.failed = self.failed.saturating_add(1);

@@ -1,7 +1,7 @@
 ghost use Rattle.std.specs.Prelude.{◌≡◌, ◌≤◌, ◌+◌, ◌++◌, take, ◌<◌, length, vec_len, IfOk};
-ghost use Rattle.plc_io.specs.Contents.{IsFront, ReadsFrom};
+ghost use Rattle.plc_io.specs.Contents.{IsFrontOfFile, ReadsFrom};
 ghost use Rattle.plc_io.specs.FileCalls.{LeavesRead};
-ghost use Rattle.plc_io.specs.Taken.{Wrote};
+ghost use Rattle.plc_io.specs.Taken.{WroteText};
 
 use crate::faults::IoFault;
 use crate::traits::{Files, Sink};
@@ -19,7 +19,7 @@ pub fn read_to_limit<F: Files>(
     limit: usize,
 ) -> Result<Vec<u8>, IoFault>
     ensures front { IfOk result
-        (λ v. IsFront (F.shown files.old).contents name.now (limit + 1) v.items) }
+        (λ v. IsFrontOfFile (F.shown files.old).contents name.now (limit + 1) v.items) }
     ensures bound { IfOk result (λ v. vec_len v ≤ limit + 1) }
     ensures leaves { LeavesRead (F.shown files.old) (F.shown files.new) name.now result }
 {
@@ -37,7 +37,7 @@ fn read_by_pieces<F: Files>(
 ) -> Result<Vec<u8>, IoFault>
     requires { 0 < length piece.old }
     ensures front { IfOk result
-        (λ v. IsFront (F.shown files.old).contents name.now (limit + 1) v.items) }
+        (λ v. IsFrontOfFile (F.shown files.old).contents name.now (limit + 1) v.items) }
     ensures bound { IfOk result (λ v. vec_len v ≤ limit + 1) }
     ensures leaves { LeavesRead (F.shown files.old) (F.shown files.new) name.now result }
 {
@@ -73,7 +73,7 @@ fn read_more<F: Files>(
 /// Offers the rest of a text to the sink until it has taken all. After a failure it has taken some
 /// of its first bytes.
 pub fn push_all<K: Sink>(out: &mut K, bytes: &[u8]) -> Result<(), IoFault>
-    ensures { Wrote (K.shown out.old) (K.shown out.new) bytes.now result }
+    ensures { WroteText (K.shown out.old) (K.shown out.new) bytes.now result }
 {
     let mut done = 0;
     while done < bytes.len() {

@@ -18,7 +18,7 @@ ghost use Rattle.plc_io.specs.Calls.{NoCalls, after_call, is_next_to_fail, read_
 ghost use Rattle.plc_io.specs.Contents.{IsPiece, ReadsFrom};
 ghost use Rattle.plc_io.specs.FileCalls.{LeavesRead, LeavesWritten};
 ghost use Rattle.plc_io.specs.NamedFiles.{bytes_of, contents_of, memory_files, with_file};
-ghost use Rattle.plc_io.specs.Taken.{Offered, told_sink};
+ghost use Rattle.plc_io.specs.Taken.{OfferedPiece, told_sink};
 
 use crate::calls::Calls;
 use crate::faults::{IoFault, NoMemory};
@@ -185,7 +185,7 @@ impl Sink for MemSink {
     fn push(&mut self, bytes: &[u8]) -> Result<usize, IoFault>
         ensures offered { let before = told_sink self.old.taken self.old.pushes.failed in
             let after = told_sink self.new.taken self.new.pushes.failed in
-            Offered before after bytes.now result }
+            OfferedPiece before after bytes.now result }
         // Exactly when and what.
         ensures fails { (result ≡ Err IoFault.Failed)
             ↔ IsTrue (is_next_to_fail self.old.pushes) }

@@ -2,7 +2,7 @@ ghost use Rattle.std.specs.Prelude.{◌≡◌, ◌-◌, ◌++◌, [], length, mi
 ghost use Rattle.plc_io.specs.Contents.{ReadsFrom};
 ghost use Rattle.plc_io.specs.FileCalls.{LeavesRead, LeavesWritten};
 ghost use Rattle.plc_io.specs.NamedFiles.{bytes_or_empty, sure_contents_of, sure_files, with_file};
-ghost use Rattle.plc_io.specs.Taken.{Offered, told_sink};
+ghost use Rattle.plc_io.specs.Taken.{OfferedPiece, told_sink};
 
 use crate::faults::{IoFault, NoMemory};
 use crate::lists::{Bytes, NamedFiles};
@@ -89,7 +89,7 @@ impl Sink for SureSink {
 
     /// Never answers Failed.
     fn push(&mut self, bytes: &[u8]) -> Result<usize, IoFault>
-        ensures offered { Offered (told_sink self.old.taken 0) (told_sink self.new.taken 0)
+        ensures offered { OfferedPiece (told_sink self.old.taken 0) (told_sink self.new.taken 0)
             bytes.now result }
         // Exactly when and what.
         ensures whole { IfOk result (λ n. n ≡ length bytes.now) }

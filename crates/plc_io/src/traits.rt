@@ -2,7 +2,7 @@ ghost use Rattle.std.specs.Prelude.{◌≡◌, ℕ, IfOk};
 ghost use Rattle.plc_io.specs.Contents.{ReadsFrom};
 ghost use Rattle.plc_io.specs.FileCalls.{LeavesRead, LeavesWritten};
 ghost use Rattle.plc_io.specs.Moments.{FilesAt, SinkAt};
-ghost use Rattle.plc_io.specs.Taken.{Offered};
+ghost use Rattle.plc_io.specs.Taken.{OfferedPiece};
 
 use crate::faults::IoFault;
 
@@ -37,7 +37,7 @@ pub trait Sink {
     /// Offers a piece, and answers how many of its first bytes were taken: at least one of a
     /// nonempty piece. After a failure nothing of it was taken.
     fn push(&mut self, bytes: &[u8]) -> Result<usize, IoFault>
-        ensures { Offered (shown self.old) (shown self.new) bytes.now result };
+        ensures { OfferedPiece (shown self.old) (shown self.new) bytes.now result };
 }
 
 /// Passed by each worker of a live run before each of its entries. It tells nothing.

@@ -12,7 +12,7 @@ use Rattle.std.proofs.lemmas.Bool.{true≢false}
 use Rattle.plc_mem.specs.Areas.{Areas, PeripheralBytes}
 use Rattle.plc_mem.specs.BitPlace.{BitPlace, Region, Inputs, Outputs, BitMemory, PeripheralInputs, PeripheralOutputs, DataBlock}
 use Rattle.plc_mem.specs.Bits.{bit_at, bit_of_byte, is_bit_one, region_byte, peripheral_byte, block_byte}
-use Rattle.plc_mem.specs.Places.{SameBlocks, AreBytes, IsPeripheral, IsMemory}
+use Rattle.plc_mem.specs.Places.{SameBlocks, AreByteValues, IsPeripheral, IsMemory}
 use Rattle.plc_mem.proofs.Numbers.{bit_in_some}
 use Rattle.plc_mem.proofs.Runs.{none_some, in_low, in_high}
 
@@ -46,7 +46,7 @@ same_digit zero (suc (suc b)) ha hb e = absurd (omega arith)
 same_digit (suc zero) (suc (suc b)) ha hb e = absurd (omega arith)
 
 -- two runs of bytes with the same bits are the same
-same_runs : (xs ys : List ℕ) → AreBytes xs → AreBytes ys → SameBits xs ys → ys ≡ xs
+same_runs : (xs ys : List ℕ) → AreByteValues xs → AreByteValues ys → SameBits xs ys → ys ≡ xs
 unfolding SameBits
 same_runs xs ys bx by same =
     let size : length ys ≡ length xs = omega (arith, no_longer xs ys same, no_longer ys xs (λ i b. sym (same i b))) in
@@ -91,8 +91,8 @@ same_peripherals p q hp hq same =
 
 block_cases :
     (xs ys : Option (List ℕ))
-    → ((bytes : List ℕ) → xs ≡ Some bytes → AreBytes bytes)
-    → ((bytes : List ℕ) → ys ≡ Some bytes → AreBytes bytes)
+    → ((bytes : List ℕ) → xs ≡ Some bytes → AreByteValues bytes)
+    → ((bytes : List ℕ) → ys ≡ Some bytes → AreByteValues bytes)
     → is_some ys ≡ is_some xs
     → ((i b : ℕ) → bit_of_byte (option_and_then (λ (s : List ℕ). slice_get s i) ys) b ≡ bit_of_byte (option_and_then (λ (s : List ℕ). slice_get s i) xs) b)
     → ys ≡ xs

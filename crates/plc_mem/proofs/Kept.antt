@@ -13,12 +13,12 @@ use Rattle.plc_base.specs.Changes.{ChangesOrStays}
 use Rattle.plc_base.specs.Widths.{bit_count}
 use Rattle.plc_mem.specs.Areas.{Areas, PeripheralBytes}
 use Rattle.plc_mem.specs.declared.faults.Missing.{Missing}
-use Rattle.plc_mem.specs.Number.{weights_of, plus_weight, number_at, region_number, region_read, operand_bit}
+use Rattle.plc_mem.specs.Number.{weights_of, plus_weight, number_at_place, region_number, region_read, operand_bit}
 use Rattle.plc_mem.specs.BitPlace.{Region}
 use Rattle.plc_mem.specs.Bits.{bit_at}
 use Rattle.plc_base.specs.Profiles.{bit_memory_size}
 use Rattle.plc_base.specs.declared.Profile.{Profile}
-use Rattle.plc_mem.specs.Places.{IsBitMemory, AreBlocks, AreBytes, IsRun, IsPeripheral, HasParts, IsMemory}
+use Rattle.plc_mem.specs.Places.{IsBitMemory, AreBlocks, AreByteValues, IsRun, IsPeripheral, HasParts, IsMemory}
 use Rattle.plc_mem.specs.Fresh.{clear_peripheral, zeroed_memory}
 use Rattle.plc_mem.specs.Restart.{retained_bit_memory}
 use Rattle.plc_mem.specs.Run.{number_over, operand_bit_of}
@@ -72,19 +72,19 @@ pub no_blocks : AreBlocks (map.from_entries [])
 no_blocks k bytes found = absurd (none_some bytes (sym (get-from_entries nat_cmp_total [] k) ∙ found))
 
 -- one data block more
-pub block_more : (blocks : map.FinMap nat_cmp (List ℕ)) (number : ℕ) (bytes : List ℕ) → AreBlocks blocks → AreBytes bytes → AreBlocks (map.insert blocks number bytes)
+pub block_more : (blocks : map.FinMap nat_cmp (List ℕ)) (number : ℕ) (bytes : List ℕ) → AreBlocks blocks → AreByteValues bytes → AreBlocks (map.insert blocks number bytes)
 block_more blocks number bytes all small k found is =
     found_block (eq_by_cmp nat_cmp k number) found bytes (map.get blocks k) small (all k) (sym (get-insert nat_cmp_total blocks number bytes k) ∙ is)
 
 -- ---- a warm restart
 
-take_bytes : (n : ℕ) (bytes : List ℕ) → AreBytes bytes → AreBytes (take n bytes)
+take_bytes : (n : ℕ) (bytes : List ℕ) → AreByteValues bytes → AreByteValues (take n bytes)
 take_bytes zero bytes small i = omega arith
 take_bytes (suc n) [] small i = small i
 take_bytes (suc n) (byte ∷ bytes) small zero = small zero
 take_bytes (suc n) (byte ∷ bytes) small (suc i) = take_bytes n bytes (λ j. small (suc j)) i
 
-append_bytes : (xs ys : List ℕ) → AreBytes xs → AreBytes ys → AreBytes (xs ++ ys)
+append_bytes : (xs ys : List ℕ) → AreByteValues xs → AreByteValues ys → AreByteValues (xs ++ ys)
 append_bytes [] ys first second i = second i
 append_bytes (x ∷ xs) ys first second zero = first zero
 append_bytes (x ∷ xs) ys first second (suc i) = append_bytes xs ys (λ j. first (suc j)) second i
@@ -120,8 +120,8 @@ unfolding weights_of
 weights_below f zero v e = omega (arith, same_Some 0 v e)
 weights_below f (suc n) v e = more_weight n (weights_of f n) (f n) v (λ x is. weights_below f n x is) e
 
-pub number_fits : (m : Areas) (place : Place) (width : Width) (v : ℕ) → number_at m place width ≡ Some v → v < 2 ^ bit_count width
-unfolding number_at region_number
+pub number_fits : (m : Areas) (place : Place) (width : Width) (v : ℕ) → number_at_place m place width ≡ Some v → v < 2 ^ bit_count width
+unfolding number_at_place region_number
 number_fits m place width v e =
     let found = chained (λ (region : Region). region_number m region place width) (region_read place) v e in
     weights_below (λ j. bit_at m (operand_bit found.0 place width j)) (bit_count width) v found.2
@@ -133,6 +133,6 @@ over_fits bytes at bit width None is = tt
 
 -- what reading answers
 pub read_fits : (m : Areas) (place : Place) (width : Width) (r : Result ℕ Missing)
-    → MatchResult r (λ n. number_at m place width ≡ Some n) (λ _. number_at m place width ≡ None) → IfOk r (λ n. n < 2 ^ bit_count width)
+    → MatchResult r (λ n. number_at_place m place width ≡ Some n) (λ _. number_at_place m place width ≡ None) → IfOk r (λ n. n < 2 ^ bit_count width)
 read_fits m place width (Ok n) is = number_fits m place width n is
 read_fits m place width (Err _) is = tt

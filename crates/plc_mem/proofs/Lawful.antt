@@ -21,10 +21,10 @@ use Rattle.plc_mem.specs.Areas.{Areas, PeripheralBytes}
 use Rattle.plc_mem.specs.BitPlace.{Region, bit_place, Inputs, Outputs, BitMemory, PeripheralInputs, PeripheralOutputs, DataBlock}
 use Rattle.plc_mem.specs.Bits.{bit_at, bit_of_byte, is_bit_one, region_byte, peripheral_byte, block_byte}
 use Rattle.plc_base.specs.Widths.{bit_count}
-use Rattle.plc_mem.specs.Number.{weights_of, plus_weight, region_number, number_at, region_of, region_read, region_written, operand_bit, EachBitExists}
+use Rattle.plc_mem.specs.Number.{weights_of, plus_weight, region_number, number_at_place, region_of, region_read, region_written, operand_bit, EachBitExists}
 use Rattle.plc_base.specs.Profiles.{bit_memory_size}
 use Rattle.plc_base.specs.declared.Profile.{Profile}
-use Rattle.plc_mem.specs.Places.{IsBitMemory, IsRun, SamePlaces, IsMemory, IsPeripheral, AreBytes, HasImage, HasParts}
+use Rattle.plc_mem.specs.Places.{IsBitMemory, IsRun, SamePlaces, IsMemory, IsPeripheral, AreByteValues, HasImage, HasParts}
 use Rattle.plc_mem.specs.Writing.{number_written, number_written_in, put_number, put_peripheral, put_in_block, is_within}
 use Rattle.plc_mem.specs.Written.{IsNumberWritten, bit_after_write, value_of_bit}
 use Rattle.plc_mem.specs.Run.{number_over, operand_bit_of}
@@ -65,7 +65,7 @@ number_exists m (Some r) place width =
     (λ h j below. weights_need (λ (j : ℕ). bit_at m (operand_bit r place width j)) (bit_count width) h j below, λ h. weights_there (λ (j : ℕ). bit_at m (operand_bit r place width j)) (bit_count width) h)
 
 pub reads_where_each_bit_exists : (m : Areas) → ReadsWhereEachBitExists m
-unfolding number_at
+unfolding number_at_place
 reads_where_each_bit_exists m place width = number_exists m (region_read place) place width
 
 -- ---- reading back
@@ -80,7 +80,7 @@ same_regions Di number other = refl
 same_regions L number other = refl
 
 pub numbers_are_read_back : (m : Areas) → IsMemory m → NumbersAreReadBack m
-unfolding number_at
+unfolding number_at_place
 numbers_are_read_back m is n place width value fits other done =
     let words = written_is m n place width value (λ _. has_image m is) fits done in
     ap (option_and_then (λ (r : Region). region_number n r place width)) (same_regions place.area place.number other ∙ words.1) ∙ words.2.number
@@ -234,7 +234,7 @@ unfolding bit_at outputs_cleared
 cleared_others m PeripheralOutputs n b other = absurd (other refl)
 cleared_others m region n b other = refl
 
-zero_bytes : (count : ℕ) → AreBytes (replicate count 0)
+zero_bytes : (count : ℕ) → AreByteValues (replicate count 0)
 zero_bytes count i =
     elim (within_or_past i (replicate count 0)) [
       | inl within ↦ let zero_there = get_or-replicate {A = ℕ} count i 0 0 (simp length-replicate at within) in omega (arith, zero_there)
@@ -448,7 +448,7 @@ writes_where_each_bit_exists m is place width value = writing_exists m place wid
 
 -- ---- what the calls answer
 
-pub read_answers : (m : Areas) (place : Place) (width : Width) (r : Result ℕ Missing) → MatchResult r (λ n. number_at m place width ≡ Some n) (λ _. number_at m place width ≡ None) → IsOk r ↔ EachBitExists m (region_read place) place width
+pub read_answers : (m : Areas) (place : Place) (width : Width) (r : Result ℕ Missing) → MatchResult r (λ n. number_at_place m place width ≡ Some n) (λ _. number_at_place m place width ≡ None) → IsOk r ↔ EachBitExists m (region_read place) place width
 read_answers m place width (Ok n) is = let exists = reads_where_each_bit_exists m place width in (λ _. exists.0 (ap is_some is), λ _. refl)
 read_answers m place width (Err _) is = let exists = reads_where_each_bit_exists m place width in (λ h. absurd (true≢false (sym h)), λ h. absurd (true≢false (sym (exists.1 h) ∙ ap is_some is)))
 
@@ -514,7 +514,7 @@ zero_memory profile =
     zero_count (bit_memory_size profile) in
     record { profile = profile; count_is = run.count_is; bytes_are = run.bytes_are }
 
-block_found : (blocks : List (ℕ × List ℕ)) (k : ℕ) (bytes : List ℕ) → AllByRecursion (λ (block : ℕ × List ℕ). AreBytes block.1) blocks → find nat_cmp k blocks ≡ Some bytes → AreBytes bytes
+block_found : (blocks : List (ℕ × List ℕ)) (k : ℕ) (bytes : List ℕ) → AllByRecursion (λ (block : ℕ × List ℕ). AreByteValues block.1) blocks → find nat_cmp k blocks ≡ Some bytes → AreByteValues bytes
 block_found [] k bytes all found = absurd (none_some bytes found)
 block_found (e ∷ es) k bytes all found =
     found_block (eq_by_cmp nat_cmp k e.0) bytes e.1 (find nat_cmp k es) all.0 (λ s rest. block_found es k s all.1 rest) found

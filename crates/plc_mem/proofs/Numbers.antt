@@ -14,7 +14,7 @@ use Rattle.plc_mem.specs.Areas.{Areas, PeripheralBytes}
 use Rattle.plc_mem.specs.Run.{number_over, operand_bit_of, number_of_bytes}
 use Rattle.plc_mem.specs.Writing.{is_within}
 use Rattle.plc_mem.specs.Bits.{is_bit_one, bit_of_byte, bit_at as place_bit, region_byte, peripheral_byte}
-use Rattle.plc_mem.specs.Number.{weights_of, plus_weight, number_at, region_number, region_read}
+use Rattle.plc_mem.specs.Number.{weights_of, plus_weight, number_at_place, region_number, region_read}
 
 -- sums of the same bits are the same
 pub weights_same : (f g : ℕ → Option Bool) (n : ℕ) → ((j : ℕ) → j < n → f j ≡ g j) → weights_of f n ≡ weights_of g n
@@ -111,8 +111,8 @@ byte_bits f g at (suc k) small there j h =
 -- ---- operands
 
 -- the number of a place is that of its region's bytes
-pub number_at_bytes : (m : Areas) (place : Place) (width : Width) → number_at m place width ≡ option_and_then (λ region. number_over (region_byte m region) place.byte place.bit width) (region_read place)
-unfolding number_at region_number number_over place_bit
+pub number_at_bytes : (m : Areas) (place : Place) (width : Width) → number_at_place m place width ≡ option_and_then (λ region. number_over (region_byte m region) place.byte place.bit width) (region_read place)
+unfolding number_at_place region_number number_over place_bit
 number_at_bytes m place Bit = refl
 number_at_bytes m place Byte = refl
 number_at_bytes m place Word = refl

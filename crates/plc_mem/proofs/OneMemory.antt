@@ -12,7 +12,7 @@ use Rattle.plc_mem.specs.Bits.{bit_at}
 use Rattle.plc_base.specs.Widths.{bit_count}
 use Rattle.plc_mem.specs.Number.{region_written}
 use Rattle.plc_base.specs.Profiles.{bit_memory_size}
-use Rattle.plc_mem.specs.Places.{IsBitMemory, AreBytes, IsRun, IsPeripheral, IsMemory, HasImage}
+use Rattle.plc_mem.specs.Places.{IsBitMemory, AreByteValues, IsRun, IsPeripheral, IsMemory, HasImage}
 use Rattle.plc_mem.specs.Writing.{is_within, bytes_with_number, byte_with_bit, put_number, put_peripheral, put_in_block, number_written_in, number_written}
 use Rattle.std.specs.Option.{option_map}
 use Rattle.plc_mem.specs.Written.{IsNumberWritten, bit_after_write}
@@ -42,7 +42,7 @@ here_or_there n i = grind arith
 within_or_past : (n : ℕ) (xs : List ℕ) → (n < length xs) ⊎ (length xs ≤ n)
 within_or_past n xs = grind arith
 
-set_bytes : (xs : List ℕ) (i v : ℕ) → AreBytes xs → v < 256 → AreBytes (slice_set xs i v)
+set_bytes : (xs : List ℕ) (i v : ℕ) → AreByteValues xs → v < 256 → AreByteValues (slice_set xs i v)
 set_bytes xs i v bytes small n =
     elim (here_or_there n i) [
       | inl here ↦
@@ -55,10 +55,10 @@ set_bytes xs i v bytes small n =
 
 stored_bytes :
     (bytes : List ℕ) (at bit : ℕ) (width : Width) (value : ℕ)
-    → AreBytes bytes
+    → AreByteValues bytes
     → is_within bytes at bit width ≡ true
     → value < 2 ^ bit_count width
-    → AreBytes (bytes_with_number bytes at bit width value)
+    → AreByteValues (bytes_with_number bytes at bit width value)
 stored_bytes bytes at bit Bit value all within fits =
     let tests = and_parts (nat_lt at (length bytes)) (nat_lt bit 8) within in
     set_bytes bytes at (byte_with_bit (slice_index bytes at) bit value) all (with_bit_byte (slice_index bytes at) bit value (all at) (ltb-true bit 8 tests.1) fits)
@@ -80,7 +80,7 @@ put_run count bytes new at bit width value run fits done =
     let was = put_done bytes new at bit width value done in
     record {
       count_is = length-put bytes new at bit width value done ∙ run.count_is;
-      bytes_are = subst AreBytes was.1 (stored_bytes bytes at bit width value run.bytes_are was.0 fits);
+      bytes_are = subst AreByteValues was.1 (stored_bytes bytes at bit width value run.bytes_are was.0 fits);
     }
 
 pub put_peripheral_run : (p q : PeripheralBytes) (at bit : ℕ) (width : Width) (value : ℕ) → IsPeripheral p → value < 2 ^ bit_count width → put_peripheral p at bit width value ≡ Some q → IsPeripheral q
@@ -95,23 +95,23 @@ image_run bytes at bit width value run fits (Some new) e = put_run 128 bytes new
 image_run bytes at bit width value run fits None e = run
 
 pub found_block :
-    (same : Bool) (bytes stored : List ℕ) (o : Option (List ℕ)) → AreBytes stored → ((s : List ℕ) → o ≡ Some s → AreBytes s) → cond same (Some stored) o ≡ Some bytes → AreBytes bytes
-found_block true bytes stored o new before e = subst AreBytes (same_Some stored bytes e) new
+    (same : Bool) (bytes stored : List ℕ) (o : Option (List ℕ)) → AreByteValues stored → ((s : List ℕ) → o ≡ Some s → AreByteValues s) → cond same (Some stored) o ≡ Some bytes → AreByteValues bytes
+found_block true bytes stored o new before e = subst AreByteValues (same_Some stored bytes e) new
 found_block false bytes stored o new before e = before bytes e
 
 pub put_blocks_bytes :
     (blocks new : map.FinMap nat_cmp (List ℕ)) (k at bit : ℕ) (width : Width) (value : ℕ)
-    → ((number : ℕ) (bytes : List ℕ) → map.get blocks number ≡ Some bytes → AreBytes bytes)
+    → ((number : ℕ) (bytes : List ℕ) → map.get blocks number ≡ Some bytes → AreByteValues bytes)
     → value < 2 ^ bit_count width
     → put_in_block blocks k at bit width value ≡ Some new
     → (number : ℕ) (bytes : List ℕ)
     → map.get new number ≡ Some bytes
-    → AreBytes bytes
+    → AreByteValues bytes
 put_blocks_bytes blocks new k at bit width value all fits done number bytes found =
     let was = block_put blocks new k at bit width value done in
     let stored = put_done was.0 was.1 at bit width value was.3 in
     found_block (eq_by_cmp nat_cmp number k) bytes was.1 (map.get blocks number)
-    (subst AreBytes stored.1 (stored_bytes was.0 at bit width value (all k was.0 was.2) stored.0 fits))
+    (subst AreByteValues stored.1 (stored_bytes was.0 at bit width value (all k was.0 was.2) stored.0 fits))
     (all number)
     (sym (get-insert nat_cmp_total blocks k was.1 number) ∙ ap (λ (m : map.FinMap nat_cmp (List ℕ)). map.get m number) was.4 ∙ found)
 

@@ -10,9 +10,9 @@ use Rattle.plc_mem.specs.BitPlace.{BitPlace}
 use Rattle.plc_mem.specs.Bits.{bit_at}
 use Rattle.plc_mem.specs.Fresh.{initial_memory}
 use Rattle.plc_base.specs.Widths.{bit_count}
-use Rattle.plc_mem.specs.Number.{number_at, EachBitExists, region_read, region_written}
+use Rattle.plc_mem.specs.Number.{number_at_place, EachBitExists, region_read, region_written}
 use Rattle.plc_mem.specs.Peripherals.{with_input, outputs_cleared, AreOutputsCleared, IsInputSet}
-use Rattle.plc_mem.specs.Places.{AreBytes, IsMemory, SameBlocks, SamePlaces}
+use Rattle.plc_mem.specs.Places.{AreByteValues, IsMemory, SameBlocks, SamePlaces}
 use Rattle.plc_mem.specs.Refresh.{memory_refreshed, IsRefreshed}
 use Rattle.plc_mem.specs.Writing.{number_written}
 use Rattle.plc_mem.specs.Written.{IsNumberWritten}
@@ -35,7 +35,7 @@ WritingGivesTheOneMemory m other =
 abbrev pub ReadsWhereEachBitExists : Areas → Type 0
 ReadsWhereEachBitExists m =
     (place : Place) (width : Width)
-    → IsSome (number_at m place width) ↔ EachBitExists m (region_read place) place width
+    → IsSome (number_at_place m place width) ↔ EachBitExists m (region_read place) place width
 
 -- the same of writing
 abbrev pub WritesWhereEachBitExists : Areas → Type 0
@@ -50,7 +50,7 @@ NumbersAreReadBack m =
     → value < 2 ^ bit_count width
     → place.area ≢ P
     → number_written m place width value ≡ Some n
-    → number_at n place width ≡ Some value
+    → number_at_place n place width ≡ Some value
 
 -- No call adds or removes a place.
 abbrev pub PlacesStay : Areas → Type 0
@@ -83,5 +83,5 @@ SetsInputBits m =
 abbrev pub MemoryStarts : Type 0
 MemoryStarts =
     (profile : Profile) (blocks : List (ℕ × List ℕ))
-    → AllByRecursion (λ (block : ℕ × List ℕ). AreBytes block.1) blocks
+    → AllByRecursion (λ (block : ℕ × List ℕ). AreByteValues block.1) blocks
     → IsMemory (initial_memory profile blocks)

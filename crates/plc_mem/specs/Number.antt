@@ -53,8 +53,8 @@ region_number m region place width =
     weights_of (λ j. bit_at m (operand_bit region place width j)) (bit_count width)
 
 -- The number at a place and width, if each bit of the operand exists.
-unfoldable pub number_at : Areas → Place → Width → Option ℕ
-number_at m place width =
+unfoldable pub number_at_place : Areas → Place → Width → Option ℕ
+number_at_place m place width =
     option_and_then (λ region. region_number m region place width) (region_read place)
 
 -- Each bit of an operand exists.

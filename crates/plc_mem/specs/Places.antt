@@ -22,8 +22,8 @@ pub record SamePlaces (old new : Areas) : Type 0 where
   pub blocks : SameBlocks old new
 
 -- Each number of the list is a byte.
-abbrev pub AreBytes : List ℕ → Type 0
-AreBytes bytes = (i : ℕ) → slice_index bytes i < 256
+abbrev pub AreByteValues : List ℕ → Type 0
+AreByteValues bytes = (i : ℕ) → slice_index bytes i < 256
 
 -- From an index on, each byte is 0.
 abbrev pub IsClearFrom : ℕ → List ℕ → Type 0
@@ -34,7 +34,7 @@ pub record IsRun (count : ℕ) (bytes : List ℕ) : Type 0 where
   -- so many
   pub count_is : length bytes ≡ count
   -- each is a byte
-  pub bytes_are : AreBytes bytes
+  pub bytes_are : AreByteValues bytes
 
 -- The bytes of bit memory: as many as in one of the profiles.
 pub record IsBitMemory (bytes : List ℕ) : Type 0 where
@@ -43,7 +43,7 @@ pub record IsBitMemory (bytes : List ℕ) : Type 0 where
   -- as many bytes as it has
   pub count_is : length bytes ≡ bit_memory_size profile
   -- each is a byte
-  pub bytes_are : AreBytes bytes
+  pub bytes_are : AreByteValues bytes
 
 -- The two parts of a peripheral area have their sizes and are made of bytes.
 pub record IsPeripheral (p : PeripheralBytes) : Type 0 where
@@ -55,7 +55,7 @@ pub record IsPeripheral (p : PeripheralBytes) : Type 0 where
 -- Each data block is made of bytes.
 abbrev pub AreBlocks : map.FinMap nat_cmp (List ℕ) → Type 0
 AreBlocks blocks =
-    (number : ℕ) (bytes : List ℕ) → map.get blocks number ≡ Some bytes → AreBytes bytes
+    (number : ℕ) (bytes : List ℕ) → map.get blocks number ≡ Some bytes → AreByteValues bytes
 
 -- The two parts of a peripheral area have their sizes.
 pub record HasParts (p : PeripheralBytes) : Type 0 where

@@ -7,7 +7,7 @@ ghost use Rattle.plc_mem.specs.Blocks.{bytes_by_number, block_numbers};
 ghost use Rattle.plc_mem.specs.Bits.{block_byte};
 ghost use Rattle.plc_base.specs.Changes.{ChangesOrStays};
 ghost use Rattle.plc_base.specs.Widths.{bit_count};
-ghost use Rattle.plc_mem.specs.Places.{AreBlocks, AreBytes};
+ghost use Rattle.plc_mem.specs.Places.{AreBlocks, AreByteValues};
 ghost use Rattle.plc_mem.specs.Run.{number_over};
 ghost use Rattle.plc_mem.specs.Writing.{put_in_block};
 
@@ -40,7 +40,7 @@ impl Model for DataBlocks {
 /// A copy of these bytes.
 fn copied(alloc: Global, bytes: &[u8]) -> Result<Vec<u8>, NoMemory>
     ensures items { IfOk result (λ copy. copy.items ≡ bytes.now) }
-    ensures bytes { AreBytes bytes.now }
+    ensures bytes { AreByteValues bytes.now }
 {
     Vec::from_slice(alloc, bytes)
 }

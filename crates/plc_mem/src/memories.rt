@@ -9,7 +9,7 @@ ghost use Rattle.plc_mem.specs.Fresh.{zeroed_memory, initial_memory};
 ghost use Rattle.plc_base.specs.AreaBytes.{is_peripheral_byte};
 ghost use Rattle.plc_base.specs.Changes.{ChangesOrStays};
 ghost use Rattle.plc_base.specs.Widths.{bit_count};
-ghost use Rattle.plc_mem.specs.Number.{number_at, region_read, region_written, EachBitExists};
+ghost use Rattle.plc_mem.specs.Number.{number_at_place, region_read, region_written, EachBitExists};
 ghost use Rattle.plc_mem.specs.Peripherals.{with_input, output_of, outputs_cleared};
 ghost use Rattle.plc_mem.specs.Refresh.{memory_refreshed};
 ghost use Rattle.plc_mem.specs.Restart.{retained_bit_memory, memory_after_restart};
@@ -127,8 +127,8 @@ impl Memory {
     #[inline(always)]
     pub fn read(&self, place: Place, width: Width) -> Result<u32, Missing>
         ensures cases { MatchResult result
-            (λ n. number_at self.now place width ≡ Some n)
-            (λ _. number_at self.now place width ≡ None) }
+            (λ n. number_at_place self.now place width ≡ Some n)
+            (λ _. number_at_place self.now place width ≡ None) }
         ensures fits { IfOk result (λ n. n < 2 ^ bit_count width) }
         ensures exists { IsOk result ↔ EachBitExists self.now (region_read place) place width }
     {
@@ -231,7 +231,7 @@ impl Memory {
     #[tactic(auto, using(crate::proofs::Numbers::number_at_bytes))]
     #[inline(always)]
     fn number(&self, place: Place, width: Width) -> Option<u32>
-        ensures { result ≡ number_at self.now place width }
+        ensures { result ≡ number_at_place self.now place width }
     {
         let at = usize::from(place.byte);
         match (place.area, place.number) {

@@ -4,9 +4,9 @@ use Rattle.stl_ast.specs.declared.blocks.Tree.{Tree}
 use Rattle.stl_lexer.specs.Tokens.{AreTokens}
 use Rattle.stl_lexer.specs.declared.kinds.Token.{Token}
 use Rattle.stl_parser.specs.Source.{IsTree}
-use Rattle.stl_print.specs.Trees.{printed}
-use Rattle.print_laws.specs.Reading.{IsPrintable as IsReadable}
-use Rattle.print_laws.specs.Standing.{IsPrintable as IsCut}
+use Rattle.stl_print.specs.Trees.{printed_text}
+use Rattle.print_laws.specs.Reading.{HasPrintedForms as IsReadable}
+use Rattle.print_laws.specs.Standing.{HasPrintableTokens as IsCut}
 
 -- a tree whose tokens stand where they are printed, and are read as its clauses
 pub record IsPrintable (t : Tree) : Type 0 where
@@ -16,4 +16,4 @@ pub record IsPrintable (t : Tree) : Type 0 where
 -- its text has tokens, and these have the tree
 abbrev pub ArePrintedSourcesRead : Type 0
 ArePrintedSourcesRead =
-    (t : Tree) → IsPrintable t → (tokens : List Token) × AreTokens (printed t) tokens × IsTree (printed t) tokens t
+    (t : Tree) → IsPrintable t → (tokens : List Token) × AreTokens (printed_text t) tokens × IsTree (printed_text t) tokens t

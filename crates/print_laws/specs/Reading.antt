@@ -8,12 +8,12 @@ use Rattle.plc_base.specs.declared.blocks.BlockKind.TheVariants as kinds
 use Rattle.plc_base.specs.declared.places.Width.{Width}
 use Rattle.plc_base.specs.declared.places.Width.TheVariants as width
 use Rattle.stl_lexer.specs.Forms.{is_word}
-use Rattle.stl_lexer.specs.Pieces.{Show, tokens_of}
-use Rattle.stl_ast.specs.Blocks.{is_parameter, may_declare, may_have}
+use Rattle.stl_lexer.specs.Pieces.{ShowPieces, tokens_of}
+use Rattle.stl_ast.specs.Blocks.{is_parameter, may_declare, may_have_section}
 use Rattle.stl_ast.specs.Declarations.{is_elementary}
 use Rattle.stl_ast.specs.Literals.{IsDecimal, IsLong}
 use Rattle.stl_ast.specs.Operands.{IsBitOf, IsNumber}
-use Rattle.stl_ast.specs.WellFormed.{AreInOrder}
+use Rattle.stl_ast.specs.WellFormed.{AreSectionsInOrder}
 use Rattle.stl_ast.specs.declared.blocks.Block.{Block}
 use Rattle.stl_ast.specs.declared.blocks.Part.{Part}
 use Rattle.stl_ast.specs.declared.blocks.PartKind.{PartKind}
@@ -48,24 +48,24 @@ use Rattle.stl_parser.specs.declared.clauses.Clause.{Clause}
 use Rattle.stl_parser.specs.declared.clauses.Clause.TheVariants as clause
 use Rattle.stl_print.specs.Clauses.{line_of}
 use Rattle.stl_print.specs.Gaps.{line_behind}
-use Rattle.stl_print.specs.Trees.{block_clauses, pieces}
+use Rattle.stl_print.specs.Trees.{block_clauses, pieces_of_tree}
 
 -- ---- names
 
 -- a word that is no keyword, so that a clause may begin with it
-pub record IsName (name : List ℕ) : Type 0 where
+pub record IsNonKeywordName (name : List ℕ) : Type 0 where
   pub word : is_word name ≡ true
   pub free : look_up keywords name ≡ None
 
 -- a label: such a word of at most four characters
-pub record IsLabel (name : List ℕ) : Type 0 where
-  pub is_name : IsName name
+pub record IsPrintedLabel (name : List ℕ) : Type 0 where
+  pub is_name : IsNonKeywordName name
   pub short : length name ≤ 4
 
 -- the label of a statement, where it has one
-abbrev pub IsLabelOf : Option (List ℕ) → Type 0
-IsLabelOf None = Unit {0}
-IsLabelOf (Some name) = IsLabel name
+abbrev pub IsPrintedLabelOf : Option (List ℕ) → Type 0
+IsPrintedLabelOf None = Unit {0}
+IsPrintedLabelOf (Some name) = IsPrintedLabel name
 
 -- a register that stands as an operand
 pub record IsRegister (name : List ℕ) : Type 0 where
@@ -76,9 +76,9 @@ pub record IsRegister (name : List ℕ) : Type 0 where
   pub no_false : str_eq_ignore_ascii_case name (codes "FALSE") ≡ false
 
 -- a block by its number
-abbrev pub IsNumbered : BlockName → Type 0
-IsNumbered (block.Number id) = IsNumber id.number
-IsNumbered (block.Quoted name) = ⊥
+abbrev pub IsBlockByNumber : BlockName → Type 0
+IsBlockByNumber (block.Number id) = IsNumber id.number
+IsBlockByNumber (block.Quoted name) = ⊥
 
 -- a data block by its number
 abbrev pub IsDataBlock : BlockName → Type 0
@@ -137,50 +137,50 @@ IsPrintedOperand (operand.Other name) = IsRegister name
 IsPrintedOperand _ = ⊥
 
 -- what is passed for a parameter
-abbrev pub IsPassed : Operand → Type 0
-IsPassed (operand.Direct name area w byte bit) = IsPrintedOperand (operand.Direct name area w byte bit)
-IsPassed (operand.Named (head.Local name) []) = is_word name ≡ true
-IsPassed (operand.Constant value) = IsPrintedLiteral value
-IsPassed _ = ⊥
+abbrev pub IsPassedOperand : Operand → Type 0
+IsPassedOperand (operand.Direct name area w byte bit) = IsPrintedOperand (operand.Direct name area w byte bit)
+IsPassedOperand (operand.Named (head.Local name) []) = is_word name ≡ true
+IsPassedOperand (operand.Constant value) = IsPrintedLiteral value
+IsPassedOperand _ = ⊥
 
 -- the target of a jump
-abbrev pub IsTarget : Operand → Type 0
-IsTarget (operand.Label name) = (is_word name ≡ true) × (length name ≤ 4)
-IsTarget _ = ⊥
+abbrev pub IsJumpOperand : Operand → Type 0
+IsJumpOperand (operand.Label name) = (is_word name ≡ true) × (length name ≤ 4)
+IsJumpOperand _ = ⊥
 
 -- the operand of OPN: a data block by its number, or by one in memory
-abbrev pub IsOpened : Operand → Type 0
-IsOpened (operand.OpenBlock di name) = IsDataBlock name
-IsOpened (operand.NumberBy what from byte) = IsPrintedOperand (operand.NumberBy what from byte)
-IsOpened _ = ⊥
+abbrev pub IsOpenOperand : Operand → Type 0
+IsOpenOperand (operand.OpenBlock di name) = IsDataBlock name
+IsOpenOperand (operand.NumberBy what from byte) = IsPrintedOperand (operand.NumberBy what from byte)
+IsOpenOperand _ = ⊥
 
 -- the block of UC and CC
-abbrev pub IsCalledAlone : Operand → Type 0
-IsCalledAlone (operand.Called name None) = IsNumbered name
-IsCalledAlone _ = ⊥
+abbrev pub IsBlockCallOperand : Operand → Type 0
+IsBlockCallOperand (operand.Called name None) = IsBlockByNumber name
+IsBlockCallOperand _ = ⊥
 
 -- the block of CALL, a function block with its instance
-abbrev pub IsCalled : Operand → Type 0
-IsCalled (operand.Called name None) = IsNumbered name
-IsCalled (operand.Called name (Some instance)) = IsFunctionBlock name × IsDataBlock instance
-IsCalled _ = ⊥
+abbrev pub IsCallOperand : Operand → Type 0
+IsCallOperand (operand.Called name None) = IsBlockByNumber name
+IsCallOperand (operand.Called name (Some instance)) = IsFunctionBlock name × IsDataBlock instance
+IsCallOperand _ = ⊥
 
 -- ---- statements
 
 -- what stands behind an instruction word
-pub data Syntax : Type 0 where
-  plain : Syntax
+pub data PrintedSyntax : Type 0 where
+  plain : PrintedSyntax
   -- a bracket or a zone, which has no operand
-  bracket : Syntax
-  jump : Syntax
-  opens : Syntax
-  block_call : Syntax
-  call : Syntax
+  bracket : PrintedSyntax
+  jump : PrintedSyntax
+  opens : PrintedSyntax
+  block_call : PrintedSyntax
+  call : PrintedSyntax
   -- no statement of a listing
-  empty : Syntax
+  empty : PrintedSyntax
 
 -- by the word
-abbrev pub syntax_of : Mnemonic → Syntax
+abbrev pub syntax_of : Mnemonic → PrintedSyntax
 syntax_of code.Empty = empty
 syntax_of code.AOpen = bracket
 syntax_of code.AnOpen = bracket
@@ -219,29 +219,29 @@ syntax_of _ = plain
 pub record IsPrintedActual (line : ℕ) (a : Actual) : Type 0 where
   pub line_is : a.line ≡ line
   pub word : is_word a.name ≡ true
-  pub value : IsPassed a.value
+  pub value : IsPassedOperand a.value
 
 -- operand and actual parameters by what stands behind the word
-abbrev pub FitsSyntax : (line : ℕ) → Syntax → Operand → List Actual → Type 0
+abbrev pub FitsSyntax : (line : ℕ) → PrintedSyntax → Operand → List Actual → Type 0
 FitsSyntax line plain o actuals = IsPrintedOperand o × (actuals ≡ [])
 FitsSyntax line bracket o actuals = (o ≡ operand.Nothing) × (actuals ≡ [])
-FitsSyntax line jump o actuals = IsTarget o × (actuals ≡ [])
-FitsSyntax line opens o actuals = IsOpened o × (actuals ≡ [])
-FitsSyntax line block_call o actuals = IsCalledAlone o × (actuals ≡ [])
-FitsSyntax line call o actuals = IsCalled o × AllByRecursion (IsPrintedActual line) actuals
+FitsSyntax line jump o actuals = IsJumpOperand o × (actuals ≡ [])
+FitsSyntax line opens o actuals = IsOpenOperand o × (actuals ≡ [])
+FitsSyntax line block_call o actuals = IsBlockCallOperand o × (actuals ≡ [])
+FitsSyntax line call o actuals = IsCallOperand o × AllByRecursion (IsPrintedActual line) actuals
 FitsSyntax line empty o actuals = ⊥
 
 -- a statement of a listing
 pub record IsPrintedStatement (s : Statement) : Type 0 where
-  pub label : IsLabelOf s.label
+  pub label : IsPrintedLabelOf s.label
   pub fits : FitsSyntax s.line (syntax_of s.code) s.operand s.actuals
 
 -- ---- declarations
 
 -- an initial value of an array of bytes, `B#16#FF` or `4 (B#16#00)`
-abbrev pub IsByte : Literal → Type 0
-IsByte (literal.Byte value) = value ≤ 255
-IsByte _ = ⊥
+abbrev pub IsByteLiteral : Literal → Type 0
+IsByteLiteral (literal.Byte value) = value ≤ 255
+IsByteLiteral _ = ⊥
 
 -- the count before it
 abbrev pub IsCountOf : Option ℕ → Type 0
@@ -250,7 +250,7 @@ IsCountOf (Some n) = IsNumber n
 
 -- both
 abbrev pub IsPrintedInit : Init → Type 0
-IsPrintedInit i = IsCountOf i.count × IsByte i.value
+IsPrintedInit i = IsCountOf i.count × IsByteLiteral i.value
 
 -- a type of a listing: an elementary one without initial values, or an array of one with bytes as its values
 abbrev pub IsPrintedType : List Bounds → ElementType → List Init → Type 0
@@ -261,27 +261,27 @@ IsPrintedType _ _ init = ⊥
 
 -- a declaration of a listing, which has no structures
 pub record IsPrintedDeclaration (d : Declaration) : Type 0 where
-  pub name : IsName d.name
+  pub name : IsNonKeywordName d.name
   pub level : d.level ≡ 0
   pub type : IsPrintedType d.of.arrays d.of.of d.init
 
 -- in a section of a block
-pub record IsDeclaredIn (k : BlockKind) (p : PartKind) (d : Declaration) : Type 0 where
+pub record IsPrintedDeclarationIn (k : BlockKind) (p : PartKind) (d : Declaration) : Type 0 where
   pub printed : IsPrintedDeclaration d
   pub allowed : may_declare k p 0 d ≡ true
   pub elementary : is_parameter p ≡ true → is_elementary d ≡ true
 
 -- a section of a block
 pub record IsPrintedPart (k : BlockKind) (p : Part) : Type 0 where
-  pub allowed : may_have k p.kind ≡ true
-  pub items : AllByRecursion (IsDeclaredIn k p.kind) p.items
+  pub allowed : may_have_section k p.kind ≡ true
+  pub items : AllByRecursion (IsPrintedDeclarationIn k p.kind) p.items
 
 -- ---- settings
 
 -- the path of a setting, `p0` or `s[2]`
 abbrev pub IsPrintedPath : List PathStep → Type 0
-IsPrintedPath (step.Named name ∷ []) = IsName name
-IsPrintedPath (step.Named name ∷ step.Index at ∷ []) = IsName name × IsDecimal at
+IsPrintedPath (step.Named name ∷ []) = IsNonKeywordName name
+IsPrintedPath (step.Named name ∷ step.Index at ∷ []) = IsNonKeywordName name × IsDecimal at
 IsPrintedPath _ = ⊥
 
 -- a setting
@@ -300,7 +300,7 @@ IsResultOf _ result = result ≡ None
 pub record IsCodeBlock (b : Block) : Type 0 where
   pub kind : is_code b.kind ≡ true
   pub result : IsResultOf b.kind b.result
-  pub order : AreInOrder 0 b.parts
+  pub order : AreSectionsInOrder 0 b.parts
   pub parts : AllByRecursion (IsPrintedPart b.kind) b.parts
   pub shape : b.shape ≡ None
   pub components : b.components ≡ []
@@ -309,29 +309,29 @@ pub record IsCodeBlock (b : Block) : Type 0 where
   pub body : AllByRecursion IsPrintedStatement b.body
 
 -- a structure with its components, or the instance of a function block with its settings
-abbrev pub IsDataShape : Option TypeTree → List Declaration → Option BlockName → List Setting → Type 0
-IsDataShape (Some of_) components None settings =
+abbrev pub IsPrintedDataShape : Option TypeTree → List Declaration → Option BlockName → List Setting → Type 0
+IsPrintedDataShape (Some of_) components None settings =
     (of_ ≡ record { arrays = []; of = element.Structure }) × AllByRecursion IsPrintedDeclaration components × (settings ≡ [])
-IsDataShape None components (Some name) settings =
+IsPrintedDataShape None components (Some name) settings =
     IsFunctionBlock name × (components ≡ []) × AllByRecursion IsPrintedSetting settings
-IsDataShape _ components instance settings = ⊥
+IsPrintedDataShape _ components instance settings = ⊥
 
 -- a data block
 pub record IsPrintedData (b : Block) : Type 0 where
   pub kind : b.kind ≡ kinds.Db
   pub result : b.result ≡ None
   pub parts : b.parts ≡ []
-  pub shape : IsDataShape b.shape b.components b.instance_of b.settings
+  pub shape : IsPrintedDataShape b.shape b.components b.instance_of b.settings
   pub body : b.body ≡ []
 
 -- a block by its number and kind
-abbrev pub IsNameOf : BlockKind → BlockName → Type 0
-IsNameOf k (block.Number id) = (id.kind ≡ k) × IsNumber id.number
-IsNameOf k (block.Quoted name) = ⊥
+abbrev pub IsNumberedBlockOf : BlockKind → BlockName → Type 0
+IsNumberedBlockOf k (block.Number id) = (id.kind ≡ k) × IsNumber id.number
+IsNumberedBlockOf k (block.Quoted name) = ⊥
 
 -- a block of a listing
 abbrev pub IsPrintedBlock : Block → Type 0
-IsPrintedBlock b = IsNameOf b.kind b.name × (IsCodeBlock b ⊎ IsPrintedData b)
+IsPrintedBlock b = IsNumberedBlockOf b.kind b.name × (IsCodeBlock b ⊎ IsPrintedData b)
 
 -- ---- lines
 
@@ -353,12 +353,12 @@ AreOnLines reached (c ∷ cs) = IsOnLine reached c × AreOnLines (line_behind re
 -- ---- trees
 
 -- a tree of the forms of a listing, whose clauses are printed on the lines that it has for them
-pub record IsPrintable (t : Tree) : Type 0 where
+pub record HasPrintedForms (t : Tree) : Type 0 where
   pub blocks : AllByRecursion IsPrintedBlock t.blocks
   pub lines : AreOnLines 0 (flat_map block_clauses t.blocks)
 
 -- tokens that show the pieces of such a tree are read as it
 abbrev pub ArePrintedTreesRead : Type 0
 ArePrintedTreesRead =
-    (source : List ℕ) (t : Tree) → IsPrintable t → Show source (pieces t) (tokens_of 0 1 (pieces t))
-    → IsTree source (tokens_of 0 1 (pieces t)) t
+    (source : List ℕ) (t : Tree) → HasPrintedForms t → ShowPieces source (pieces_of_tree t) (tokens_of 0 1 (pieces_of_tree t))
+    → IsTree source (tokens_of 0 1 (pieces_of_tree t)) t

@@ -27,15 +27,15 @@ use Rattle.stl_ast.specs.declared.operands.PathHead.TheVariants as head
 use Rattle.stl_ast.specs.declared.statements.Actual.{Actual}
 use Rattle.stl_ast.specs.declared.statements.Statement.{Statement}
 use Rattle.stl_lexer.specs.Forms.{is_word}
-use Rattle.stl_lexer.specs.Pieces.{AreStanding, Show, tokens_of}
+use Rattle.stl_lexer.specs.Pieces.{ArePiecesStanding, ShowPieces, tokens_of}
 use Rattle.stl_lexer.specs.Tokens.{AreTokens}
-use Rattle.stl_print.specs.Trees.{end_of, pieces, printed}
+use Rattle.stl_print.specs.Trees.{end_of_text, pieces_of_tree, printed_text}
 
 -- ---- printable trees: no quoted names, and numbers that a source can write
 
 -- a name: a word, but not the one that begins a title
-abbrev pub IsName : List ℕ → Type 0
-IsName name = (is_word name ≡ true) × (str_eq_ignore_ascii_case (codes "TITLE") name ≡ false)
+abbrev pub IsNonTitleName : List ℕ → Type 0
+IsNonTitleName name = (is_word name ≡ true) × (str_eq_ignore_ascii_case (codes "TITLE") name ≡ false)
 
 -- a block by its number
 abbrev pub IsNumberedBlock : BlockName → Type 0
@@ -49,7 +49,7 @@ IsNumberedOrNone (Some name) = IsNumberedBlock name
 
 -- a step of a path
 abbrev pub IsPrintableStep : PathStep → Type 0
-IsPrintableStep (step.Named name) = IsName name
+IsPrintableStep (step.Named name) = IsNonTitleName name
 IsPrintableStep (step.Index at) = IsDecimal at
 
 -- the steps of a path
@@ -89,20 +89,20 @@ IsPrintableOperand (operand.NumberBy what from byte) = IsNumber byte
 IsPrintableOperand (operand.ByRegister area w register bits) = IsNumber register × (bits < 8 * 65536)
 IsPrintableOperand (operand.Pointer area byte bit) = IsNumber byte × IsNumber bit
 IsPrintableOperand (operand.Constant value) = IsPrintableLiteral value
-IsPrintableOperand (operand.Label name) = IsName name
+IsPrintableOperand (operand.Label name) = IsNonTitleName name
 IsPrintableOperand (operand.OfStatus flag) = Unit {0}
-IsPrintableOperand (operand.Other name) = IsName name
+IsPrintableOperand (operand.Other name) = IsNonTitleName name
 IsPrintableOperand (operand.OpenBlock di name) = IsNumberedBlock name
 IsPrintableOperand (operand.Called name instance) = IsNumberedBlock name × IsNumberedOrNone instance
 
 -- an actual parameter
 abbrev pub IsPrintableActual : Actual → Type 0
-IsPrintableActual a = IsName a.name × IsPrintableOperand a.value
+IsPrintableActual a = IsNonTitleName a.name × IsPrintableOperand a.value
 
 -- the label of a statement, where it has one
 abbrev pub IsPrintableLabel : Option (List ℕ) → Type 0
 IsPrintableLabel None = Unit {0}
-IsPrintableLabel (Some name) = IsName name
+IsPrintableLabel (Some name) = IsNonTitleName name
 
 -- a statement
 abbrev pub IsPrintableStatement : Statement → Type 0
@@ -120,7 +120,7 @@ IsPrintableInit i = IsCount i.count × IsPrintableLiteral i.value
 -- a declaration
 abbrev pub IsPrintableDeclaration : Declaration → Type 0
 IsPrintableDeclaration d =
-    IsName d.name × AllByRecursion AreBounds d.of.arrays × IsPrintableElement d.of.of × AllByRecursion IsPrintableInit d.init
+    IsNonTitleName d.name × AllByRecursion AreBounds d.of.arrays × IsPrintableElement d.of.of × AllByRecursion IsPrintableInit d.init
 
 -- a section
 abbrev pub IsPrintablePart : Part → Type 0
@@ -146,18 +146,18 @@ pub record IsPrintableBlock (b : Block) : Type 0 where
   pub body : AllByRecursion IsPrintableStatement b.body
 
 -- a tree
-abbrev pub IsPrintable : Tree → Type 0
-IsPrintable t = AllByRecursion IsPrintableBlock t.blocks
+abbrev pub HasPrintableTokens : Tree → Type 0
+HasPrintableTokens t = AllByRecursion IsPrintableBlock t.blocks
 
 -- ---- its text
 
 -- each of its tokens stands where it is printed: it is the longest there, and breaks no rule
 abbrev pub DoTokensStand : Type 0
-DoTokensStand = (t : Tree) → IsPrintable t → AreStanding false (pieces t) (end_of t.blocks)
+DoTokensStand = (t : Tree) → HasPrintableTokens t → ArePiecesStanding false (pieces_of_tree t) (end_of_text t.blocks)
 
 -- the text has just these tokens, with their kinds and bytes
 abbrev pub ArePrintedTokens : Type 0
 ArePrintedTokens =
-    (t : Tree) → IsPrintable t
-    → AreTokens (printed t) (tokens_of 0 1 (pieces t))
-    × Show (printed t) (pieces t) (tokens_of 0 1 (pieces t))
+    (t : Tree) → HasPrintableTokens t
+    → AreTokens (printed_text t) (tokens_of 0 1 (pieces_of_tree t))
+    × ShowPieces (printed_text t) (pieces_of_tree t) (tokens_of 0 1 (pieces_of_tree t))

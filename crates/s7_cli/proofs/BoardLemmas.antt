@@ -3,7 +3,7 @@ use Rattle.std.proofs.Common.{◌≡◌, ◌⊎◌, inl, inr, ◌≤◌, ◌<◌
 use Rattle.std.specs.Prelude.{IfSome}
 use Rattle.std.specs.List.{AllByRecursion, last_or}
 use mathlib.Core.List.{IsPrefix}
-use Rattle.watch_board.specs.BoardList.{Rising, last_of}
+use Rattle.watch_board.specs.BoardList.{HasRisingLengths, last_item_of}
 use Rattle.watch_board.specs.declared.shown.Shown.{Shown}
 use Rattle.tracked_lock.proofs.Prefixes.{prefix_self, prefix_trans}
 use Rattle.s7_cli.specs.Watching.{AreSeenIn, IsSeenIn, NeverFall}
@@ -39,11 +39,11 @@ last_behind : (o : Option Shown) (xs : List Shown) (x : Shown) → last_or o (xs
 last_behind o [] x = refl
 last_behind o (y ∷ xs) x = last_behind (Some y) xs x
 
-pub last_more : (xs : List Shown) (x : Shown) → last_of (xs ++ x ∷ []) ≡ Some x
+pub last_more : (xs : List Shown) (x : Shown) → last_item_of (xs ++ x ∷ []) ≡ Some x
 last_more xs x = last_behind None xs x
 
 -- the last item of a rising list behind an item has a greater number, and the last one of its front isn't above it
-rising_behind : (x : Shown) (list : List Shown) (last : Shown) → Rising (x ∷ list) → last_or (Some x) list ≡ Some last
+rising_behind : (x : Shown) (list : List Shown) (last : Shown) → HasRisingLengths (x ∷ list) → last_or (Some x) list ≡ Some last
     → ((list ≡ []) × (x ≡ last)) ⊎ (x.length < last.length)
 rising_behind x [] last rises is = inl (refl, cc is)
 rising_behind x (y ∷ list) last rises is = inr (by (rising_behind y list last rises.1 is)) where
@@ -52,7 +52,7 @@ rising_behind x (y ∷ list) last rises is = inr (by (rising_behind y list last 
   by (inr less) = omega (arith, rises.0, less)
 
 -- of two lists, one behind the other, that rise together: the last items have the same number only where the second is empty
-front_last : (x : Shown) (front back : List Shown) (one two : Shown) → Rising (x ∷ (front ++ back)) → last_or (Some x) front ≡ Some one
+front_last : (x : Shown) (front back : List Shown) (one two : Shown) → HasRisingLengths (x ∷ (front ++ back)) → last_or (Some x) front ≡ Some one
     → last_or (Some x) (front ++ back) ≡ Some two → ((back ≡ []) × (one ≡ two)) ⊎ (one.length < two.length)
 front_last x [] back one two rises is all = by (rising_behind x back two rises all) where
   same : x ≡ one
@@ -63,23 +63,23 @@ front_last x [] back one two rises is all = by (rising_behind x back two rises a
   by (inr less) = inr (subst (λ (v : Shown). v.length < two.length) same less)
 front_last x (y ∷ front) back one two rises is all = front_last y front back one two rises.1 is all
 
-fronts_last : (front back : List Shown) (one two : Shown) → Rising (front ++ back) → last_of front ≡ Some one → last_of (front ++ back) ≡ Some two
+fronts_last : (front back : List Shown) (one two : Shown) → HasRisingLengths (front ++ back) → last_item_of front ≡ Some one → last_item_of (front ++ back) ≡ Some two
     → ((back ≡ []) × (one ≡ two)) ⊎ (one.length < two.length)
 fronts_last [] back one two rises is all = absurd (cc is)
 fronts_last (x ∷ front) back one two rises is all = front_last x front back one two rises is all
 
 -- the last item of a front isn't above that of the list
-pub front_below : (front list : List Shown) (one two : Shown) → IsPrefix front list → Rising list → last_of front ≡ Some one → last_of list ≡ Some two
+pub front_below : (front list : List Shown) (one two : Shown) → IsPrefix front list → HasRisingLengths list → last_item_of front ≡ Some one → last_item_of list ≡ Some two
     → one.length ≤ two.length
-front_below front list one two begins rises is all = by (fronts_last front begins.0 one two (subst Rising (sym begins.1) rises) is (ap last_of begins.1 ∙ all)) where
+front_below front list one two begins rises is all = by (fronts_last front begins.0 one two (subst HasRisingLengths (sym begins.1) rises) is (ap last_item_of begins.1 ∙ all)) where
   by : ((begins.0 ≡ []) × (one ≡ two)) ⊎ (one.length < two.length) → one.length ≤ two.length
   by (inl same) = subst (λ (v : Shown). one.length ≤ v.length) same.1 (omega arith)
   by (inr less) = omega (arith, less)
 
 -- a front whose last item has the number of the list's last is the list
-pub front_whole : (front list : List Shown) (one two : Shown) → IsPrefix front list → Rising list → last_of front ≡ Some one → last_of list ≡ Some two
+pub front_whole : (front list : List Shown) (one two : Shown) → IsPrefix front list → HasRisingLengths list → last_item_of front ≡ Some one → last_item_of list ≡ Some two
     → one.length ≡ two.length → list ≡ front
-front_whole front list one two begins rises is all same = by (fronts_last front begins.0 one two (subst Rising (sym begins.1) rises) is (ap last_of begins.1 ∙ all)) where
+front_whole front list one two begins rises is all same = by (fronts_last front begins.0 one two (subst HasRisingLengths (sym begins.1) rises) is (ap last_item_of begins.1 ∙ all)) where
   by : ((begins.0 ≡ []) × (one ≡ two)) ⊎ (one.length < two.length) → list ≡ front
   by (inl none) = sym begins.1 ∙ ap (λ (back : List Shown). front ++ back) none.0 ∙ append-nil front
   by (inr less) = absurd (omega (arith, less, same))
@@ -92,12 +92,12 @@ fall_more : (x : Shown) (seen : List Shown) (item : Shown) → NeverFall (x ∷ 
 fall_more x [] item never last = (last x refl, tt)
 fall_more x (y ∷ seen) item never last = (never.0, fall_more y seen item never.1 last)
 
-falls_more : (seen : List Shown) (item : Shown) → NeverFall seen → ((last : Shown) → last_of seen ≡ Some last → last.length ≤ item.length) → NeverFall (seen ++ item ∷ [])
+falls_more : (seen : List Shown) (item : Shown) → NeverFall seen → ((last : Shown) → last_item_of seen ≡ Some last → last.length ≤ item.length) → NeverFall (seen ++ item ∷ [])
 falls_more [] item never last = tt
 falls_more (x ∷ seen) item never last = fall_more x seen item never last
 
 -- one view more, which is the last item of a rising list that what was known before begins
-pub seen_more : (list now seen : List Shown) (item : Shown) → AreSeenIn list seen → IsPrefix list now → Rising now → last_of now ≡ Some item
+pub seen_more : (list now seen : List Shown) (item : Shown) → AreSeenIn list seen → IsPrefix list now → HasRisingLengths now → last_item_of now ≡ Some item
     → AreSeenIn now (seen ++ item ∷ [])
 seen_more list now seen item before begins rises is = record {
   each = all_more (IsSeenIn now) seen item (seen_on list now seen begins before.each) (now, prefix_self now, is);

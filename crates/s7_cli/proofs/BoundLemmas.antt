@@ -4,17 +4,17 @@ use Rattle.plc_base.specs.declared.BlockId.{BlockId}
 use Rattle.plc_base.specs.declared.Refusal.{Refusal}
 use Rattle.plc_io.specs.Contents.{Contents}
 use Rattle.plc_io.specs.Moments.{FilesAt}
-use Rattle.plc_io.specs.Taken.{Took, TookPrefix}
+use Rattle.plc_io.specs.Taken.{TookBytes, TookPrefix}
 use Rattle.flat_code.specs.Loading.{Verifies, faults_of}
 use Rattle.image_file.specs.Loaded.{LoadedProgram}
 use Rattle.image_file.specs.Refusing.{IsLoadError}
 use Rattle.image_file.specs.declared.faults.LoadFault.{LoadFault}
 use Rattle.image_file.specs.declared.refusing.LoadError.{LoadError}
 use Rattle.image_file.specs.declared.refusing.LoadError.TheVariants as loading
-use Rattle.stack_bound.specs.Certificates.{Holds}
-use Rattle.stack_bound.specs.CertificateText.{IsFault, Spells, certificate_of}
+use Rattle.stack_bound.specs.Certificates.{IsCertificateOf}
+use Rattle.stack_bound.specs.CertificateText.{IsCertificateTextFault, SpellsCertificate, certificate_of}
 use Rattle.stack_bound.specs.ChainText.{chain_text}
-use Rattle.stack_bound.specs.Finding.{Finds, IsDeepChain, IsLeastCertificate}
+use Rattle.stack_bound.specs.Finding.{IsFindingFor, IsDeepChain, IsLeastCertificate}
 use Rattle.stack_bound.specs.Overflow.{CertificatesKeepStacks, NeverOverflows}
 use Rattle.stack_bound.specs.declared.certificates.Bound.{Bound as BoundOf}
 use Rattle.stack_bound.specs.declared.finding.Found.{Found}
@@ -26,17 +26,17 @@ use Rattle.s7_cli.specs.declared.bound_command.Told.TheVariants as told
 use Rattle.s7_cli.specs.declared.failures.File.TheVariants.{Certificate}
 use Rattle.s7_cli.specs.declared.failures.Failure.{Failure}
 use Rattle.s7_cli.specs.declared.failures.Failure.TheVariants.{WordsRefused, ReadFault, TooLong, Refused, ImageRefused, NoListing, SaysNo, TooDeep, WriteFault, NoMemory}
-use Rattle.s7_cli.specs.Answer.{Answer, Outcome, code_of, done, read_fault, refused, refused_image, says_no, too_deep, too_long}
+use Rattle.s7_cli.specs.Answer.{Answer, Outcome, exit_status, done_answer, read_fault_answer, refused_file_answer, refused_image_answer, says_no_answer, too_deep_answer, too_long_answer}
 use Rattle.s7_cli.specs.BoundSays.{BoundAnswer, BoundSays, CheckedAnswer, HeldAnswer, RecheckAnswer, RecheckSays, StacksSuffice, image_bounded}
-use Rattle.s7_cli.specs.BoundTexts.{IsChainLine, IsHeld, IsToldOf, TellsOf}
+use Rattle.s7_cli.specs.BoundTexts.{IsChainLine, IsCertificateOfImage, IsToldOf, TellsOf}
 use Rattle.s7_cli.specs.Command.{Command, Go, Check, Compile, Translate, Run, Gen, Live, Watch, Upgrade, ListImage, Bound, Recheck, Input, inputs_of}
-use Rattle.s7_cli.specs.Ends.{Taking, Answers, IsCut}
+use Rattle.s7_cli.specs.Ends.{SinkMoments, IsAnswerOfCall, IsCallCutShort}
 use Rattle.s7_cli.specs.Faults.{failure_of_certificate, failure_of_loading}
-use Rattle.s7_cli.specs.Inner.{Comes, HasRead, RefusedBy, TextWritten}
+use Rattle.s7_cli.specs.Inner.{ComesOutAs, HasRead, SaysRefusal, TextWritten}
 use Rattle.s7_cli.specs.Lines.{ok_line}
 use Rattle.s7_cli.specs.Loads.{LoadsAs}
-use Rattle.s7_cli.specs.Reading.{Disk, Reads, StopsAt, disk}
-use Rattle.s7_cli.specs.Says.{Says}
+use Rattle.s7_cli.specs.Reading.{Disk, ReadsFilesInTurn, StopsAt, disk_moments}
+use Rattle.s7_cli.specs.Says.{CommandSays}
 use Rattle.s7_cli.proofs.ComesLemmas.{never-fell, same-files}
 use Rattle.s7_cli.proofs.LoadLemmas.{loads-one}
 use Rattle.s7_cli.proofs.ReadingLemmas.{reads-all}
@@ -78,7 +78,7 @@ bounded-one (Ok l) a b (inl p) (inl q) = outcome-of a b (p.1 ∙ sym q.1)
 bounded-one (Ok l) a b (inl p) (inr q) = absurd (deep-or-not l p.0.0 q.0 p.0.1 q.1)
 bounded-one (Ok l) a b (inr p) (inl q) = absurd (deep-or-not l q.0.0 p.0 q.0.1 p.1)
 bounded-one (Ok l) a b (inr p) (inr q) =
-    outcome-of a (too_deep p.0) p.2 ∙ sym (outcome-of b (too_deep q.0) q.2)
+    outcome-of a (too_deep_answer p.0) p.2 ∙ sym (outcome-of b (too_deep_answer q.0) q.2)
 
 pub bound-outcome : (image : List ℕ) (a b : Answer) → BoundSays image a → BoundSays image b → a.outcome ≡ b.outcome
 bound-outcome image a b p q =
@@ -102,17 +102,17 @@ recheck-verdict (Ok l) certificate a said = checked-verdict l (certificate_of l.
 
 -- ---- where the answer is that it is done, no history stops for want of stack
 
-not-done : (a b : Answer) → a ≡ b → code_of a.outcome ≡ 0 → (code_of b.outcome ≡ 0 → ⊥) → ⊥
-not-done a b is zero other = other (sym (ap (λ (x : Answer). code_of x.outcome) is) ∙ zero)
+not-done : (a b : Answer) → a ≡ b → exit_status a.outcome ≡ 0 → (exit_status b.outcome ≡ 0 → ⊥) → ⊥
+not-done a b is zero other = other (sym (ap (λ (x : Answer). exit_status x.outcome) is) ∙ zero)
 
 -- a loaded program that no history overflows
 abbrev Suffices : LoadedProgram → Type 0
 Suffices l = NeverOverflows l.profile l.program
 
 bound-suffices : CertificatesKeepStacks → (image : List ℕ) (v : Result LoadedProgram LoadFault) (a : Answer) (l : LoadedProgram)
-    → LoadsAs image v → BoundAnswer v a → code_of a.outcome ≡ 0 → LoadsAs image (Ok l) → Suffices l
-bound-suffices keep image (Err fault) a l loads said zero is = absurd (not-done a (refused_image fault) said zero (λ e. omega (arith, e)))
-bound-suffices keep image (Ok m) a l loads (inr deep) zero is = absurd (not-done a (too_deep deep.0) deep.2 zero (λ e. omega (arith, e)))
+    → LoadsAs image v → BoundAnswer v a → exit_status a.outcome ≡ 0 → LoadsAs image (Ok l) → Suffices l
+bound-suffices keep image (Err fault) a l loads said zero is = absurd (not-done a (refused_image_answer fault) said zero (λ e. omega (arith, e)))
+bound-suffices keep image (Ok m) a l loads (inr deep) zero is = absurd (not-done a (too_deep_answer deep.0) deep.2 zero (λ e. omega (arith, e)))
 bound-suffices keep image (Ok m) a l loads (inl fits) zero is =
     subst Suffices same (keep m.profile m.program fits.0.0 loads.loadable.verifies fits.0.1.holds)
   where
@@ -120,24 +120,24 @@ bound-suffices keep image (Ok m) a l loads (inl fits) zero is =
     same = let equal : Ok m ≡ Ok l = loads-one image (Ok m) (Ok l) loads is in cc
 
 checked-suffices : CertificatesKeepStacks → (l : LoadedProgram) (read : Result (List BoundOf) Refusal) (a : Answer) → Verifies l.program
-    → CheckedAnswer l read a → code_of a.outcome ≡ 0 → Suffices l
-checked-suffices keep l (Err refusal) a verifies said zero = absurd (not-done a (refused Certificate refusal) said zero (λ e. omega (arith, e)))
+    → CheckedAnswer l read a → exit_status a.outcome ≡ 0 → Suffices l
+checked-suffices keep l (Err refusal) a verifies said zero = absurd (not-done a (refused_file_answer Certificate refusal) said zero (λ e. omega (arith, e)))
 checked-suffices keep l (Ok list) a verifies (inl held) zero = keep l.profile l.program list verifies held.0
-checked-suffices keep l (Ok list) a verifies (inr fails) zero = absurd (not-done a says_no fails.1 zero (λ e. omega (arith, e)))
+checked-suffices keep l (Ok list) a verifies (inr fails) zero = absurd (not-done a says_no_answer fails.1 zero (λ e. omega (arith, e)))
 
 recheck-suffices : CertificatesKeepStacks → (image certificate : List ℕ) (v : Result LoadedProgram LoadFault) (a : Answer) (l : LoadedProgram)
-    → LoadsAs image v → RecheckAnswer v certificate a → code_of a.outcome ≡ 0 → LoadsAs image (Ok l) → Suffices l
+    → LoadsAs image v → RecheckAnswer v certificate a → exit_status a.outcome ≡ 0 → LoadsAs image (Ok l) → Suffices l
 recheck-suffices keep image certificate (Err fault) a l loads said zero is =
-    absurd (not-done a (refused_image fault) said zero (λ e. omega (arith, e)))
+    absurd (not-done a (refused_image_answer fault) said zero (λ e. omega (arith, e)))
 recheck-suffices keep image certificate (Ok m) a l loads said zero is =
     subst Suffices same (checked-suffices keep m (certificate_of m.program certificate) a loads.loadable.verifies said zero)
   where
     same : m ≡ l
     same = let equal : Ok m ≡ Ok l = loads-one image (Ok m) (Ok l) loads is in cc
 
-stopped : (d : Disk) (i : Input) (a : Answer) → StopsAt d i a → code_of a.outcome ≡ 0 → ⊥
-stopped d i a (inl (rose, gives)) zero = not-done a read_fault gives zero (λ e. omega (arith, e))
-stopped d i a (inr (bytes, agrees, long, gives)) zero = not-done a (too_long i.file) gives zero (λ e. omega (arith, e))
+stopped : (d : Disk) (i : Input) (a : Answer) → StopsAt d i a → exit_status a.outcome ≡ 0 → ⊥
+stopped d i a (inl (rose, gives)) zero = not-done a read_fault_answer gives zero (λ e. omega (arith, e))
+stopped d i a (inr (bytes, agrees, long, gives)) zero = not-done a (too_long_answer i.file) gives zero (λ e. omega (arith, e))
 
 same_bytes : (c : Contents) (name xs ys : List ℕ) → c.at name ≡ Some xs → c.at name ≡ Some ys → xs ≡ ys
 same_bytes c name xs ys p q = let e : Some xs ≡ Some ys = sym p ∙ q in cc
@@ -150,7 +150,7 @@ no_name k name none some = let e : None ≡ Some name = sym none ∙ some in cc
 
 -- of the bytes that the image holds
 bound-stacks : CertificatesKeepStacks → (d : Disk) (image certificate : List ℕ) (a : Answer)
-    → Reads d (inputs_of (Bound image certificate)) (Says (Bound image certificate)) a → code_of a.outcome ≡ 0
+    → ReadsFilesInTurn d (inputs_of (Bound image certificate)) (CommandSays (Bound image certificate)) a → exit_status a.outcome ≡ 0
     → StacksSuffice (Bound image certificate) d
 bound-stacks keep d image certificate a (inl stops) zero = absurd (stopped d _ a stops zero)
 bound-stacks keep d image certificate a (inr (bytes, holds, said)) zero = λ name held l is told there loads.
@@ -160,7 +160,7 @@ bound-stacks keep d image certificate a (inr (bytes, holds, said)) zero = λ nam
     bound-suffices keep bytes said.0 a l said.1 said.2 zero (subst (λ (b : List ℕ). LoadsAs b (Ok l)) same loads)
 
 recheck-stacks : CertificatesKeepStacks → (d : Disk) (image certificate : List ℕ) (a : Answer)
-    → Reads d (inputs_of (Recheck image certificate)) (Says (Recheck image certificate)) a → code_of a.outcome ≡ 0
+    → ReadsFilesInTurn d (inputs_of (Recheck image certificate)) (CommandSays (Recheck image certificate)) a → exit_status a.outcome ≡ 0
     → StacksSuffice (Recheck image certificate) d
 recheck-stacks keep d image certificate a (inl stops) zero = absurd (stopped d _ a stops zero)
 recheck-stacks keep d image certificate a (inr (bytes, holds, inl stops)) zero = absurd (stopped d _ a stops zero)
@@ -170,8 +170,8 @@ recheck-stacks keep d image certificate a (inr (bytes, holds, inr (text, within,
     let same : held ≡ bytes = same_bytes d.before.contents image held bytes here (holds.agrees told) in
     recheck-suffices keep bytes text said.0 a l said.1 said.2 zero (subst (λ (b : List ℕ). LoadsAs b (Ok l)) same loads)
 
-pub stacks-suffice : CertificatesKeepStacks → (k : Command) (d : Disk) (a : Answer) → Reads d (inputs_of k) (Says k) a
-    → code_of a.outcome ≡ 0 → StacksSuffice k d
+pub stacks-suffice : CertificatesKeepStacks → (k : Command) (d : Disk) (a : Answer) → ReadsFilesInTurn d (inputs_of k) (CommandSays k) a
+    → exit_status a.outcome ≡ 0 → StacksSuffice k d
 stacks-suffice keep (Bound image certificate) d a said zero = bound-stacks keep d image certificate a said zero
 stacks-suffice keep (Recheck image certificate) d a said zero = recheck-stacks keep d image certificate a said zero
 stacks-suffice keep (Go s y g h) d a said zero = λ name held l is told there loads. absurd (no_name (Go s y g h) name refl is)
@@ -188,53 +188,53 @@ stacks-suffice keep (ListImage i s y) d a said zero = λ name held l is told the
 -- ---- an image that isn't loaded, and a certificate that isn't read
 
 pub bound-refused : (V : Type 0) (image : List ℕ) (error : LoadError) (r : Result V Failure) → r ≡ Err (failure_of_loading error)
-    → IsLoadError error (faults_of image) → RefusedBy (BoundSays image) r
+    → IsLoadError error (faults_of image) → SaysRefusal (BoundSays image) r
 bound-refused V image (loading.Fault fault) r fails least =
-    subst (λ (q : Result V Failure). RefusedBy (BoundSays image) q) (sym fails) (Err fault, least, refl)
+    subst (λ (q : Result V Failure). SaysRefusal (BoundSays image) q) (sym fails) (Err fault, least, refl)
 bound-refused V image loading.NoMemory r fails least =
-    subst (λ (q : Result V Failure). RefusedBy (BoundSays image) q) (sym fails) tt
+    subst (λ (q : Result V Failure). SaysRefusal (BoundSays image) q) (sym fails) tt
 
 pub recheck-refused : (V : Type 0) (image text : List ℕ) (error : LoadError) (r : Result V Failure) → r ≡ Err (failure_of_loading error)
-    → IsLoadError error (faults_of image) → RefusedBy (RecheckSays image text) r
+    → IsLoadError error (faults_of image) → SaysRefusal (RecheckSays image text) r
 recheck-refused V image text (loading.Fault fault) r fails least =
-    subst (λ (q : Result V Failure). RefusedBy (RecheckSays image text) q) (sym fails) (Err fault, least, refl)
+    subst (λ (q : Result V Failure). SaysRefusal (RecheckSays image text) q) (sym fails) (Err fault, least, refl)
 recheck-refused V image text loading.NoMemory r fails least =
-    subst (λ (q : Result V Failure). RefusedBy (RecheckSays image text) q) (sym fails) tt
+    subst (λ (q : Result V Failure). SaysRefusal (RecheckSays image text) q) (sym fails) tt
 
 certificate-refuses : (V : Type 0) (image : List ℕ) (l : LoadedProgram) (text : List ℕ) (fault : CertificateFault) → LoadsAs image (Ok l)
-    → IsFault (certificate_of l.program text) fault → RefusedBy {V = V} (RecheckSays image text) (Err (failure_of_certificate fault))
+    → IsCertificateTextFault (certificate_of l.program text) fault → SaysRefusal {V = V} (RecheckSays image text) (Err (failure_of_certificate fault))
 certificate-refuses V image l text (certificate.BadLine line rule) loads is =
-    (Ok l, loads, subst (λ (r : Result (List BoundOf) Refusal). CheckedAnswer l r (refused Certificate (record { line = line; rule = rule }))) (sym is) refl)
+    (Ok l, loads, subst (λ (r : Result (List BoundOf) Refusal). CheckedAnswer l r (refused_file_answer Certificate (record { line = line; rule = rule }))) (sym is) refl)
 certificate-refuses V image l text certificate.NoMemory loads is = tt
 
 pub certificate-refused : (V : Type 0) (image : List ℕ) (l : LoadedProgram) (text : List ℕ) (fault : CertificateFault) (r : Result V Failure)
-    → r ≡ Err (failure_of_certificate fault) → LoadsAs image (Ok l) → IsFault (certificate_of l.program text) fault
-    → RefusedBy (RecheckSays image text) r
+    → r ≡ Err (failure_of_certificate fault) → LoadsAs image (Ok l) → IsCertificateTextFault (certificate_of l.program text) fault
+    → SaysRefusal (RecheckSays image text) r
 certificate-refused V image l text fault r fails loads is =
-    subst (λ (q : Result V Failure). RefusedBy (RecheckSays image text) q) (sym fails) (certificate-refuses V image l text fault loads is)
+    subst (λ (q : Result V Failure). SaysRefusal (RecheckSays image text) q) (sym fails) (certificate-refuses V image l text fault loads is)
 
 -- a certificate that was read says no
 pub no-said : (image : List ℕ) (l : LoadedProgram) (text : List ℕ) (list : List BoundOf) (test : Bool) → LoadsAs image (Ok l)
-    → Spells l.program text list → (IsTrue test ↔ Holds l.profile l.program list) → test ≡ false → RecheckSays image text says_no
+    → SpellsCertificate l.program text list → (IsTrue test ↔ IsCertificateOf l.profile l.program list) → test ≡ false → RecheckSays image text says_no_answer
 no-said image l text list test loads spells decides isnt =
-    (Ok l, loads, subst (λ (r : Result (List BoundOf) Refusal). CheckedAnswer l r says_no) (sym spells) (inr (no, refl)))
+    (Ok l, loads, subst (λ (r : Result (List BoundOf) Refusal). CheckedAnswer l r says_no_answer) (sym spells) (inr (no, refl)))
   where
-    no : Holds l.profile l.program list → ⊥
+    no : IsCertificateOf l.profile l.program list → ⊥
     no holds = let same : test ≡ true = decides.1 holds in let e : true ≡ false = sym same ∙ isnt in cc
 
 -- or holds
 pub yes-held : (image : List ℕ) (l : LoadedProgram) (text : List ℕ) (list : List BoundOf) (test : Bool) → LoadsAs image (Ok l)
-    → Spells l.program text list → (IsTrue test ↔ Holds l.profile l.program list) → test ≡ true → IsHeld image text
+    → SpellsCertificate l.program text list → (IsTrue test ↔ IsCertificateOf l.profile l.program list) → test ≡ true → IsCertificateOfImage image text
 yes-held image l text list test loads spells decides is = (l, loads, list, spells, decides.0 is)
 
-pub yes-said : (image text : List ℕ) → IsHeld image text → RecheckSays image text (done ok_line)
+pub yes-said : (image text : List ℕ) → IsCertificateOfImage image text → RecheckSays image text (done_answer ok_line)
 yes-said image text (l, loads, list, spells, holds) =
-    (Ok l, loads, subst (λ (r : Result (List BoundOf) Refusal). CheckedAnswer l r (done ok_line)) (sym spells) (inl (holds, refl)))
+    (Ok l, loads, subst (λ (r : Result (List BoundOf) Refusal). CheckedAnswer l r (done_answer ok_line)) (sym spells) (inl (holds, refl)))
 
 -- ---- what is told of an image
 
 pub tells : (image : List ℕ) (l : LoadedProgram) (found : Found) (told : Told) → LoadsAs image (Ok l)
-    → Finds l.profile l.program found → IsToldOf found told → TellsOf image told
+    → IsFindingFor l.profile l.program found → IsToldOf found told → TellsOf image told
 tells image l (found.Fits list) (told.Fits certificate) loads finds is = (l, loads, list.items, finds, is)
 tells image l (found.Deep chain) (told.Deep line) loads finds is = (l, loads, chain.items, finds, is)
 tells image l (found.Fits list) (told.Deep line) loads finds is = absurd is
@@ -244,19 +244,19 @@ tells image l (found.Deep chain) (told.Fits certificate) loads finds is = absurd
 
 deep-said : (img cert : List ℕ) (start now : FilesAt) (image : List ℕ) (l : LoadedProgram) (chain : List BlockId)
     → HasRead start now (inputs_of (Bound img cert)) (image ∷ []) → LoadsAs image (Ok l) → IsDeepChain l.profile l.program chain
-    → Answers (Some (Bound img cert)) (disk start now) (too_deep chain)
+    → IsAnswerOfCall (Some (Bound img cert)) (disk_moments start now) (too_deep_answer chain)
 deep-said img cert start now image l chain read loads deep =
-    reads-all (disk start now) (inputs_of (Bound img cert)) (image ∷ []) (Says (Bound img cert)) (too_deep chain) read.hold
+    reads-all (disk_moments start now) (inputs_of (Bound img cert)) (image ∷ []) (CommandSays (Bound img cert)) (too_deep_answer chain) read.hold
     (Ok l, loads, inr (chain, deep, refl))
 
-pub deep-written : (img cert : List ℕ) (start now : FilesAt) (s : Taking) (image line : List ℕ)
+pub deep-written : (img cert : List ℕ) (start now : FilesAt) (s : SinkMoments) (image line : List ℕ)
     → HasRead start now (inputs_of (Bound img cert)) (image ∷ []) → IsChainLine line image → TextWritten line s (Ok tt)
-    → Comes (Some (Bound img cert)) (disk start now) s (Err TooDeep)
+    → ComesOutAs (Some (Bound img cert)) (disk_moments start now) s (Err TooDeep)
 deep-written img cert start now s image line read (l, loads, chain, deep, is) took = (
   chain_text chain,
   record {
     answers = deep-said img cert start now image l chain read loads deep;
-    took = subst (λ (text : List ℕ). Took s.before s.after text) is took.0;
+    took = subst (λ (text : List ℕ). TookBytes s.before s.after text) is took.0;
     faults = took.1;
     reads = read.same.reads;
     writes = read.same.writes;
@@ -265,18 +265,18 @@ deep-written img cert start now s image line read (l, loads, chain, deep, is) to
 )
 
 -- the writing of the line was cut short
-deep-cut : (img cert : List ℕ) (start now : FilesAt) (s : Taking) (image : List ℕ) (l : LoadedProgram) (chain : List BlockId)
+deep-cut : (img cert : List ℕ) (start now : FilesAt) (s : SinkMoments) (image : List ℕ) (l : LoadedProgram) (chain : List BlockId)
     → HasRead start now (inputs_of (Bound img cert)) (image ∷ []) → LoadsAs image (Ok l) → IsDeepChain l.profile l.program chain
-    → TookPrefix s.before s.after (chain_text chain) → IsCut (Some (Bound img cert)) (disk start now) s
+    → TookPrefix s.before s.after (chain_text chain) → IsCallCutShort (Some (Bound img cert)) (disk_moments start now) s
 deep-cut img cert start now s image l chain read loads deep took = record {
-  cut = inr (too_deep chain, deep-said img cert start now image l chain read loads deep, read.same.reads, read.same.contents, took);
+  cut = inr (too_deep_answer chain, deep-said img cert start now image l chain read loads deep, read.same.reads, read.same.contents, took);
   reads = never-fell start.failed_reads now.failed_reads read.same.reads;
-  files = same-files (Some (Bound img cert)) (disk start now) read.same.contents;
+  files = same-files (Some (Bound img cert)) (disk_moments start now) read.same.contents;
 }
 
-deep-fails : (img cert : List ℕ) (start now : FilesAt) (s : Taking) (image : List ℕ) (l : LoadedProgram) (chain : List BlockId) (failure : Failure)
+deep-fails : (img cert : List ℕ) (start now : FilesAt) (s : SinkMoments) (image : List ℕ) (l : LoadedProgram) (chain : List BlockId) (failure : Failure)
     → HasRead start now (inputs_of (Bound img cert)) (image ∷ []) → LoadsAs image (Ok l) → IsDeepChain l.profile l.program chain
-    → TextWritten (chain_text chain) s (Err failure) → Comes (Some (Bound img cert)) (disk start now) s (Err failure)
+    → TextWritten (chain_text chain) s (Err failure) → ComesOutAs (Some (Bound img cert)) (disk_moments start now) s (Err failure)
 deep-fails img cert start now s image l chain WriteFault read loads deep took = record {
   cut = deep-cut img cert start now s image l chain read loads deep took.0;
   failed = inl (record { faults = took.1; never_fell = took.2; writes = read.same.writes });
@@ -295,10 +295,10 @@ deep-fails img cert start now s image l chain NoListing read loads deep took = a
 deep-fails img cert start now s image l chain SaysNo read loads deep took = absurd took
 deep-fails img cert start now s image l chain TooDeep read loads deep took = absurd took
 
-pub deep-unwritten : (img cert : List ℕ) (start now : FilesAt) (s : Taking) (image line : List ℕ) (failure : Failure) (came : Outcome)
+pub deep-unwritten : (img cert : List ℕ) (start now : FilesAt) (s : SinkMoments) (image line : List ℕ) (failure : Failure) (came : Outcome)
     → came ≡ Err failure → HasRead start now (inputs_of (Bound img cert)) (image ∷ []) → IsChainLine line image
-    → TextWritten line s (Err failure) → Comes (Some (Bound img cert)) (disk start now) s came
+    → TextWritten line s (Err failure) → ComesOutAs (Some (Bound img cert)) (disk_moments start now) s came
 deep-unwritten img cert start now s image line failure came fails read (l, loads, chain, deep, is) took =
-    subst (λ (o : Outcome). Comes (Some (Bound img cert)) (disk start now) s o) (sym fails)
+    subst (λ (o : Outcome). ComesOutAs (Some (Bound img cert)) (disk_moments start now) s o) (sym fails)
     (deep-fails img cert start now s image l chain failure read loads deep
     (subst (λ (text : List ℕ). TextWritten text s (Err failure)) is took))

@@ -1,42 +1,42 @@
 -- How a command comes out: its files are read one after the other, then checked, and then its text is written.
 use Rattle.std.proofs.Common.{◌≡◌, inl, inr, refl, sym, ◌∙◌, ap, subst, ℕ, List, [], ◌∷◌, ◌++◌, Option, Some, Result, Ok, Err, Contains, arith}
-use Rattle.plc_io.specs.Contents.{Contents, Agrees, SameFiles}
-use Rattle.plc_io.specs.Counts.{Rose, SameCounts, NeverFell}
-use Rattle.plc_io.specs.FileCalls.{Unchanged}
+use Rattle.plc_io.specs.Contents.{Contents, FileHoldsBytes, SameFiles}
+use Rattle.plc_io.specs.Counts.{CountRose, SameCounts, NoCountFell}
+use Rattle.plc_io.specs.FileCalls.{AreFilesUnchanged}
 use Rattle.plc_io.specs.Moments.{FilesAt, SinkAt}
 use Rattle.s7_cli.specs.declared.failures.Failure.{Failure}
 use Rattle.s7_cli.specs.declared.failures.Failure.TheVariants.{WordsRefused, ReadFault, TooLong, Refused, ImageRefused, NoListing, SaysNo, TooDeep, WriteFault, NoMemory}
-use Rattle.s7_cli.specs.Answer.{Answer, Outcome, done, refused, refused_image, no_listing, says_no, read_fault, too_long}
+use Rattle.s7_cli.specs.Answer.{Answer, Outcome, done_answer, refused_file_answer, refused_image_answer, no_listing_answer, says_no_answer, read_fault_answer, too_long_answer}
 use Rattle.s7_cli.specs.Command.{Command, Input, inputs_of, outputs_of}
-use Rattle.s7_cli.specs.Ends.{Taking, taking, Answers, ChangesOutputs, WritesOutputs}
-use Rattle.s7_cli.specs.Inner.{OnlyReads, FileRead, HasRead, StopsAmong, AllRead, RefusedBy, TextWritten, Comes, ComesOf}
-use Rattle.s7_cli.specs.Reading.{Disk, disk, Holds, HoldAll, StopsAt, Reads}
-use Rattle.s7_cli.specs.Says.{Says}
+use Rattle.s7_cli.specs.Ends.{SinkMoments, sink_moments, IsAnswerOfCall, ChangesOutputs, WritesOutputs}
+use Rattle.s7_cli.specs.Inner.{OnlyReads, FileRead, HasRead, StopsAmong, AllRead, SaysRefusal, TextWritten, ComesOutAs, ComesOf}
+use Rattle.s7_cli.specs.Reading.{Disk, disk_moments, HoldsBytes, HoldBytesInTurn, StopsAt, ReadsFilesInTurn}
+use Rattle.s7_cli.specs.Says.{CommandSays}
 use Rattle.s7_cli.proofs.ReadingLemmas.{reads-all}
 use Rattle.s7_cli.proofs.RefusedLemmas.{allowed}
 
-pub unchanged : (at : FilesAt) → Unchanged at at
+pub unchanged : (at : FilesAt) → AreFilesUnchanged at at
 unchanged at = record { contents = record { told = refl; at = λ name. refl }; reads = λ name. refl; writes = λ name. refl }
 
-agrees-before : (start now : Contents) (name bytes : List ℕ) → SameFiles start now → Agrees now name bytes → Agrees start name bytes
+agrees-before : (start now : Contents) (name bytes : List ℕ) → SameFiles start now → FileHoldsBytes now name bytes → FileHoldsBytes start name bytes
 agrees-before start now name bytes same agrees = λ told. sym (same.at name) ∙ agrees (same.told ∙ told)
 
-held-before : (start now : Contents) (i : Input) (bytes : List ℕ) → SameFiles start now → Holds now i bytes → Holds start i bytes
+held-before : (start now : Contents) (i : Input) (bytes : List ℕ) → SameFiles start now → HoldsBytes now i bytes → HoldsBytes start i bytes
 held-before start now i bytes same holds =
     record { agrees = agrees-before start now i.name bytes same holds.agrees; within = holds.within }
 
-hold-before : (start now : Contents) (is : List Input) (contents : List (List ℕ)) → SameFiles start now → HoldAll now is contents
-    → HoldAll start is contents
+hold-before : (start now : Contents) (is : List Input) (contents : List (List ℕ)) → SameFiles start now → HoldBytesInTurn now is contents
+    → HoldBytesInTurn start is contents
 hold-before start now [] [] same hold = hold
 hold-before start now [] (bytes ∷ more) same hold = absurd hold
 hold-before start now (i ∷ is) [] same hold = absurd hold
 hold-before start now (i ∷ is) (bytes ∷ more) same hold =
     (held-before start now i bytes same hold.0, hold-before start now is more same hold.1)
 
-pub never-fell : (before now : List ℕ → ℕ) → SameCounts before now → NeverFell before now
+pub never-fell : (before now : List ℕ → ℕ) → SameCounts before now → NoCountFell before now
 never-fell before now same = λ name. omega (arith, same name)
 
-pub only-reads : (start now : FilesAt) → Unchanged start now → OnlyReads (disk start now)
+pub only-reads : (start now : FilesAt) → AreFilesUnchanged start now → OnlyReads (disk_moments start now)
 only-reads start now same =
     record { files = same.contents; reads = never-fell start.failed_reads now.failed_reads same.reads; writes = same.writes }
 
@@ -51,7 +51,7 @@ same-files c d same = record {
 -- ---- a file isn't read
 
 -- what a later reading leaves, since the start
-since : (start middle now : FilesAt) → Unchanged start middle → OnlyReads (disk middle now) → OnlyReads (disk start now)
+since : (start middle now : FilesAt) → AreFilesUnchanged start middle → OnlyReads (disk_moments middle now) → OnlyReads (disk_moments start now)
 since start middle now same later = record {
   files = record {
     told = later.files.told ∙ same.contents.told;
@@ -61,36 +61,36 @@ since start middle now same later = record {
   writes = λ name. later.writes name ∙ same.writes name;
 }
 
-stops-since : (start middle now : FilesAt) (i : Input) (a : Answer) → Unchanged start middle → StopsAt (disk middle now) i a
-    → StopsAt (disk start now) i a
+stops-since : (start middle now : FilesAt) (i : Input) (a : Answer) → AreFilesUnchanged start middle → StopsAt (disk_moments middle now) i a
+    → StopsAt (disk_moments start now) i a
 stops-since start middle now i a same (inl (rose, gives)) =
-    inl (subst (λ (n : ℕ). Rose n (now.failed_reads i.name)) (same.reads i.name) rose, gives)
+    inl (subst (λ (n : ℕ). CountRose n (now.failed_reads i.name)) (same.reads i.name) rose, gives)
 stops-since start middle now i a same (inr (bytes, agrees, long, gives)) =
     inr (bytes, agrees-before start.contents middle.contents i.name bytes same.contents agrees, long, gives)
 
 -- memory was wanting before anything was written
-pub wanting : (c : Option Command) (d : Disk) (at : SinkAt) → OnlyReads d → Comes c d (taking at at) (Err NoMemory)
+pub wanting : (c : Option Command) (d : Disk) (at : SinkAt) → OnlyReads d → ComesOutAs c d (sink_moments at at) (Err NoMemory)
 wanting c d at only = record {
   cut = record { cut = inl refl; reads = only.reads; files = same-files c d only.files };
   faults = refl;
   writes = only.writes;
 }
 
-stops-among-since : (start middle now : FilesAt) (is : List Input) (a : Answer) → Unchanged start middle → StopsAmong (disk middle now) is a
-    → StopsAmong (disk start now) is a
+stops-among-since : (start middle now : FilesAt) (is : List Input) (a : Answer) → AreFilesUnchanged start middle → StopsAmong (disk_moments middle now) is a
+    → StopsAmong (disk_moments start now) is a
 stops-among-since start middle now [] a same stops = stops
 stops-among-since start middle now (i ∷ is) a same (inl stops) = inl (stops-since start middle now i a same stops)
 stops-among-since start middle now (i ∷ is) a same (inr (bytes, holds, stops)) =
     inr (bytes, held-before start.contents middle.contents i bytes same.contents holds, stops-among-since start middle now is a same stops)
 
-stops-behind : (d : Disk) (is js : List Input) (contents : List (List ℕ)) (a : Answer) → HoldAll d.before.contents is contents
+stops-behind : (d : Disk) (is js : List Input) (contents : List (List ℕ)) (a : Answer) → HoldBytesInTurn d.before.contents is contents
     → StopsAmong d js a → StopsAmong d (is ++ js) a
 stops-behind d [] js contents a hold stops = stops
 stops-behind d (i ∷ is) js [] a hold stops = absurd hold
 stops-behind d (i ∷ is) js (bytes ∷ more) a hold stops = inr (bytes, hold.0, stops-behind d is js more a hold.1 stops)
 
 stops-reads : (d : Disk) (is rest : List Input) (says : List (List ℕ) → Answer → Type 0) (a : Answer) → StopsAmong d is a
-    → Reads d (is ++ rest) says a
+    → ReadsFilesInTurn d (is ++ rest) says a
 stops-reads d [] rest says a stops = absurd stops
 stops-reads d (i ∷ is) rest says a (inl stops) = inl stops
 stops-reads d (i ∷ is) rest says a (inr (bytes, holds, stops)) =
@@ -98,15 +98,15 @@ stops-reads d (i ∷ is) rest says a (inr (bytes, holds, stops)) =
 
 -- ---- files that are read one after the other
 
-hold-++ : (c : Contents) (is js : List Input) (contents more : List (List ℕ)) → HoldAll c is contents → HoldAll c js more
-    → HoldAll c (is ++ js) (contents ++ more)
+hold-++ : (c : Contents) (is js : List Input) (contents more : List (List ℕ)) → HoldBytesInTurn c is contents → HoldBytesInTurn c js more
+    → HoldBytesInTurn c (is ++ js) (contents ++ more)
 hold-++ c [] js [] more hold after = after
 hold-++ c [] js (bytes ∷ contents) more hold after = absurd hold
 hold-++ c (i ∷ is) js [] more hold after = absurd hold
 hold-++ c (i ∷ is) js (bytes ∷ contents) more hold after = (hold.0, hold-++ c is js contents more hold.1 after)
 
 -- what a file that is read shows
-pub file-read : {V : Type 0} (view : V → List ℕ) (start now : FilesAt) (i : Input) (v : V) → FileRead view (disk start now) i (Ok v)
+pub file-read : {V : Type 0} (view : V → List ℕ) (start now : FilesAt) (i : Input) (v : V) → FileRead view (disk_moments start now) i (Ok v)
     → HasRead start now (i ∷ []) (view v ∷ [])
 file-read view start now i v (same, holds) = record { same = same; hold = (holds, tt) }
 
@@ -146,11 +146,11 @@ file-unread {V} {W} view views d i failure r is read =
     subst (λ (q : Result W Failure). AllRead views d (i ∷ []) q) (sym is) (file-fails view views d i [] failure read)
 
 fails-then : {V W : Type 0} (view : V → List (List ℕ)) (views : W → List (List ℕ)) (start middle now : FilesAt) (is js : List Input)
-    (contents : List (List ℕ)) (failure : Failure) → HasRead start middle is contents → AllRead view (disk middle now) js (Err failure)
-    → AllRead views (disk start now) (is ++ js) (Err failure)
+    (contents : List (List ℕ)) (failure : Failure) → HasRead start middle is contents → AllRead view (disk_moments middle now) js (Err failure)
+    → AllRead views (disk_moments start now) (is ++ js) (Err failure)
 fails-then view views start middle now is js contents ReadFault first (only, stops) = (
   since start middle now first.same only,
-  stops-behind (disk start now) is js contents read_fault first.hold (stops-among-since start middle now js read_fault first.same stops),
+  stops-behind (disk_moments start now) is js contents read_fault_answer first.hold (stops-among-since start middle now js read_fault_answer first.same stops),
 )
 fails-then view views start middle now is js contents (TooLong file) first (same, stops) = (
   record {
@@ -161,7 +161,7 @@ fails-then view views start middle now is js contents (TooLong file) first (same
     reads = λ name. same.reads name ∙ first.same.reads name;
     writes = λ name. same.writes name ∙ first.same.writes name;
   },
-  stops-behind (disk start now) is js contents (too_long file) first.hold (stops-among-since start middle now js (too_long file) first.same stops),
+  stops-behind (disk_moments start now) is js contents (too_long_answer file) first.hold (stops-among-since start middle now js (too_long_answer file) first.same stops),
 )
 fails-then view views start middle now is js contents NoMemory first only = since start middle now first.same only
 fails-then view views start middle now is js contents WordsRefused first read = absurd read
@@ -175,35 +175,35 @@ fails-then view views start middle now is js contents WriteFault first read = ab
 -- files were read, and then one isn't
 pub unread-then : {V W : Type 0} (view : V → List (List ℕ)) (views : W → List (List ℕ)) (start middle now : FilesAt) (is js : List Input)
     (contents : List (List ℕ)) (failure : Failure) (r : Result W Failure) → r ≡ Err failure → HasRead start middle is contents
-    → AllRead view (disk middle now) js (Err failure) → AllRead views (disk start now) (is ++ js) r
+    → AllRead view (disk_moments middle now) js (Err failure) → AllRead views (disk_moments start now) (is ++ js) r
 unread-then {V} {W} view views start middle now is js contents failure r equal first read =
-    subst (λ (q : Result W Failure). AllRead views (disk start now) (is ++ js) q) (sym equal)
+    subst (λ (q : Result W Failure). AllRead views (disk_moments start now) (is ++ js) q) (sym equal)
     (fails-then view views start middle now is js contents failure first read)
 
 -- ---- a command whose files aren't all read
 
 not-read : {V : Type 0} (view : V → List (List ℕ)) (c : Command) (start now : FilesAt) (at : SinkAt) (is rest : List Input)
-    (failure : Failure) → inputs_of c ≡ is ++ rest → AllRead view (disk start now) is (Err failure)
-    → Comes (Some c) (disk start now) (taking at at) (Err failure)
+    (failure : Failure) → inputs_of c ≡ is ++ rest → AllRead view (disk_moments start now) is (Err failure)
+    → ComesOutAs (Some c) (disk_moments start now) (sink_moments at at) (Err failure)
 not-read view c start now at is rest ReadFault are (only, stops) = record {
-  line = read_fault.text;
+  line = read_fault_answer.text;
   has_line = refl;
-  answers = subst (λ (inputs : List Input). Reads (disk start now) inputs (Says c) read_fault) (sym are)
-      (stops-reads (disk start now) is rest (Says c) read_fault stops);
+  answers = subst (λ (inputs : List Input). ReadsFilesInTurn (disk_moments start now) inputs (CommandSays c) read_fault_answer) (sym are)
+      (stops-reads (disk_moments start now) is rest (CommandSays c) read_fault_answer stops);
   sink = refl;
   counts = only.reads;
   only_reads = only;
 }
 not-read view c start now at is rest (TooLong file) are (same, stops) = record {
-  line = (too_long file).text;
+  line = (too_long_answer file).text;
   has_line = refl;
-  answers = subst (λ (inputs : List Input). Reads (disk start now) inputs (Says c) (too_long file)) (sym are)
-      (stops-reads (disk start now) is rest (Says c) (too_long file) stops);
+  answers = subst (λ (inputs : List Input). ReadsFilesInTurn (disk_moments start now) inputs (CommandSays c) (too_long_answer file)) (sym are)
+      (stops-reads (disk_moments start now) is rest (CommandSays c) (too_long_answer file) stops);
   sink = refl;
   counts = same.reads;
   only_reads = only-reads start now same;
 }
-not-read view c start now at is rest NoMemory are only = wanting (Some c) (disk start now) at only
+not-read view c start now at is rest NoMemory are only = wanting (Some c) (disk_moments start now) at only
 not-read view c start now at is rest WordsRefused are read = absurd read
 not-read view c start now at is rest (Refused file refusal) are read = absurd read
 not-read view c start now at is rest (ImageRefused fault) are read = absurd read
@@ -214,56 +214,56 @@ not-read view c start now at is rest WriteFault are read = absurd read
 
 pub comes-unread : {V : Type 0} (view : V → List (List ℕ)) (c : Command) (start now : FilesAt) (at : SinkAt) (is rest : List Input)
     (failure : Failure) (came : Outcome) → inputs_of c ≡ is ++ rest → came ≡ Err failure
-    → AllRead view (disk start now) is (Err failure) → Comes (Some c) (disk start now) (taking at at) came
+    → AllRead view (disk_moments start now) is (Err failure) → ComesOutAs (Some c) (disk_moments start now) (sink_moments at at) came
 comes-unread view c start now at is rest failure came are equal read =
-    subst (λ (o : Outcome). Comes (Some c) (disk start now) (taking at at) o) (sym equal)
+    subst (λ (o : Outcome). ComesOutAs (Some c) (disk_moments start now) (sink_moments at at) o) (sym equal)
     (not-read view c start now at is rest failure are read)
 
 -- ---- what the files hold is refused
 
 refuses : (V : Type 0) (c : Command) (start now : FilesAt) (at : SinkAt) (contents : List (List ℕ)) (failure : Failure)
-    → HasRead start now (inputs_of c) contents → RefusedBy {V = V} (Says c contents) (Err failure)
-    → Comes (Some c) (disk start now) (taking at at) (Err failure)
+    → HasRead start now (inputs_of c) contents → SaysRefusal {V = V} (CommandSays c contents) (Err failure)
+    → ComesOutAs (Some c) (disk_moments start now) (sink_moments at at) (Err failure)
 refuses V c start now at contents (Refused file refusal) read said = record {
-  line = (refused file refusal).text;
+  line = (refused_file_answer file refusal).text;
   has_line = refl;
-  answers = reads-all (disk start now) (inputs_of c) contents (Says c) (refused file refusal) read.hold said;
+  answers = reads-all (disk_moments start now) (inputs_of c) contents (CommandSays c) (refused_file_answer file refusal) read.hold said;
   sink = refl;
   counts = read.same.reads;
   only_reads = only-reads start now read.same;
 }
 refuses V c start now at contents (ImageRefused fault) read said = record {
-  line = (refused_image fault).text;
+  line = (refused_image_answer fault).text;
   has_line = refl;
-  answers = reads-all (disk start now) (inputs_of c) contents (Says c) (refused_image fault) read.hold said;
+  answers = reads-all (disk_moments start now) (inputs_of c) contents (CommandSays c) (refused_image_answer fault) read.hold said;
   sink = refl;
   counts = read.same.reads;
   only_reads = only-reads start now read.same;
 }
 refuses V c start now at contents NoListing read said = record {
-  line = no_listing.text;
+  line = no_listing_answer.text;
   has_line = refl;
-  answers = reads-all (disk start now) (inputs_of c) contents (Says c) no_listing read.hold said;
+  answers = reads-all (disk_moments start now) (inputs_of c) contents (CommandSays c) no_listing_answer read.hold said;
   sink = refl;
   counts = read.same.reads;
   only_reads = only-reads start now read.same;
 }
 refuses V c start now at contents SaysNo read said = record {
-  line = says_no.text;
+  line = says_no_answer.text;
   has_line = refl;
-  answers = reads-all (disk start now) (inputs_of c) contents (Says c) says_no read.hold said;
+  answers = reads-all (disk_moments start now) (inputs_of c) contents (CommandSays c) says_no_answer read.hold said;
   sink = refl;
   counts = read.same.reads;
   only_reads = only-reads start now read.same;
 }
 refuses V c start now at contents TooDeep read said = absurd said
-refuses V c start now at contents NoMemory read said = wanting (Some c) (disk start now) at (only-reads start now read.same)
+refuses V c start now at contents NoMemory read said = wanting (Some c) (disk_moments start now) at (only-reads start now read.same)
 refuses V c start now at contents WordsRefused read said = absurd said
 refuses V c start now at contents ReadFault read said = absurd said
 refuses V c start now at contents (TooLong file) read said = record {
-  line = (too_long file).text;
+  line = (too_long_answer file).text;
   has_line = refl;
-  answers = reads-all (disk start now) (inputs_of c) contents (Says c) (too_long file) read.hold said;
+  answers = reads-all (disk_moments start now) (inputs_of c) contents (CommandSays c) (too_long_answer file) read.hold said;
   sink = refl;
   counts = read.same.reads;
   only_reads = only-reads start now read.same;
@@ -272,11 +272,11 @@ refuses V c start now at contents WriteFault read said = absurd said
 
 pub comes-refused : (V : Type 0) (c : Command) (start now : FilesAt) (at : SinkAt) (contents : List (List ℕ)) (said : Answer → Type 0)
     (failure : Failure) (came : Outcome) → came ≡ Err failure → HasRead start now (inputs_of c) contents
-    → ((a : Answer) → said a → Says c contents a) → RefusedBy {V = V} said (Err failure)
-    → Comes (Some c) (disk start now) (taking at at) came
+    → ((a : Answer) → said a → CommandSays c contents a) → SaysRefusal {V = V} said (Err failure)
+    → ComesOutAs (Some c) (disk_moments start now) (sink_moments at at) came
 comes-refused V c start now at contents said failure came equal read each told =
-    subst (λ (o : Outcome). Comes (Some c) (disk start now) (taking at at) o) (sym equal)
-    (refuses V c start now at contents failure read (allowed V V said (Says c contents) failure each told))
+    subst (λ (o : Outcome). ComesOutAs (Some c) (disk_moments start now) (sink_moments at at) o) (sym equal)
+    (refuses V c start now at contents failure read (allowed V V said (CommandSays c contents) failure each told))
 
 -- ---- the result was written, or a front of it
 
@@ -287,8 +287,8 @@ no-outputs c d none = λ k is_k name within.
     let here : Contains [] name = subst (λ (names : List (List ℕ)). Contains names name) (ap outputs_of (sym same) ∙ none) within in
     absurd (omega (arith, here.1))
 
-writes : (c : Command) (start now : FilesAt) (s : Taking) (text : List ℕ) (came : Outcome) → Unchanged start now → outputs_of c ≡ []
-    → Answers (Some c) (disk start now) (done text) → TextWritten text s came → Comes (Some c) (disk start now) s came
+writes : (c : Command) (start now : FilesAt) (s : SinkMoments) (text : List ℕ) (came : Outcome) → AreFilesUnchanged start now → outputs_of c ≡ []
+    → IsAnswerOfCall (Some c) (disk_moments start now) (done_answer text) → TextWritten text s came → ComesOutAs (Some c) (disk_moments start now) s came
 writes c start now s text (Ok ok) same none answers took = (
   text,
   record {
@@ -297,22 +297,22 @@ writes c start now s text (Ok ok) same none answers took = (
     faults = took.1;
     reads = same.reads;
     writes = same.writes;
-    files = (same-files (Some c) (disk start now) same.contents, no-outputs c (disk start now) none);
+    files = (same-files (Some c) (disk_moments start now) same.contents, no-outputs c (disk_moments start now) none);
   },
 )
 writes c start now s text (Err WriteFault) same none answers took = record {
   cut = record {
-    cut = inr (done text, answers, same.reads, (same-files (Some c) (disk start now) same.contents, no-outputs c (disk start now) none), took.0);
+    cut = inr (done_answer text, answers, same.reads, (same-files (Some c) (disk_moments start now) same.contents, no-outputs c (disk_moments start now) none), took.0);
     reads = never-fell start.failed_reads now.failed_reads same.reads;
-    files = same-files (Some c) (disk start now) same.contents;
+    files = same-files (Some c) (disk_moments start now) same.contents;
   };
   failed = inl (record { faults = took.1; never_fell = took.2; writes = same.writes });
 }
 writes c start now s text (Err NoMemory) same none answers took = record {
   cut = record {
-    cut = inr (done text, answers, same.reads, (same-files (Some c) (disk start now) same.contents, no-outputs c (disk start now) none), took.0);
+    cut = inr (done_answer text, answers, same.reads, (same-files (Some c) (disk_moments start now) same.contents, no-outputs c (disk_moments start now) none), took.0);
     reads = never-fell start.failed_reads now.failed_reads same.reads;
-    files = same-files (Some c) (disk start now) same.contents;
+    files = same-files (Some c) (disk_moments start now) same.contents;
   };
   faults = took.1;
   writes = same.writes;
@@ -326,29 +326,29 @@ writes c start now s text (Err NoListing) same none answers took = absurd took
 writes c start now s text (Err SaysNo) same none answers took = absurd took
 writes c start now s text (Err TooDeep) same none answers took = absurd took
 
-pub comes-written : (c : Command) (start now : FilesAt) (s : Taking) (contents : List (List ℕ)) (text : List ℕ) (came : Outcome)
-    → outputs_of c ≡ [] → HasRead start now (inputs_of c) contents → Says c contents (done text)
-    → TextWritten text s came → Comes (Some c) (disk start now) s came
+pub comes-written : (c : Command) (start now : FilesAt) (s : SinkMoments) (contents : List (List ℕ)) (text : List ℕ) (came : Outcome)
+    → outputs_of c ≡ [] → HasRead start now (inputs_of c) contents → CommandSays c contents (done_answer text)
+    → TextWritten text s came → ComesOutAs (Some c) (disk_moments start now) s came
 comes-written c start now s contents text came none read said took =
     writes c start now s text came read.same none
-    (reads-all (disk start now) (inputs_of c) contents (Says c) (done text) read.hold said)
+    (reads-all (disk_moments start now) (inputs_of c) contents (CommandSays c) (done_answer text) read.hold said)
     took
 
 -- ---- what comes behind the reading of all input files
 
 -- of one, whose bytes are lent
-pub behind-one : {V : Type 0} (view : V → List ℕ) (c : Command) (i : Input) (start middle now : FilesAt) (v : V) (lent : List ℕ) (s : Taking) (came : Outcome)
-    → inputs_of c ≡ i ∷ [] → lent ≡ view v → FileRead view (disk start middle) i (Ok v) → ComesOf c (lent ∷ []) (disk middle now) s came
-    → Comes (Some c) (disk start now) s came
+pub behind-one : {V : Type 0} (view : V → List ℕ) (c : Command) (i : Input) (start middle now : FilesAt) (v : V) (lent : List ℕ) (s : SinkMoments) (came : Outcome)
+    → inputs_of c ≡ i ∷ [] → lent ≡ view v → FileRead view (disk_moments start middle) i (Ok v) → ComesOf c (lent ∷ []) (disk_moments middle now) s came
+    → ComesOutAs (Some c) (disk_moments start now) s came
 behind-one view c i start middle now v lent s came are is read comes =
     comes start
     (subst (λ (bytes : List ℕ). HasRead start middle (inputs_of c) (bytes ∷ [])) (sym is)
     (subst (λ (inputs : List Input). HasRead start middle inputs (view v ∷ [])) (sym are) (file-read view start middle i v read)))
 
 -- of two
-pub behind-two : {V : Type 0} (view : V → List ℕ) (c : Command) (i j : Input) (start middle now : FilesAt) (v w : V) (one two : List ℕ) (s : Taking)
-    (came : Outcome) → inputs_of c ≡ i ∷ j ∷ [] → one ≡ view v → two ≡ view w → FileRead view (disk start middle) i (Ok v)
-    → FileRead view (disk middle now) j (Ok w) → ComesOf c (one ∷ two ∷ []) (disk now now) s came → Comes (Some c) (disk start now) s came
+pub behind-two : {V : Type 0} (view : V → List ℕ) (c : Command) (i j : Input) (start middle now : FilesAt) (v w : V) (one two : List ℕ) (s : SinkMoments)
+    (came : Outcome) → inputs_of c ≡ i ∷ j ∷ [] → one ≡ view v → two ≡ view w → FileRead view (disk_moments start middle) i (Ok v)
+    → FileRead view (disk_moments middle now) j (Ok w) → ComesOf c (one ∷ two ∷ []) (disk_moments now now) s came → ComesOutAs (Some c) (disk_moments start now) s came
 behind-two view c i j start middle now v w one two s came are first second read then comes =
     comes start
     (subst (λ (bytes : List ℕ). HasRead start now (inputs_of c) (bytes ∷ two ∷ [])) (sym first)
@@ -358,8 +358,8 @@ behind-two view c i j start middle now v w one two s came are first second read 
 
 -- of several, and then of one whose bytes are lent
 pub behind-more : {V W : Type 0} (views : V → List (List ℕ)) (view : W → List ℕ) (c : Command) (is : List Input) (j : Input) (start middle now : FilesAt)
-    (v : V) (w : W) (lent : List ℕ) (s : Taking) (came : Outcome) → inputs_of c ≡ is ++ j ∷ [] → lent ≡ view w → HasRead start middle is (views v)
-    → FileRead view (disk middle now) j (Ok w) → ComesOf c (views v ++ lent ∷ []) (disk now now) s came → Comes (Some c) (disk start now) s came
+    (v : V) (w : W) (lent : List ℕ) (s : SinkMoments) (came : Outcome) → inputs_of c ≡ is ++ j ∷ [] → lent ≡ view w → HasRead start middle is (views v)
+    → FileRead view (disk_moments middle now) j (Ok w) → ComesOf c (views v ++ lent ∷ []) (disk_moments now now) s came → ComesOutAs (Some c) (disk_moments start now) s came
 behind-more views view c is j start middle now v w lent s came are same read then comes =
     comes start
     (subst (λ (bytes : List ℕ). HasRead start now (inputs_of c) (views v ++ bytes ∷ [])) (sym same)

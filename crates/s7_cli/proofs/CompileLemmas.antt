@@ -18,18 +18,18 @@ use Rattle.plc_base.proofs.LeastLemmas.{least-append}
 use Rattle.block_layout.specs.Layouts.{layouts_of}
 use Rattle.block_layout.specs.Table.{layout_refusals}
 use Rattle.block_layout.specs.declared.blocks.BlockLayout.{BlockLayout}
-use Rattle.stl_types.specs.Table.{statement_refusals, Checks}
+use Rattle.stl_types.specs.Table.{statement_refusals, ChecksTree}
 use Rattle.stl_codegen.specs.Generated.{program_of}
 use Rattle.sem_kept.specs.Agreement.{AreFiles, KeepsSourceIn, ProgramsRun}
 use Rattle.sem_kept.specs.Compiles.{CompilesTo, IsProgramUnique}
-use Rattle.sem_kept.specs.Stages.{InTurn}
-use Rattle.sem_kept.specs.Meaning.{HasSymbolsIn, HasTokens, HasTree, refusals_of, sound_by, IsSound, IsJudgedWith, IsJudgedIn, ExcludesRefusal, InSource, InSymbols, MeansCodeIn, code_in}
+use Rattle.sem_kept.specs.Stages.{HaveOutcomeInTurn}
+use Rattle.sem_kept.specs.Meaning.{HasSymbolsIn, HasTokens, HasTreeOrRefusal, refusals_of, sound_by, IsSound, IsJudgedWith, IsJudgedIn, ExcludesRefusal, InSource, InSymbols, MeansCodeIn, stated_code_of_tree}
 use Rattle.stl_symbols.specs.declared.languages.Language.{Language}
 use Rattle.stl_symbols.specs.declared.languages.Language.TheVariants.{English}
 use Rattle.s7_cli.specs.declared.compiling.LaidSource.{LaidSource}
 use Rattle.s7_cli.specs.declared.faults.CompileFault.{CompileFault}
 use Rattle.s7_cli.specs.declared.faults.CompileFault.TheVariants as compiling
-use Rattle.s7_cli.specs.Compiling.{CompilesWith, Finds, HasProgramWith, IsLaid, IsRefusedBy, KeepsWith, RefusedHaveNone, RefusesBy, RefusesIn, RefusesLaid, RefusesSymbols, RefusesWith, fault_in_symbols, fault_in_source}
+use Rattle.s7_cli.specs.Compiling.{CompilesWith, MakesOrRefuses, HasProgramWith, IsSourceLaidOut, IsRefusedByFault, KeepsWith, RefusedHaveNone, RefusesBy, RefusesIn, RefusesLaid, RefusesSymbols, RefusesWith, fault_in_symbols, fault_in_source}
 
 -- the lesser of a refusal and another is one
 one_of : (before : Bool) (r s : Refusal)
@@ -88,19 +88,19 @@ refused_by_statements symbols tree layouts r here laid there =
 
 pub tree_refused : (source : List ℕ) (tokens : List Token) (fault : SourceFault)
     → AreTokens source tokens → IsRefusedTree source tokens fault
-    → Finds (InTurn HasTokens (HasTree source) source) (Err fault)
+    → MakesOrRefuses (HaveOutcomeInTurn HasTokens (HasTreeOrRefusal source) source) (Err fault)
 tree_refused source tokens (found.Refused refusal) are refused = inr (tokens, are, refused)
 tree_refused source tokens found.NoMemory are refused = tt
 
 pub tokens_refused : (source : List ℕ) (fault : SourceFault) → AreNoTokens source fault
-    → Finds (InTurn HasTokens (HasTree source) source) (Err fault)
+    → MakesOrRefuses (HaveOutcomeInTurn HasTokens (HasTreeOrRefusal source) source) (Err fault)
 tokens_refused source (found.Refused refusal) refused = inl refused
 tokens_refused source found.NoMemory refused = tt
 
 -- ---- whole
 
 pub symbols_refused : (language : Language) (symbols : List ℕ) (fault : SourceFault)
-    → Finds (HasSymbolsIn language symbols) (Err fault)
+    → MakesOrRefuses (HasSymbolsIn language symbols) (Err fault)
     → RefusesSymbols language symbols (fault_in_symbols fault)
 symbols_refused language symbols (found.Refused refusal) h = h
 symbols_refused language symbols found.NoMemory h = tt
@@ -113,13 +113,13 @@ by_symbols language source symbols (compiling.Source refusal) h = absurd h
 by_symbols language source symbols compiling.NoMemory h = tt
 
 with_tree : (source : List ℕ) (symbols : List Symbol) (refusal : Refusal)
-    → InTurn HasTokens (HasTree source) source (Err refusal)
+    → HaveOutcomeInTurn HasTokens (HasTreeOrRefusal source) source (Err refusal)
     → IsJudgedWith source symbols (Err refusal)
 with_tree source symbols refusal (inl refused) = inl refused
 with_tree source symbols refusal (inr (tokens, are, refused)) = inr (tokens, are, inl refused)
 
 pub tree_fault : (source : List ℕ) (list : List Symbol) (fault : SourceFault)
-    → Finds (InTurn HasTokens (HasTree source) source) (Err fault)
+    → MakesOrRefuses (HaveOutcomeInTurn HasTokens (HasTreeOrRefusal source) source) (Err fault)
     → RefusesWith source list (fault_in_source fault)
 unfolding IsJudgedIn
 tree_fault source list (found.Refused refusal) h = λ language symbols has.
@@ -127,7 +127,7 @@ tree_fault source list (found.Refused refusal) h = λ language symbols has.
 tree_fault source list found.NoMemory h = λ language symbols has. tt
 
 pub program_fault : (source : List ℕ) (list : List Symbol) (tree : Tree) (fault : SourceFault)
-    → InTurn HasTokens (HasTree source) source (Ok tree) → IsRefusedBy list tree fault
+    → HaveOutcomeInTurn HasTokens (HasTreeOrRefusal source) source (Ok tree) → IsRefusedByFault list tree fault
     → RefusesWith source list (fault_in_source fault)
 unfolding IsJudgedIn
 program_fault source list tree (found.Refused refusal) (tokens, are, is) h = λ language symbols has.
@@ -143,8 +143,8 @@ all_bytes (b ∷ bytes) small =
 -- ---- a source that is laid out
 
 pub statements_fault : (source : List ℕ) (laid : LaidSource) (checked : Tree) (fault : SourceFault)
-    → IsLaid source laid
-    → Checks (least (statement_refusals laid.tree laid.symbols laid.layouts)) checked (Err fault)
+    → IsSourceLaidOut source laid
+    → ChecksTree (least (statement_refusals laid.tree laid.symbols laid.layouts)) checked (Err fault)
     → RefusesWith source laid.symbols (fault_in_source fault)
 statements_fault source laid checked (found.Refused refusal) is h =
     program_fault source laid.symbols laid.tree (found.Refused refusal) is.parsed
@@ -153,14 +153,14 @@ statements_fault source laid checked found.NoMemory is h = λ language symbols h
 
 -- with the symbols that it was laid out with
 pub refused_laid : (source : List ℕ) (laid : LaidSource) (list : List Symbol) (fault : CompileFault)
-    → laid.symbols ≡ list → IsLaid source laid → RefusesLaid laid fault
+    → laid.symbols ≡ list → IsSourceLaidOut source laid → RefusesLaid laid fault
     → RefusesWith source list fault
 refused_laid source laid list fault are is refuses =
     subst (λ (l : List Symbol). RefusesWith source l fault) are (refuses source is)
 
 -- where its statements break no rule, its program runs
 accepted_runs : ProgramsRun → (language : Language) (source symbols : List ℕ) (laid : LaidSource)
-    → AreFiles source symbols → HasSymbolsIn language symbols (Ok laid.symbols) → IsLaid source laid
+    → AreFiles source symbols → HasSymbolsIn language symbols (Ok laid.symbols) → IsSourceLaidOut source laid
     → least (statement_refusals laid.tree laid.symbols laid.layouts) ≡ None
     → KeepsSourceIn language Large source symbols (program_in laid.symbols laid.tree)
 accepted_runs law language source symbols laid are has is there =
@@ -173,7 +173,7 @@ same_symbols language symbols list other are has =
     subst (λ (l : List Symbol). HasSymbolsIn language symbols (Ok l)) (sym are) has
 
 pub has_program : ProgramsRun → (source : List ℕ) (list : List Symbol) (laid : LaidSource)
-    → laid.symbols ≡ list → IsLaid source laid
+    → laid.symbols ≡ list → IsSourceLaidOut source laid
     → least (statement_refusals laid.tree laid.symbols laid.layouts) ≡ None
     → HasProgramWith source list
 has_program law source list laid are is there = λ language symbols files has. (
@@ -183,7 +183,7 @@ has_program law source list laid are is there = λ language symbols files has. (
 )
 
 -- the one that is generated
-generated : (source : List ℕ) (laid : LaidSource) (checked : Tree) → IsLaid source laid
+generated : (source : List ℕ) (laid : LaidSource) (checked : Tree) → IsSourceLaidOut source laid
     → checked ≡ laid.tree
     → program_of checked laid.symbols laid.layouts ≡ program_in laid.symbols laid.tree
 generated source laid checked is same =
@@ -192,7 +192,7 @@ generated source laid checked is same =
 
 pub generated_runs : ProgramsRun → (source : List ℕ) (list : List Symbol) (laid : LaidSource)
     (checked : Tree)
-    → laid.symbols ≡ list → IsLaid source laid → checked ≡ laid.tree
+    → laid.symbols ≡ list → IsSourceLaidOut source laid → checked ≡ laid.tree
     → least (statement_refusals laid.tree laid.symbols laid.layouts) ≡ None
     → KeepsWith source list (program_of checked laid.symbols laid.layouts)
 generated_runs law source list laid checked are is same there = λ language symbols files has.
@@ -203,7 +203,7 @@ generated_runs law source list laid checked are is same there = λ language symb
 -- ---- the program to which a source compiles
 
 pub generated_compiles : (source : List ℕ) (list : List Symbol) (laid : LaidSource) (checked : Tree)
-    → laid.symbols ≡ list → IsLaid source laid → checked ≡ laid.tree
+    → laid.symbols ≡ list → IsSourceLaidOut source laid → checked ≡ laid.tree
     → least (statement_refusals laid.tree laid.symbols laid.layouts) ≡ None
     → CompilesWith source list (program_of checked laid.symbols laid.layouts)
 generated_compiles source list laid checked are is same there = λ language symbols has. record {
@@ -229,12 +229,12 @@ one_program one_list one_tree language source symbols p q a b =
 
     trees : a.tree ≡ b.tree
     trees = one_tree source a.tokens a.tree b.tree a.parsed
-        (subst (λ (ts : List Token). HasTree source ts (Ok b.tree)) (sym tokens) b.parsed)
+        (subst (λ (ts : List Token). HasTreeOrRefusal source ts (Ok b.tree)) (sym tokens) b.parsed)
 
 -- it means a code
 means : (language : Language) (source symbols : List ℕ) (p : Program)
     → (a : CompilesTo language source symbols p)
-    → MeansCodeIn language source symbols (code_in a.list a.tree)
+    → MeansCodeIn language source symbols (stated_code_of_tree a.list a.tree)
 unfolding IsJudgedIn
 means language source symbols p a = (
   a.list,
@@ -244,7 +244,7 @@ means language source symbols p a = (
 
 pub refused_have_none : ExcludesRefusal → RefusedHaveNone
 refused_have_none excludes language source symbols refused p is made =
-    excludes language source symbols (code_in made.list made.tree) refused
+    excludes language source symbols (stated_code_of_tree made.list made.tree) refused
     (means language source symbols p made) is
 
 -- a fault of compiling, but want of memory, is a refusal

@@ -1,23 +1,23 @@
 -- The line of a command's failure is written behind what it did.
 use Rattle.std.proofs.Common.{◌≡◌, inl, inr, sym, subst, ℕ, List, take, Option, Some, Ok, Err}
 use Rattle.plc_io.specs.Moments.{SinkAt}
-use Rattle.plc_io.specs.Taken.{Took}
+use Rattle.plc_io.specs.Taken.{TookBytes}
 use Rattle.s7_cli.specs.declared.failures.Failure.{Failure}
 use Rattle.s7_cli.specs.declared.failures.Failure.TheVariants.{WordsRefused, ReadFault, TooLong, Refused, ImageRefused, NoListing, SaysNo, TooDeep, WriteFault, NoMemory}
 use Rattle.s7_cli.specs.Command.{Command}
-use Rattle.s7_cli.specs.Ends.{taking, IsCut, IsSaid, IsWriteFault, IsNoMemory, Ends}
-use Rattle.s7_cli.specs.Inner.{Fails, TextWritten, Comes, LineWritten}
-use Rattle.s7_cli.specs.Lines.{line_of}
+use Rattle.s7_cli.specs.Ends.{sink_moments, IsCallCutShort, SaysWholeText, IsWriteFault, IsNoMemory, EndsWithOutcome}
+use Rattle.s7_cli.specs.Inner.{FailsWith, TextWritten, ComesOutAs, LineWritten}
+use Rattle.s7_cli.specs.Lines.{line_of_failure}
 use Rattle.s7_cli.specs.Reading.{Disk}
 use Rattle.s7_cli.proofs.ComesLemmas.{same-files}
 
 -- the failure, and its line, which was taken
 record Told (c : Option Command) (d : Disk) (a b z : SinkAt) (failure : Failure) : Type 0 where
-  fails : Fails c d (taking a b) failure
-  written : TextWritten fails.line (taking a z) (Ok tt)
+  fails : FailsWith c d (sink_moments a b) failure
+  written : TextWritten fails.line (sink_moments a z) (Ok tt)
 
 said : (c : Option Command) (d : Disk) (a b z : SinkAt) (failure : Failure) → Told c d a b z failure
-    → (text : List ℕ) × IsSaid c d (taking a z) (record { outcome = Err failure; text = text })
+    → (text : List ℕ) × SaysWholeText c d (sink_moments a z) (record { outcome = Err failure; text = text })
 said c d a b z failure told = (
   told.fails.line,
   record {
@@ -31,22 +31,22 @@ said c d a b z failure told = (
 )
 
 -- the ending is the failure
-as-told : (c : Option Command) (d : Disk) (a b z : SinkAt) (failure ended : Failure) (fails : Fails c d (taking a b) failure)
-    → ended ≡ failure → TextWritten fails.line (taking a z) (Ok tt) → Told c d a b z ended
+as-told : (c : Option Command) (d : Disk) (a b z : SinkAt) (failure ended : Failure) (fails : FailsWith c d (sink_moments a b) failure)
+    → ended ≡ failure → TextWritten fails.line (sink_moments a z) (Ok tt) → Told c d a b z ended
 as-told c d a b z failure ended fails is written =
     subst (λ (f : Failure). Told c d a b z f) (sym is) (record { fails = fails; written = written })
 
 -- only a front of the line was taken
-front : (c : Option Command) (d : Disk) (a b z : SinkAt) (failure : Failure) (fails : Fails c d (taking a b) failure) (n : ℕ)
-    → Took a z (take n fails.line) → IsCut c d (taking a z)
+front : (c : Option Command) (d : Disk) (a b z : SinkAt) (failure : Failure) (fails : FailsWith c d (sink_moments a b) failure) (n : ℕ)
+    → TookBytes a z (take n fails.line) → IsCallCutShort c d (sink_moments a z)
 front c d a b z failure fails n took = record {
   cut = inr (record { outcome = Err failure; text = fails.line }, fails.answers, fails.counts, fails.only_reads.files, (n, took));
   reads = fails.only_reads.reads;
   files = same-files c d fails.only_reads.files;
 }
 
-ended-so : (c : Option Command) (d : Disk) (a b z : SinkAt) (failure ended : Failure) (fails : Fails c d (taking a b) failure)
-    → LineWritten (Some fails.line) failure (taking a z) ended → Ends c d (taking a z) (Err ended)
+ended-so : (c : Option Command) (d : Disk) (a b z : SinkAt) (failure ended : Failure) (fails : FailsWith c d (sink_moments a b) failure)
+    → LineWritten (Some fails.line) failure (sink_moments a z) ended → EndsWithOutcome c d (sink_moments a z) (Err ended)
 ended-so c d a b z failure WriteFault fails (took, rose, fell) = record {
   cut = front c d a b z failure fails took.0 took.1;
   failed = inl (record { faults = rose; never_fell = fell; writes = fails.only_reads.writes });
@@ -68,26 +68,26 @@ ended-so c d a b z failure SaysNo fails (is, took) = said c d a b z SaysNo (as-t
 ended-so c d a b z failure TooDeep fails (is, took) = said c d a b z TooDeep (as-told c d a b z failure TooDeep fails is took)
 
 -- a failure that has a line
-with-line : (c : Option Command) (d : Disk) (a b z : SinkAt) (failure ended : Failure) → Fails c d (taking a b) failure
-    → LineWritten (line_of failure) failure (taking b z) ended → Ends c d (taking a z) (Err ended)
+with-line : (c : Option Command) (d : Disk) (a b z : SinkAt) (failure ended : Failure) → FailsWith c d (sink_moments a b) failure
+    → LineWritten (line_of_failure failure) failure (sink_moments b z) ended → EndsWithOutcome c d (sink_moments a z) (Err ended)
 with-line c d a b z failure ended fails written =
-    let line : LineWritten (Some fails.line) failure (taking b z) ended =
-    subst (λ (o : Option (List ℕ)). LineWritten o failure (taking b z) ended) fails.has_line written in
+    let line : LineWritten (Some fails.line) failure (sink_moments b z) ended =
+    subst (λ (o : Option (List ℕ)). LineWritten o failure (sink_moments b z) ended) fails.has_line written in
     ended-so c d a b z failure ended fails
-    (subst (λ (m : SinkAt). LineWritten (Some fails.line) failure (taking m z) ended) fails.sink line)
+    (subst (λ (m : SinkAt). LineWritten (Some fails.line) failure (sink_moments m z) ended) fails.sink line)
 
 -- how the call ends behind a failure
-pub finish-ends : (c : Option Command) (d : Disk) (a b z : SinkAt) (failure ended : Failure) → Comes c d (taking a b) (Err failure)
-    → LineWritten (line_of failure) failure (taking b z) ended → Ends c d (taking a z) (Err ended)
+pub finish-ends : (c : Option Command) (d : Disk) (a b z : SinkAt) (failure ended : Failure) → ComesOutAs c d (sink_moments a b) (Err failure)
+    → LineWritten (line_of_failure failure) failure (sink_moments b z) ended → EndsWithOutcome c d (sink_moments a z) (Err ended)
 finish-ends c d a b z WriteFault ended came (is, same) =
-    subst (λ (f : Failure). Ends c d (taking a z) (Err f)) (sym is)
-    (subst (λ (m : SinkAt). IsWriteFault c d (taking a m)) (sym same) came)
+    subst (λ (f : Failure). EndsWithOutcome c d (sink_moments a z) (Err f)) (sym is)
+    (subst (λ (m : SinkAt). IsWriteFault c d (sink_moments a m)) (sym same) came)
 finish-ends c d a b z NoMemory ended came (is, same) =
-    subst (λ (f : Failure). Ends c d (taking a z) (Err f)) (sym is)
-    (subst (λ (m : SinkAt). IsNoMemory c d (taking a m)) (sym same) came)
+    subst (λ (f : Failure). EndsWithOutcome c d (sink_moments a z) (Err f)) (sym is)
+    (subst (λ (m : SinkAt). IsNoMemory c d (sink_moments a m)) (sym same) came)
 finish-ends c d a b z TooDeep ended came (is, same) =
-    subst (λ (f : Failure). Ends c d (taking a z) (Err f)) (sym is)
-    (came.0, subst (λ (m : SinkAt). IsSaid c d (taking a m) (record { outcome = Err TooDeep; text = came.0 })) (sym same) came.1)
+    subst (λ (f : Failure). EndsWithOutcome c d (sink_moments a z) (Err f)) (sym is)
+    (came.0, subst (λ (m : SinkAt). SaysWholeText c d (sink_moments a m) (record { outcome = Err TooDeep; text = came.0 })) (sym same) came.1)
 finish-ends c d a b z WordsRefused ended came written = with-line c d a b z WordsRefused ended came written
 finish-ends c d a b z ReadFault ended came written = with-line c d a b z ReadFault ended came written
 finish-ends c d a b z (TooLong file) ended came written = with-line c d a b z (TooLong file) ended came written

@@ -13,14 +13,14 @@ use Rattle.machine.specs.Code.{Code}
 use Rattle.machine.specs.Flat.{code_of}
 use Rattle.controller.specs.Replay.{ContinuesReplay}
 use Rattle.sem_kept.specs.Agreement.{ImageKeepsSourceIn, KeepsSourceIn, names_read_in}
-use Rattle.sem_kept.specs.Meaning.{IsMeaningUnique, Refused, MeansCodeIn}
+use Rattle.sem_kept.specs.Meaning.{IsMeaningUnique, RefusedFile, MeansCodeIn}
 use Rattle.stl_symbols.specs.declared.languages.Language.{Language}
-use Rattle.event_text.specs.Texts.{history_of}
+use Rattle.event_text.specs.Texts.{history_of_text}
 use Rattle.s7_cli.specs.run_text.RunText.{run_text}
-use Rattle.s7_cli.specs.Answer.{done}
+use Rattle.s7_cli.specs.Answer.{done_answer}
 use Rattle.s7_cli.specs.KeptImages.{KeptImagesAnswerAlike, KeptImagesRunAlike}
 use Rattle.s7_cli.specs.Loads.{LoadsAs}
-use Rattle.s7_cli.specs.Says.{go_answer, ran, run_answer}
+use Rattle.s7_cli.specs.Says.{go_answer, run_outcome, run_answer}
 use Rattle.s7_cli.proofs.LoadLemmas.{loads-one}
 use Rattle.s7_cli.proofs.RunLemmas.{texts-kept}
 use Rattle.s7_cli.proofs.SaysLemmas.{MeansOne}
@@ -51,17 +51,17 @@ run-alike continues one images language image source symbols l c kept loads mean
 -- what a program answers that keeps a source, by how the history reads
 ran-so : ContinuesReplay → IsMeaningUnique → (language : Language) (source symbols : List ℕ) (l : LoadedProgram) (c : Code)
     → KeepsSourceIn language l.profile source symbols l.program → MeansCodeIn language source symbols c → (read : Result (List Entry) Refusal)
-    → ran l read ≡ go_answer l.profile (Ok c) read
+    → run_outcome l read ≡ go_answer l.profile (Ok c) read
 ran-so continues one language source symbols l c keeps means (Err refusal) = refl
 ran-so continues one language source symbols l c keeps means (Ok entries) =
-    ap done (texts-of continues one language l.profile source symbols l.program c keeps means entries)
+    ap done_answer (texts-of continues one language l.profile source symbols l.program c keeps means entries)
 
 answers-so : ContinuesReplay → IsMeaningUnique → (language : Language) (source symbols : List ℕ) (l : LoadedProgram) (c : Code)
     → KeepsSourceIn language l.profile source symbols l.program → MeansCodeIn language source symbols c → (history : List ℕ)
-    → run_answer (Ok l) history ≡ go_answer l.profile (Ok c) (history_of (names_read_in language symbols) history)
+    → run_answer (Ok l) history ≡ go_answer l.profile (Ok c) (history_of_text (names_read_in language symbols) history)
 answers-so continues one language source symbols l c keeps means history =
-    ap (λ (names : List NameEntry). ran l (history_of names history)) keeps.names
-    ∙ ran-so continues one language source symbols l c keeps means (history_of (names_read_in language symbols) history)
+    ap (λ (names : List NameEntry). run_outcome l (history_of_text names history)) keeps.names
+    ∙ ran-so continues one language source symbols l c keeps means (history_of_text (names_read_in language symbols) history)
 
 pub answer-alike : ContinuesReplay → MeansOne → IsMeaningUnique → GivesExactlyImages → KeptImagesAnswerAlike
 answer-alike continues means_one one gives language image source symbols bytes kept history answer = (
@@ -73,7 +73,7 @@ answer-alike continues means_one one gives language image source symbols bytes k
   λ said. (
     Ok l,
     loads,
-    said.2 ∙ ap (λ (v : Result Code Refused). go_answer l.profile v (history_of (names_read_in language symbols) history))
+    said.2 ∙ ap (λ (v : Result Code RefusedFile). go_answer l.profile v (history_of_text (names_read_in language symbols) history))
         (means_one language source symbols said.0 (Ok c) said.1 kept.keeps.runs.1) ∙ sym same,
   ),
 )
@@ -90,5 +90,5 @@ answer-alike continues means_one one gives language image source symbols bytes k
         record { spelled = kept.spelled; program = kept.keeps.runnable.is; verifies = kept.keeps.runnable.verifies } in
         record { image = record { stamp = kept.stamp; given = (gives image kept.stamp kept.program bytes).1 is; profile = refl }; loadable = is }
 
-    same : run_answer (Ok l) history ≡ go_answer l.profile (Ok c) (history_of (names_read_in language symbols) history)
+    same : run_answer (Ok l) history ≡ go_answer l.profile (Ok c) (history_of_text (names_read_in language symbols) history)
     same = answers-so continues one language source symbols l c kept.keeps kept.keeps.runs.1 history

@@ -9,7 +9,7 @@ use Rattle.clap.specs.Words.{all_of, fault_of, first_of, matches_of}
 use Rattle.plc_base.specs.Decimal.{decimal_up_to, decimal_value, is_decimal}
 use Rattle.stl_parser.proofs.OptionLemmas.{both, chained, mapped, none_holds, passed}
 use Rattle.s7_cli.specs.Command.{Command, Gen, Live, Watch}
-use Rattle.s7_cli.specs.Words.{the_line, file_command, has_german, number_up_to, one_word_command, takes_no_source, two_word_command, three_word_command, short_command, live_command, stepped_command, watch_command, asked_for, asked_by, command_of, CommandsKeepLimits, KeepsLimits}
+use Rattle.s7_cli.specs.Words.{the_line, file_command, has_german, number_from_one_up_to, one_word_command, takes_no_source, two_word_command, three_word_command, short_command, live_command, stepped_command, watch_command, asked_for, asked_by, command_of, CommandsKeepLimits, KeepsLimits}
 
 decimal-limit : (most : ℕ) (word : List ℕ) → IfSome (decimal_up_to most word) (λ n. n ≤ most)
 unfolding decimal_up_to
@@ -17,7 +17,7 @@ decimal-limit most word =
     passed (is_decimal word && nat_le (decimal_value word) most) (Some (decimal_value word)) (λ n. n ≤ most)
     (λ h. let small = (and_parts (is_decimal word) _ h).1 in grind (arith, nat_tests))
 
-number-limits : (most : ℕ) (word : List ℕ) → IfSome (number_up_to most word) (λ n. (1 ≤ n) × (n ≤ most))
+number-limits : (most : ℕ) (word : List ℕ) → IfSome (number_from_one_up_to most word) (λ n. (1 ≤ n) × (n ≤ most))
 number-limits most word =
     chained (decimal_up_to most word) _ (λ n. n ≤ most) _ (decimal-limit most word)
     (λ n small. passed (nat_lt 0 n) (Some n) _ (λ above. let least : 1 ≤ n = grind (arith, nat_tests) in (least, small)))
@@ -26,7 +26,7 @@ one-limits : (command word : List ℕ) (symbols : Option (List ℕ)) (german : B
 one-limits command word symbols german =
     both (bytes_eq command (codes "check")) _ _ KeepsLimits tt
     (passed (bytes_eq command (codes "gen") && takes_no_source symbols german) _ KeepsLimits
-    (λ _. mapped (number_up_to 10000 word) Gen _ KeepsLimits (number-limits 10000 word) (λ n h. h)))
+    (λ _. mapped (number_from_one_up_to 10000 word) Gen _ KeepsLimits (number-limits 10000 word) (λ n h. h)))
 
 file-limits : (command first second : List ℕ) → IfSome (file_command command first second) KeepsLimits
 file-limits command first second =
@@ -71,7 +71,7 @@ live-limits command (image ∷ stimuli ∷ script ∷ scripts) steps =
     (λ h. let few = (and_parts (bytes_eq command (codes "live")) _ h).1 in
     let some : 1 ≤ length (script ∷ scripts) = grind (arith, nat_tests) in
     let most : length (script ∷ scripts) ≤ 4 = grind (arith, nat_tests) in
-    mapped (number_up_to 1000000 steps) (Live image stimuli (script ∷ scripts)) _ KeepsLimits (number-limits 1000000 steps) (λ n within. (some, most, within.0, within.1)))
+    mapped (number_from_one_up_to 1000000 steps) (Live image stimuli (script ∷ scripts)) _ KeepsLimits (number-limits 1000000 steps) (λ n within. (some, most, within.0, within.1)))
 
 watch-limits : (words : List (List ℕ)) (steps : List ℕ) → IfSome (watch_command words steps) KeepsLimits
 watch-limits [] steps = tt
@@ -82,7 +82,7 @@ watch-limits (image ∷ stimuli ∷ vars ∷ script ∷ scripts) steps =
     passed (nat_le (length scripts) 2) _ KeepsLimits
     (λ h. let some : 1 ≤ length (script ∷ scripts) = grind (arith, nat_tests) in
     let most : length (script ∷ scripts) ≤ 3 = grind (arith, nat_tests) in
-    mapped (number_up_to 1000000 steps) (Watch image stimuli vars (script ∷ scripts)) _ KeepsLimits (number-limits 1000000 steps) (λ n within. (some, most, within.0, within.1)))
+    mapped (number_from_one_up_to 1000000 steps) (Watch image stimuli vars (script ∷ scripts)) _ KeepsLimits (number-limits 1000000 steps) (λ n within. (some, most, within.0, within.1)))
 
 stepped-limits : (command : List ℕ) (words : List (List ℕ)) (steps : List ℕ) → IfSome (stepped_command command words steps) KeepsLimits
 stepped-limits command words steps = both (bytes_eq command (codes "watch")) _ _ KeepsLimits (watch-limits words steps) (live-limits command words steps)

@@ -21,16 +21,16 @@ use Rattle.stl_symbols.specs.declared.languages.Language.{Language}
 use Rattle.stl_symbols.specs.declared.languages.Language.TheVariants.{English}
 use Rattle.s7_cli.specs.declared.failures.File.TheVariants.{Listing}
 use Rattle.s7_cli.specs.declared.failures.Failure.{Failure}
-use Rattle.s7_cli.specs.Answer.{Answer, code_of}
+use Rattle.s7_cli.specs.Answer.{Answer, exit_status}
 use Rattle.s7_cli.specs.Command.{Command, Go, Check, Compile, Translate, Run, Gen, Live, Watch, Upgrade, ListImage, Bound, Recheck, inputs_of}
 use Rattle.s7_cli.specs.Faults.{failure_of_loading}
-use Rattle.s7_cli.specs.Inner.{RefusedBy}
+use Rattle.s7_cli.specs.Inner.{SaysRefusal}
 use Rattle.s7_cli.specs.Lines.{ok_line}
 use Rattle.s7_cli.specs.ListSays.{HasListing, IsLongListing, IsShortListing, ListAnswer, ListedAnswer, ListSays}
 use Rattle.s7_cli.specs.Listings.{CompiledHaveListings, IsNotCompiled, ListingsGiveImages, ListingsGivePrograms, image_listed}
 use Rattle.s7_cli.specs.Loads.{LoadsAs}
-use Rattle.s7_cli.specs.Reading.{Disk, Reads}
-use Rattle.s7_cli.specs.Says.{Says}
+use Rattle.s7_cli.specs.Reading.{Disk, ReadsFilesInTurn}
+use Rattle.s7_cli.specs.Says.{CommandSays}
 use Rattle.s7_cli.specs.Translating.{IsSourceImage, language_of}
 use Rattle.s7_cli.proofs.LoadLemmas.{loads-one}
 use Rattle.s7_cli.proofs.RefusedLemmas.{refused-more}
@@ -74,18 +74,18 @@ list-verdict (Ok l) a said = listed-verdict l.program a said
 -- ---- an image that isn't loaded, or has no listing
 
 pub list-refused : (V : Type 0) (image : List ℕ) (error : LoadError) (r : Result V Failure) → r ≡ Err (failure_of_loading error)
-    → IsLoadError error (faults_of image) → RefusedBy (ListSays image) r
+    → IsLoadError error (faults_of image) → SaysRefusal (ListSays image) r
 list-refused V image (loading.Fault fault) r fails least =
-    subst (λ (q : Result V Failure). RefusedBy (ListSays image) q) (sym fails) (Err fault, least, refl)
+    subst (λ (q : Result V Failure). SaysRefusal (ListSays image) q) (sym fails) (Err fault, least, refl)
 list-refused V image loading.NoMemory r fails least =
-    subst (λ (q : Result V Failure). RefusedBy (ListSays image) q) (sym fails) tt
+    subst (λ (q : Result V Failure). SaysRefusal (ListSays image) q) (sym fails) tt
 
 -- what is said of the program is said of its image
 says-of : (image : List ℕ) (l : LoadedProgram) → LoadsAs image (Ok l) → (a : Answer) → ListedAnswer l.program a → ListSays image a
 says-of image l loads a said = (Ok l, loads, said)
 
 pub listing-refused : (V : Type 0) (image : List ℕ) (l : LoadedProgram) (r : Result V Failure) → LoadsAs image (Ok l)
-    → RefusedBy (ListedAnswer l.program) r → RefusedBy (ListSays image) r
+    → SaysRefusal (ListedAnswer l.program) r → SaysRefusal (ListSays image) r
 listing-refused V image l (Ok v) loads told = tt
 listing-refused V image l (Err failure) loads told =
     refused-more V V (ListedAnswer l.program) (ListSays image) failure (Err failure) refl (says-of image l loads) told
@@ -122,14 +122,14 @@ give-listings compile images german image source symbols (english, translated, (
 
 -- ---- 9 never comes of an image that `compile` wrote
 
-listed-never : (p : Program) (a : Answer) → (IsShortListing p → HasListing p) → ListedAnswer p a → code_of a.outcome ≡ 9 → ⊥
-listed-never p a has (inl (long, gives)) nine = let e : code_of a.outcome ≡ 8 = ap (λ (b : Answer). code_of b.outcome) gives in omega (arith, e, nine)
+listed-never : (p : Program) (a : Answer) → (IsShortListing p → HasListing p) → ListedAnswer p a → exit_status a.outcome ≡ 9 → ⊥
+listed-never p a has (inl (long, gives)) nine = let e : exit_status a.outcome ≡ 8 = ap (λ (b : Answer). exit_status b.outcome) gives in omega (arith, e, nine)
 listed-never p a has (inr (inl (short, none, gives))) nine = none (has short)
-listed-never p a has (inr (inr (short, too, gives))) nine = let e : code_of a.outcome ≡ 0 = ap (λ (b : Answer). code_of b.outcome) gives in omega (arith, e, nine)
+listed-never p a has (inr (inr (short, too, gives))) nine = let e : exit_status a.outcome ≡ 0 = ap (λ (b : Answer). exit_status b.outcome) gives in omega (arith, e, nine)
 
 answer-never : (image : List ℕ) (a : Answer) → ((l : LoadedProgram) → LoadsAs image (Ok l) → IsShortListing l.program → HasListing l.program)
-    → (v : Result LoadedProgram LoadFault) → LoadsAs image v → ListAnswer v a → code_of a.outcome ≡ 9 → ⊥
-answer-never image a has (Err fault) loads said nine = let e : code_of a.outcome ≡ 3 = ap (λ (b : Answer). code_of b.outcome) said in omega (arith, e, nine)
+    → (v : Result LoadedProgram LoadFault) → LoadsAs image v → ListAnswer v a → exit_status a.outcome ≡ 9 → ⊥
+answer-never image a has (Err fault) loads said nine = let e : exit_status a.outcome ≡ 3 = ap (λ (b : Answer). exit_status b.outcome) said in omega (arith, e, nine)
 answer-never image a has (Ok l) loads said nine = listed-never l.program a (has l loads) said nine
 
 same_bytes : (c : Contents) (name xs ys : List ℕ) → c.at name ≡ Some xs → c.at name ≡ Some ys → xs ≡ ys
@@ -139,12 +139,12 @@ other_name : (name other : List ℕ) → Some name ≡ Some other → name ≡ o
 other_name name other is = cc
 
 list-never : CompiledHaveListings → (d : Disk) (image source symbols : List ℕ) (a : Answer)
-    → Reads d (inputs_of (ListImage image source symbols)) (Says (ListImage image source symbols)) a → code_of a.outcome ≡ 9
+    → ReadsFilesInTurn d (inputs_of (ListImage image source symbols)) (CommandSays (ListImage image source symbols)) a → exit_status a.outcome ≡ 9
     → IsNotCompiled (ListImage image source symbols) d
 list-never have d image source symbols a (inl (inl (rose, gives))) nine =
-    let e : code_of a.outcome ≡ 5 = ap (λ (b : Answer). code_of b.outcome) gives in absurd (omega (arith, e, nine))
+    let e : exit_status a.outcome ≡ 5 = ap (λ (b : Answer). exit_status b.outcome) gives in absurd (omega (arith, e, nine))
 list-never have d image source symbols a (inl (inr (bytes, agrees, long, gives))) nine =
-    let e : code_of a.outcome ≡ 8 = ap (λ (b : Answer). code_of b.outcome) gives in absurd (omega (arith, e, nine))
+    let e : exit_status a.outcome ≡ 8 = ap (λ (b : Answer). exit_status b.outcome) gives in absurd (omega (arith, e, nine))
 list-never have d image source symbols a (inr (bytes, holds, said)) nine = λ name held german s y is told there made.
     let here : d.before.contents.at image ≡ Some held =
     subst (λ (n : List ℕ). d.before.contents.at n ≡ Some held) (sym (other_name image name is)) there in
@@ -155,8 +155,8 @@ list-never have d image source symbols a (inr (bytes, holds, said)) nine = λ na
 no_name : (k : Command) (name : List ℕ) → image_listed k ≡ None → image_listed k ≡ Some name → ⊥
 no_name k name none some = let e : None ≡ Some name = sym none ∙ some in cc
 
-pub never-compiled : CompiledHaveListings → (k : Command) (d : Disk) (a : Answer) → Reads d (inputs_of k) (Says k) a
-    → code_of a.outcome ≡ 9 → IsNotCompiled k d
+pub never-compiled : CompiledHaveListings → (k : Command) (d : Disk) (a : Answer) → ReadsFilesInTurn d (inputs_of k) (CommandSays k) a
+    → exit_status a.outcome ≡ 9 → IsNotCompiled k d
 never-compiled have (ListImage i s y) d a said nine = list-never have d i s y a said nine
 never-compiled have (Go s y g h) d a said nine = λ name held german source symbols is told there made. no_name (Go s y g h) name refl is
 never-compiled have (Check s y g) d a said nine = λ name held german source symbols is told there made. no_name (Check s y g) name refl is

@@ -14,22 +14,22 @@ use Rattle.var_access.specs.declared.Entry.{Entry}
 use Rattle.event_text.specs.HistoryText.{history_text}
 use Rattle.event_text.specs.Regular.{IsRegularOf}
 use Rattle.event_text.specs.TextFault.{IsTextFault}
-use Rattle.event_text.specs.Texts.{history_of, script_of, stimuli_of}
+use Rattle.event_text.specs.Texts.{history_of_text, script_of, stimuli_of}
 use Rattle.event_text.specs.declared.TextFault.{TextFault}
 use Rattle.event_text.specs.declared.TextFault.TheVariants as broken
 use Rattle.s7_cli.specs.declared.failures.Failure.{Failure}
 use Rattle.s7_cli.specs.declared.failures.Failure.TheVariants.{WordsRefused, ReadFault, TooLong, Refused, ImageRefused, NoListing, SaysNo, TooDeep, WriteFault, NoMemory}
 use Rattle.s7_cli.specs.declared.failures.File.TheVariants.{Stimuli, Script}
 use Rattle.s7_cli.specs.declared.files.LiveText.{LiveText}
-use Rattle.s7_cli.specs.Answer.{Answer, done}
+use Rattle.s7_cli.specs.Answer.{Answer, done_answer}
 use Rattle.s7_cli.specs.Command.{Input, live_inputs, script_inputs}
 use Rattle.s7_cli.specs.Faults.{failure_of_loading, failure_of_text}
-use Rattle.s7_cli.specs.Inner.{AllRead, FileRead, HasRead, RefusedBy}
+use Rattle.s7_cli.specs.Inner.{AllRead, FileRead, HasRead, SaysRefusal}
 use Rattle.s7_cli.specs.LiveSays.{LiveAnswer, RefusedScript, live_text, script_first, scripts_from}
-use Rattle.s7_cli.specs.LiveTexts.{AreScriptsWithin, Finds, IsLiveText, TellsScript, TextSays, live_contents, scripts_of}
+use Rattle.s7_cli.specs.LiveTexts.{AreScriptsWithin, FindsProgramAndScripts, IsLiveText, TellsScript, LiveTextSays, live_contents, scripts_of}
 use Rattle.s7_cli.specs.Living.{AreRegularBy, IsLive, total_length}
 use Rattle.s7_cli.specs.Loads.{LoadsAs}
-use Rattle.s7_cli.specs.Reading.{HoldAll, disk}
+use Rattle.s7_cli.specs.Reading.{HoldBytesInTurn, disk_moments}
 use Rattle.plc_base.proofs.ListLemmas.{drop_next}
 use Rattle.s7_cli.proofs.ComesLemmas.{file-fails, file-read, only-reads, read-then, unchanged, unread-then}
 
@@ -45,7 +45,7 @@ pub reads-first : (at : FilesAt) (all : List Input) → IsReading at at all all 
 reads-first at all = record { before = []; splits = refl; read = record { same = unchanged at; hold = tt } }
 
 pub reads-next : {V : Type 0} (view : V → List ℕ) (start middle now : FilesAt) (all rest more : List Input) (i : Input) (contents after : List (List ℕ)) (v : V)
-    → IsReading start middle all rest contents → rest ≡ i ∷ more → after ≡ contents ++ view v ∷ [] → FileRead view (disk middle now) i (Ok v)
+    → IsReading start middle all rest contents → rest ≡ i ∷ more → after ≡ contents ++ view v ∷ [] → FileRead view (disk_moments middle now) i (Ok v)
     → IsReading start now all more after
 reads-next view start middle now all rest more i contents after v so_far first are read = record {
   before = so_far.before ++ i ∷ [];
@@ -56,17 +56,17 @@ reads-next view start middle now all rest more i contents after v so_far first a
 
 pub reads-cut : {V W : Type 0} (view : V → List ℕ) (views : W → List (List ℕ)) (start middle now : FilesAt) (all rest more : List Input) (i : Input)
     (contents : List (List ℕ)) (failure : Failure) (r : Result W Failure) → IsReading start middle all rest contents → rest ≡ i ∷ more
-    → r ≡ Err failure → FileRead view (disk middle now) i (Err failure) → AllRead views (disk start now) all r
+    → r ≡ Err failure → FileRead view (disk_moments middle now) i (Err failure) → AllRead views (disk_moments start now) all r
 reads-cut {V} {W} view views start middle now all rest more i contents failure r so_far first is read =
-    subst (λ (inputs : List Input). AllRead views (disk start now) inputs r)
+    subst (λ (inputs : List Input). AllRead views (disk_moments start now) inputs r)
     (sym (so_far.splits ∙ ap (λ (inputs : List Input). so_far.before ++ inputs) first))
     (unread-then views views start middle now so_far.before (i ∷ more) contents failure r is so_far.read
-    (file-fails view views (disk middle now) i more failure read))
+    (file-fails view views (disk_moments middle now) i more failure read))
 
 pub reads-wanting : {W : Type 0} (views : W → List (List ℕ)) (start now : FilesAt) (all rest : List Input) (contents : List (List ℕ)) (r : Result W Failure)
-    → IsReading start now all rest contents → r ≡ Err NoMemory → AllRead views (disk start now) all r
+    → IsReading start now all rest contents → r ≡ Err NoMemory → AllRead views (disk_moments start now) all r
 reads-wanting {W} views start now all rest contents r so_far is =
-    subst (λ (q : Result W Failure). AllRead views (disk start now) all q) (sym is) (only-reads start now so_far.read.same)
+    subst (λ (q : Result W Failure). AllRead views (disk_moments start now) all q) (sym is) (only-reads start now so_far.read.same)
 
 pub reads-last : (start now : FilesAt) (all rest : List Input) (contents : List (List ℕ)) → IsReading start now all rest contents → rest ≡ []
     → HasRead start now all contents
@@ -84,7 +84,7 @@ inputs-next names place name within is =
     ap (λ (ns : List (Bor (List ℕ))). script_inputs (place + 1) (map (λ s. s.now) ns)) (drop_next names place name within is)
 
 pub script-next : {V : Type 0} (view : V → List ℕ) (start middle now : FilesAt) (all : List Input) (names : List (Bor (List ℕ))) (place : ℕ)
-    (name : Bor (List ℕ)) (contents after : List (List ℕ)) (v : V) → FileRead view (disk middle now) (record { file = Script (place + 1); name = name.now }) (Ok v)
+    (name : Bor (List ℕ)) (contents after : List (List ℕ)) (v : V) → FileRead view (disk_moments middle now) (record { file = Script (place + 1); name = name.now }) (Ok v)
     → IsReading start middle all (inputs_from names place) contents → after ≡ contents ++ view v ∷ [] → place < length names
     → name ≡ get_or names place name → IsReading start now all (inputs_from names (place + 1)) after
 script-next view start middle now all names place name contents after v read so_far are within is =
@@ -93,9 +93,9 @@ script-next view start middle now all names place name contents after v read so_
 
 pub script-cut : {V W : Type 0} (view : V → List ℕ) (views : W → List (List ℕ)) (start middle now : FilesAt) (all : List Input)
     (names : List (Bor (List ℕ))) (place : ℕ) (name : Bor (List ℕ)) (contents : List (List ℕ)) (failure : Failure) (r : Result W Failure)
-    → FileRead view (disk middle now) (record { file = Script (place + 1); name = name.now }) (Err failure)
+    → FileRead view (disk_moments middle now) (record { file = Script (place + 1); name = name.now }) (Err failure)
     → IsReading start middle all (inputs_from names place) contents → r ≡ Err failure → place < length names
-    → name ≡ get_or names place name → AllRead views (disk start now) all r
+    → name ≡ get_or names place name → AllRead views (disk_moments start now) all r
 script-cut view views start middle now all names place name contents failure r read so_far ends within is =
     reads-cut view views start middle now all (inputs_from names place) (inputs_from names (place + 1)) _ contents failure r so_far
     (inputs-next names place name within is) ends read
@@ -105,7 +105,7 @@ map-behind f [] x = refl
 map-behind f (y ∷ xs) x = ap (λ l. f y ∷ l) (map-behind f xs x)
 
 -- scripts that were read are within their limit
-pub scripts-within : (c : Contents) (number : ℕ) (names contents : List (List ℕ)) → HoldAll c (script_inputs number names) contents
+pub scripts-within : (c : Contents) (number : ℕ) (names contents : List (List ℕ)) → HoldBytesInTurn c (script_inputs number names) contents
     → AreScriptsWithin contents × (length contents ≡ length names)
 scripts-within c number [] [] hold = (tt, refl)
 scripts-within c number [] (bytes ∷ more) hold = absurd hold
@@ -116,7 +116,7 @@ scripts-within c number (name ∷ names) (bytes ∷ more) hold =
 
 pub live-within : (c : Contents) (image stimuli : List ℕ) (names : List (List ℕ)) (text : LiveText) (count : ℕ) → length (scripts_of text) ≡ count
     → count ≡ length text.scripts.items → 1 ≤ length names → length names ≤ 4
-    → HoldAll c (live_inputs image stimuli names) (live_contents text) → IsLiveText text
+    → HoldBytesInTurn c (live_inputs image stimuli names) (live_contents text) → IsLiveText text
 live-within c image stimuli names text count same are some few hold =
     let scripts = scripts-within c 1 names (scripts_of text) hold.1.1 in
     let many : length text.scripts.items ≡ length names = sym are ∙ sym same ∙ scripts.1 in record {
@@ -228,7 +228,7 @@ judged-cut names all number rest bytes more lists fault failure so_far first fai
 
 said-so : (steps : ℕ) (text : LiveText) (p : LoadedProgram) (stimuli : Result (List Entry) Refusal) (scripts : Result (List (List Entry)) RefusedScript)
     (a : Answer) → LoadsAs text.image.items (Ok p) → stimuli_of text.stimuli.items ≡ stimuli → scripts_from p.program.names 1 (scripts_of text) ≡ scripts
-    → LiveAnswer p steps stimuli scripts a → TextSays steps text a
+    → LiveAnswer p steps stimuli scripts a → LiveTextSays steps text a
 said-so steps text p stimuli scripts a loads are_stimuli are_scripts answers = (
   Ok p,
   loads,
@@ -237,40 +237,40 @@ said-so steps text p stimuli scripts a loads are_stimuli are_scripts answers = (
 )
 
 pub live-image-refused : (V : Type 0) (text : LiveText) (error : LoadError) (r : Result V Failure) → r ≡ Err (failure_of_loading error)
-    → IsLoadError error (faults_of text.image.items) → (steps : ℕ) → RefusedBy (TextSays steps text) r
+    → IsLoadError error (faults_of text.image.items) → (steps : ℕ) → SaysRefusal (LiveTextSays steps text) r
 live-image-refused V text (loading.Fault fault) r fails least = λ steps.
-    subst (λ (q : Result V Failure). RefusedBy (TextSays steps text) q) (sym fails) (Err fault, least, refl)
+    subst (λ (q : Result V Failure). SaysRefusal (LiveTextSays steps text) q) (sym fails) (Err fault, least, refl)
 live-image-refused V text loading.NoMemory r fails least = λ steps.
-    subst (λ (q : Result V Failure). RefusedBy (TextSays steps text) q) (sym fails) tt
+    subst (λ (q : Result V Failure). SaysRefusal (LiveTextSays steps text) q) (sym fails) tt
 
 -- the stimuli are refused, whatever the scripts are
 stimuli-refuse : (V : Type 0) (steps : ℕ) (text : LiveText) (p : LoadedProgram) (fault : TextFault) → LoadsAs text.image.items (Ok p)
-    → IsTextFault (stimuli_of text.stimuli.items) fault → RefusedBy {V = V} (TextSays steps text) (Err (failure_of_text Stimuli fault))
+    → IsTextFault (stimuli_of text.stimuli.items) fault → SaysRefusal {V = V} (LiveTextSays steps text) (Err (failure_of_text Stimuli fault))
 stimuli-refuse V steps text p (broken.BadLine line rule) loads is =
     said-so steps text p (Err (record { line = line; rule = rule })) (scripts_from p.program.names 1 (scripts_of text)) _ loads is refl refl
 stimuli-refuse V steps text p broken.NoMemory loads is = tt
 
 pub stimuli-refused : (V : Type 0) (text : LiveText) (p : LoadedProgram) (fault : TextFault) (r : Result V Failure) → r ≡ Err (failure_of_text Stimuli fault)
-    → LoadsAs text.image.items (Ok p) → IsTextFault (stimuli_of text.stimuli.items) fault → (steps : ℕ) → RefusedBy (TextSays steps text) r
+    → LoadsAs text.image.items (Ok p) → IsTextFault (stimuli_of text.stimuli.items) fault → (steps : ℕ) → SaysRefusal (LiveTextSays steps text) r
 stimuli-refused V text p fault r fails loads is = λ steps.
-    subst (λ (q : Result V Failure). RefusedBy (TextSays steps text) q) (sym fails) (stimuli-refuse V steps text p fault loads is)
+    subst (λ (q : Result V Failure). SaysRefusal (LiveTextSays steps text) q) (sym fails) (stimuli-refuse V steps text p fault loads is)
 
 scripts-refuse : (V : Type 0) (steps : ℕ) (text : LiveText) (p : LoadedProgram) (stimuli : List Entry) (failure : Failure) → LoadsAs text.image.items (Ok p)
     → stimuli_of text.stimuli.items ≡ Ok stimuli → TellsScript (scripts_from p.program.names 1 (scripts_of text)) failure
-    → RefusedBy {V = V} (TextSays steps text) (Err failure)
+    → SaysRefusal {V = V} (LiveTextSays steps text) (Err failure)
 scripts-refuse V steps text p stimuli failure loads are (inl is) =
-    subst (λ (f : Failure). RefusedBy {V = V} (TextSays steps text) (Err f)) (sym is) tt
+    subst (λ (f : Failure). SaysRefusal {V = V} (LiveTextSays steps text) (Err f)) (sym is) tt
 scripts-refuse V steps text p stimuli failure loads are (inr (script, refuses, is)) =
-    subst (λ (f : Failure). RefusedBy {V = V} (TextSays steps text) (Err f)) (sym is)
+    subst (λ (f : Failure). SaysRefusal {V = V} (LiveTextSays steps text) (Err f)) (sym is)
     (said-so steps text p (Ok stimuli) (Err script) _ loads are refuses refl)
 
 pub scripts-refused : (V : Type 0) (text : LiveText) (p : LoadedProgram) (stimuli : List Entry) (failure : Failure) (r : Result V Failure) → r ≡ Err failure
     → LoadsAs text.image.items (Ok p) → stimuli_of text.stimuli.items ≡ Ok stimuli → TellsScript (scripts_from p.program.names 1 (scripts_of text)) failure
-    → (steps : ℕ) → RefusedBy (TextSays steps text) r
+    → (steps : ℕ) → SaysRefusal (LiveTextSays steps text) r
 scripts-refused V text p stimuli failure r fails loads are tells = λ steps.
-    subst (λ (q : Result V Failure). RefusedBy (TextSays steps text) q) (sym fails) (scripts-refuse V steps text p stimuli failure loads are tells)
+    subst (λ (q : Result V Failure). SaysRefusal (LiveTextSays steps text) q) (sym fails) (scripts-refuse V steps text p stimuli failure loads are tells)
 
-on : (V W : Type 0) (says : Answer → Type 0) (failure : Failure) → RefusedBy {V = V} says (Err failure) → RefusedBy {V = W} says (Err failure)
+on : (V W : Type 0) (says : Answer → Type 0) (failure : Failure) → SaysRefusal {V = V} says (Err failure) → SaysRefusal {V = W} says (Err failure)
 on V W says (Refused file refusal) told = told
 on V W says (ImageRefused fault) told = told
 on V W says NoListing told = told
@@ -284,15 +284,15 @@ on V W says WriteFault told = absurd told
 
 -- a refusal is handed on
 pub refused-on : (V W : Type 0) (says : Answer → Type 0) (failure : Failure) (r : Result W Failure) → r ≡ Err failure
-    → RefusedBy {V = V} says (Err failure) → RefusedBy says r
+    → SaysRefusal {V = V} says (Err failure) → SaysRefusal says r
 refused-on V W says failure r fails told =
-    subst (λ (q : Result W Failure). RefusedBy says q) (sym fails) (on V W says failure told)
+    subst (λ (q : Result W Failure). SaysRefusal says q) (sym fails) (on V W says failure told)
 
 -- the workers made this history
 pub live-said : (steps : ℕ) (text : LiveText) (p q : LoadedProgram) (stimuli : List Entry) (scripts : List (List Entry)) (history : List Entry)
-    → q ≡ p → Finds text p stimuli scripts → IsLive p steps stimuli scripts history → history_of p.program.names (history_text history) ≡ Ok history
-    → TextSays steps text (done (live_text q history))
+    → q ≡ p → FindsProgramAndScripts text p stimuli scripts → IsLive p steps stimuli scripts history → history_of_text p.program.names (history_text history) ≡ Ok history
+    → LiveTextSays steps text (done_answer (live_text q history))
 live-said steps text p q stimuli scripts history same finds live back =
-    subst (λ (x : LoadedProgram). TextSays steps text (done (live_text x history))) (sym same)
+    subst (λ (x : LoadedProgram). LiveTextSays steps text (done_answer (live_text x history))) (sym same)
     (said-so steps text p (Ok stimuli) (Ok scripts) _ finds.loads finds.are_stimuli finds.are_scripts
     (record { history = history; live = live; read_back = back; says = refl }))

@@ -5,8 +5,8 @@ use Rattle.std.proofs.lemmas.List.Elements.{All-from_recursion}
 use Rattle.image_file.specs.Loaded.{LoadedProgram}
 use Rattle.var_access.specs.declared.Entry.{Entry}
 use Rattle.controller.specs.Recording.{Recording}
-use Rattle.tracked_lock.specs.Passes.{Passed, Locked, missing, fresh_pass, fresh_passes}
-use Rattle.tracked_lock.specs.Views.{IsMadeOf, Each, times}
+use Rattle.tracked_lock.specs.Passes.{PassView, LockView, missing_number_count, fresh_pass, fresh_passes}
+use Rattle.tracked_lock.specs.Views.{IsMadeOf, HoldsForEach, times}
 use Rattle.tracked_lock.specs.declared.views.Made.{Made}
 use Rattle.station.specs.Closing.{IsGivenBack}
 use Rattle.station.specs.Openings.{the_opening}
@@ -15,13 +15,13 @@ use Rattle.station.specs.declared.shared.StationFault.{StationFault}
 use Rattle.station.specs.declared.shared.StationFault.TheVariants.{NoMemory, Full}
 use Rattle.station.specs.declared.shared.TheConstants.{FULL}
 use Rattle.s7_cli.specs.Living.{IsFullNever, IsLive, opened_on, total_length}
-use Rattle.s7_cli.specs.Working.{EndsInStop, HasWorked, KnowsFault, RunsBefore, WorkedBy, entries_of, step_by}
+use Rattle.s7_cli.specs.Working.{EndsInStop, HasWorked, KnowsFault, RunsBefore, WorkedBy, entries_of_worker, step_entry_by}
 use Rattle.s7_cli.proofs.NumberLemmas.{Numbered, all_of_each, begun_few, begun_many, begun_numbered, few_made, is_numbered, missing_none, stand_in, times_numbered}
 use Rattle.s7_cli.proofs.StepperLemmas.{ends_on, none_came, runs_on}
 
 -- a station with two passes more than there are scripts, and what the workers made with these
-module _ (s : Locked Opening) (steps : ℕ) (stimuli : List Entry) (scripts : List (List Entry)) (r : Passed Opening Entry) (whole : Bool)
-    (n : ℕ) (ps : List (Passed Opening Entry)) (fresh : ps ≡ fresh_passes s 0 n) (two_more : n ≡ length scripts + 2) (worked : HasWorked s ps steps stimuli scripts r whole) where
+module _ (s : LockView Opening) (steps : ℕ) (stimuli : List Entry) (scripts : List (List Entry)) (r : PassView Opening Entry) (whole : Bool)
+    (n : ℕ) (ps : List (PassView Opening Entry)) (fresh : ps ≡ fresh_passes s 0 n) (two_more : n ≡ length scripts + 2) (worked : HasWorked s ps steps stimuli scripts r whole) where
   abbrev lists : List (List Entry)
   lists = stimuli ∷ scripts
 
@@ -32,7 +32,7 @@ module _ (s : Locked Opening) (steps : ℕ) (stimuli : List Entry) (scripts : Li
   h = subst (λ l. HasWorked s l steps stimuli scripts r whole) (fresh ∙ ap (fresh_passes s 0) as_many) worked
 
   abbrev all_made : List (Made Entry)
-  all_made = record { number = 1; entries = replicate h.count (step_by 1) } ∷ h.others
+  all_made = record { number = 1; entries = replicate h.count (step_entry_by 1) } ∷ h.others
 
   numbered : Numbered 0 all_made
   numbered = (refl, begun_numbered s 1 lists h.others h.begun)
@@ -41,9 +41,9 @@ module _ (s : Locked Opening) (steps : ℕ) (stimuli : List Entry) (scripts : Li
   many = ap suc (begun_many s 1 lists h.others h.begun)
 
   -- they have all numbers
-  pub none_missing : s.passes ≡ n → missing s.passes r.made ≡ 0
+  pub none_missing : s.passes ≡ n → missing_number_count s.passes r.made ≡ 0
   none_missing passes =
-      subst (λ k. missing k r.made ≡ 0) (sym passes) (subst (λ ms. missing n ms ≡ 0) (sym h.made)
+      subst (λ k. missing_number_count k r.made ≡ 0) (sym passes) (subst (λ ms. missing_number_count n ms ≡ 0) (sym h.made)
       (missing_none n all_made (λ k pos le. times_numbered 0 k all_made numbered pos (omega (arith, many, as_many, le)))))
 
   module _ (begin c : Recording) (starts : s.origin ≡ record { program = begin.program; profile = begin.profile; first = begin.history } ∷ [])
@@ -51,14 +51,14 @@ module _ (s : Locked Opening) (steps : ℕ) (stimuli : List Entry) (scripts : Li
     opening : the_opening s.origin ≡ opened_on loaded
     opening = ap the_opening starts ∙ ap (λ (b : Recording). record { program = b.program; profile = b.profile; first = b.history }) none_yet
 
-    of_all : Each (λ (e : Entry). 0 < times e.who all_made) back.story
-    of_all = subst (λ ms. Each (λ (e : Entry). 0 < times e.who ms) back.story) h.made back.all
+    of_all : HoldsForEach (λ (e : Entry). 0 < times e.who all_made) back.story
+    of_all = subst (λ ms. HoldsForEach (λ (e : Entry). 0 < times e.who ms) back.story) h.made back.all
 
     story_made : IsMadeOf (λ (e : Entry). e.who) back.story all_made
     story_made = subst (IsMadeOf (λ (e : Entry). e.who) back.story) h.made back.made
 
     story_few : length back.story ≤ steps + length stimuli + total_length scripts
-    story_few = omega (arith, few_made all_made back.story of_all story_made, begun_few s 1 lists h.others h.begun, length-replicate h.count (step_by 1), h.few)
+    story_few = omega (arith, few_made all_made back.story of_all story_made, begun_few s 1 lists h.others h.begun, length-replicate h.count (step_entry_by 1), h.few)
 
     -- the station isn't full
     pub never_full : (outcome : Result Unit StationFault) → KnowsFault s r.seen outcome → steps + length stimuli + total_length scripts < FULL → IsFullNever outcome
@@ -74,8 +74,8 @@ module _ (s : Locked Opening) (steps : ℕ) (stimuli : List Entry) (scripts : Li
         let story : List Entry = back.story in
         let later : List Entry = back.begins.0 in
         let history : c.history ≡ story = back.history ∙ ap (λ (x : Opening). x.first ++ story) opening in
-        let was : entries_of 1 r.seen ≡ replicate h.count (step_by 1) = (subst (IsMadeOf (λ (e : Entry). e.who) r.seen) h.made agrees).0 in
-        let none : entries_of 1 later ≡ [] = none_came 1 r.seen later story back.begins.1 (omega (arith, ap length story_made.0, ap length was)) in
+        let was : entries_of_worker 1 r.seen ≡ replicate h.count (step_entry_by 1) = (subst (IsMadeOf (λ (e : Entry). e.who) r.seen) h.made agrees).0 in
+        let none : entries_of_worker 1 later ≡ [] = none_came 1 r.seen later story back.begins.1 (omega (arith, ap length story_made.0, ap length was)) in
         subst (IsLive loaded steps stimuli scripts) (sym history) record {
           count = h.count;
           few = h.few;

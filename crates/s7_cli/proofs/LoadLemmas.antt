@@ -10,7 +10,7 @@ use Rattle.image_file.specs.Images.{IsImageOf}
 use Rattle.image_file.specs.Least.{IsFaultAmong, IsLeastFault, IsUpTo}
 use Rattle.image_file.specs.Loaded.{LoadedProgram}
 use Rattle.image_file.specs.declared.faults.LoadFault.{LoadFault}
-use Rattle.s7_cli.specs.Loads.{Loads, LoadsAs}
+use Rattle.s7_cli.specs.Loads.{IsImageOfLoadable, LoadsAs}
 
 same-fault : (f g : LoadFault) → f.at ≡ g.at → f.code ≡ g.code → f ≡ g
 same-fault f g at code = λ i. record { at = at i; code = code i }
@@ -43,7 +43,7 @@ found-one bytes l m one other = same-loaded l m program (one.profile ∙ ap prof
     program =
         let same : Some l.program ≡ Some m.program = ap (option_map (λ (z : (Stamp × Program) × Cursor). z.0.1)) found in cc
 
-faultless : (bytes : List ℕ) (l : LoadedProgram) (f : LoadFault) → Loads bytes l → IsLeastFault f (faults_of bytes) → ⊥
+faultless : (bytes : List ℕ) (l : LoadedProgram) (f : LoadFault) → IsImageOfLoadable bytes l → IsLeastFault f (faults_of bytes) → ⊥
 faultless bytes l f loads least = subst (IsFaultAmong (f.at, f.code)) loads.image.given.clean least.one
 
 pub loads-one : (bytes : List ℕ) (v w : Result LoadedProgram LoadFault) → LoadsAs bytes v → LoadsAs bytes w → v ≡ w

@@ -2,17 +2,17 @@
 use Rattle.std.proofs.Common.{◌≡◌, ◌≢◌, ◌⊎◌, inl, inr, refl, sym, ◌∙◌, ap, subst, ℕ, zero, suc, List, [], ◌∷◌, length, take, Some, Ok, Err, Contains, true, arith}
 use Rattle.std.proofs.lemmas.Grind.{common_steps}
 use Rattle.plc_io.specs.Contents.{SameElsewhere}
-use Rattle.plc_io.specs.Counts.{Rose, SameCounts}
-use Rattle.plc_io.specs.FileCalls.{Unchanged}
+use Rattle.plc_io.specs.Counts.{CountRose, SameCounts}
+use Rattle.plc_io.specs.FileCalls.{AreFilesUnchanged}
 use Rattle.plc_io.specs.Moments.{FilesAt, SinkAt}
 use Rattle.s7_cli.specs.declared.failures.Failure.{Failure}
 use Rattle.s7_cli.specs.declared.failures.Failure.TheVariants.{WordsRefused, ReadFault, TooLong, Refused, ImageRefused, NoListing, SaysNo, TooDeep, WriteFault, NoMemory}
-use Rattle.s7_cli.specs.Answer.{Outcome, done}
+use Rattle.s7_cli.specs.Answer.{Outcome, done_answer}
 use Rattle.s7_cli.specs.Command.{Command, inputs_of, outputs_of}
-use Rattle.s7_cli.specs.Ends.{Taking, taking, Answers, ChangesOutputs, WritesOutputs, HoldsFront, HoldsWhole, RoseAmong, WritesTo}
-use Rattle.s7_cli.specs.Inner.{HasRead, FileWritten, TextWritten, Comes}
-use Rattle.s7_cli.specs.Reading.{disk}
-use Rattle.s7_cli.specs.Says.{Says, Writes}
+use Rattle.s7_cli.specs.Ends.{SinkMoments, sink_moments, IsAnswerOfCall, ChangesOutputs, WritesOutputs, HoldsFront, HoldsWhole, RoseAmong, WritesTo}
+use Rattle.s7_cli.specs.Inner.{HasRead, FileWritten, TextWritten, ComesOutAs}
+use Rattle.s7_cli.specs.Reading.{disk_moments}
+use Rattle.s7_cli.specs.Says.{CommandSays, WritesOutputFile}
 use Rattle.s7_cli.proofs.ComesLemmas.{never-fell}
 use Rattle.s7_cli.proofs.ReadingLemmas.{reads-all}
 
@@ -31,7 +31,7 @@ record Since (start now : FilesAt) (name : List ℕ) : Type 0 where
   elsewhere : (other : List ℕ) → other ≢ name → now.contents.at other ≡ start.contents.at other
   reads : SameCounts start.failed_reads now.failed_reads
 
-since : (start middle now : FilesAt) (name : List ℕ) → Unchanged start middle → SameElsewhere middle.contents now.contents name
+since : (start middle now : FilesAt) (name : List ℕ) → AreFilesUnchanged start middle → SameElsewhere middle.contents now.contents name
     → SameCounts middle.failed_reads now.failed_reads → Since start now name
 since start middle now name same elsewhere reads = record {
   told = elsewhere.told ∙ same.contents.told;
@@ -41,7 +41,7 @@ since start middle now name same elsewhere reads = record {
 
 -- no other file changed, and the output file holds a front of what the command writes, or what it held
 changes : (c : Command) (start now : FilesAt) (name : List ℕ) → outputs_of c ≡ name ∷ [] → Since start now name
-    → HoldsFront c (disk start now) name → ChangesOutputs (Some c) (disk start now)
+    → HoldsFront c (disk_moments start now) name → ChangesOutputs (Some c) (disk_moments start now)
 changes c start now name are later front = record {
   told = later.told;
   elsewhere = λ other apart. later.elsewhere other (λ is. apart (subst (λ (names : List (List ℕ)). Contains names other) (sym are) (is-one name other is)));
@@ -49,16 +49,16 @@ changes c start now name are later front = record {
       let same : c ≡ k = cc in
       let here : Contains (name ∷ []) other = subst (λ (names : List (List ℕ)). Contains names other) (ap outputs_of (sym same) ∙ are) within in
       let is : name ≡ other = sym (only-one name other here) in
-      subst (λ (j : Command). HoldsFront j (disk start now) other) same (subst (λ (n : List ℕ). HoldsFront c (disk start now) n) is front);
+      subst (λ (j : Command). HoldsFront j (disk_moments start now) other) same (subst (λ (n : List ℕ). HoldsFront c (disk_moments start now) n) is front);
 }
 
 whole : (c : Command) (start now : FilesAt) (name : List ℕ) → outputs_of c ≡ name ∷ []
-    → HoldsWhole c (disk start now) name → WritesOutputs (Some c) (disk start now)
+    → HoldsWhole c (disk_moments start now) name → WritesOutputs (Some c) (disk_moments start now)
 whole c start now name are holds = λ k is_k other within.
     let same : c ≡ k = cc in
     let here : Contains (name ∷ []) other = subst (λ (names : List (List ℕ)). Contains names other) (ap outputs_of (sym same) ∙ are) within in
     let is : name ≡ other = sym (only-one name other here) in
-    subst (λ (j : Command). HoldsWhole j (disk start now) other) same (subst (λ (n : List ℕ). HoldsWhole c (disk start now) n) is holds)
+    subst (λ (j : Command). HoldsWhole j (disk_moments start now) other) same (subst (λ (n : List ℕ). HoldsWhole c (disk_moments start now) n) is holds)
 
 pub take-whole : (bytes : List ℕ) → take (length bytes) bytes ≡ bytes
 take-whole bytes = grind (arith, common_steps)
@@ -67,9 +67,9 @@ take-whole bytes = grind (arith, common_steps)
 
 -- after a failure the file holds what it held, or a front of what the command writes
 front-left : (c : Command) (start middle now : FilesAt) (contents : List (List ℕ)) (name bytes : List ℕ) → HasRead start middle (inputs_of c) contents
-    → Writes c contents name bytes
+    → WritesOutputFile c contents name bytes
     → (middle.contents.told ≡ true → (now.contents.at name ≡ middle.contents.at name) ⊎ ((n : ℕ) × (now.contents.at name ≡ Some (take n bytes))))
-    → HoldsFront c (disk start now) name
+    → HoldsFront c (disk_moments start now) name
 front-left c start middle now contents name bytes read writes cut = λ told.
     elim (cut (read.same.contents.told ∙ told)) [
       | inl held ↦ inl (held ∙ read.same.contents.at name)
@@ -77,8 +77,8 @@ front-left c start middle now contents name bytes read writes cut = λ told.
     ]
 
 fails : (c : Command) (start middle now : FilesAt) (at : SinkAt) (contents : List (List ℕ)) (name bytes : List ℕ) (failure : Failure)
-    → outputs_of c ≡ name ∷ [] → HasRead start middle (inputs_of c) contents → Writes c contents name bytes
-    → FileWritten (disk middle now) name bytes (Err failure) → Comes (Some c) (disk start now) (taking at at) (Err failure)
+    → outputs_of c ≡ name ∷ [] → HasRead start middle (inputs_of c) contents → WritesOutputFile c contents name bytes
+    → FileWritten (disk_moments middle now) name bytes (Err failure) → ComesOutAs (Some c) (disk_moments start now) (sink_moments at at) (Err failure)
 fails c start middle now at contents name bytes WriteFault are read writes left =
     let later : Since start now name = since start middle now name read.same left.elsewhere left.reads in record {
       cut = record {
@@ -88,7 +88,7 @@ fails c start middle now at contents name bytes WriteFault are read writes left 
       };
       failed = inr (record {
         rose = subst (λ (names : List (List ℕ)). RoseAmong start.failed_writes now.failed_writes names) (sym are)
-            (inl (subst (λ (n : ℕ). Rose n (now.failed_writes name)) (read.same.writes name) left.writes.1));
+            (inl (subst (λ (n : ℕ). CountRose n (now.failed_writes name)) (read.same.writes name) left.writes.1));
         writes = λ other. omega (arith, read.same.writes other, left.writes.0 other);
         faults = refl;
       });
@@ -114,18 +114,18 @@ fails c start middle now at contents name bytes TooDeep are read writes left = a
 
 pub comes-unwritten : (c : Command) (start middle now : FilesAt) (at : SinkAt) (contents : List (List ℕ)) (name bytes : List ℕ)
     (failure : Failure) (came : Outcome) → came ≡ Err failure → outputs_of c ≡ name ∷ [] → HasRead start middle (inputs_of c) contents
-    → Writes c contents name bytes → FileWritten (disk middle now) name bytes (Err failure)
-    → Comes (Some c) (disk start now) (taking at at) came
+    → WritesOutputFile c contents name bytes → FileWritten (disk_moments middle now) name bytes (Err failure)
+    → ComesOutAs (Some c) (disk_moments start now) (sink_moments at at) came
 comes-unwritten c start middle now at contents name bytes failure came is are read writes left =
-    subst (λ (o : Outcome). Comes (Some c) (disk start now) (taking at at) o) (sym is)
+    subst (λ (o : Outcome). ComesOutAs (Some c) (disk_moments start now) (sink_moments at at) o) (sym is)
     (fails c start middle now at contents name bytes failure are read writes left)
 
 -- ---- the output files were written, and then the text, or a front of it
 
-pub text-behind : (c : Command) (start now : FilesAt) (s : Taking) (text : List ℕ) (came : Outcome)
-    → Answers (Some c) (disk start now) (done text) → SameCounts start.failed_reads now.failed_reads
-    → SameCounts start.failed_writes now.failed_writes → ChangesOutputs (Some c) (disk start now) → WritesOutputs (Some c) (disk start now)
-    → TextWritten text s came → Comes (Some c) (disk start now) s came
+pub text-behind : (c : Command) (start now : FilesAt) (s : SinkMoments) (text : List ℕ) (came : Outcome)
+    → IsAnswerOfCall (Some c) (disk_moments start now) (done_answer text) → SameCounts start.failed_reads now.failed_reads
+    → SameCounts start.failed_writes now.failed_writes → ChangesOutputs (Some c) (disk_moments start now) → WritesOutputs (Some c) (disk_moments start now)
+    → TextWritten text s came → ComesOutAs (Some c) (disk_moments start now) s came
 text-behind c start now s text (Ok ok) answers reads counts changed whole took = (
   text,
   record {
@@ -139,7 +139,7 @@ text-behind c start now s text (Ok ok) answers reads counts changed whole took =
 )
 text-behind c start now s text (Err WriteFault) answers reads counts changed whole took = record {
   cut = record {
-    cut = inr (done text, answers, reads, (changed, whole), took.0);
+    cut = inr (done_answer text, answers, reads, (changed, whole), took.0);
     reads = never-fell start.failed_reads now.failed_reads reads;
     files = changed;
   };
@@ -147,7 +147,7 @@ text-behind c start now s text (Err WriteFault) answers reads counts changed who
 }
 text-behind c start now s text (Err NoMemory) answers reads counts changed whole took = record {
   cut = record {
-    cut = inr (done text, answers, reads, (changed, whole), took.0);
+    cut = inr (done_answer text, answers, reads, (changed, whole), took.0);
     reads = never-fell start.failed_reads now.failed_reads reads;
     files = changed;
   };
@@ -163,27 +163,27 @@ text-behind c start now s text (Err NoListing) answers reads counts changed whol
 text-behind c start now s text (Err SaysNo) answers reads counts changed whole took = absurd took
 text-behind c start now s text (Err TooDeep) answers reads counts changed whole took = absurd took
 
-pub comes-output : (c : Command) (start middle now : FilesAt) (s : Taking) (contents : List (List ℕ)) (name bytes text : List ℕ) (came : Outcome)
-    → outputs_of c ≡ name ∷ [] → HasRead start middle (inputs_of c) contents → Writes c contents name bytes
-    → FileWritten (disk middle now) name bytes (Ok tt) → Says c contents (done text) → TextWritten text s came
-    → Comes (Some c) (disk start now) s came
+pub comes-output : (c : Command) (start middle now : FilesAt) (s : SinkMoments) (contents : List (List ℕ)) (name bytes text : List ℕ) (came : Outcome)
+    → outputs_of c ≡ name ∷ [] → HasRead start middle (inputs_of c) contents → WritesOutputFile c contents name bytes
+    → FileWritten (disk_moments middle now) name bytes (Ok tt) → CommandSays c contents (done_answer text) → TextWritten text s came
+    → ComesOutAs (Some c) (disk_moments start now) s came
 comes-output c start middle now s contents name bytes text came are read writes left said took =
     text-behind c start now s text came
-    (reads-all (disk start now) (inputs_of c) contents (Says c) (done text) read.hold said)
+    (reads-all (disk_moments start now) (inputs_of c) contents (CommandSays c) (done_answer text) read.hold said)
     later.reads (λ other. left.writes other ∙ read.same.writes other)
     (changes c start now name are later front) (whole c start now name are all) took
   where
     later : Since start now name
     later = since start middle now name read.same left.elsewhere left.reads
 
-    to : WritesTo c (disk start now) name bytes
+    to : WritesTo c (disk_moments start now) name bytes
     to = (contents, read.hold, writes)
 
     told-now : start.contents.told ≡ true → now.contents.told ≡ true
     told-now told = later.told ∙ told
 
-    all : HoldsWhole c (disk start now) name
+    all : HoldsWhole c (disk_moments start now) name
     all = λ told. (bytes, to, left.contents (told-now told))
 
-    front : HoldsFront c (disk start now) name
+    front : HoldsFront c (disk_moments start now) name
     front = λ told. inr (bytes, length bytes, to, left.contents (told-now told) ∙ ap Some (sym (take-whole bytes)))

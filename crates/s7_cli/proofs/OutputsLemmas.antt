@@ -1,17 +1,17 @@
 -- A command that writes two output files, one behind the other, and then its text.
 use Rattle.std.proofs.Common.{◌≡◌, ◌≢◌, ◌⊎◌, inl, inr, refl, sym, ◌∙◌, ap, subst, ℕ, zero, suc, List, [], ◌∷◌, length, Some, Ok, Err, Contains, true, arith}
-use Rattle.plc_io.specs.Contents.{IsCutShort, SameElsewhere}
-use Rattle.plc_io.specs.Counts.{Rose, SameCounts}
+use Rattle.plc_io.specs.Contents.{IsWriteCutShort, SameElsewhere}
+use Rattle.plc_io.specs.Counts.{CountRose, SameCounts}
 use Rattle.plc_io.specs.Moments.{FilesAt, SinkAt}
 use Rattle.s7_cli.specs.declared.failures.Failure.{Failure}
 use Rattle.s7_cli.specs.declared.failures.Failure.TheVariants.{WordsRefused, ReadFault, TooLong, Refused, ImageRefused, NoListing, SaysNo, TooDeep, WriteFault, NoMemory}
-use Rattle.s7_cli.specs.Answer.{Outcome, done}
+use Rattle.s7_cli.specs.Answer.{Outcome, done_answer}
 use Rattle.s7_cli.specs.Command.{Command, inputs_of, outputs_of}
-use Rattle.s7_cli.specs.Ends.{Taking, taking, ChangesOutputs, HoldsFront, HoldsWhole, RoseAmong}
-use Rattle.s7_cli.specs.Inner.{AreOutputs, HasRead, FileWritten, TextWritten, Comes, Written}
+use Rattle.s7_cli.specs.Ends.{SinkMoments, sink_moments, ChangesOutputs, HoldsFront, HoldsWhole, RoseAmong}
+use Rattle.s7_cli.specs.Inner.{AreOutputs, HasRead, FileWritten, TextWritten, ComesOutAs, WrittenFile}
 use Rattle.s7_cli.specs.Lines.{ok_line}
-use Rattle.s7_cli.specs.Reading.{HoldAll, disk}
-use Rattle.s7_cli.specs.Says.{Says, Writes}
+use Rattle.s7_cli.specs.Reading.{HoldBytesInTurn, disk_moments}
+use Rattle.s7_cli.specs.Says.{CommandSays, WritesOutputFile}
 use Rattle.s7_cli.proofs.ComesLemmas.{never-fell}
 use Rattle.s7_cli.proofs.OutputLemmas.{take-whole, text-behind}
 use Rattle.s7_cli.proofs.ReadingLemmas.{reads-all}
@@ -48,20 +48,20 @@ each c one two P are first second k is name within =
     ])
 
 changes : (c : Command) (start now : FilesAt) (one two : List ℕ) → outputs_of c ≡ one ∷ two ∷ [] → Since start now one two
-    → HoldsFront c (disk start now) one → HoldsFront c (disk start now) two → ChangesOutputs (Some c) (disk start now)
+    → HoldsFront c (disk_moments start now) one → HoldsFront c (disk_moments start now) two → ChangesOutputs (Some c) (disk_moments start now)
 changes c start now one two are later first second = record {
   told = later.told;
   elsewhere = λ other apart. later.elsewhere other
       (λ is. apart (subst (λ (names : List (List ℕ)). Contains names other) (sym are) (is-first one two other is)))
       (λ is. apart (subst (λ (names : List (List ℕ)). Contains names other) (sym are) (is-second one two other is)));
-  outputs = each c one two (λ k name. HoldsFront k (disk start now) name) are first second;
+  outputs = each c one two (λ k name. HoldsFront k (disk_moments start now) name) are first second;
 }
 
 -- a file that a cut write leaves holds a front of what the command writes, or what it held
-cut-front : (c : Command) (start middle before now : FilesAt) (contents : List (List ℕ)) (to : Written) → HasRead start middle (inputs_of c) contents
-    → Writes c contents to.name to.bytes → before.contents.told ≡ start.contents.told
-    → before.contents.at to.name ≡ start.contents.at to.name → IsCutShort before.contents now.contents to.name to.bytes
-    → HoldsFront c (disk start now) to.name
+cut-front : (c : Command) (start middle before now : FilesAt) (contents : List (List ℕ)) (to : WrittenFile) → HasRead start middle (inputs_of c) contents
+    → WritesOutputFile c contents to.name to.bytes → before.contents.told ≡ start.contents.told
+    → before.contents.at to.name ≡ start.contents.at to.name → IsWriteCutShort before.contents now.contents to.name to.bytes
+    → HoldsFront c (disk_moments start now) to.name
 cut-front c start middle before now contents to read writes tells held cut = λ told.
     elim (cut (tells ∙ told)) [
       | inl same ↦ inl (same ∙ held)
@@ -69,17 +69,17 @@ cut-front c start middle before now contents to read writes tells held cut = λ 
     ]
 
 -- one that holds the whole holds a front
-whole-front : (c : Command) (start now : FilesAt) (name : List ℕ) → HoldsWhole c (disk start now) name → HoldsFront c (disk start now) name
+whole-front : (c : Command) (start now : FilesAt) (name : List ℕ) → HoldsWhole c (disk_moments start now) name → HoldsFront c (disk_moments start now) name
 whole-front c start now name holds = λ told.
     let is = holds told in
     inr (is.0, length is.0, is.1, is.2 ∙ ap Some (sym (take-whole is.0)))
 
 -- ---- the write of the first file failed
 
-first-changes : (c : Command) (start middle now : FilesAt) (contents : List (List ℕ)) (one two : Written) → AreOutputs c contents one two
+first-changes : (c : Command) (start middle now : FilesAt) (contents : List (List ℕ)) (one two : WrittenFile) → AreOutputs c contents one two
     → HasRead start middle (inputs_of c) contents → SameElsewhere middle.contents now.contents one.name
-    → SameCounts middle.failed_reads now.failed_reads → IsCutShort middle.contents now.contents one.name one.bytes
-    → ChangesOutputs (Some c) (disk start now)
+    → SameCounts middle.failed_reads now.failed_reads → IsWriteCutShort middle.contents now.contents one.name one.bytes
+    → ChangesOutputs (Some c) (disk_moments start now)
 first-changes c start middle now contents one two are read elsewhere reads cut =
     changes c start now one.name two.name are.outputs later
     (cut-front c start middle middle now contents one read are.writes_first read.same.contents.told (read.same.contents.at one.name) cut)
@@ -92,9 +92,9 @@ first-changes c start middle now contents one two are read elsewhere reads cut =
       reads = λ other. reads other ∙ read.same.reads other;
     }
 
-pub first-fails : (c : Command) (start middle now : FilesAt) (at : SinkAt) (contents : List (List ℕ)) (one two : Written) (failure : Failure)
+pub first-fails : (c : Command) (start middle now : FilesAt) (at : SinkAt) (contents : List (List ℕ)) (one two : WrittenFile) (failure : Failure)
     → AreOutputs c contents one two → HasRead start middle (inputs_of c) contents
-    → FileWritten (disk middle now) one.name one.bytes (Err failure) → Comes (Some c) (disk start now) (taking at at) (Err failure)
+    → FileWritten (disk_moments middle now) one.name one.bytes (Err failure) → ComesOutAs (Some c) (disk_moments start now) (sink_moments at at) (Err failure)
 first-fails c start middle now at contents one two WriteFault are read left = record {
   cut = record {
     cut = inl refl;
@@ -103,7 +103,7 @@ first-fails c start middle now at contents one two WriteFault are read left = re
   };
   failed = inr (record {
     rose = subst (λ (names : List (List ℕ)). RoseAmong start.failed_writes now.failed_writes names) (sym are.outputs)
-        (inl (subst (λ (n : ℕ). Rose n (now.failed_writes one.name)) (read.same.writes one.name) left.writes.1));
+        (inl (subst (λ (n : ℕ). CountRose n (now.failed_writes one.name)) (read.same.writes one.name) left.writes.1));
     writes = λ other. omega (arith, read.same.writes other, left.writes.0 other);
     faults = refl;
   });
@@ -126,27 +126,27 @@ first-fails c start middle now at contents one two NoListing are read left = abs
 first-fails c start middle now at contents one two SaysNo are read left = absurd left
 first-fails c start middle now at contents one two TooDeep are read left = absurd left
 
-pub first-unwritten : (c : Command) (start middle now : FilesAt) (at : SinkAt) (contents : List (List ℕ)) (one two : Written) (failure : Failure)
+pub first-unwritten : (c : Command) (start middle now : FilesAt) (at : SinkAt) (contents : List (List ℕ)) (one two : WrittenFile) (failure : Failure)
     (came : Outcome) → came ≡ Err failure → AreOutputs c contents one two → HasRead start middle (inputs_of c) contents
-    → FileWritten (disk middle now) one.name one.bytes (Err failure) → Comes (Some c) (disk start now) (taking at at) came
+    → FileWritten (disk_moments middle now) one.name one.bytes (Err failure) → ComesOutAs (Some c) (disk_moments start now) (sink_moments at at) came
 first-unwritten c start middle now at contents one two failure came is are read left =
-    subst (λ (o : Outcome). Comes (Some c) (disk start now) (taking at at) o) (sym is)
+    subst (λ (o : Outcome). ComesOutAs (Some c) (disk_moments start now) (sink_moments at at) o) (sym is)
     (first-fails c start middle now at contents one two failure are read left)
 
 -- ---- the first file was written
 
 -- what was so before the second write
-record HasFirst (c : Command) (start between : FilesAt) (contents : List (List ℕ)) (one two : Written) : Type 0 where
+record HasFirst (c : Command) (start between : FilesAt) (contents : List (List ℕ)) (one two : WrittenFile) : Type 0 where
   are : AreOutputs c contents one two
-  hold : HoldAll start.contents (inputs_of c) contents
+  hold : HoldBytesInTurn start.contents (inputs_of c) contents
   told : between.contents.told ≡ start.contents.told
   there : start.contents.told ≡ true → between.contents.at one.name ≡ Some one.bytes
   elsewhere : (other : List ℕ) → other ≢ one.name → between.contents.at other ≡ start.contents.at other
   reads : SameCounts start.failed_reads between.failed_reads
   writes : SameCounts start.failed_writes between.failed_writes
 
-first-written : (c : Command) (start middle between : FilesAt) (contents : List (List ℕ)) (one two : Written) → AreOutputs c contents one two
-    → HasRead start middle (inputs_of c) contents → FileWritten (disk middle between) one.name one.bytes (Ok tt)
+first-written : (c : Command) (start middle between : FilesAt) (contents : List (List ℕ)) (one two : WrittenFile) → AreOutputs c contents one two
+    → HasRead start middle (inputs_of c) contents → FileWritten (disk_moments middle between) one.name one.bytes (Ok tt)
     → HasFirst c start between contents one two
 first-written c start middle between contents one two are read left = record {
   are = are;
@@ -162,12 +162,12 @@ first-written c start middle between contents one two are read left = record {
     tells = left.elsewhere.told ∙ read.same.contents.told
 
 -- it holds the whole, also behind the second write
-first-whole : (c : Command) (start between now : FilesAt) (contents : List (List ℕ)) (one two : Written) → HasFirst c start between contents one two
-    → SameElsewhere between.contents now.contents two.name → HoldsWhole c (disk start now) one.name
+first-whole : (c : Command) (start between now : FilesAt) (contents : List (List ℕ)) (one two : WrittenFile) → HasFirst c start between contents one two
+    → SameElsewhere between.contents now.contents two.name → HoldsWhole c (disk_moments start now) one.name
 first-whole c start between now contents one two has elsewhere = λ told.
     (one.bytes, (contents, has.hold, has.are.writes_first), elsewhere.at one.name has.are.apart ∙ has.there told)
 
-both-since : (c : Command) (start between now : FilesAt) (contents : List (List ℕ)) (one two : Written) → HasFirst c start between contents one two
+both-since : (c : Command) (start between now : FilesAt) (contents : List (List ℕ)) (one two : WrittenFile) → HasFirst c start between contents one two
     → SameElsewhere between.contents now.contents two.name → SameCounts between.failed_reads now.failed_reads
     → Since start now one.name two.name
 both-since c start between now contents one two has elsewhere reads = record {
@@ -177,9 +177,9 @@ both-since c start between now contents one two has elsewhere reads = record {
 }
 
 -- the write of the second file failed
-second-changes : (c : Command) (start between now : FilesAt) (contents : List (List ℕ)) (one two : Written) → HasFirst c start between contents one two
+second-changes : (c : Command) (start between now : FilesAt) (contents : List (List ℕ)) (one two : WrittenFile) → HasFirst c start between contents one two
     → SameElsewhere between.contents now.contents two.name → SameCounts between.failed_reads now.failed_reads
-    → IsCutShort between.contents now.contents two.name two.bytes → ChangesOutputs (Some c) (disk start now)
+    → IsWriteCutShort between.contents now.contents two.name two.bytes → ChangesOutputs (Some c) (disk_moments start now)
 second-changes c start between now contents one two has elsewhere reads cut =
     changes c start now one.name two.name has.are.outputs (both-since c start between now contents one two has elsewhere reads)
     (whole-front c start now one.name (first-whole c start between now contents one two has elsewhere))
@@ -188,9 +188,9 @@ second-changes c start between now contents one two has elsewhere reads cut =
       | inr (n, holds) ↦ inr (two.bytes, n, (contents, has.hold, has.are.writes_second), holds)
     ])
 
-second-fails : (c : Command) (start between now : FilesAt) (at : SinkAt) (contents : List (List ℕ)) (one two : Written) (failure : Failure)
-    → HasFirst c start between contents one two → FileWritten (disk between now) two.name two.bytes (Err failure)
-    → Comes (Some c) (disk start now) (taking at at) (Err failure)
+second-fails : (c : Command) (start between now : FilesAt) (at : SinkAt) (contents : List (List ℕ)) (one two : WrittenFile) (failure : Failure)
+    → HasFirst c start between contents one two → FileWritten (disk_moments between now) two.name two.bytes (Err failure)
+    → ComesOutAs (Some c) (disk_moments start now) (sink_moments at at) (Err failure)
 second-fails c start between now at contents one two WriteFault has left = record {
   cut = record {
     cut = inl refl;
@@ -199,7 +199,7 @@ second-fails c start between now at contents one two WriteFault has left = recor
   };
   failed = inr (record {
     rose = subst (λ (names : List (List ℕ)). RoseAmong start.failed_writes now.failed_writes names) (sym has.are.outputs)
-        (inr (inl (subst (λ (n : ℕ). Rose n (now.failed_writes two.name)) (has.writes two.name) left.writes.1)));
+        (inr (inl (subst (λ (n : ℕ). CountRose n (now.failed_writes two.name)) (has.writes two.name) left.writes.1)));
     writes = λ other. omega (arith, has.writes other, left.writes.0 other);
     faults = refl;
   });
@@ -222,26 +222,26 @@ second-fails c start between now at contents one two NoListing has left = absurd
 second-fails c start between now at contents one two SaysNo has left = absurd left
 second-fails c start between now at contents one two TooDeep has left = absurd left
 
-pub second-unwritten : (c : Command) (start middle between now : FilesAt) (at : SinkAt) (contents : List (List ℕ)) (one two : Written)
+pub second-unwritten : (c : Command) (start middle between now : FilesAt) (at : SinkAt) (contents : List (List ℕ)) (one two : WrittenFile)
     (failure : Failure) (came : Outcome) → came ≡ Err failure → AreOutputs c contents one two → HasRead start middle (inputs_of c) contents
-    → FileWritten (disk middle between) one.name one.bytes (Ok tt) → FileWritten (disk between now) two.name two.bytes (Err failure)
-    → Comes (Some c) (disk start now) (taking at at) came
+    → FileWritten (disk_moments middle between) one.name one.bytes (Ok tt) → FileWritten (disk_moments between now) two.name two.bytes (Err failure)
+    → ComesOutAs (Some c) (disk_moments start now) (sink_moments at at) came
 second-unwritten c start middle between now at contents one two failure came is are read first left =
-    subst (λ (o : Outcome). Comes (Some c) (disk start now) (taking at at) o) (sym is)
+    subst (λ (o : Outcome). ComesOutAs (Some c) (disk_moments start now) (sink_moments at at) o) (sym is)
     (second-fails c start between now at contents one two failure (first-written c start middle between contents one two are read first) left)
 
 -- ---- both were written, and then the text, or a front of it
 
-pub comes-outputs : (c : Command) (start middle between now : FilesAt) (s : Taking) (contents : List (List ℕ)) (one two : Written) (came : Outcome)
+pub comes-outputs : (c : Command) (start middle between now : FilesAt) (s : SinkMoments) (contents : List (List ℕ)) (one two : WrittenFile) (came : Outcome)
     → AreOutputs c contents one two → HasRead start middle (inputs_of c) contents
-    → FileWritten (disk middle between) one.name one.bytes (Ok tt) → FileWritten (disk between now) two.name two.bytes (Ok tt)
-    → TextWritten ok_line s came → Comes (Some c) (disk start now) s came
+    → FileWritten (disk_moments middle between) one.name one.bytes (Ok tt) → FileWritten (disk_moments between now) two.name two.bytes (Ok tt)
+    → TextWritten ok_line s came → ComesOutAs (Some c) (disk_moments start now) s came
 comes-outputs c start middle between now s contents one two came are read first second took =
     text-behind c start now s ok_line came
-    (reads-all (disk start now) (inputs_of c) contents (Says c) (done ok_line) read.hold are.says)
+    (reads-all (disk_moments start now) (inputs_of c) contents (CommandSays c) (done_answer ok_line) read.hold are.says)
     later.reads (λ other. second.writes other ∙ has.writes other)
     (changes c start now one.name two.name are.outputs later (whole-front c start now one.name one-whole) (whole-front c start now two.name two-whole))
-    (each c one.name two.name (λ k name. HoldsWhole k (disk start now) name) are.outputs one-whole two-whole) took
+    (each c one.name two.name (λ k name. HoldsWhole k (disk_moments start now) name) are.outputs one-whole two-whole) took
   where
     has : HasFirst c start between contents one two
     has = first-written c start middle between contents one two are read first
@@ -249,8 +249,8 @@ comes-outputs c start middle between now s contents one two came are read first 
     later : Since start now one.name two.name
     later = both-since c start between now contents one two has second.elsewhere second.reads
 
-    one-whole : HoldsWhole c (disk start now) one.name
+    one-whole : HoldsWhole c (disk_moments start now) one.name
     one-whole = first-whole c start between now contents one two has second.elsewhere
 
-    two-whole : HoldsWhole c (disk start now) two.name
+    two-whole : HoldsWhole c (disk_moments start now) two.name
     two-whole = λ told. (two.bytes, (contents, has.hold, are.writes_second), second.contents (later.told ∙ told))

@@ -13,7 +13,7 @@ use Rattle.clap.specs.Simple.{Shape, built, entered}
 use Rattle.clap.specs.Walk.{Row, Rule, Text, Waiting, Walk, finished, idle, is_empty, option, positional, settled, settled_rows, walked}
 use Rattle.clap.specs.declared.builder.value_parser.ValueParser.TheVariants as parser
 use Rattle.s7_cli.specs.Command.{Command, Watch}
-use Rattle.s7_cli.specs.Words.{the_line, asked_by, command_of, is_plain_word, plain_command, live_command, stepped_command, watch_command, short_command, number_up_to, ReadsGermanAnywhere, ReadsPlainWords, ReadsStepsAnywhere, ReadsSymbolsAnywhere, ReadsWordsBehindDashes, RefusesNoValue}
+use Rattle.s7_cli.specs.Words.{the_line, asked_by, command_of, is_plain_word, plain_command, live_command, stepped_command, watch_command, short_command, number_from_one_up_to, ReadsGermanAnywhere, ReadsPlainWords, ReadsStepsAnywhere, ReadsSymbolsAnywhere, ReadsWordsBehindDashes, RefusesNoValue}
 
 -- ---- one word
 
@@ -267,7 +267,7 @@ none-watch (a ∷ []) number h = refl
 none-watch (a ∷ b ∷ []) number h = refl
 none-watch (a ∷ b ∷ c ∷ []) number h = refl
 none-watch (a ∷ b ∷ c ∷ d ∷ more) number h =
-    none-if (nat_le (length more) 2) (option_map (Watch a b c (d ∷ more)) (number_up_to 1000000 number)) (grind (arith, nat_tests))
+    none-if (nat_le (length more) 2) (option_map (Watch a b c (d ∷ more)) (number_from_one_up_to 1000000 number)) (grind (arith, nat_tests))
 
 none-chosen : (test : Bool) (one other : Option Command) → one ≡ None → other ≡ None → (if test then one else other) ≡ None
 none-chosen true one other e f = e

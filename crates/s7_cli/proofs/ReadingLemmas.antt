@@ -1,10 +1,10 @@
 -- The reading of a command's input files, one after the other.
 use Rattle.std.proofs.Common.{◌≡◌, ◌<◌, ◌≤◌, ◌⊎◌, inl, inr, sym, ◌∙◌, ap, subst, ℕ, List, [], ◌∷◌, length, map, Some, None, true, arith}
 use Rattle.plc_io.specs.Contents.{Contents}
-use Rattle.s7_cli.specs.Answer.{Answer, read_fault, too_long}
+use Rattle.s7_cli.specs.Answer.{Answer, read_fault_answer, too_long_answer}
 use Rattle.s7_cli.specs.Command.{Input, limit_of}
 use Rattle.s7_cli.specs.Ends.{RoseAmong}
-use Rattle.s7_cli.specs.Reading.{Disk, HoldAll, Reads, IsHeld, Allows, FailsOnTheWay}
+use Rattle.s7_cli.specs.Reading.{Disk, HoldBytesInTurn, ReadsFilesInTurn, IsFileThere, AllowsAnswer, FailsOnTheWay}
 
 -- what is said of the contents of the files behind these
 abbrev pub Saying : Type 1
@@ -13,7 +13,7 @@ Saying = List (List ℕ) → Answer → Type 0
 -- ---- files that were read hold bytes of which this is said
 
 pub reads-all : (d : Disk) (is : List Input) (contents : List (List ℕ)) (says : Saying) (a : Answer)
-    → HoldAll d.before.contents is contents → says contents a → Reads d is says a
+    → HoldBytesInTurn d.before.contents is contents → says contents a → ReadsFilesInTurn d is says a
 reads-all d [] [] says a hold said = said
 reads-all d [] (bytes ∷ more) says a hold said = absurd hold
 reads-all d (i ∷ is) [] says a hold said = absurd hold
@@ -24,7 +24,7 @@ reads-all d (i ∷ is) (bytes ∷ more) says a hold said =
 
 -- a read on the way failed, or the answer is one that the files allow
 pub reads-told : (d : Disk) (is : List Input) (says : Saying) (a : Answer) → d.before.contents.told ≡ true
-    → Reads d is says a → ((a ≡ read_fault) × FailsOnTheWay d is) ⊎ Allows d.before.contents is says a
+    → ReadsFilesInTurn d is says a → ((a ≡ read_fault_answer) × FailsOnTheWay d is) ⊎ AllowsAnswer d.before.contents is says a
 reads-told d [] says a told said = inr said
 reads-told d (i ∷ is) says a told (inl (inl (rose, gives))) = inl (gives, inl rose)
 reads-told d (i ∷ is) says a told (inl (inr (bytes, agrees, long, gives))) = inr (inl (inr (bytes, agrees told, long, gives)))
@@ -34,7 +34,7 @@ reads-told d (i ∷ is) says a told (inr (bytes, holds, more)) =
       | inr allowed ↦ inr (inr (bytes, held, allowed))
     ]
   where
-    held : IsHeld d.before.contents i bytes
+    held : IsFileThere d.before.contents i bytes
     held = record { there = holds.agrees told; within = holds.within }
 
 -- two answers to any contents are alike
@@ -52,7 +52,7 @@ not_both i xs ys same long within = omega (arith, ap length same)
 
 -- so are two that told files allow
 pub allows-alike : (c : Contents) (Alike : Answer → Answer → Type 0) → ((a b : Answer) → a ≡ b → Alike a b) → (is : List Input) (says : Saying)
-    → AnswersAlike Alike says → (a b : Answer) → Allows c is says a → Allows c is says b → Alike a b
+    → AnswersAlike Alike says → (a b : Answer) → AllowsAnswer c is says a → AllowsAnswer c is says b → Alike a b
 allows-alike c Alike same [] says alike a b p q = alike [] a b p q
 allows-alike c Alike same (i ∷ is) says alike a b (inl (inl p)) (inl (inl q)) = same a b (p.1 ∙ sym q.1)
 allows-alike c Alike same (i ∷ is) says alike a b (inl (inl p)) (inl (inr q)) = absurd (no_file c i.name q.0 p.0 q.1)
@@ -67,7 +67,7 @@ allows-alike c Alike same (i ∷ is) says alike a b (inr p) (inl (inr q)) =
 allows-alike c Alike same (i ∷ is) says alike a b (inr p) (inr q) =
     let is_same : q.0 ≡ p.0 = one_file c i.name q.0 p.0 q.1.there p.1.there in
     allows-alike c Alike same is (λ files. says (p.0 ∷ files)) (λ contents. alike (p.0 ∷ contents)) a b p.2
-    (subst (λ (bytes : List ℕ). Allows c is (λ files. says (bytes ∷ files)) b) is_same q.2)
+    (subst (λ (bytes : List ℕ). AllowsAnswer c is (λ files. says (bytes ∷ files)) b) is_same q.2)
 
 -- a read on the way is one of an input file
 pub fails-rose : (d : Disk) (is : List Input) → FailsOnTheWay d is
@@ -79,9 +79,9 @@ fails-rose d (i ∷ is) (inr (bytes, held, more)) = inr (fails-rose d is more)
 -- ---- which answers there are
 
 -- a read of an input file failed, a file is too long, or this is said of some contents
-pub reads-kinds : (d : Disk) (is : List Input) (says : Saying) (a : Answer) → Reads d is says a
-    → ((a ≡ read_fault) × RoseAmong d.before.failed_reads d.after.failed_reads (map (λ i. i.name) is))
-    ⊎ ((i : Input) × (a ≡ too_long i.file)) ⊎ ((contents : List (List ℕ)) × says contents a)
+pub reads-kinds : (d : Disk) (is : List Input) (says : Saying) (a : Answer) → ReadsFilesInTurn d is says a
+    → ((a ≡ read_fault_answer) × RoseAmong d.before.failed_reads d.after.failed_reads (map (λ i. i.name) is))
+    ⊎ ((i : Input) × (a ≡ too_long_answer i.file)) ⊎ ((contents : List (List ℕ)) × says contents a)
 reads-kinds d [] says a said = inr (inr ([], said))
 reads-kinds d (i ∷ is) says a (inl (inl (rose, gives))) = inl (gives, inl rose)
 reads-kinds d (i ∷ is) says a (inl (inr stops)) = inr (inl (i, stops.3))

@@ -13,8 +13,8 @@ use Rattle.var_access.specs.declared.entries.What.TheVariants.{Step, Input, Arri
 use Rattle.event_text.specs.Regular.{IsRegular, IsRegularOf}
 use Rattle.event_text.specs.Texts.{steps_in}
 use Rattle.event_text.specs.Workers.{one_step}
-use Rattle.s7_cli.specs.Living.{AreRegularBy, IsLive, StandIn, total_length}
-use Rattle.s7_cli.specs.Working.{entries_of}
+use Rattle.s7_cli.specs.Living.{AreRegularBy, IsLive, StandInHistory, total_length}
+use Rattle.s7_cli.specs.Working.{entries_of_worker}
 
 both_hold : {A : Type 0} (P Q R : A → Type 0) (es : List A) → ((e : A) → P e → Q e → R e) → AllByRecursion P es → AllByRecursion Q es → AllByRecursion R es
 both_hold P Q R [] f p q = tt
@@ -29,11 +29,11 @@ each_copy P zero e p = tt
 each_copy P (suc n) e p = (p, each_copy P n e p)
 
 -- what holds of a worker's entries
-of_worker : (who : ℕ) (P : Entry → Type 0) (h : List Entry) → AllByRecursion P (entries_of who h) → AllByRecursion (λ e. e.who ≡ who → P e) h
+of_worker : (who : ℕ) (P : Entry → Type 0) (h : List Entry) → AllByRecursion P (entries_of_worker who h) → AllByRecursion (λ e. e.who ≡ who → P e) h
 of_worker who P [] all = tt
 of_worker who P (e ∷ h) all = by (eqb e.who who) refl all (of_worker who P h) where
-  by : (v : Bool) → eqb e.who who ≡ v → AllByRecursion P (cond v (e ∷ entries_of who h) (entries_of who h))
-      → (AllByRecursion P (entries_of who h) → AllByRecursion (λ e. e.who ≡ who → P e) h) → (e.who ≡ who → P e) × AllByRecursion (λ e. e.who ≡ who → P e) h
+  by : (v : Bool) → eqb e.who who ≡ v → AllByRecursion P (cond v (e ∷ entries_of_worker who h) (entries_of_worker who h))
+      → (AllByRecursion P (entries_of_worker who h) → AllByRecursion (λ e. e.who ≡ who → P e) h) → (e.who ≡ who → P e) × AllByRecursion (λ e. e.who ≡ who → P e) h
   by true is all rest = (λ own. all.0, rest all.1)
   by false is all rest = (λ own. absurd (true≢false (sym (eq-eqb e.who who own) ∙ is)), rest all)
 
@@ -41,7 +41,7 @@ first_or : (who n : ℕ) (v : Bool) → nat_eq n who ≡ v → who ≤ n → (n 
 first_or who n true e le = inl (grind (arith, nat_tests))
 first_or who n false e le = inr (grind (arith, nat_tests))
 
-of_lists : (who : ℕ) (lists : List (List Entry)) (h : List Entry) → StandIn who lists h → AreRegularBy who lists
+of_lists : (who : ℕ) (lists : List (List Entry)) (h : List Entry) → StandInHistory who lists h → AreRegularBy who lists
     → AllByRecursion (λ e. (who ≤ e.who) × (e.who < who + length lists) → IsRegular e) h
 of_lists who [] h stands regular = each_holds (λ (e : Entry). (who ≤ e.who) × (e.who < who + 0) → IsRegular e) h (λ e at. absurd (omega (arith, at.0, at.1)))
 of_lists who (x ∷ xs) h stands regular =
@@ -74,26 +74,26 @@ steps_first : (e : Entry) (es : List Entry) → steps_in (e ∷ es) ≡ step_fla
 steps_first e es = omega (arith, sum_by-append step_flag (e ∷ []) es)
 
 -- a step of a regular history is the stepper's
-counted : (e : Entry) (es : List Entry) → IsRegular e → step_flag e + length (entries_of 1 es) ≤ length (entries_of 1 (e ∷ es))
+counted : (e : Entry) (es : List Entry) → IsRegular e → step_flag e + length (entries_of_worker 1 es) ≤ length (entries_of_worker 1 (e ∷ es))
 counted e es h = by e.who e.what h where
-  others : (v : Bool) (x : Entry) → 0 + length (entries_of 1 es) ≤ length (cond v (x ∷ entries_of 1 es) (entries_of 1 es))
+  others : (v : Bool) (x : Entry) → 0 + length (entries_of_worker 1 es) ≤ length (cond v (x ∷ entries_of_worker 1 es) (entries_of_worker 1 es))
   others true x = omega arith
   others false x = omega arith
 
-  own : (who : ℕ) → who ≡ 1 → 1 + length (entries_of 1 es) ≤ length (cond (eqb who 1) (record { who = who; what = Step } ∷ entries_of 1 es) (entries_of 1 es))
+  own : (who : ℕ) → who ≡ 1 → 1 + length (entries_of_worker 1 es) ≤ length (cond (eqb who 1) (record { who = who; what = Step } ∷ entries_of_worker 1 es) (entries_of_worker 1 es))
   own who is =
       let e : Entry = record { who = who; what = Step } in
-      omega (arith, ap (λ v. length (cond v (e ∷ entries_of 1 es) (entries_of 1 es))) (eq-eqb who 1 is))
+      omega (arith, ap (λ v. length (cond v (e ∷ entries_of_worker 1 es) (entries_of_worker 1 es))) (eq-eqb who 1 is))
 
   by : (who : ℕ) (what : What) → IsRegular (record { who = who; what = what })
-      → step_flag (record { who = who; what = what }) + length (entries_of 1 es) ≤ length (cond (eqb who 1) (record { who = who; what = what } ∷ entries_of 1 es) (entries_of 1 es))
+      → step_flag (record { who = who; what = what }) + length (entries_of_worker 1 es) ≤ length (cond (eqb who 1) (record { who = who; what = what } ∷ entries_of_worker 1 es) (entries_of_worker 1 es))
   by who Step h = own who h.worker
   by who (Input byte value) h = others (eqb who 1) _
   by who (Arrive ob value) h = others (eqb who 1) _
   by who (Tick ms) h = others (eqb who 1) _
   by who (Ask request) h = others (eqb who 1) _
 
-steps_few : (es : List Entry) → AllByRecursion IsRegular es → steps_in es ≤ length (entries_of 1 es)
+steps_few : (es : List Entry) → AllByRecursion IsRegular es → steps_in es ≤ length (entries_of_worker 1 es)
 steps_few [] h = omega arith
 steps_few (e ∷ es) h = omega (arith, steps_first e es, counted e es h.0, steps_few es h.1)
 

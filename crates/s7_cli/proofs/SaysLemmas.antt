@@ -14,16 +14,16 @@ use Rattle.image_file.specs.declared.refusing.LoadError.TheVariants as loading
 use Rattle.var_access.specs.declared.Entry.{Entry}
 use Rattle.machine.specs.Code.{Code}
 use Rattle.machine.specs.Flat.{code_of}
-use Rattle.generator.specs.History.{history}
+use Rattle.generator.specs.History.{generated_history}
 use Rattle.generator.specs.Source.{source_text}
 use Rattle.sem_kept.specs.Agreement.{names_read_in}
-use Rattle.sem_kept.specs.Meaning.{HasSymbolsIn, IsJudgedIn, IsMeaningUnique, ExcludesRefusal, IsRefusalUnique, Refused, InSymbols, InSource, MeansCodeIn}
+use Rattle.sem_kept.specs.Meaning.{HasSymbolsIn, IsJudgedIn, IsMeaningUnique, ExcludesRefusal, IsRefusalUnique, RefusedFile, InSymbols, InSource, MeansCodeIn}
 use Rattle.stl_symbols.specs.Symbol.{Symbol}
 use Rattle.stl_symbols.specs.Symbols.{symbols_in}
 use Rattle.stl_symbols.specs.declared.languages.Language.{Language}
 use Rattle.stl_symbols.specs.declared.languages.Language.TheVariants.{English, German}
 use Rattle.event_text.specs.TextFault.{IsTextFault}
-use Rattle.event_text.specs.Texts.{history_of, stimuli_of}
+use Rattle.event_text.specs.Texts.{history_of_text, stimuli_of}
 use Rattle.event_text.specs.declared.TextFault.{TextFault}
 use Rattle.event_text.specs.declared.TextFault.TheVariants as text
 use Rattle.s7_cli.specs.run_text.RunText.{run_text}
@@ -33,18 +33,18 @@ use Rattle.s7_cli.specs.declared.faults.CompileFault.TheVariants as compiling
 use Rattle.s7_cli.specs.declared.failures.File.TheVariants.{Source, Symbols, History, Stimuli, Script}
 use Rattle.s7_cli.specs.declared.failures.Failure.{Failure}
 use Rattle.s7_cli.specs.declared.files.ProgramText.{ProgramText}
-use Rattle.s7_cli.specs.Answer.{Answer, done, refused}
+use Rattle.s7_cli.specs.Answer.{Answer, done_answer, refused_file_answer}
 use Rattle.s7_cli.specs.Command.{Command, Input, Go, Check, Compile, Translate, Run, Gen, Live, Watch, Upgrade, ListImage, Bound, Recheck, symbols_inputs, program_inputs}
 use Rattle.s7_cli.specs.Faults.{failure_of_compiling, failure_of_history, failure_of_loading}
 use Rattle.s7_cli.specs.GenText.{summary_text}
-use Rattle.s7_cli.specs.Inner.{RefusedBy}
+use Rattle.s7_cli.specs.Inner.{SaysRefusal}
 use Rattle.s7_cli.specs.Lines.{ok_line}
 use Rattle.s7_cli.specs.LiveSays.{LiveAnswer, LiveSays, LoadedLive, RefusedScript, live_text, scripts_from}
 use Rattle.s7_cli.specs.Loads.{LoadsAs}
-use Rattle.s7_cli.specs.Reading.{HoldAll}
-use Rattle.s7_cli.specs.Says.{GoSays, CheckSays, RefusedProgram, RefusedText, RunSays, SourceSays, TextSays, TranslateSays, GenSays, UpgradeSays, refused_program, go_answer, check_answer, run_answer, ran, gen_answer, upgrade_answer, Says, Writes}
+use Rattle.s7_cli.specs.Reading.{HoldBytesInTurn}
+use Rattle.s7_cli.specs.Says.{GoSays, CheckSays, RefusedProgram, RefusedText, RunSays, SourceSays, ChecksAs, TranslateSays, GenSays, UpgradeSays, refused_program, go_answer, check_answer, run_answer, run_outcome, gen_answer, upgrade_answer, CommandSays, WritesOutputFile}
 use Rattle.s7_cli.specs.StatusTable.{HasOneText}
-use Rattle.s7_cli.specs.Texts.{IsWithin, contents_of, symbols_file}
+use Rattle.s7_cli.specs.Texts.{AreFilesWithinLimits, file_contents_of, symbols_file}
 use Rattle.s7_cli.specs.Translating.{IsEnglish, IsSourceImage, KeepsText, NotInEnglish, NotTranslated, OfSymbols, language_of}
 use Rattle.s7_cli.proofs.BoundLemmas.{bound-outcome, bound-verdict, recheck-one, recheck-verdict}
 use Rattle.s7_cli.proofs.ListLemmas.{list-one, list-verdict}
@@ -60,7 +60,7 @@ use Rattle.s7_cli.proofs.WatchSaysLemmas.{watch-one, watch-verdict}
 -- a source with its symbols means one code, or is refused in one way
 abbrev pub MeansOne : Type 0
 MeansOne =
-    (language : Language) (source symbols : List ℕ) (v w : Result Code Refused) → IsJudgedIn language source symbols v
+    (language : Language) (source symbols : List ℕ) (v w : Result Code RefusedFile) → IsJudgedIn language source symbols v
     → IsJudgedIn language source symbols w → v ≡ w
 
 pub means-one : IsMeaningUnique → ExcludesRefusal → IsRefusalUnique → MeansOne
@@ -76,7 +76,7 @@ pub record OneEach : Type 0 where
 
 go-one : MeansOne → (language : Language) (symbols history : List ℕ) → SaysOne (λ text. SourceSays language Large text symbols history)
 go-one one language symbols history text a b p q =
-    p.2 ∙ ap (λ v. go_answer Large v (history_of (names_read_in language symbols) history)) (one language text symbols p.0 q.0 p.1 q.1) ∙ sym q.2
+    p.2 ∙ ap (λ v. go_answer Large v (history_of_text (names_read_in language symbols) history)) (one language text symbols p.0 q.0 p.1 q.1) ∙ sym q.2
 
 go-german-one : OneEach → (german : Bool) (source symbols history : List ℕ) (a b : Answer) → GoSays german source symbols history a
     → GoSays german source symbols history b → a ≡ b
@@ -84,18 +84,18 @@ go-german-one one german source symbols history a b p q =
     english-one one.translates german source symbols (λ text. SourceSays (language_of german) Large text symbols history)
     (go-one one.means (language_of german) symbols history) a b p q
 
-text-one : MeansOne → (language : Language) (symbols : List ℕ) → SaysOne (TextSays language symbols)
+text-one : MeansOne → (language : Language) (symbols : List ℕ) → SaysOne (ChecksAs language symbols)
 text-one one language symbols text a b p q = p.2 ∙ ap check_answer (one language text symbols p.0 q.0 p.1 q.1) ∙ sym q.2
 
 check-one : OneEach → (german : Bool) (source symbols : List ℕ) (a b : Answer) → CheckSays german source symbols a
     → CheckSays german source symbols b → a ≡ b
 check-one one german source symbols a b p q =
-    english-one one.translates german source symbols (TextSays (language_of german) symbols) (text-one one.means (language_of german) symbols) a b p q
+    english-one one.translates german source symbols (ChecksAs (language_of german) symbols) (text-one one.means (language_of german) symbols) a b p q
 
 translate-one : OneEach → (language : Language) (source : List ℕ) (a b : Answer) → TranslateSays language source a
     → TranslateSays language source b → a ≡ b
 translate-one one language source a b p q =
-    translated-one one.translates language source (λ text answer. answer ≡ done ok_line) (λ text x y m n. m ∙ sym n) a b p q
+    translated-one one.translates language source (λ text answer. answer ≡ done_answer ok_line) (λ text x y m n. m ∙ sym n) a b p q
 
 run-one : (image history : List ℕ) (a b : Answer) → RunSays image history a → RunSays image history b → a ≡ b
 run-one image history a b p q =
@@ -108,7 +108,7 @@ gen-one : OneEach → (number : ℕ) (a b : Answer) → GenSays number a → Gen
 gen-one one number a b p q = p.2 ∙ ap (gen_answer number) (one.means English (source_text number) [] p.0 q.0 p.1 q.1) ∙ sym q.2
 
 -- a command with one text says one thing of any contents
-says-one : OneEach → (k : Command) → HasOneText k → (contents : List (List ℕ)) (a b : Answer) → Says k contents a → Says k contents b → a ≡ b
+says-one : OneEach → (k : Command) → HasOneText k → (contents : List (List ℕ)) (a b : Answer) → CommandSays k contents a → CommandSays k contents b → a ≡ b
 says-one one (Go _ None german _) text [] a b p q = absurd p
 says-one one (Go _ None german _) text (x ∷ []) a b p q = absurd p
 says-one one (Go _ None german _) text (source ∷ history ∷ []) a b p q = go-german-one one german source [] history a b p q
@@ -174,7 +174,7 @@ live-one steps image stimuli scripts a b p q =
     loaded-one p.0 steps stimuli scripts a b p.2
     (subst (λ (v : Result LoadedProgram LoadFault). LoadedLive v steps stimuli scripts b) (loads-one image q.0 p.0 q.1 p.1) q.2)
 
-says-outcome : OneEach → (k : Command) (contents : List (List ℕ)) (a b : Answer) → Says k contents a → Says k contents b → a.outcome ≡ b.outcome
+says-outcome : OneEach → (k : Command) (contents : List (List ℕ)) (a b : Answer) → CommandSays k contents a → CommandSays k contents b → a.outcome ≡ b.outcome
 says-outcome one (Go s y g h) contents a b p q = ap (λ (x : Answer). x.outcome) (says-one one (Go s y g h) tt contents a b p q)
 says-outcome one (Check s y g) contents a b p q = ap (λ (x : Answer). x.outcome) (says-one one (Check s y g) tt contents a b p q)
 says-outcome one (Compile s y g i) contents a b p q = ap (λ (x : Answer). x.outcome) (says-one one (Compile s y g i) tt contents a b p q)
@@ -202,16 +202,16 @@ Alike k a b = (a.outcome ≡ b.outcome) × (HasOneText k → a ≡ b)
 pub same-alike : (k : Command) (a b : Answer) → a ≡ b → Alike k a b
 same-alike k a b same = (ap (λ (x : Answer). x.outcome) same, λ text. same)
 
-pub says-alike : OneEach → (k : Command) → AnswersAlike (Alike k) (Says k)
+pub says-alike : OneEach → (k : Command) → AnswersAlike (Alike k) (CommandSays k)
 says-alike one k contents a b p q = (says-outcome one k contents a b p q, λ text. says-one one k text contents a b p q)
 
 -- ---- which answers there are
 
-refused-verdict : (a : Answer) (why : Refused) → a ≡ refused_program why → IsVerdict a
+refused-verdict : (a : Answer) (why : RefusedFile) → a ≡ refused_program why → IsVerdict a
 refused-verdict a (InSymbols refusal) gives = inr (inl (Symbols, refusal, gives))
 refused-verdict a (InSource refusal) gives = inr (inl (Source, refusal, gives))
 
-told-verdict : (a : Answer) (v : Result Code Refused) (h : Result (List Entry) Refusal) → a ≡ go_answer Large v h → IsVerdict a
+told-verdict : (a : Answer) (v : Result Code RefusedFile) (h : Result (List Entry) Refusal) → a ≡ go_answer Large v h → IsVerdict a
 told-verdict a (Err why) h gives = refused-verdict a why gives
 told-verdict a (Ok code) (Err refusal) gives = inr (inl (History, refusal, gives))
 told-verdict a (Ok code) (Ok entries) gives = inl (run_text Large code entries, gives)
@@ -219,35 +219,35 @@ told-verdict a (Ok code) (Ok entries) gives = inl (run_text Large code entries, 
 go-verdict : (german : Bool) (source symbols history : List ℕ) (a : Answer) → GoSays german source symbols history a → IsVerdict a
 go-verdict german source symbols history a said =
     english-verdict german source symbols (λ text. SourceSays (language_of german) Large text symbols history)
-    (λ text b says. told-verdict b says.0 (history_of (names_read_in (language_of german) symbols) history) says.2) a said
+    (λ text b says. told-verdict b says.0 (history_of_text (names_read_in (language_of german) symbols) history) says.2) a said
 
-judged-verdict : (a : Answer) (v : Result Code Refused) → a ≡ check_answer v → IsVerdict a
+judged-verdict : (a : Answer) (v : Result Code RefusedFile) → a ≡ check_answer v → IsVerdict a
 judged-verdict a (Err why) gives = refused-verdict a why gives
 judged-verdict a (Ok code) gives = inl (ok_line, gives)
 
 check-verdict : (german : Bool) (source symbols : List ℕ) (a : Answer) → CheckSays german source symbols a → IsVerdict a
 check-verdict german source symbols a said =
-    english-verdict german source symbols (TextSays (language_of german) symbols) (λ text b says. judged-verdict b says.0 says.2) a said
+    english-verdict german source symbols (ChecksAs (language_of german) symbols) (λ text b says. judged-verdict b says.0 says.2) a said
 
 translate-verdict : (language : Language) (source : List ℕ) (a : Answer) → TranslateSays language source a → IsVerdict a
 translate-verdict language source a said =
-    translated-verdict language source (λ text answer. answer ≡ done ok_line) (λ text b gives. inl (ok_line, gives)) a said
+    translated-verdict language source (λ text answer. answer ≡ done_answer ok_line) (λ text b gives. inl (ok_line, gives)) a said
 
-ran-verdict : (a : Answer) (l : LoadedProgram) (h : Result (List Entry) Refusal) → a ≡ ran l h → IsVerdict a
+ran-verdict : (a : Answer) (l : LoadedProgram) (h : Result (List Entry) Refusal) → a ≡ run_outcome l h → IsVerdict a
 ran-verdict a l (Err refusal) gives = inr (inl (History, refusal, gives))
 ran-verdict a l (Ok entries) gives = inl (run_text l.profile (code_of l.program) entries, gives)
 
 run-verdict : (a : Answer) (v : Result LoadedProgram LoadFault) (history : List ℕ) → a ≡ run_answer v history → IsVerdict a
 run-verdict a (Err fault) history gives = inr (inr (inl (fault, gives)))
-run-verdict a (Ok l) history gives = ran-verdict a l (history_of l.program.names history) gives
+run-verdict a (Ok l) history gives = ran-verdict a l (history_of_text l.program.names history) gives
 
 upgrade-verdict : (a : Answer) (v : Result LoadedProgram LoadFault) → a ≡ upgrade_answer v → IsVerdict a
 upgrade-verdict a (Err fault) gives = inr (inr (inl (fault, gives)))
 upgrade-verdict a (Ok l) gives = inl (ok_line, gives)
 
-gen-verdict : (a : Answer) (number : ℕ) (v : Result Code Refused) → a ≡ gen_answer number v → IsVerdict a
+gen-verdict : (a : Answer) (number : ℕ) (v : Result Code RefusedFile) → a ≡ gen_answer number v → IsVerdict a
 gen-verdict a number (Err why) gives = refused-verdict a why gives
-gen-verdict a number (Ok code) gives = inl (summary_text number Large code (history number), gives)
+gen-verdict a number (Ok code) gives = inl (summary_text number Large code (generated_history number), gives)
 
 stimulated-verdict : (p : LoadedProgram) (steps : ℕ) (s : Result (List Entry) Refusal) (r : Result (List (List Entry)) RefusedScript) (a : Answer)
     → LiveAnswer p steps s r a → IsVerdict a
@@ -261,7 +261,7 @@ live-verdict (Err fault) steps stimuli scripts a said = inr (inr (inl (fault, sa
 live-verdict (Ok p) steps stimuli scripts a said =
     stimulated-verdict p steps (stimuli_of stimuli) (scripts_from p.program.names 1 scripts) a said
 
-pub says-verdict : (k : Command) (contents : List (List ℕ)) (a : Answer) → Says k contents a → IsVerdict a
+pub says-verdict : (k : Command) (contents : List (List ℕ)) (a : Answer) → CommandSays k contents a → IsVerdict a
 says-verdict (Go _ None german _) [] a said = absurd said
 says-verdict (Go _ None german _) (x ∷ []) a said = absurd said
 says-verdict (Go _ None german _) (source ∷ history ∷ []) a said = go-verdict german source [] history a said
@@ -318,7 +318,7 @@ says-verdict (Watch _ _ _ _ steps) (image ∷ stimuli ∷ vars ∷ scripts) a sa
 -- ---- of what was read
 
 -- the symbols file was read where there is one, and is within its limit
-symbols-within : (c : Contents) (symbols bytes : Option (List ℕ)) → HoldAll c (symbols_inputs symbols) (option_to_list bytes)
+symbols-within : (c : Contents) (symbols bytes : Option (List ℕ)) → HoldBytesInTurn c (symbols_inputs symbols) (option_to_list bytes)
     → length (unwrap_or bytes []) ≤ 1048576
 symbols-within c None None hold = omega arith
 symbols-within c None (Some bytes) hold = absurd hold
@@ -326,46 +326,46 @@ symbols-within c (Some name) None hold = absurd hold
 symbols-within c (Some name) (Some bytes) hold = hold.0.within
 
 pub within : (c : Contents) (source : List ℕ) (symbols : Option (List ℕ)) (text : ProgramText)
-    → HoldAll c (program_inputs source symbols) (contents_of text) → IsWithin text
+    → HoldBytesInTurn c (program_inputs source symbols) (file_contents_of text) → AreFilesWithinLimits text
 within c source symbols text hold =
     record { source = hold.0.within; symbols = symbols-within c symbols (symbols_file text) hold.1 }
 
 -- the symbols file, in front of another one
 pub symbols-held : (c : Contents) (symbols bytes : Option (List ℕ)) (i : Input) (other : List ℕ)
-    → HoldAll c (symbols_inputs symbols ++ i ∷ []) (option_to_list bytes ++ other ∷ []) → HoldAll c (symbols_inputs symbols) (option_to_list bytes)
+    → HoldBytesInTurn c (symbols_inputs symbols ++ i ∷ []) (option_to_list bytes ++ other ∷ []) → HoldBytesInTurn c (symbols_inputs symbols) (option_to_list bytes)
 symbols-held c None None i other hold = tt
 symbols-held c None (Some bytes) i other hold = absurd hold.1
 symbols-held c (Some name) None i other hold = absurd hold.1
 symbols-held c (Some name) (Some bytes) i other hold = (hold.0, tt)
 
 pub go-said : (c : Contents) (src : List ℕ) (symbols : Option (List ℕ)) (german : Bool) (hist source : List ℕ) (bytes : Option (List ℕ))
-    (history : List ℕ) (a : Answer) → HoldAll c (symbols_inputs symbols) (option_to_list bytes)
+    (history : List ℕ) (a : Answer) → HoldBytesInTurn c (symbols_inputs symbols) (option_to_list bytes)
     → GoSays german source (unwrap_or bytes []) history a
-    → Says (Go src symbols german hist) ((source ∷ option_to_list bytes) ++ history ∷ []) a
+    → CommandSays (Go src symbols german hist) ((source ∷ option_to_list bytes) ++ history ∷ []) a
 go-said c src None german hist source None history a hold said = said
 go-said c src None german hist source (Some bytes) history a hold said = absurd hold
 go-said c src (Some name) german hist source None history a hold said = absurd hold
 go-said c src (Some name) german hist source (Some bytes) history a hold said = said
 
 pub check-said : (c : Contents) (src : List ℕ) (symbols : Option (List ℕ)) (german : Bool) (source : List ℕ) (bytes : Option (List ℕ))
-    (a : Answer) → HoldAll c (symbols_inputs symbols) (option_to_list bytes) → CheckSays german source (unwrap_or bytes []) a
-    → Says (Check src symbols german) (source ∷ option_to_list bytes) a
+    (a : Answer) → HoldBytesInTurn c (symbols_inputs symbols) (option_to_list bytes) → CheckSays german source (unwrap_or bytes []) a
+    → CommandSays (Check src symbols german) (source ∷ option_to_list bytes) a
 check-said c src None german source None a hold said = said
 check-said c src None german source (Some bytes) a hold said = absurd hold
 check-said c src (Some name) german source None a hold said = absurd hold
 check-said c src (Some name) german source (Some bytes) a hold said = said
 
 pub compile-said : (c : Contents) (src : List ℕ) (symbols : Option (List ℕ)) (german : Bool) (img source : List ℕ) (bytes : Option (List ℕ))
-    (a : Answer) → HoldAll c (symbols_inputs symbols) (option_to_list bytes) → CheckSays german source (unwrap_or bytes []) a
-    → Says (Compile src symbols german img) (source ∷ option_to_list bytes) a
+    (a : Answer) → HoldBytesInTurn c (symbols_inputs symbols) (option_to_list bytes) → CheckSays german source (unwrap_or bytes []) a
+    → CommandSays (Compile src symbols german img) (source ∷ option_to_list bytes) a
 compile-said c src None german img source None a hold said = said
 compile-said c src None german img source (Some bytes) a hold said = absurd hold
 compile-said c src (Some name) german img source None a hold said = absurd hold
 compile-said c src (Some name) german img source (Some bytes) a hold said = said
 
 pub compile-writes : (c : Contents) (src : List ℕ) (symbols : Option (List ℕ)) (german : Bool) (img source : List ℕ) (bytes : Option (List ℕ))
-    (image : List ℕ) → HoldAll c (symbols_inputs symbols) (option_to_list bytes) → IsSourceImage german image source (unwrap_or bytes [])
-    → Writes (Compile src symbols german img) (source ∷ option_to_list bytes) img image
+    (image : List ℕ) → HoldBytesInTurn c (symbols_inputs symbols) (option_to_list bytes) → IsSourceImage german image source (unwrap_or bytes [])
+    → WritesOutputFile (Compile src symbols german img) (source ∷ option_to_list bytes) img image
 compile-writes c src None german img source None image hold keeps = (refl, keeps)
 compile-writes c src None german img source (Some bytes) image hold keeps = absurd hold
 compile-writes c src (Some name) german img source None image hold keeps = absurd hold
@@ -376,7 +376,7 @@ compile-writes c src (Some name) german img source (Some bytes) image hold keeps
 -- what refuses it is what `check` and `go` say
 pub refused-checks : (german : Bool) (source symbols : List ℕ) (a : Answer) → RefusedProgram german source symbols a → CheckSays german source symbols a
 refused-checks german source symbols a told =
-    english-weaker german source symbols (RefusedText (language_of german) symbols) (TextSays (language_of german) symbols)
+    english-weaker german source symbols (RefusedText (language_of german) symbols) (ChecksAs (language_of german) symbols)
     (λ text b refused. (Err refused.0, refused.1, refused.2)) a told
 
 pub refused-goes : (german : Bool) (source symbols history : List ℕ) (a : Answer) → RefusedProgram german source symbols a
@@ -386,7 +386,7 @@ refused-goes german source symbols history a told =
     (λ text. SourceSays (language_of german) Large text symbols history) (λ text b refused. (Err refused.0, refused.1, refused.2)) a told
 
 pub text-refuses : (V : Type 0) (language : Language) (symbols text : List ℕ) (fault : CompileFault) → RefusesIn language text symbols fault
-    → RefusedBy {V = V} (RefusedText language symbols text) (Err (failure_of_compiling fault))
+    → SaysRefusal {V = V} (RefusedText language symbols text) (Err (failure_of_compiling fault))
 text-refuses V language symbols text (compiling.Symbols refusal) breaks = (InSymbols refusal, breaks, refl)
 text-refuses V language symbols text (compiling.Source refusal) breaks = (InSource refusal, breaks, refl)
 text-refuses V language symbols text compiling.NoMemory breaks = tt
@@ -399,24 +399,24 @@ refused-so source source' symbols symbols' fault is are breaks =
 -- an English one
 pub program-refused : (V : Type 0) (source source' symbols symbols' : List ℕ) (fault : CompileFault) (r : Result V Failure)
     → source' ≡ source → symbols' ≡ symbols → r ≡ Err (failure_of_compiling fault) → RefusesBy source' symbols' fault
-    → RefusedBy (RefusedProgram false source symbols) r
+    → SaysRefusal (RefusedProgram false source symbols) r
 program-refused V source source' symbols symbols' fault r is are fails breaks =
-    subst (λ (q : Result V Failure). RefusedBy (RefusedProgram false source symbols) q) (sym fails)
+    subst (λ (q : Result V Failure). SaysRefusal (RefusedProgram false source symbols) q) (sym fails)
     (text-refuses V English symbols source fault (refused-so source source' symbols symbols' fault is are breaks))
 
 -- a German one: by its symbols, by its words or its length, or by what its translation breaks
 pub symbols-refused : (V : Type 0) (source symbols : List ℕ) (fault : CompileFault) (r : Result V Failure) → r ≡ Err (failure_of_compiling fault)
-    → RefusesSymbols German symbols fault → RefusedBy (NotInEnglish source symbols) r
+    → RefusesSymbols German symbols fault → SaysRefusal (NotInEnglish source symbols) r
 symbols-refused V source symbols (compiling.Symbols refusal) r fails has =
-    subst (λ (q : Result V Failure). RefusedBy (NotInEnglish source symbols) q) (sym fails)
-    (subst (λ (read : Result (List Symbol) Refusal). OfSymbols read source (λ text a. ⊥) (refused Symbols refusal)) has refl)
+    subst (λ (q : Result V Failure). SaysRefusal (NotInEnglish source symbols) q) (sym fails)
+    (subst (λ (read : Result (List Symbol) Refusal). OfSymbols read source (λ text a. ⊥) (refused_file_answer Symbols refusal)) has refl)
 symbols-refused V source symbols (compiling.Source refusal) r fails has = absurd has
 symbols-refused V source symbols compiling.NoMemory r fails has =
-    subst (λ (q : Result V Failure). RefusedBy (NotInEnglish source symbols) q) (sym fails) tt
+    subst (λ (q : Result V Failure). SaysRefusal (NotInEnglish source symbols) q) (sym fails) tt
 
 pub translation-refused : (V W : Type 0) (source source' symbols : List ℕ) (list : List Symbol) (failure : Failure) (r : Result V Failure)
     → r ≡ Err failure → source' ≡ source → HasSymbolsIn German symbols (Ok list)
-    → RefusedBy {V = W} (NotTranslated English source') (Err failure) → RefusedBy (NotInEnglish source symbols) r
+    → SaysRefusal {V = W} (NotTranslated English source') (Err failure) → SaysRefusal (NotInEnglish source symbols) r
 translation-refused V W source source' symbols list failure r fails is has told =
     refused-more W V (NotTranslated English source') (NotInEnglish source symbols) failure r fails
     (λ (a : Answer) no. german-so (symbols_in German symbols) list source (λ text b. ⊥) a has
@@ -424,7 +424,7 @@ translation-refused V W source source' symbols list failure r fails is has told 
     told
 
 pub english-refused : (V W : Type 0) (source symbols : List ℕ) (failure : Failure) (r : Result V Failure) → r ≡ Err failure
-    → RefusedBy {V = W} (NotInEnglish source symbols) (Err failure) → RefusedBy (RefusedProgram true source symbols) r
+    → SaysRefusal {V = W} (NotInEnglish source symbols) (Err failure) → SaysRefusal (RefusedProgram true source symbols) r
 english-refused V W source symbols failure r fails told =
     refused-more W V (NotInEnglish source symbols) (RefusedProgram true source symbols) failure r fails
     (λ (a : Answer) no. english-weaker true source symbols (λ text b. ⊥) (RefusedText German symbols) (λ text b none. absurd none) a no)
@@ -432,7 +432,7 @@ english-refused V W source symbols failure r fails told =
 
 pub text-refused : (V : Type 0) (source symbols text : List ℕ) (list : List Symbol) (fault : CompileFault) (r : Result V Failure)
     → r ≡ Err (failure_of_compiling fault) → HasSymbolsIn German symbols (Ok list) → IsEnglish true source text
-    → RefusesWith text list fault → RefusedBy (RefusedProgram true source symbols) r
+    → RefusesWith text list fault → SaysRefusal (RefusedProgram true source symbols) r
 text-refused V source symbols text list fault r fails has is refuses =
     refused-more V V (RefusedText German symbols text) (RefusedProgram true source symbols) (failure_of_compiling fault) r fails
     (λ (a : Answer) told. in-english true source symbols text list (RefusedText German symbols) a has is told)
@@ -447,50 +447,50 @@ unfolding IsJudgedIn
 means-symbols language source symbols code means = (means.0, means.1)
 
 pub checks-ok : (german : Bool) (source symbols text : List ℕ) (code : Code) → MeansCodeIn (language_of german) text symbols code
-    → IsEnglish german source text → CheckSays german source symbols (done ok_line)
+    → IsEnglish german source text → CheckSays german source symbols (done_answer ok_line)
 checks-ok german source symbols text code means is =
     let read = means-symbols (language_of german) text symbols code means in
-    in-english german source symbols text read.0 (TextSays (language_of german) symbols) (done ok_line) read.1 is (Ok code, means, refl)
+    in-english german source symbols text read.0 (ChecksAs (language_of german) symbols) (done_answer ok_line) read.1 is (Ok code, means, refl)
 
 -- ---- a history that isn't read, behind a source that is compiled
 
 history-refuses : (V : Type 0) (german : Bool) (source symbols english : List ℕ) (code : Code) (history : List ℕ) (fault : TextFault)
     → MeansCodeIn (language_of german) english symbols code → IsEnglish german source english
-    → IsTextFault (history_of (names_read_in (language_of german) symbols) history) fault
-    → RefusedBy {V = V} (GoSays german source symbols history) (Err (failure_of_history fault))
+    → IsTextFault (history_of_text (names_read_in (language_of german) symbols) history) fault
+    → SaysRefusal {V = V} (GoSays german source symbols history) (Err (failure_of_history fault))
 history-refuses V german source symbols english code history (text.BadLine line rule) means within is =
     let read = means-symbols (language_of german) english symbols code means in
     in-english german source symbols english read.0 (λ t. SourceSays (language_of german) Large t symbols history)
-    (refused History (record { line = line; rule = rule })) read.1 within
+    (refused_file_answer History (record { line = line; rule = rule })) read.1 within
     (Ok code, means, ap (go_answer Large (Ok code)) (sym is))
 history-refuses V german source symbols english code history text.NoMemory means within is = tt
 
 pub history-refused : (V : Type 0) (german : Bool) (source symbols : List ℕ) (p : Program) (history : List ℕ)
     (fault : TextFault) (r : Result V Failure) → r ≡ Err (failure_of_history fault)
-    → KeepsText german source symbols p → IsTextFault (history_of p.names history) fault
-    → RefusedBy (GoSays german source symbols history) r
+    → KeepsText german source symbols p → IsTextFault (history_of_text p.names history) fault
+    → SaysRefusal (GoSays german source symbols history) r
 history-refused V german source symbols p history fault r fails (english, is, kept) breaks =
-    subst (λ (q : Result V Failure). RefusedBy (GoSays german source symbols history) q) (sym fails)
+    subst (λ (q : Result V Failure). SaysRefusal (GoSays german source symbols history) q) (sym fails)
     (history-refuses V german source symbols english kept.runs.0 history fault kept.runs.1 is
-    (subst (λ (names : List NameEntry). IsTextFault (history_of names history) fault) kept.names breaks))
+    (subst (λ (names : List NameEntry). IsTextFault (history_of_text names history) fault) kept.names breaks))
 
 -- ---- an image that isn't loaded, and a history that isn't read behind one that is
 
 pub image-refused : (V : Type 0) (image history : List ℕ) (error : LoadError) (r : Result V Failure) → r ≡ Err (failure_of_loading error)
-    → IsLoadError error (faults_of image) → RefusedBy (RunSays image history) r
+    → IsLoadError error (faults_of image) → SaysRefusal (RunSays image history) r
 image-refused V image history (loading.Fault fault) r fails least =
-    subst (λ (q : Result V Failure). RefusedBy (RunSays image history) q) (sym fails) (Err fault, least, refl)
+    subst (λ (q : Result V Failure). SaysRefusal (RunSays image history) q) (sym fails) (Err fault, least, refl)
 image-refused V image history loading.NoMemory r fails least =
-    subst (λ (q : Result V Failure). RefusedBy (RunSays image history) q) (sym fails) tt
+    subst (λ (q : Result V Failure). SaysRefusal (RunSays image history) q) (sym fails) tt
 
 run-refuses : (V : Type 0) (image : List ℕ) (l : LoadedProgram) (history : List ℕ) (fault : TextFault) → LoadsAs image (Ok l)
-    → IsTextFault (history_of l.program.names history) fault
-    → RefusedBy {V = V} (RunSays image history) (Err (failure_of_history fault))
-run-refuses V image l history (text.BadLine line rule) loads is = (Ok l, loads, ap (ran l) (sym is))
+    → IsTextFault (history_of_text l.program.names history) fault
+    → SaysRefusal {V = V} (RunSays image history) (Err (failure_of_history fault))
+run-refuses V image l history (text.BadLine line rule) loads is = (Ok l, loads, ap (run_outcome l) (sym is))
 run-refuses V image l history text.NoMemory loads is = tt
 
 pub run-refused : (V : Type 0) (image : List ℕ) (l : LoadedProgram) (history : List ℕ) (fault : TextFault) (r : Result V Failure)
-    → r ≡ Err (failure_of_history fault) → LoadsAs image (Ok l) → IsTextFault (history_of l.program.names history) fault
-    → RefusedBy (RunSays image history) r
+    → r ≡ Err (failure_of_history fault) → LoadsAs image (Ok l) → IsTextFault (history_of_text l.program.names history) fault
+    → SaysRefusal (RunSays image history) r
 run-refused V image l history fault r fails loads is =
-    subst (λ (q : Result V Failure). RefusedBy (RunSays image history) q) (sym fails) (run-refuses V image l history fault loads is)
+    subst (λ (q : Result V Failure). SaysRefusal (RunSays image history) q) (sym fails) (run-refuses V image l history fault loads is)

@@ -12,11 +12,11 @@ use Rattle.plc_base.specs.declared.Width.TheVariants.{Byte}
 use Rattle.plc_base.specs.Profiles.{bit_memory_size}
 use Rattle.plc_mem.proofs.Numbers.{number_at_bytes, run_number}
 use Rattle.plc_mem.specs.Areas.{Areas}
-use Rattle.plc_mem.specs.Places.{AreBytes, IsMemory}
+use Rattle.plc_mem.specs.Places.{AreByteValues, IsMemory}
 use Rattle.plc_mem.specs.Writing.{is_within}
 use Rattle.plc_base.specs.declared.Mode.{Mode}
 use Rattle.machine.specs.Code.{Code}
-use Rattle.machine.specs.Statement.{World}
+use Rattle.machine.specs.Statement.{GlobalStore}
 use Rattle.var_access.specs.declared.Reply.{Reply}
 use Rattle.var_access.specs.declared.Reply.TheVariants.{Values}
 use Rattle.var_access.specs.declared.Request.TheVariants.{ReadVars}
@@ -25,10 +25,10 @@ use Rattle.var_access.specs.declared.What.{What}
 use Rattle.controller.specs.Asking.{request_reply, read_reply, value_before, var_value, values_from}
 use Rattle.controller.specs.State.{State}
 use Rattle.controller.specs.Replay.{replay}
-use Rattle.sem_kept.specs.Kept.{IsKept}
+use Rattle.sem_kept.specs.Kept.{BehavesAlike}
 use Rattle.s7_cli.specs.GenText.{memory_byte, summary_of}
 
-byte-read : (m : Areas) → AreBytes m.bit_memory → (n : ℕ) → n < length m.bit_memory
+byte-read : (m : Areas) → AreByteValues m.bit_memory → (n : ℕ) → n < length m.bit_memory
     → var_value m (memory_byte n) ≡ Some (get_or m.bit_memory n 0)
 byte-read m small n there =
     number_at_bytes m (memory_byte n).place Byte ∙ run_number m.bit_memory n 0 Byte small within
@@ -37,7 +37,7 @@ byte-read m small n there =
     within = grind (arith, nat_tests)
 
 -- bytes in a row, from one on
-pub bytes-read : (m : Areas) → AreBytes m.bit_memory → (count first index : ℕ) → first + count ≤ length m.bit_memory
+pub bytes-read : (m : Areas) → AreByteValues m.bit_memory → (count first index : ℕ) → first + count ≤ length m.bit_memory
     → values_from m index (map memory_byte (range_with_len first count)) ≡ Ok (take count (drop first m.bit_memory))
 bytes-read m small zero first index within = refl
 bytes-read m small (suc count) first index within =
@@ -91,9 +91,9 @@ sum-on bytes n m = ap sum (take-add n m bytes) ∙ sum-append (take n bytes) (ta
 
 -- ---- the summary is one for programs that no history tells apart
 
-pub summary-kept : (number entries : ℕ) (profile : Profile) (c d : Code) → IsKept profile c d → (events : List What)
+pub summary-kept : (number entries : ℕ) (profile : Profile) (c d : Code) → BehavesAlike profile c d → (events : List What)
     → summary_of number entries (replay profile d events) ≡ summary_of number entries (replay profile c events)
 unfolding summary_of
 summary-kept number entries profile c d kept events =
     ap (λ (mode : Mode). summary_of number entries (record (replay profile d events) { mode = mode })) (kept.mode events)
-    ∙ ap (λ (world : World). summary_of number entries (record (replay profile c events) { world = world })) (kept.world events)
+    ∙ ap (λ (world : GlobalStore). summary_of number entries (record (replay profile c events) { world = world })) (kept.world events)

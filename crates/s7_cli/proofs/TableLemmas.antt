@@ -2,21 +2,21 @@
 use Rattle.std.proofs.Common.{◌≡◌, ◌≢◌, ◌<◌, ◌≤◌, ◌⊎◌, inl, inr, refl, sym, ◌∙◌, ap, subst, ℕ, List, Option, Some, None, Ok, Err, true, arith}
 use Rattle.plc_base.specs.declared.Refusal.{Refusal}
 use Rattle.plc_io.specs.Contents.{SameFiles}
-use Rattle.plc_io.specs.Counts.{Rose}
-use Rattle.plc_io.specs.Taken.{Took}
+use Rattle.plc_io.specs.Counts.{CountRose}
+use Rattle.plc_io.specs.Taken.{TookBytes}
 use Rattle.s7_cli.specs.declared.failures.File.{File}
 use Rattle.s7_cli.specs.declared.failures.File.TheVariants.{Source, Translation, Symbols, Image, Listing, History, Stimuli, Vars, Script, Certificate}
 use Rattle.s7_cli.specs.declared.failures.Failure.{Failure}
 use Rattle.s7_cli.specs.declared.failures.Failure.TheVariants.{WordsRefused, ReadFault, TooLong, Refused, ImageRefused, NoListing, SaysNo, TooDeep, WriteFault, NoMemory}
-use Rattle.s7_cli.specs.Answer.{Answer, Outcome, refused, refused_image, no_listing, says_no, too_deep, read_fault, too_long, words_refused, code_of}
+use Rattle.s7_cli.specs.Answer.{Answer, Outcome, refused_file_answer, refused_image_answer, no_listing_answer, says_no_answer, too_deep_answer, read_fault_answer, too_long_answer, words_refused_answer, exit_status}
 use Rattle.stack_bound.specs.Overflow.{CertificatesKeepStacks}
 use Rattle.s7_cli.specs.BoundSays.{StacksSuffice}
 use Rattle.s7_cli.specs.Command.{Command, inputs_of}
-use Rattle.s7_cli.specs.Ends.{Taking, Answers, InputRose, OutputRose, CountsReads, LeavesFiles, ChangesOutputs, WritesOutputs, IsSaid, IsCut, SinkFailed, OutputFailed, IsWriteFault, IsNoMemory, Ends, Ended}
+use Rattle.s7_cli.specs.Ends.{SinkMoments, IsAnswerOfCall, InputRose, OutputRose, CountsReads, LeavesFiles, ChangesOutputs, WritesOutputs, SaysWholeText, IsCallCutShort, SinkFailed, OutputFailed, IsWriteFault, IsNoMemory, EndsWithOutcome, EndsWithStatus}
 use Rattle.s7_cli.specs.Listings.{CompiledHaveListings, IsNotCompiled}
-use Rattle.s7_cli.specs.Lines.{IsLineOf}
-use Rattle.s7_cli.specs.Reading.{Disk, Reads, FailsOnTheWay}
-use Rattle.s7_cli.specs.Says.{Says}
+use Rattle.s7_cli.specs.Lines.{IsFailureLine}
+use Rattle.s7_cli.specs.Reading.{Disk, ReadsFilesInTurn, FailsOnTheWay}
+use Rattle.s7_cli.specs.Says.{CommandSays}
 use Rattle.s7_cli.specs.StatusTable.{IsDecided, IsCutOff, IsStatus, StatusTable}
 use Rattle.s7_cli.proofs.BoundLemmas.{stacks-suffice}
 use Rattle.s7_cli.proofs.ComesLemmas.{same-files}
@@ -27,13 +27,13 @@ use Rattle.s7_cli.proofs.Verdicts.{IsVerdict}
 
 -- ---- the rows that go by the answer alone
 
-record Rows (c : Option Command) (d : Disk) (s : Taking) (code : ℕ) : Type 0 where
+record Rows (c : Option Command) (d : Disk) (s : SinkMoments) (code : ℕ) : Type 0 where
   statuses : IsStatus code
   whole : IsCutOff code → ⊥
   words_refused_only : code ≡ 1 → c ≡ None
   words_refused : c ≡ None → code ≡ 1
   takes_line : code ≢ 0
-      → (failure : Failure) × (line : List ℕ) × (code ≡ code_of (Err failure)) × IsLineOf failure line × Took s.before s.after line
+      → (failure : Failure) × (line : List ℕ) × (code ≡ exit_status (Err failure)) × IsFailureLine failure line × TookBytes s.before s.after line
   read_fault : code ≡ 5 → InputRose c d
 
 not-cut : (code : ℕ) → code ≢ 6 → code ≢ 7 → IsCutOff code → ⊥
@@ -43,7 +43,7 @@ not-cut code six seven (inr e) = seven e
 is-command : (c : Option Command) (k : Command) → c ≡ Some k → c ≡ None → ⊥
 is-command c k is none = let e : Some k ≡ None = sym is ∙ none in cc
 
-rows-words : (c : Option Command) (d : Disk) (s : Taking) (line : List ℕ) → IsLineOf WordsRefused line → Took s.before s.after line
+rows-words : (c : Option Command) (d : Disk) (s : SinkMoments) (line : List ℕ) → IsFailureLine WordsRefused line → TookBytes s.before s.after line
     → c ≡ None → Rows c d s 1
 rows-words c d s line has took none = record {
   statuses = omega arith;
@@ -54,8 +54,8 @@ rows-words c d s line has took none = record {
   read_fault = λ e. absurd (omega arith);
 }
 
-rows-read : (c : Option Command) (d : Disk) (s : Taking) (k : Command) (line : List ℕ) → c ≡ Some k → IsLineOf ReadFault line
-    → Took s.before s.after line → InputRose c d → Rows c d s 5
+rows-read : (c : Option Command) (d : Disk) (s : SinkMoments) (k : Command) (line : List ℕ) → c ≡ Some k → IsFailureLine ReadFault line
+    → TookBytes s.before s.after line → InputRose c d → Rows c d s 5
 rows-read c d s k line is has took rose = record {
   statuses = omega arith;
   whole = not-cut 5 (λ e. omega arith) (λ e. omega arith);
@@ -104,8 +104,8 @@ certificate-status = record {
   isnt_cut = not-cut 10 (λ e. omega arith) (λ e. omega arith);
 }
 
-rows-file : (c : Option Command) (d : Disk) (s : Taking) (k : Command) (failure : Failure) (line : List ℕ) (code : ℕ) → c ≡ Some k
-    → code ≡ code_of (Err failure) → IsLineOf failure line → Took s.before s.after line → IsFileStatus code → Rows c d s code
+rows-file : (c : Option Command) (d : Disk) (s : SinkMoments) (k : Command) (failure : Failure) (line : List ℕ) (code : ℕ) → c ≡ Some k
+    → code ≡ exit_status (Err failure) → IsFailureLine failure line → TookBytes s.before s.after line → IsFileStatus code → Rows c d s code
 rows-file c d s k failure line code is status has took which = record {
   statuses = which.one;
   whole = which.isnt_cut;
@@ -115,7 +115,7 @@ rows-file c d s k failure line code is status has took which = record {
   read_fault = λ e. absurd (which.isnt_read e);
 }
 
-rows-done : (c : Option Command) (d : Disk) (s : Taking) (k : Command) → c ≡ Some k → Rows c d s 0
+rows-done : (c : Option Command) (d : Disk) (s : SinkMoments) (k : Command) → c ≡ Some k → Rows c d s 0
 rows-done c d s k is = record {
   statuses = omega arith;
   whole = not-cut 0 (λ e. omega arith) (λ e. omega arith);
@@ -125,7 +125,7 @@ rows-done c d s k is = record {
   read_fault = λ e. absurd (omega arith);
 }
 
-file-status : (file : File) (refusal : Refusal) → IsFileStatus (code_of (Err (Refused file refusal)))
+file-status : (file : File) (refusal : Refusal) → IsFileStatus (exit_status (Err (Refused file refusal)))
 file-status Source refusal = refused-status 2 (omega arith) (omega arith)
 file-status Translation refusal = refused-status 2 (omega arith) (omega arith)
 file-status Symbols refusal = refused-status 2 (omega arith) (omega arith)
@@ -137,86 +137,86 @@ file-status Vars refusal = refused-status 4 (omega arith) (omega arith)
 file-status (Script number) refusal = refused-status 4 (omega arith) (omega arith)
 file-status Certificate refusal = refused-status 4 (omega arith) (omega arith)
 
-rows-verdict : (c : Option Command) (d : Disk) (s : Taking) (k : Command) (a : Answer) → c ≡ Some k → IsVerdict a
-    → Took s.before s.after a.text → Rows c d s (code_of a.outcome)
+rows-verdict : (c : Option Command) (d : Disk) (s : SinkMoments) (k : Command) (a : Answer) → c ≡ Some k → IsVerdict a
+    → TookBytes s.before s.after a.text → Rows c d s (exit_status a.outcome)
 rows-verdict c d s k a is (inl (text, gives)) took =
-    subst (λ (b : Answer). Rows c d s (code_of b.outcome)) (sym gives) (rows-done c d s k is)
+    subst (λ (b : Answer). Rows c d s (exit_status b.outcome)) (sym gives) (rows-done c d s k is)
 rows-verdict c d s k a is (inr (inl (file, refusal, gives))) took =
-    subst (λ (b : Answer). Rows c d s (code_of b.outcome)) (sym gives)
-    (rows-file c d s k (Refused file refusal) (refused file refusal).text (code_of (refused file refusal).outcome) is refl refl
-    (subst (λ (b : Answer). Took s.before s.after b.text) gives took) (file-status file refusal))
+    subst (λ (b : Answer). Rows c d s (exit_status b.outcome)) (sym gives)
+    (rows-file c d s k (Refused file refusal) (refused_file_answer file refusal).text (exit_status (refused_file_answer file refusal).outcome) is refl refl
+    (subst (λ (b : Answer). TookBytes s.before s.after b.text) gives took) (file-status file refusal))
 rows-verdict c d s k a is (inr (inr (inl (fault, gives)))) took =
-    subst (λ (b : Answer). Rows c d s (code_of b.outcome)) (sym gives)
-    (rows-file c d s k (ImageRefused fault) (refused_image fault).text 3 is refl refl
-    (subst (λ (b : Answer). Took s.before s.after b.text) gives took) (refused-status 3 (omega arith) (omega arith)))
+    subst (λ (b : Answer). Rows c d s (exit_status b.outcome)) (sym gives)
+    (rows-file c d s k (ImageRefused fault) (refused_image_answer fault).text 3 is refl refl
+    (subst (λ (b : Answer). TookBytes s.before s.after b.text) gives took) (refused-status 3 (omega arith) (omega arith)))
 rows-verdict c d s k a is (inr (inr (inr (inl gives)))) took =
-    subst (λ (b : Answer). Rows c d s (code_of b.outcome)) (sym gives)
-    (rows-file c d s k SaysNo says_no.text 10 is refl refl
-    (subst (λ (b : Answer). Took s.before s.after b.text) gives took) certificate-status)
+    subst (λ (b : Answer). Rows c d s (exit_status b.outcome)) (sym gives)
+    (rows-file c d s k SaysNo says_no_answer.text 10 is refl refl
+    (subst (λ (b : Answer). TookBytes s.before s.after b.text) gives took) certificate-status)
 rows-verdict c d s k a is (inr (inr (inr (inr (inl (chain, gives)))))) took =
-    subst (λ (b : Answer). Rows c d s (code_of b.outcome)) (sym gives)
-    (rows-file c d s k TooDeep (too_deep chain).text 10 is refl (chain, refl)
-    (subst (λ (b : Answer). Took s.before s.after b.text) gives took) certificate-status)
+    subst (λ (b : Answer). Rows c d s (exit_status b.outcome)) (sym gives)
+    (rows-file c d s k TooDeep (too_deep_answer chain).text 10 is refl (chain, refl)
+    (subst (λ (b : Answer). TookBytes s.before s.after b.text) gives took) certificate-status)
 rows-verdict c d s k a is (inr (inr (inr (inr (inr (inl (file, gives))))))) took =
-    subst (λ (b : Answer). Rows c d s (code_of b.outcome)) (sym gives)
-    (rows-file c d s k (TooLong file) (too_long file).text 8 is refl refl
-    (subst (λ (b : Answer). Took s.before s.after b.text) gives took) too-long-status)
+    subst (λ (b : Answer). Rows c d s (exit_status b.outcome)) (sym gives)
+    (rows-file c d s k (TooLong file) (too_long_answer file).text 8 is refl refl
+    (subst (λ (b : Answer). TookBytes s.before s.after b.text) gives took) too-long-status)
 rows-verdict c d s k a is (inr (inr (inr (inr (inr (inr gives)))))) took =
-    subst (λ (b : Answer). Rows c d s (code_of b.outcome)) (sym gives)
-    (rows-file c d s k NoListing no_listing.text 9 is refl refl
-    (subst (λ (b : Answer). Took s.before s.after b.text) gives took) no-listing-status)
+    subst (λ (b : Answer). Rows c d s (exit_status b.outcome)) (sym gives)
+    (rows-file c d s k NoListing no_listing_answer.text 9 is refl refl
+    (subst (λ (b : Answer). TookBytes s.before s.after b.text) gives took) no-listing-status)
 
-rows-command : (k : Command) (d : Disk) (s : Taking) (a : Answer) → Reads d (inputs_of k) (Says k) a
-    → Took s.before s.after a.text → Rows (Some k) d s (code_of a.outcome)
+rows-command : (k : Command) (d : Disk) (s : SinkMoments) (a : Answer) → ReadsFilesInTurn d (inputs_of k) (CommandSays k) a
+    → TookBytes s.before s.after a.text → Rows (Some k) d s (exit_status a.outcome)
 rows-command k d s a reads took =
-    elim (reads-kinds d (inputs_of k) (Says k) a reads) [
+    elim (reads-kinds d (inputs_of k) (CommandSays k) a reads) [
       | inl (gives, rose) ↦
-          subst (λ (b : Answer). Rows (Some k) d s (code_of b.outcome)) (sym gives)
-          (rows-read (Some k) d s k read_fault.text refl refl (subst (λ (b : Answer). Took s.before s.after b.text) gives took) rose)
+          subst (λ (b : Answer). Rows (Some k) d s (exit_status b.outcome)) (sym gives)
+          (rows-read (Some k) d s k read_fault_answer.text refl refl (subst (λ (b : Answer). TookBytes s.before s.after b.text) gives took) rose)
       | inr (inl (i, gives)) ↦
-          subst (λ (b : Answer). Rows (Some k) d s (code_of b.outcome)) (sym gives)
-          (rows-file (Some k) d s k (TooLong i.file) (too_long i.file).text 8 refl refl refl
-          (subst (λ (b : Answer). Took s.before s.after b.text) gives took) too-long-status)
+          subst (λ (b : Answer). Rows (Some k) d s (exit_status b.outcome)) (sym gives)
+          (rows-file (Some k) d s k (TooLong i.file) (too_long_answer i.file).text 8 refl refl refl
+          (subst (λ (b : Answer). TookBytes s.before s.after b.text) gives took) too-long-status)
       | inr (inr (contents, says)) ↦ rows-verdict (Some k) d s k a refl (says-verdict k contents a says) took
     ]
 
-rows : (c : Option Command) (d : Disk) (s : Taking) (a : Answer) → Answers c d a → Took s.before s.after a.text
-    → Rows c d s (code_of a.outcome)
+rows : (c : Option Command) (d : Disk) (s : SinkMoments) (a : Answer) → IsAnswerOfCall c d a → TookBytes s.before s.after a.text
+    → Rows c d s (exit_status a.outcome)
 rows None d s a gives took =
-    subst (λ (b : Answer). Rows None d s (code_of b.outcome)) (sym gives)
-    (rows-words None d s words_refused.text refl (subst (λ (b : Answer). Took s.before s.after b.text) gives took) refl)
+    subst (λ (b : Answer). Rows None d s (exit_status b.outcome)) (sym gives)
+    (rows-words None d s words_refused_answer.text refl (subst (λ (b : Answer). TookBytes s.before s.after b.text) gives took) refl)
 rows (Some k) d s a reads took = rows-command k d s a reads took
 
 -- ---- the answer over files that tell what they hold
 
-abbrev Decided : Command → Disk → Taking → ℕ → Type 0
+abbrev Decided : Command → Disk → SinkMoments → ℕ → Type 0
 Decided k d s code = ((code ≡ 5) × FailsOnTheWay d (inputs_of k)) ⊎ IsCutOff code ⊎ IsDecided k d s code
 
-decided-command : OneEach → (k : Command) (d : Disk) (s : Taking) (a : Answer) → d.before.contents.told ≡ true
-    → Reads d (inputs_of k) (Says k) a → Took s.before s.after a.text → Decided k d s (code_of a.outcome)
+decided-command : OneEach → (k : Command) (d : Disk) (s : SinkMoments) (a : Answer) → d.before.contents.told ≡ true
+    → ReadsFilesInTurn d (inputs_of k) (CommandSays k) a → TookBytes s.before s.after a.text → Decided k d s (exit_status a.outcome)
 decided-command one k d s a told reads took =
-    elim (reads-told d (inputs_of k) (Says k) a told reads) [
-      | inl fails ↦ inl (ap (λ (b : Answer). code_of b.outcome) fails.0, fails.1)
+    elim (reads-told d (inputs_of k) (CommandSays k) a told reads) [
+      | inl fails ↦ inl (ap (λ (b : Answer). exit_status b.outcome) fails.0, fails.1)
       | inr allowed ↦ inr (inr (record {
         answer = a;
         allowed = allowed;
-        only = λ other also. allows-alike d.before.contents (Alike k) (same-alike k) (inputs_of k) (Says k) (says-alike one k) other a also allowed;
+        only = λ other also. allows-alike d.before.contents (Alike k) (same-alike k) (inputs_of k) (CommandSays k) (says-alike one k) other a also allowed;
         status = refl;
         took = took;
       }))
     ]
 
-decided : OneEach → (c : Option Command) (d : Disk) (s : Taking) (a : Answer) → Answers c d a → Took s.before s.after a.text
-    → (k : Command) → c ≡ Some k → d.before.contents.told ≡ true → Decided k d s (code_of a.outcome)
+decided : OneEach → (c : Option Command) (d : Disk) (s : SinkMoments) (a : Answer) → IsAnswerOfCall c d a → TookBytes s.before s.after a.text
+    → (k : Command) → c ≡ Some k → d.before.contents.told ≡ true → Decided k d s (exit_status a.outcome)
 decided one c d s a answers took k is told =
-    decided-command one k d s a told (subst (λ (o : Option Command). Answers o d a) is answers) took
+    decided-command one k d s a told (subst (λ (o : Option Command). IsAnswerOfCall o d a) is answers) took
 
 -- no count rose: want of memory alone is free
-complete : (c : Option Command) (d : Disk) (s : Taking) (code : ℕ)
+complete : (c : Option Command) (d : Disk) (s : SinkMoments) (code : ℕ)
     → ((k : Command) → c ≡ Some k → d.before.contents.told ≡ true → Decided k d s code)
-    → (code ≡ 6 → Rose s.before.faults s.after.faults ⊎ OutputRose c d)
+    → (code ≡ 6 → CountRose s.before.faults s.after.faults ⊎ OutputRose c d)
     → (k : Command) → c ≡ Some k → d.before.contents.told ≡ true
-    → (InputRose c d → ⊥) → (OutputRose c d → ⊥) → (Rose s.before.faults s.after.faults → ⊥) → (code ≡ 7) ⊎ IsDecided k d s code
+    → (InputRose c d → ⊥) → (OutputRose c d → ⊥) → (CountRose s.before.faults s.after.faults → ⊥) → (code ≡ 7) ⊎ IsDecided k d s code
 complete c d s code decides six k is told no_input no_output no_fault =
     elim (decides k is told) [
       | inl fails ↦ absurd (no_input (subst (λ (o : Option Command). InputRose o d) (sym is) (fails-rose d (inputs_of k) fails.1)))
@@ -228,11 +228,11 @@ complete c d s code decides six k is told no_input no_output no_fault =
 -- ---- counts and files
 
 reads-said : (d : Disk) (outcome : Outcome) (name : List ℕ) → CountsReads d outcome → d.before.failed_reads name < d.after.failed_reads name
-    → code_of outcome ≡ 5
+    → exit_status outcome ≡ 5
 reads-said d (Err ReadFault) name counts more = refl
 reads-said d outcome name counts more = absurd (omega (arith, counts name))
 
-not-done : (failure : Failure) → code_of (Err failure) ≡ 0 → ⊥
+not-done : (failure : Failure) → exit_status (Err failure) ≡ 0 → ⊥
 not-done (Refused Source refusal) e = omega arith
 not-done (Refused Symbols refusal) e = omega arith
 not-done (Refused Image refusal) e = omega arith
@@ -244,7 +244,7 @@ not-done (Refused (Script number) refusal) e = omega arith
 not-done (Refused Certificate refusal) e = omega arith
 not-done failure e = omega arith
 
-unchanged-said : (c : Option Command) (d : Disk) (outcome : Outcome) → LeavesFiles c d outcome → code_of outcome ≢ 0
+unchanged-said : (c : Option Command) (d : Disk) (outcome : Outcome) → LeavesFiles c d outcome → exit_status outcome ≢ 0
     → SameFiles d.before.contents d.after.contents
 unchanged-said c d (Ok ok) leaves isnt = absurd (isnt refl)
 unchanged-said c d (Err failure) leaves isnt = leaves
@@ -253,29 +253,29 @@ outputs-said : (c : Option Command) (d : Disk) (outcome : Outcome) → LeavesFil
 outputs-said c d (Ok ok) leaves = leaves.0
 outputs-said c d (Err failure) leaves = same-files c d leaves
 
-whole-said : (c : Option Command) (d : Disk) (outcome : Outcome) → LeavesFiles c d outcome → code_of outcome ≡ 0 → WritesOutputs c d
+whole-said : (c : Option Command) (d : Disk) (outcome : Outcome) → LeavesFiles c d outcome → exit_status outcome ≡ 0 → WritesOutputs c d
 whole-said c d (Ok ok) leaves e = leaves.1
 whole-said c d (Err failure) leaves e = absurd (not-done failure e)
 
-stacks-said : CertificatesKeepStacks → (c : Option Command) (d : Disk) (a : Answer) → Answers c d a → code_of a.outcome ≡ 0
+stacks-said : CertificatesKeepStacks → (c : Option Command) (d : Disk) (a : Answer) → IsAnswerOfCall c d a → exit_status a.outcome ≡ 0
     → (k : Command) → c ≡ Some k → StacksSuffice k d
 stacks-said keep c d a answers zero k is =
-    stacks-suffice keep k d a (subst (λ (o : Option Command). Answers o d a) is answers) zero
+    stacks-suffice keep k d a (subst (λ (o : Option Command). IsAnswerOfCall o d a) is answers) zero
 
-listed-said : CompiledHaveListings → (c : Option Command) (d : Disk) (a : Answer) → Answers c d a → code_of a.outcome ≡ 9
+listed-said : CompiledHaveListings → (c : Option Command) (d : Disk) (a : Answer) → IsAnswerOfCall c d a → exit_status a.outcome ≡ 9
     → (k : Command) → c ≡ Some k → IsNotCompiled k d
 listed-said have c d a answers nine k is =
-    never-compiled have k d a (subst (λ (o : Option Command). Answers o d a) is answers) nine
+    never-compiled have k d a (subst (λ (o : Option Command). IsAnswerOfCall o d a) is answers) nine
 
 -- ---- the table
 
-table-said : OneEach → CertificatesKeepStacks → CompiledHaveListings → (c : Option Command) (d : Disk) (s : Taking) (a : Answer) → IsSaid c d s a → StatusTable c d s (code_of a.outcome)
+table-said : OneEach → CertificatesKeepStacks → CompiledHaveListings → (c : Option Command) (d : Disk) (s : SinkMoments) (a : Answer) → SaysWholeText c d s a → StatusTable c d s (exit_status a.outcome)
 table-said one keep have c d s a said =
-    let r : Rows c d s (code_of a.outcome) = rows c d s a said.answers said.took in
-    let six : code_of a.outcome ≡ 6 → Rose s.before.faults s.after.faults ⊎ OutputRose c d = λ e. absurd (r.whole (inl e)) in record {
+    let r : Rows c d s (exit_status a.outcome) = rows c d s a said.answers said.took in
+    let six : exit_status a.outcome ≡ 6 → CountRose s.before.faults s.after.faults ⊎ OutputRose c d = λ e. absurd (r.whole (inl e)) in record {
       statuses = r.statuses;
       decided = decided one c d s a said.answers said.took;
-      complete = complete c d s (code_of a.outcome) (decided one c d s a said.answers said.took) six;
+      complete = complete c d s (exit_status a.outcome) (decided one c d s a said.answers said.took) six;
       words_refused_only = r.words_refused_only;
       words_refused = λ none. inl (r.words_refused none);
       takes_line = λ isnt whole. r.takes_line isnt;
@@ -292,8 +292,8 @@ table-said one keep have c d s a said =
       listed = listed-said have c d a said.answers;
     }
 
-table-cut : (c : Option Command) (d : Disk) (s : Taking) (code : ℕ) → IsCutOff code → IsCut c d s
-    → (code ≡ 6 → Rose s.before.faults s.after.faults ⊎ OutputRose c d)
+table-cut : (c : Option Command) (d : Disk) (s : SinkMoments) (code : ℕ) → IsCutOff code → IsCallCutShort c d s
+    → (code ≡ 6 → CountRose s.before.faults s.after.faults ⊎ OutputRose c d)
     → ((name : List ℕ) → d.before.failed_writes name < d.after.failed_writes name → code ≡ 6)
     → (s.before.faults < s.after.faults → code ≡ 6) → StatusTable c d s code
 table-cut c d s code off cut six writes faults = record {
@@ -316,21 +316,21 @@ table-cut c d s code off cut six writes faults = record {
   listed = λ e. absurd (elim off [ inl f ↦ omega (arith, e, f) | inr f ↦ omega (arith, e, f) ]);
 }
 
-table-write : (c : Option Command) (d : Disk) (s : Taking) → IsWriteFault c d s → StatusTable c d s 6
+table-write : (c : Option Command) (d : Disk) (s : SinkMoments) → IsWriteFault c d s → StatusTable c d s 6
 table-write c d s fault =
     table-cut c d s 6 (inl refl) fault.cut (λ e. rose fault.failed) (λ name more. refl) (λ more. refl)
   where
-    rose : SinkFailed d s ⊎ OutputFailed c d s → Rose s.before.faults s.after.faults ⊎ OutputRose c d
+    rose : SinkFailed d s ⊎ OutputFailed c d s → CountRose s.before.faults s.after.faults ⊎ OutputRose c d
     rose (inl sink) = inl sink.faults
     rose (inr output) = inr output.rose
 
-table-memory : (c : Option Command) (d : Disk) (s : Taking) → IsNoMemory c d s → StatusTable c d s 7
+table-memory : (c : Option Command) (d : Disk) (s : SinkMoments) → IsNoMemory c d s → StatusTable c d s 7
 table-memory c d s wanting =
     table-cut c d s 7 (inr refl) wanting.cut (λ e. absurd (omega arith)) (λ name more. absurd (omega (arith, wanting.writes name)))
     (λ more. absurd (omega (arith, wanting.faults)))
 
-table-ends : OneEach → CertificatesKeepStacks → CompiledHaveListings → (c : Option Command) (d : Disk) (s : Taking) (outcome : Outcome) → Ends c d s outcome
-    → StatusTable c d s (code_of outcome)
+table-ends : OneEach → CertificatesKeepStacks → CompiledHaveListings → (c : Option Command) (d : Disk) (s : SinkMoments) (outcome : Outcome) → EndsWithOutcome c d s outcome
+    → StatusTable c d s (exit_status outcome)
 table-ends one keep have c d s (Err WriteFault) ends = table-write c d s ends
 table-ends one keep have c d s (Err NoMemory) ends = table-memory c d s ends
 table-ends one keep have c d s (Ok ok) ends = table-said one keep have c d s _ ends.1
@@ -345,6 +345,6 @@ table-ends one keep have c d s (Err TooDeep) ends = table-said one keep have c d
 
 -- the rows of the table; that a source has one meaning makes its rows exact, that certificates keep stacks, and that
 -- programs that were compiled have listings, are its last two
-pub table : OneEach → CertificatesKeepStacks → CompiledHaveListings → (c : Option Command) (d : Disk) (s : Taking) (code : ℕ) → Ended c d s code → StatusTable c d s code
+pub table : OneEach → CertificatesKeepStacks → CompiledHaveListings → (c : Option Command) (d : Disk) (s : SinkMoments) (code : ℕ) → EndsWithStatus c d s code → StatusTable c d s code
 table one keep have c d s code ended =
     subst (λ (n : ℕ). StatusTable c d s n) (sym ended.1) (table-ends one keep have c d s ended.0 ended.2)

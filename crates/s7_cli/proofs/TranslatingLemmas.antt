@@ -1,7 +1,7 @@
 -- A source in German, and the translation of a source: there is one answer, and what is said of an English text.
 use Rattle.std.proofs.Common.{◌≡◌, ◌<◌, ◌≤◌, true≢false, inl, inr, refl, sym, ◌∙◌, ap, ap₂, subst, ℕ, Bool, true, false, List, length, nat_le, Ok, Err, Result, arith}
 use Rattle.std.proofs.lemmas.Bool.Decides.{nat_tests}
-use Rattle.de_mnemonics.specs.Translation.{ExcludesViolation, IsTranslation, IsTranslationUnique, IsViolationUnique}
+use Rattle.de_mnemonics.specs.Translation.{TranslationExcludesViolation, IsTranslation, IsTranslationUnique, IsTranslationViolationUnique}
 use Rattle.plc_base.specs.declared.refusals.Refusal.{Refusal}
 use Rattle.sem_kept.specs.Meaning.{HasSymbolsIn}
 use Rattle.stl_symbols.specs.Symbol.{Symbol}
@@ -9,8 +9,8 @@ use Rattle.stl_symbols.specs.Symbols.{symbols_in}
 use Rattle.stl_symbols.specs.declared.languages.Language.{Language}
 use Rattle.stl_symbols.specs.declared.languages.Language.TheVariants.{English, German}
 use Rattle.s7_cli.specs.declared.failures.File.TheVariants.{Source, Translation, Symbols}
-use Rattle.s7_cli.specs.Answer.{Answer, too_long}
-use Rattle.s7_cli.specs.Translating.{IfFits, InEnglish, IsEnglish, NotTranslated, OfSymbols, OfTranslation, SaysTranslated, Translates, language_of}
+use Rattle.s7_cli.specs.Answer.{Answer, too_long_answer}
+use Rattle.s7_cli.specs.Translating.{IfFits, InEnglish, IsEnglish, NotTranslated, OfSymbols, OfTranslation, SaysTranslated, TranslatesSource, language_of}
 use Rattle.s7_cli.proofs.Verdicts.{IsVerdict}
 
 -- what is said of a text
@@ -22,12 +22,12 @@ Says = List ℕ → Answer → Type 0
 -- a source has one translation, or is refused in one way
 abbrev pub TranslatesOne : Type 0
 TranslatesOne =
-    (language : Language) (source : List ℕ) (v w : Result (List ℕ) Refusal) → Translates language source v → Translates language source w → v ≡ w
+    (language : Language) (source : List ℕ) (v w : Result (List ℕ) Refusal) → TranslatesSource language source v → TranslatesSource language source w → v ≡ w
 
 same_refusal : (r s : Refusal) → (r.line ≡ s.line) × (r.rule ≡ s.rule) → r ≡ s
 same_refusal r s same = ap₂ (λ (line rule : ℕ). record { line = line; rule = rule }) same.0 same.1
 
-pub translates-one : IsTranslationUnique → ExcludesViolation → IsViolationUnique → TranslatesOne
+pub translates-one : IsTranslationUnique → TranslationExcludesViolation → IsTranslationViolationUnique → TranslatesOne
 translates-one text excludes violation language source (Ok a) (Ok b) p q = ap Ok (text language source a b p q)
 translates-one text excludes violation language source (Ok a) (Err s) p q = absurd (excludes language source a s.line s.rule p q)
 translates-one text excludes violation language source (Err r) (Ok b) p q = absurd (excludes language source b r.line r.rule q p)
@@ -122,16 +122,16 @@ fitting : (fits : Bool) (said : Type 0) (a : Answer) → fits ≡ true → said 
 fitting true said a is told = told
 fitting false said a is told = absurd (true≢false (sym is))
 
-too-long : (fits : Bool) (said : Type 0) (a : Answer) → fits ≡ false → a ≡ too_long Translation → IfFits fits said a
+too-long : (fits : Bool) (said : Type 0) (a : Answer) → fits ≡ false → a ≡ too_long_answer Translation → IfFits fits said a
 too-long true said a is gives = absurd (true≢false is)
 too-long false said a is gives = gives
 
 -- ---- a source that isn't translated
 
 pub long-translation : (language : Language) (source text : List ℕ) → IsTranslation language source text → 1048576 < length text
-    → NotTranslated language source (too_long Translation)
+    → NotTranslated language source (too_long_answer Translation)
 long-translation language source text is long =
-    (Ok text, is, too-long (nat_le (length text) 1048576) ⊥ (too_long Translation) (grind (arith, nat_tests)) refl)
+    (Ok text, is, too-long (nat_le (length text) 1048576) ⊥ (too_long_answer Translation) (grind (arith, nat_tests)) refl)
 
 pub says-translated : (language : Language) (source text : List ℕ) (says : Says) (a : Answer) → IsTranslation language source text
     → length text ≤ 1048576 → says text a → SaysTranslated language source says a

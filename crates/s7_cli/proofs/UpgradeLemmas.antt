@@ -8,7 +8,7 @@ use Rattle.image_file.specs.declared.refusing.LoadError.{LoadError}
 use Rattle.image_file.specs.declared.refusing.LoadError.TheVariants as loading
 use Rattle.s7_cli.specs.declared.failures.Failure.{Failure}
 use Rattle.s7_cli.specs.Faults.{failure_of_loading}
-use Rattle.s7_cli.specs.Inner.{RefusedBy}
+use Rattle.s7_cli.specs.Inner.{SaysRefusal}
 use Rattle.s7_cli.specs.Loads.{LoadsAs}
 use Rattle.s7_cli.specs.Says.{IsUpgraded, UpgradeSays}
 use Rattle.s7_cli.specs.Upgrades.{UpgradesKeepSources, UpgradesLiveAlike, UpgradesLoadAlike, UpgradesRunAlike}
@@ -57,8 +57,8 @@ keeps-alike images language upgraded image source symbols (l, loads, spelled) ke
 
 -- an image that isn't loaded
 pub upgrade-refused : (V : Type 0) (image : List ℕ) (error : LoadError) (r : Result V Failure) → r ≡ Err (failure_of_loading error)
-    → IsLoadError error (faults_of image) → RefusedBy (UpgradeSays image) r
+    → IsLoadError error (faults_of image) → SaysRefusal (UpgradeSays image) r
 upgrade-refused V image (loading.Fault fault) r fails least =
-    subst (λ (q : Result V Failure). RefusedBy (UpgradeSays image) q) (sym fails) (Err fault, least, refl)
+    subst (λ (q : Result V Failure). SaysRefusal (UpgradeSays image) q) (sym fails) (Err fault, least, refl)
 upgrade-refused V image loading.NoMemory r fails least =
-    subst (λ (q : Result V Failure). RefusedBy (UpgradeSays image) q) (sym fails) tt
+    subst (λ (q : Result V Failure). SaysRefusal (UpgradeSays image) q) (sym fails) tt

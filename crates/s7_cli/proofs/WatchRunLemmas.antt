@@ -9,7 +9,7 @@ use Rattle.var_access.specs.declared.Entry.{Entry}
 use Rattle.var_access.specs.declared.Var.{Var}
 use Rattle.controller.specs.Recording.{Recording}
 use Rattle.event_text.specs.Regular.{IsRegularOf}
-use Rattle.tracked_lock.specs.Passes.{Passed, Locked, missing, fresh_pass, fresh_passes}
+use Rattle.tracked_lock.specs.Passes.{PassView, LockView, missing_number_count, fresh_pass, fresh_passes}
 use Rattle.tracked_lock.specs.Views.{IsMadeOf}
 use Rattle.station.specs.Closing.{IsGivenBack}
 use Rattle.station.specs.Openings.{the_opening}
@@ -18,7 +18,7 @@ use Rattle.station.specs.declared.shared.StationFault.{StationFault}
 use Rattle.station.specs.declared.shared.TheConstants.{FULL}
 use Rattle.watch_board.specs.declared.shown.Shown.{Shown}
 use Rattle.s7_cli.specs.Living.{AreRegularBy, IsFullNever, IsLive, opened_on, total_length}
-use Rattle.s7_cli.specs.Watching.{AreViews, reading, watch_lists}
+use Rattle.s7_cli.specs.Watching.{AreViews, read_entry_of, watch_lists}
 use Rattle.s7_cli.specs.Working.{CanWork, HasWorked, IsFresh, KnowsFault}
 use Rattle.s7_cli.proofs.LivingLemmas.{lived, never_full, none_missing}
 use Rattle.s7_cli.proofs.NumberLemmas.{can_work, fresh_one}
@@ -26,7 +26,7 @@ use Rattle.s7_cli.proofs.RegularLemmas.{each_copy, regular_more, total_more}
 use Rattle.s7_cli.proofs.WatchingLemmas.{all_shown_on}
 
 abbrev P : Type 0
-P = Passed Opening Entry
+P = PassView Opening Entry
 
 -- two lists with one element more are the same where both parts are
 last_apart : {A : Type 0} (xs ys : List A) (x y : A) → xs ++ x ∷ [] ≡ ys ++ y ∷ [] → (xs ≡ ys) × (x ≡ y)
@@ -36,13 +36,13 @@ last_apart (a ∷ xs) [] x y is = absurd (omega (arith, ap length is, length-app
 last_apart (a ∷ xs) (b ∷ ys) x y is = let rest = last_apart xs ys x y (cc is) in (cc (is, rest.0), rest.1)
 
 -- of six passes the last one and the five before it
-pub last_of_six : (s : Locked Opening) (all front : List P) (last : P) → all ≡ fresh_passes s 0 6 → all ≡ front ++ last ∷ [] → (front ≡ fresh_passes s 0 5) × (last ≡ fresh_pass s 6)
+pub last_of_six : (s : LockView Opening) (all front : List P) (last : P) → all ≡ fresh_passes s 0 6 → all ≡ front ++ last ∷ [] → (front ≡ fresh_passes s 0 5) × (last ≡ fresh_pass s 6)
 last_of_six s all front last are is = last_apart front (fresh_passes s 0 5) last (fresh_pass s 6) (sym is ∙ are)
 
-pub last_fresh : (s : Locked Opening) (last : P) → last ≡ fresh_pass s 6 → IsFresh s last
+pub last_fresh : (s : LockView Opening) (last : P) → last ≡ fresh_pass s 6 → IsFresh s last
 last_fresh s last is = subst (IsFresh s) (sym is) (fresh_one s 6)
 
-pub last_number : (s : Locked Opening) (last : P) → last ≡ fresh_pass s 6 → last.number ≡ 6
+pub last_number : (s : LockView Opening) (last : P) → last ≡ fresh_pass s 6 → last.number ≡ 6
 last_number s last is = ap (λ (p : P). p.number) is
 
 -- ---- the lists
@@ -69,7 +69,7 @@ regular_padded who k (x ∷ lists) h = (h.0, regular_padded (suc who) k lists h.
 pub padded_regular : (stimuli : List Entry) (scripts : List (List Entry)) → AreRegularBy 2 (stimuli ∷ scripts) → AreRegularBy 2 (stimuli ∷ padded_lists scripts)
 padded_regular stimuli scripts h = (h.0, regular_padded 3 (3 - length scripts) scripts h.1)
 
-pub can_watch : (s : Locked Opening) (passes : List P) (stimuli : List Entry) (scripts : List (List Entry)) → passes ≡ fresh_passes s 0 5 → length scripts ≤ 3
+pub can_watch : (s : LockView Opening) (passes : List P) (stimuli : List Entry) (scripts : List (List Entry)) → passes ≡ fresh_passes s 0 5 → length scripts ≤ 3
     → AreRegularBy 2 (stimuli ∷ scripts) → CanWork s passes stimuli (padded_lists scripts)
 can_watch s passes stimuli scripts are few h =
     subst (λ (ps : List P). CanWork s ps stimuli (padded_lists scripts)) (sym are)
@@ -77,16 +77,16 @@ can_watch s passes stimuli scripts are few h =
 
 pub lists_many : (reads : ℕ) (scripts : List (List Entry)) (vars : List Var) → length scripts ≤ 3 → 6 ≡ length (watch_lists reads scripts vars) + 2
 lists_many reads scripts vars few =
-    omega (arith, three_lists scripts few, length-append (padded_lists scripts) (replicate reads (reading 6 vars) ∷ []))
+    omega (arith, three_lists scripts few, length-append (padded_lists scripts) (replicate reads (read_entry_of 6 vars) ∷ []))
 
 pub lists_regular : (reads : ℕ) (stimuli : List Entry) (scripts : List (List Entry)) (vars : List Var) → length scripts ≤ 3 → AreRegularBy 2 (stimuli ∷ scripts)
-    → IsRegularOf 6 (reading 6 vars) → AreRegularBy 2 (stimuli ∷ watch_lists reads scripts vars)
+    → IsRegularOf 6 (read_entry_of 6 vars) → AreRegularBy 2 (stimuli ∷ watch_lists reads scripts vars)
 lists_regular reads stimuli scripts vars few h one =
     let who : 6 ≡ 2 + length (stimuli ∷ padded_lists scripts) = omega (arith, three_lists scripts few) in
-    let copies : All (IsRegularOf 6) (replicate reads (reading 6 vars)) =
-    All-from_recursion (IsRegularOf 6) (replicate reads (reading 6 vars)) (each_copy (IsRegularOf 6) reads (reading 6 vars) one) in
-    regular_more 2 (stimuli ∷ padded_lists scripts) (replicate reads (reading 6 vars)) (padded_regular stimuli scripts h)
-    (subst (λ (n : ℕ). All (IsRegularOf n) (replicate reads (reading 6 vars))) who copies)
+    let copies : All (IsRegularOf 6) (replicate reads (read_entry_of 6 vars)) =
+    All-from_recursion (IsRegularOf 6) (replicate reads (read_entry_of 6 vars)) (each_copy (IsRegularOf 6) reads (read_entry_of 6 vars) one) in
+    regular_more 2 (stimuli ∷ padded_lists scripts) (replicate reads (read_entry_of 6 vars)) (padded_regular stimuli scripts h)
+    (subst (λ (n : ℕ). All (IsRegularOf n) (replicate reads (read_entry_of 6 vars))) who copies)
 
 none_total : (k : ℕ) → total_length (replicate k []) ≡ 0
 none_total zero = refl
@@ -98,7 +98,7 @@ padded_total k (x ∷ lists) = ap (λ (n : ℕ). length x + n) (padded_total k l
 
 pub lists_total : (reads : ℕ) (scripts : List (List Entry)) (vars : List Var) → total_length (watch_lists reads scripts vars) ≡ total_length scripts + reads
 lists_total reads scripts vars =
-    omega (arith, total_more (padded_lists scripts) (replicate reads (reading 6 vars)), padded_total (3 - length scripts) scripts, length-replicate reads (reading 6 vars))
+    omega (arith, total_more (padded_lists scripts) (replicate reads (read_entry_of 6 vars)), padded_total (3 - length scripts) scripts, length-replicate reads (read_entry_of 6 vars))
 
 -- ---- one list more without entries
 
@@ -133,9 +133,9 @@ views_on e f o x xs ys count seen same at begins views =
     }))
 
 -- a station with six passes, the lists of three operators, and what the workers and the publisher made with these
-module _ (s : Locked Opening) (steps : ℕ) (stimuli : List Entry) (scripts padded : List (List Entry)) (vars : List Var) (r : P) (whole : Bool)
+module _ (s : LockView Opening) (steps : ℕ) (stimuli : List Entry) (scripts padded : List (List Entry)) (vars : List Var) (r : P) (whole : Bool)
     (all front : List P) (last : P) (are : all ≡ fresh_passes s 0 6) (split : all ≡ front ++ last ∷ []) (pad : padded ≡ padded_lists scripts) (few : length scripts ≤ 3)
-    (worked : HasWorked s (front ++ last ∷ []) steps stimuli (padded ++ replicate 100 (reading last.number vars) ∷ []) r whole) where
+    (worked : HasWorked s (front ++ last ∷ []) steps stimuli (padded ++ replicate 100 (read_entry_of last.number vars) ∷ []) r whole) where
   abbrev lists : List (List Entry)
   lists = watch_lists 100 scripts vars
 
@@ -147,10 +147,10 @@ module _ (s : Locked Opening) (steps : ℕ) (stimuli : List Entry) (scripts padd
 
   worked_so : HasWorked s (front ++ last ∷ []) steps stimuli lists r whole
   worked_so =
-      subst (λ (n : ℕ). HasWorked s (front ++ last ∷ []) steps stimuli (padded_lists scripts ++ replicate 100 (reading n vars) ∷ []) r whole) number
-      (subst (λ (l : List (List Entry)). HasWorked s (front ++ last ∷ []) steps stimuli (l ++ replicate 100 (reading last.number vars) ∷ []) r whole) pad worked)
+      subst (λ (n : ℕ). HasWorked s (front ++ last ∷ []) steps stimuli (padded_lists scripts ++ replicate 100 (read_entry_of n vars) ∷ []) r whole) number
+      (subst (λ (l : List (List Entry)). HasWorked s (front ++ last ∷ []) steps stimuli (l ++ replicate 100 (read_entry_of last.number vars) ∷ []) r whole) pad worked)
 
-  pub watch_missing : s.passes ≡ 6 → missing s.passes r.made ≡ 0
+  pub watch_missing : s.passes ≡ 6 → missing_number_count s.passes r.made ≡ 0
   watch_missing passes =
       none_missing s steps stimuli lists r whole 6 (front ++ last ∷ []) fresh (lists_many 100 scripts vars few) worked_so passes
 
@@ -165,12 +165,12 @@ module _ (s : Locked Opening) (steps : ℕ) (stimuli : List Entry) (scripts padd
     watch_lived agrees ok =
         lived s steps stimuli lists r whole 6 (front ++ last ∷ []) fresh (lists_many 100 scripts vars few) worked_so begin c starts loaded none_yet back agrees ok
 
-    pub watch_views : (seen : List Shown) → AreViews (reading last.number vars) (the_opening s.origin) r.seen 100 seen
-        → AreViews (reading 6 vars) (opened_on loaded) c.history 100 seen
+    pub watch_views : (seen : List Shown) → AreViews (read_entry_of last.number vars) (the_opening s.origin) r.seen 100 seen
+        → AreViews (read_entry_of 6 vars) (opened_on loaded) c.history 100 seen
     watch_views seen views =
         let at : the_opening s.origin ≡ opened_on loaded =
         ap the_opening starts ∙ ap (λ (b : Recording). record { program = b.program; profile = b.profile; first = b.history }) none_yet in
         let history : c.history ≡ back.story = back.history ∙ ap (λ (x : Opening). x.first ++ back.story) at in
-        subst (λ (h : List Entry). AreViews (reading 6 vars) (opened_on loaded) h 100 seen) (sym history)
-        (views_on (reading last.number vars) (reading 6 vars) (the_opening s.origin) (opened_on loaded) r.seen back.story 100 seen
-        (ap (λ (n : ℕ). reading n vars) number) at back.begins views)
+        subst (λ (h : List Entry). AreViews (read_entry_of 6 vars) (opened_on loaded) h 100 seen) (sym history)
+        (views_on (read_entry_of last.number vars) (read_entry_of 6 vars) (the_opening s.origin) (opened_on loaded) r.seen back.story 100 seen
+        (ap (λ (n : ℕ). read_entry_of n vars) number) at back.begins views)

@@ -6,7 +6,7 @@ use Rattle.image_file.specs.declared.faults.LoadFault.{LoadFault}
 use Rattle.var_access.specs.declared.Entry.{Entry}
 use Rattle.var_access.specs.declared.Var.{Var}
 use Rattle.event_text.specs.Texts.{stimuli_of}
-use Rattle.event_text.specs.WatchedVars.{vars_of}
+use Rattle.event_text.specs.WatchedVars.{watched_vars_of}
 use Rattle.s7_cli.specs.declared.failures.File.TheVariants.{Stimuli, Vars, Script}
 use Rattle.s7_cli.specs.Answer.{Answer}
 use Rattle.s7_cli.specs.LiveSays.{RefusedScript, scripts_from}
@@ -28,7 +28,7 @@ loaded-one : (l : Result LoadedProgram LoadFault) (steps : ℕ) (stimuli vars : 
     → LoadedWatch l steps stimuli vars scripts a → LoadedWatch l steps stimuli vars scripts b → a.outcome ≡ b.outcome
 loaded-one (Err fault) steps stimuli vars scripts a b m n = same-outcome a b _ m n
 loaded-one (Ok p) steps stimuli vars scripts a b m n =
-    checked-one p steps (stimuli_of stimuli) (vars_of p.program.names vars) (scripts_from p.program.names 1 scripts) a b m n
+    checked-one p steps (stimuli_of stimuli) (watched_vars_of p.program.names vars) (scripts_from p.program.names 1 scripts) a b m n
 
 pub watch-one : (steps : ℕ) (image stimuli vars : List ℕ) (scripts : List (List ℕ)) (a b : Answer) → WatchSays steps image stimuli vars scripts a
     → WatchSays steps image stimuli vars scripts b → a.outcome ≡ b.outcome
@@ -49,7 +49,7 @@ loaded-verdict : (l : Result LoadedProgram LoadFault) (steps : ℕ) (stimuli var
     → LoadedWatch l steps stimuli vars scripts a → IsVerdict a
 loaded-verdict (Err fault) steps stimuli vars scripts a said = inr (inr (inl (fault, said)))
 loaded-verdict (Ok p) steps stimuli vars scripts a said =
-    checked-verdict p steps (stimuli_of stimuli) (vars_of p.program.names vars) (scripts_from p.program.names 1 scripts) a said
+    checked-verdict p steps (stimuli_of stimuli) (watched_vars_of p.program.names vars) (scripts_from p.program.names 1 scripts) a said
 
 pub watch-verdict : (steps : ℕ) (image stimuli vars : List ℕ) (scripts : List (List ℕ)) (a : Answer) → WatchSays steps image stimuli vars scripts a → IsVerdict a
 watch-verdict steps image stimuli vars scripts a said = loaded-verdict said.0 steps stimuli vars scripts a said.2

@@ -3,33 +3,33 @@ use Rattle.std.proofs.Common.{◌≡◌, ℕ, Bool, true, List, [], ◌∷◌, �
 use Rattle.std.specs.Result.{result_and}
 use mathlib.Core.List.{IsPrefix}
 use Rattle.var_access.specs.declared.Entry.{Entry}
-use Rattle.tracked_lock.specs.Passes.{Passed, Locked}
+use Rattle.tracked_lock.specs.Passes.{PassView, LockView}
 use Rattle.tracked_lock.specs.Views.{IsMadeOf}
 use Rattle.tracked_lock.specs.declared.views.Made.{Made}
 use Rattle.station.specs.Openings.{the_opening}
 use Rattle.station.specs.declared.shared.Opening.{Opening}
 use Rattle.station.specs.declared.shared.StationFault.{StationFault}
 use Rattle.station.specs.declared.shared.StationFault.TheVariants.{NoMemory, Full}
-use Rattle.s7_cli.specs.Working.{EndsInStop, HasStepped, HasWorked, HaveBegun, IsFaultAt, KnowsFault, RunsBefore, entries_of, made_whole, step_by}
+use Rattle.s7_cli.specs.Working.{EndsInStop, HasStepped, HasWorked, HaveBegun, IsFaultAt, KnowsFault, RunsBefore, entries_of_worker, passes_made_whole, step_entry_by}
 use Rattle.s7_cli.proofs.StepperLemmas.{ends_on, none_came, runs_on}
 
 pub at_ok : {A B : Type 0} {X : Type 0} (r : Result A B) → IsOk r → OnOk r X → X
 at_ok (Ok a) h x = x
 at_ok (Err b) h x = absurd (true≢false (sym h))
 
-pub worked : (s : Locked Opening) (all rest : List (Passed Opening Entry)) (p a b r : Passed Opening Entry) (steps : ℕ) (stimuli : List Entry) (scripts : List (List Entry)) (first whole : Bool)
+pub worked : (s : LockView Opening) (all rest : List (PassView Opening Entry)) (p a b r : PassView Opening Entry) (steps : ℕ) (stimuli : List Entry) (scripts : List (List Entry)) (first whole : Bool)
     → all ≡ p ∷ rest → HasStepped s p.number steps a first → HaveBegun rest (stimuli ∷ scripts) b.made → r.made ≡ a.made ++ b.made
     → IsPrefix a.seen r.seen → IsMadeOf (λ e. e.who) r.seen r.made
-    → (whole ≡ true → (first ≡ true) × (b.made ≡ made_whole rest (stimuli ∷ scripts)))
+    → (whole ≡ true → (first ≡ true) × (b.made ≡ passes_made_whole rest (stimuli ∷ scripts)))
     → HasWorked s all steps stimuli scripts r whole
 worked s all rest p a b r steps stimuli scripts first whole is h begun both begins agrees done =
     let who : ℕ = p.number in
     let z : List Entry = begins.0 in
     let o : Opening = the_opening s.origin in
-    let made : ◌≡◌ {A = List (Made Entry)} r.made (record { number = who; entries = replicate h.count (step_by who) } ∷ b.made) = both ∙ ap (λ (l : List (Made Entry)). l ++ b.made) h.made in
-    let now : entries_of who r.seen ≡ replicate h.count (step_by who) = (subst (IsMadeOf (λ (e : Entry). e.who) r.seen) made agrees).0 in
-    let was : entries_of who a.seen ≡ replicate h.count (step_by who) = (subst (IsMadeOf (λ (e : Entry). e.who) a.seen) h.made h.agrees).0 in
-    let none : entries_of who z ≡ [] = none_came who a.seen z r.seen begins.1 (omega (arith, ap length now, ap length was)) in
+    let made : ◌≡◌ {A = List (Made Entry)} r.made (record { number = who; entries = replicate h.count (step_entry_by who) } ∷ b.made) = both ∙ ap (λ (l : List (Made Entry)). l ++ b.made) h.made in
+    let now : entries_of_worker who r.seen ≡ replicate h.count (step_entry_by who) = (subst (IsMadeOf (λ (e : Entry). e.who) r.seen) made agrees).0 in
+    let was : entries_of_worker who a.seen ≡ replicate h.count (step_entry_by who) = (subst (IsMadeOf (λ (e : Entry). e.who) a.seen) h.made h.agrees).0 in
+    let none : entries_of_worker who z ≡ [] = none_came who a.seen z r.seen begins.1 (omega (arith, ap length now, ap length was)) in
     subst (λ l. HasWorked s l steps stimuli scripts r whole) (sym is) record {
       count = h.count;
       few = h.few;
@@ -42,11 +42,11 @@ worked s all rest p a b r steps stimuli scripts first whole is h begun both begi
     }
 
 -- a longer story is as full
-fault_on : (s : Locked Opening) (xs ys : List Entry) (f : StationFault) → IsPrefix xs ys → IsFaultAt s xs f → IsFaultAt s ys f
+fault_on : (s : LockView Opening) (xs ys : List Entry) (f : StationFault) → IsPrefix xs ys → IsFaultAt s xs f → IsFaultAt s ys f
 fault_on s xs ys NoMemory p h = tt
 fault_on s xs ys Full p h = omega (arith, h, ap length p.1, length-append xs p.0)
 
-pub fault_of_both : (s : Locked Opening) (xs ys story : List Entry) (a b : Result Unit StationFault) → IsPrefix xs story → IsPrefix ys story
+pub fault_of_both : (s : LockView Opening) (xs ys story : List Entry) (a b : Result Unit StationFault) → IsPrefix xs story → IsPrefix ys story
     → KnowsFault s xs a → KnowsFault s ys b → KnowsFault s story (result_and a b)
 fault_of_both s xs ys story (Ok x) (Ok y) i j h k = tt
 fault_of_both s xs ys story (Ok x) (Err f) i j h k = fault_on s ys story f j k

@@ -20,65 +20,65 @@ pub record Answer : Type 0 where
   pub text : List ℕ
 
 -- done, with a text as the result
-abbrev pub done : List ℕ → Answer
-done text = record { outcome = Ok tt; text = text }
+abbrev pub done_answer : List ℕ → Answer
+done_answer text = record { outcome = Ok tt; text = text }
 
 -- a file breaks a rule
-abbrev pub refused : File → Refusal → Answer
-refused file refusal = record { outcome = Err (Refused file refusal); text = refusal_text file refusal }
+abbrev pub refused_file_answer : File → Refusal → Answer
+refused_file_answer file refusal = record { outcome = Err (Refused file refusal); text = refusal_text file refusal }
 
 -- an image isn't that of a program that verifies
-abbrev pub refused_image : LoadFault → Answer
-refused_image fault =
+abbrev pub refused_image_answer : LoadFault → Answer
+refused_image_answer fault =
     record { outcome = Err (ImageRefused fault); text = image_refused_text fault }
 
 -- a file holds a byte past its limit, or a translation or a text of a listing would
-abbrev pub too_long : File → Answer
-too_long file = record { outcome = Err (TooLong file); text = too_long_text file }
+abbrev pub too_long_answer : File → Answer
+too_long_answer file = record { outcome = Err (TooLong file); text = too_long_text file }
 
 -- a file can't be read
-abbrev pub read_fault : Answer
-read_fault = record { outcome = Err ReadFault; text = read_fault_text }
+abbrev pub read_fault_answer : Answer
+read_fault_answer = record { outcome = Err ReadFault; text = read_fault_text }
 
 -- the listing of an image doesn't compile to its program
-abbrev pub no_listing : Answer
-no_listing = record { outcome = Err NoListing; text = no_listing_text }
+abbrev pub no_listing_answer : Answer
+no_listing_answer = record { outcome = Err NoListing; text = no_listing_text }
 
 -- a certificate doesn't hold
-abbrev pub says_no : Answer
-says_no = record { outcome = Err SaysNo; text = says_no_text }
+abbrev pub says_no_answer : Answer
+says_no_answer = record { outcome = Err SaysNo; text = says_no_text }
 
 -- a chain of calls is too deep, and this is such a chain
-abbrev pub too_deep : List BlockId → Answer
-too_deep chain = record { outcome = Err TooDeep; text = chain_text chain }
+abbrev pub too_deep_answer : List BlockId → Answer
+too_deep_answer chain = record { outcome = Err TooDeep; text = chain_text chain }
 
 -- the words aren't those of a command
-abbrev pub words_refused : Answer
-words_refused = record { outcome = Err WordsRefused; text = words_refused_text }
+abbrev pub words_refused_answer : Answer
+words_refused_answer = record { outcome = Err WordsRefused; text = words_refused_text }
 
 -- the status of a refused file
-abbrev pub refused_code : File → ℕ
-refused_code Source = 2
-refused_code Translation = 2
-refused_code Symbols = 2
-refused_code Image = 3
-refused_code Listing = 3
-refused_code History = 4
-refused_code Stimuli = 4
-refused_code Vars = 4
-refused_code (Script number) = 4
-refused_code Certificate = 4
+abbrev pub refused_file_status : File → ℕ
+refused_file_status Source = 2
+refused_file_status Translation = 2
+refused_file_status Symbols = 2
+refused_file_status Image = 3
+refused_file_status Listing = 3
+refused_file_status History = 4
+refused_file_status Stimuli = 4
+refused_file_status Vars = 4
+refused_file_status (Script number) = 4
+refused_file_status Certificate = 4
 
 -- the exit status
-abbrev pub code_of : Outcome → ℕ
-code_of (Ok done) = 0
-code_of (Err WordsRefused) = 1
-code_of (Err (Refused file refusal)) = refused_code file
-code_of (Err (ImageRefused fault)) = 3
-code_of (Err ReadFault) = 5
-code_of (Err WriteFault) = 6
-code_of (Err NoMemory) = 7
-code_of (Err (TooLong file)) = 8
-code_of (Err NoListing) = 9
-code_of (Err SaysNo) = 10
-code_of (Err TooDeep) = 10
+abbrev pub exit_status : Outcome → ℕ
+exit_status (Ok done) = 0
+exit_status (Err WordsRefused) = 1
+exit_status (Err (Refused file refusal)) = refused_file_status file
+exit_status (Err (ImageRefused fault)) = 3
+exit_status (Err ReadFault) = 5
+exit_status (Err WriteFault) = 6
+exit_status (Err NoMemory) = 7
+exit_status (Err (TooLong file)) = 8
+exit_status (Err NoListing) = 9
+exit_status (Err SaysNo) = 10
+exit_status (Err TooDeep) = 10

@@ -4,13 +4,13 @@ use Rattle.plc_base.specs.declared.blocks.BlockId.{BlockId}
 use Rattle.plc_base.specs.declared.refusals.Refusal.{Refusal}
 use Rattle.image_file.specs.Loaded.{LoadedProgram}
 use Rattle.image_file.specs.declared.faults.LoadFault.{LoadFault}
-use Rattle.stack_bound.specs.Certificates.{Holds}
+use Rattle.stack_bound.specs.Certificates.{IsCertificateOf}
 use Rattle.stack_bound.specs.CertificateText.{certificate_of, certificate_text}
 use Rattle.stack_bound.specs.Finding.{IsDeepChain, IsLeastCertificate}
 use Rattle.stack_bound.specs.Overflow.{NeverOverflows}
 use Rattle.stack_bound.specs.declared.certificates.Bound.{Bound}
 use Rattle.s7_cli.specs.declared.failures.File.TheVariants.{Certificate}
-use Rattle.s7_cli.specs.Answer.{Answer, done, refused, refused_image, says_no, too_deep}
+use Rattle.s7_cli.specs.Answer.{Answer, done_answer, refused_file_answer, refused_image_answer, says_no_answer, too_deep_answer}
 use Rattle.s7_cli.specs.Command.{Command, Bound as BoundCommand, Recheck}
 use Rattle.s7_cli.specs.Lines.{ok_line}
 use Rattle.s7_cli.specs.Loads.{LoadsAs}
@@ -19,15 +19,15 @@ use Rattle.s7_cli.specs.Reading.{Disk}
 -- ---- `bound`: the image is loaded
 
 -- no chain of calls is too deep, so there is a least certificate
-abbrev pub Fits : LoadedProgram → Type 0
-Fits l = (list : List Bound) × IsLeastCertificate l.profile l.program list
+abbrev pub HasLeastCertificate : LoadedProgram → Type 0
+HasLeastCertificate l = (list : List Bound) × IsLeastCertificate l.profile l.program list
 
 -- the certificate is written, or a chain is told that is too deep
 abbrev pub BoundAnswer : Result LoadedProgram LoadFault → Answer → Type 0
-BoundAnswer (Err fault) answer = answer ≡ refused_image fault
+BoundAnswer (Err fault) answer = answer ≡ refused_image_answer fault
 BoundAnswer (Ok l) answer =
-    (Fits l × (answer ≡ done ok_line))
-    ⊎ ((chain : List BlockId) × IsDeepChain l.profile l.program chain × (answer ≡ too_deep chain))
+    (HasLeastCertificate l × (answer ≡ done_answer ok_line))
+    ⊎ ((chain : List BlockId) × IsDeepChain l.profile l.program chain × (answer ≡ too_deep_answer chain))
 
 -- what `bound` answers, over the contents of its file
 abbrev pub BoundSays : (image : List ℕ) → Answer → Type 0
@@ -45,17 +45,17 @@ IsCertificate bytes image =
 -- the certificate holds, or says no
 abbrev pub HeldAnswer : LoadedProgram → List Bound → Answer → Type 0
 HeldAnswer l list answer =
-    (Holds l.profile l.program list × (answer ≡ done ok_line))
-    ⊎ ((Holds l.profile l.program list → ⊥) × (answer ≡ says_no))
+    (IsCertificateOf l.profile l.program list × (answer ≡ done_answer ok_line))
+    ⊎ ((IsCertificateOf l.profile l.program list → ⊥) × (answer ≡ says_no_answer))
 
 -- a text that is no certificate is refused by its first bad line
 abbrev pub CheckedAnswer : LoadedProgram → Result (List Bound) Refusal → Answer → Type 0
-CheckedAnswer l (Err refusal) answer = answer ≡ refused Certificate refusal
+CheckedAnswer l (Err refusal) answer = answer ≡ refused_file_answer Certificate refusal
 CheckedAnswer l (Ok list) answer = HeldAnswer l list answer
 
 -- the blocks of the certificate are those of the image
 abbrev pub RecheckAnswer : Result LoadedProgram LoadFault → (certificate : List ℕ) → Answer → Type 0
-RecheckAnswer (Err fault) certificate answer = answer ≡ refused_image fault
+RecheckAnswer (Err fault) certificate answer = answer ≡ refused_image_answer fault
 RecheckAnswer (Ok l) certificate answer =
     CheckedAnswer l (certificate_of l.program certificate) answer
 

@@ -2,8 +2,8 @@
 use Rattle.std.specs.Prelude.{◌≡◌, ℕ, List, Ok}
 use Rattle.plc_base.specs.declared.blocks.BlockId.{BlockId}
 use Rattle.image_file.specs.Loaded.{LoadedProgram}
-use Rattle.stack_bound.specs.Certificates.{Holds}
-use Rattle.stack_bound.specs.CertificateText.{Spells, certificate_text}
+use Rattle.stack_bound.specs.Certificates.{IsCertificateOf}
+use Rattle.stack_bound.specs.CertificateText.{SpellsCertificate, certificate_text}
 use Rattle.stack_bound.specs.ChainText.{chain_text}
 use Rattle.stack_bound.specs.Finding.{IsDeepChain}
 use Rattle.stack_bound.specs.declared.certificates.Bound.{Bound}
@@ -32,7 +32,7 @@ TellsOf image (told.Fits certificate) = IsCertificate certificate.items image
 TellsOf image (told.Deep line) = IsChainLine line.items image
 
 -- a text spells a certificate that holds of an image
-abbrev pub IsHeld : (image certificate : List ℕ) → Type 0
-IsHeld image certificate =
+abbrev pub IsCertificateOfImage : (image certificate : List ℕ) → Type 0
+IsCertificateOfImage image certificate =
     (l : LoadedProgram) × LoadsAs image (Ok l) × (list : List Bound)
-    × Spells l.program certificate list × Holds l.profile l.program list
+    × SpellsCertificate l.program certificate list × IsCertificateOf l.profile l.program list

@@ -16,8 +16,8 @@ use Rattle.block_layout.specs.Table.{layout_refusals}
 use Rattle.block_layout.specs.declared.blocks.BlockLayout.{BlockLayout}
 use Rattle.sem_kept.specs.Agreement.{AreFiles, ImageKeepsSourceIn, KeepsSourceIn}
 use Rattle.sem_kept.specs.Compiles.{CompilesTo}
-use Rattle.sem_kept.specs.Meaning.{HasSymbolsIn, HasTokens, HasTree, IsSound, InSymbols, InSource, IsRefusedSourceIn, Refused}
-use Rattle.sem_kept.specs.Stages.{InTurn}
+use Rattle.sem_kept.specs.Meaning.{HasSymbolsIn, HasTokens, HasTreeOrRefusal, IsSound, InSymbols, InSource, IsRefusedSourceIn, RefusedFile}
+use Rattle.sem_kept.specs.Stages.{HaveOutcomeInTurn}
 use Rattle.s7_cli.specs.declared.compiling.LaidSource.{LaidSource}
 use Rattle.s7_cli.specs.declared.faults.CompileFault.{CompileFault}
 use Rattle.s7_cli.specs.declared.faults.CompileFault.TheVariants as fault
@@ -58,33 +58,33 @@ fault_in_source (found.Refused refusal) = fault.Source refusal
 fault_in_source found.NoMemory = fault.NoMemory
 
 -- what a stage makes, or its refusal
-abbrev pub Finds : {A : Type 0} → (Result A Refusal → Type 0) → Result A SourceFault → Type 0
-Finds stage (Ok made) = stage (Ok made)
-Finds stage (Err (found.Refused refusal)) = stage (Err refusal)
-Finds stage (Err found.NoMemory) = Unit {0}
+abbrev pub MakesOrRefuses : {A : Type 0} → (Result A Refusal → Type 0) → Result A SourceFault → Type 0
+MakesOrRefuses stage (Ok made) = stage (Ok made)
+MakesOrRefuses stage (Err (found.Refused refusal)) = stage (Err refusal)
+MakesOrRefuses stage (Err found.NoMemory) = Unit {0}
 
 -- a tree is refused by its layout or by its statements
-abbrev pub IsRefusedBy : List Symbol → Tree → SourceFault → Type 0
-IsRefusedBy symbols tree (found.Refused refusal) = IsSound symbols tree (Err refusal)
-IsRefusedBy symbols tree found.NoMemory = Unit {0}
+abbrev pub IsRefusedByFault : List Symbol → Tree → SourceFault → Type 0
+IsRefusedByFault symbols tree (found.Refused refusal) = IsSound symbols tree (Err refusal)
+IsRefusedByFault symbols tree found.NoMemory = Unit {0}
 
 -- the layouts of a tree that breaks no rule on its layout, or the least of the rules on layout and
 -- on statements that it breaks
-abbrev pub Lays : List Symbol → Tree → Result (List BlockLayout) SourceFault → Type 0
-Lays symbols tree (Ok layouts) =
+abbrev pub LaysOutTree : List Symbol → Tree → Result (List BlockLayout) SourceFault → Type 0
+LaysOutTree symbols tree (Ok layouts) =
     (least (layout_refusals tree symbols) ≡ None) × (layouts ≡ layouts_of tree symbols)
-Lays symbols tree (Err fault) = IsRefusedBy symbols tree fault
+LaysOutTree symbols tree (Err fault) = IsRefusedByFault symbols tree fault
 
 -- a source is laid out so with its symbols, and breaks no rule on its tokens, clauses and layout
-pub record IsLaid (source : List ℕ) (laid : LaidSource) : Type 0 where
-  pub parsed : InTurn HasTokens (HasTree source) source (Ok laid.tree)
+pub record IsSourceLaidOut (source : List ℕ) (laid : LaidSource) : Type 0 where
+  pub parsed : HaveOutcomeInTurn HasTokens (HasTreeOrRefusal source) source (Ok laid.tree)
   pub right : least (layout_refusals laid.tree laid.symbols) ≡ None
   pub layout : laid.layouts ≡ layouts_of laid.tree laid.symbols
 
 -- each source that is laid out so is refused so
 abbrev pub RefusesLaid : LaidSource → CompileFault → Type 0
 RefusesLaid laid fault =
-    (source : List ℕ) → IsLaid source laid → RefusesWith source laid.symbols fault
+    (source : List ℕ) → IsSourceLaidOut source laid → RefusesWith source laid.symbols fault
 
 -- a source with its symbols has a program that keeps it, at the large profile
 abbrev pub HasProgramIn : Language → (source symbols : List ℕ) → Type 0
@@ -104,8 +104,8 @@ abbrev pub HasProgram : (source symbols : List ℕ) → Type 0
 HasProgram source symbols = HasProgramIn English source symbols
 
 -- bytes are the image of a source with its symbols, with English mnemonics
-abbrev pub IsCompiled : (bytes source symbols : List ℕ) → Type 0
-IsCompiled bytes source symbols = IsCompiledIn English bytes source symbols
+abbrev pub IsImageOfEnglishSource : (bytes source symbols : List ℕ) → Type 0
+IsImageOfEnglishSource bytes source symbols = IsCompiledIn English bytes source symbols
 
 -- some files are a source and have these symbols
 abbrev pub AreRead : (source : List ℕ) → List Symbol → Type 0
@@ -135,5 +135,5 @@ CompilesWith source list p =
 -- a source that is refused compiles to no program
 abbrev pub RefusedHaveNone : Type 0
 RefusedHaveNone =
-    (language : Language) (source symbols : List ℕ) (refused : Refused) (p : Program)
+    (language : Language) (source symbols : List ℕ) (refused : RefusedFile) (p : Program)
     → IsRefusedSourceIn language source symbols refused → CompilesTo language source symbols p → ⊥

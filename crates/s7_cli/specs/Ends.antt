@@ -1,28 +1,28 @@
 -- How a call ends: what it answers, and what it leaves of the files and the sink.
 use Rattle.std.specs.Prelude.{◌≡◌, ◌≤◌, ◌⊎◌, ℕ, List, [], ◌∷◌, map, take, Contains, Option, Some, None, Ok, Err, true}
 use Rattle.plc_io.specs.Contents.{SameFiles}
-use Rattle.plc_io.specs.Counts.{Rose, SameCounts, NeverFell}
+use Rattle.plc_io.specs.Counts.{CountRose, SameCounts, NoCountFell}
 use Rattle.plc_io.specs.Moments.{SinkAt}
-use Rattle.plc_io.specs.Taken.{Took, TookPrefix}
+use Rattle.plc_io.specs.Taken.{TookBytes, TookPrefix}
 use Rattle.s7_cli.specs.declared.failures.Failure.TheVariants.{ReadFault, WriteFault, NoMemory}
-use Rattle.s7_cli.specs.Answer.{Answer, Outcome, words_refused, code_of}
+use Rattle.s7_cli.specs.Answer.{Answer, Outcome, words_refused_answer, exit_status}
 use Rattle.s7_cli.specs.Command.{Command, inputs_of, outputs_of}
-use Rattle.s7_cli.specs.Reading.{Disk, HoldAll, Reads}
-use Rattle.s7_cli.specs.Says.{Says, Writes}
+use Rattle.s7_cli.specs.Reading.{Disk, HoldBytesInTurn, ReadsFilesInTurn}
+use Rattle.s7_cli.specs.Says.{CommandSays, WritesOutputFile}
 
 -- the sink at the start of a call, and now
-pub record Taking : Type 0 where
+pub record SinkMoments : Type 0 where
   pub before : SinkAt
   pub after : SinkAt
 
 -- the sink at these two moments, the start of the call first
-abbrev pub taking : SinkAt → SinkAt → Taking
-taking before after = record { before = before; after = after }
+abbrev pub sink_moments : SinkAt → SinkAt → SinkMoments
+sink_moments before after = record { before = before; after = after }
 
 -- an answer of a call
-abbrev pub Answers : Option Command → Disk → Answer → Type 0
-Answers None d answer = answer ≡ words_refused
-Answers (Some c) d answer = Reads d (inputs_of c) (Says c) answer
+abbrev pub IsAnswerOfCall : Option Command → Disk → Answer → Type 0
+IsAnswerOfCall None d answer = answer ≡ words_refused_answer
+IsAnswerOfCall (Some c) d answer = ReadsFilesInTurn d (inputs_of c) (CommandSays c) answer
 
 -- the names of a command's input files
 abbrev pub input_names : Option Command → List (List ℕ)
@@ -37,7 +37,7 @@ output_names (Some c) = outputs_of c
 -- the count of one of these names rose
 abbrev pub RoseAmong : (before after : List ℕ → ℕ) → List (List ℕ) → Type 0
 RoseAmong before after [] = ⊥
-RoseAmong before after (name ∷ names) = Rose (before name) (after name) ⊎ RoseAmong before after names
+RoseAmong before after (name ∷ names) = CountRose (before name) (after name) ⊎ RoseAmong before after names
 
 -- some count of failed reads of an input file rose in the call
 abbrev pub InputRose : Option Command → Disk → Type 0
@@ -49,12 +49,12 @@ OutputRose c d = RoseAmong d.before.failed_writes d.after.failed_writes (output_
 
 -- the counts of failed reads rise with a read fault alone
 abbrev pub CountsReads : Disk → Outcome → Type 0
-CountsReads d (Err ReadFault) = NeverFell d.before.failed_reads d.after.failed_reads
+CountsReads d (Err ReadFault) = NoCountFell d.before.failed_reads d.after.failed_reads
 CountsReads d outcome = SameCounts d.before.failed_reads d.after.failed_reads
 
 -- what the command writes to an output file, for contents of its input files that agree with what is told
 abbrev pub WritesTo : Command → Disk → (name bytes : List ℕ) → Type 0
-WritesTo c d name bytes = (contents : List (List ℕ)) × HoldAll d.before.contents (inputs_of c) contents × Writes c contents name bytes
+WritesTo c d name bytes = (contents : List (List ℕ)) × HoldBytesInTurn d.before.contents (inputs_of c) contents × WritesOutputFile c contents name bytes
 
 -- an output file holds what it held, or a front of what the command writes to it, or the whole of that
 abbrev pub HoldsFront : Command → Disk → List ℕ → Type 0
@@ -84,55 +84,55 @@ LeavesFiles c d (Err failure) = SameFiles d.before.contents d.after.contents
 
 -- the call was cut short: nothing was taken, or a front of the text of an answer that these files, and these counts of failed reads,
 -- allow, and the files are as that answer leaves them: no `OK` before the image stands whole
-abbrev pub CutShort : Option Command → Disk → Taking → Type 0
+abbrev pub CutShort : Option Command → Disk → SinkMoments → Type 0
 CutShort c d s =
     (s.after.taken ≡ s.before.taken)
-    ⊎ ((answer : Answer) × Answers c d answer × CountsReads d answer.outcome × LeavesFiles c d answer.outcome × TookPrefix s.before s.after answer.text)
+    ⊎ ((answer : Answer) × IsAnswerOfCall c d answer × CountsReads d answer.outcome × LeavesFiles c d answer.outcome × TookPrefix s.before s.after answer.text)
 
 -- the call said its whole text
-pub record IsSaid (c : Option Command) (d : Disk) (s : Taking) (answer : Answer) : Type 0 where
-  pub answers : Answers c d answer
-  pub took : Took s.before s.after answer.text
+pub record SaysWholeText (c : Option Command) (d : Disk) (s : SinkMoments) (answer : Answer) : Type 0 where
+  pub answers : IsAnswerOfCall c d answer
+  pub took : TookBytes s.before s.after answer.text
   pub faults : s.after.faults ≡ s.before.faults
   pub reads : CountsReads d answer.outcome
   pub writes : SameCounts d.before.failed_writes d.after.failed_writes
   pub files : LeavesFiles c d answer.outcome
 
 -- it was cut short; the counts of failed reads may have risen
-pub record IsCut (c : Option Command) (d : Disk) (s : Taking) : Type 0 where
+pub record IsCallCutShort (c : Option Command) (d : Disk) (s : SinkMoments) : Type 0 where
   pub cut : CutShort c d s
-  pub reads : NeverFell d.before.failed_reads d.after.failed_reads
+  pub reads : NoCountFell d.before.failed_reads d.after.failed_reads
   pub files : ChangesOutputs c d
 
 -- the sink failed, and no write of a file
-pub record SinkFailed (d : Disk) (s : Taking) : Type 0 where
-  pub faults : Rose s.before.faults s.after.faults
+pub record SinkFailed (d : Disk) (s : SinkMoments) : Type 0 where
+  pub faults : CountRose s.before.faults s.after.faults
   pub never_fell : s.before.faults ≤ s.after.faults
   pub writes : SameCounts d.before.failed_writes d.after.failed_writes
 
 -- the write of an output file failed, and not the sink
-pub record OutputFailed (c : Option Command) (d : Disk) (s : Taking) : Type 0 where
+pub record OutputFailed (c : Option Command) (d : Disk) (s : SinkMoments) : Type 0 where
   pub rose : OutputRose c d
-  pub writes : NeverFell d.before.failed_writes d.after.failed_writes
+  pub writes : NoCountFell d.before.failed_writes d.after.failed_writes
   pub faults : s.after.faults ≡ s.before.faults
 
 -- a write failed
-pub record IsWriteFault (c : Option Command) (d : Disk) (s : Taking) : Type 0 where
-  pub cut : IsCut c d s
+pub record IsWriteFault (c : Option Command) (d : Disk) (s : SinkMoments) : Type 0 where
+  pub cut : IsCallCutShort c d s
   pub failed : SinkFailed d s ⊎ OutputFailed c d s
 
 -- memory was wanting
-pub record IsNoMemory (c : Option Command) (d : Disk) (s : Taking) : Type 0 where
-  pub cut : IsCut c d s
+pub record IsNoMemory (c : Option Command) (d : Disk) (s : SinkMoments) : Type 0 where
+  pub cut : IsCallCutShort c d s
   pub faults : s.after.faults ≡ s.before.faults
   pub writes : SameCounts d.before.failed_writes d.after.failed_writes
 
 -- a call came out so
-abbrev pub Ends : Option Command → Disk → Taking → Outcome → Type 0
-Ends c d s (Err WriteFault) = IsWriteFault c d s
-Ends c d s (Err NoMemory) = IsNoMemory c d s
-Ends c d s outcome = (text : List ℕ) × IsSaid c d s (record { outcome = outcome; text = text })
+abbrev pub EndsWithOutcome : Option Command → Disk → SinkMoments → Outcome → Type 0
+EndsWithOutcome c d s (Err WriteFault) = IsWriteFault c d s
+EndsWithOutcome c d s (Err NoMemory) = IsNoMemory c d s
+EndsWithOutcome c d s outcome = (text : List ℕ) × SaysWholeText c d s (record { outcome = outcome; text = text })
 
 -- and this is its status
-abbrev pub Ended : Option Command → Disk → Taking → ℕ → Type 0
-Ended c d s code = (outcome : Outcome) × (code ≡ code_of outcome) × Ends c d s outcome
+abbrev pub EndsWithStatus : Option Command → Disk → SinkMoments → ℕ → Type 0
+EndsWithStatus c d s code = (outcome : Outcome) × (code ≡ exit_status outcome) × EndsWithOutcome c d s outcome

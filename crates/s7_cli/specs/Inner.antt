@@ -1,74 +1,74 @@
 -- What the inner calls of a command tell, from the moment at which the command began.
 use Rattle.std.specs.Prelude.{◌≡◌, ◌≢◌, ◌≤◌, ◌⊎◌, ℕ, List, [], ◌∷◌, Option, Some, None, Result, Ok, Err}
 use Rattle.plc_io.specs.Contents.{SameFiles}
-use Rattle.plc_io.specs.Counts.{Rose, SameCounts, NeverFell}
-use Rattle.plc_io.specs.FileCalls.{LeavesWritten, Unchanged}
+use Rattle.plc_io.specs.Counts.{CountRose, SameCounts, NoCountFell}
+use Rattle.plc_io.specs.FileCalls.{LeavesWritten, AreFilesUnchanged}
 use Rattle.plc_io.specs.Moments.{FilesAt}
-use Rattle.plc_io.specs.Taken.{Took, TookPrefix}
+use Rattle.plc_io.specs.Taken.{TookBytes, TookPrefix}
 use Rattle.plc_io.specs.declared.faults.IoFault.TheVariants as fault
 use Rattle.s7_cli.specs.declared.failures.Failure.{Failure}
 use Rattle.s7_cli.specs.declared.finish.Output.{Output}
 use Rattle.s7_cli.specs.declared.failures.Failure.TheVariants.{ReadFault, TooLong, Refused, ImageRefused, NoListing, SaysNo, TooDeep, WriteFault, NoMemory}
-use Rattle.s7_cli.specs.Answer.{Answer, Outcome, done, refused, refused_image, no_listing, says_no, too_long, read_fault}
+use Rattle.s7_cli.specs.Answer.{Answer, Outcome, done_answer, refused_file_answer, refused_image_answer, no_listing_answer, says_no_answer, too_long_answer, read_fault_answer}
 use Rattle.s7_cli.specs.Command.{Command, Input, inputs_of, outputs_of}
-use Rattle.s7_cli.specs.Ends.{Taking, Answers, CountsReads, IsSaid, IsWriteFault, IsNoMemory}
-use Rattle.s7_cli.specs.Lines.{line_of, ok_line}
-use Rattle.s7_cli.specs.Reading.{Disk, disk, Holds, HoldAll, StopsAt}
-use Rattle.s7_cli.specs.Says.{Says, Writes}
+use Rattle.s7_cli.specs.Ends.{SinkMoments, IsAnswerOfCall, CountsReads, SaysWholeText, IsWriteFault, IsNoMemory}
+use Rattle.s7_cli.specs.Lines.{line_of_failure, ok_line}
+use Rattle.s7_cli.specs.Reading.{Disk, disk_moments, HoldsBytes, HoldBytesInTurn, StopsAt}
+use Rattle.s7_cli.specs.Says.{CommandSays, WritesOutputFile}
 
 -- a reading has ended, and only counts of failed reads may have changed
 pub record OnlyReads (d : Disk) : Type 0 where
   pub files : SameFiles d.before.contents d.after.contents
-  pub reads : NeverFell d.before.failed_reads d.after.failed_reads
+  pub reads : NoCountFell d.before.failed_reads d.after.failed_reads
   pub writes : SameCounts d.before.failed_writes d.after.failed_writes
 
 -- the reading of one input file
 abbrev pub FileRead : {V : Type 0} (view : V → List ℕ) → Disk → Input → Result V Failure → Type 0
-FileRead view d i (Ok v) = Unchanged d.before d.after × Holds d.before.contents i (view v)
-FileRead view d i (Err ReadFault) = OnlyReads d × StopsAt d i read_fault
-FileRead view d i (Err (TooLong file)) = Unchanged d.before d.after × (file ≡ i.file) × StopsAt d i (too_long file)
+FileRead view d i (Ok v) = AreFilesUnchanged d.before d.after × HoldsBytes d.before.contents i (view v)
+FileRead view d i (Err ReadFault) = OnlyReads d × StopsAt d i read_fault_answer
+FileRead view d i (Err (TooLong file)) = AreFilesUnchanged d.before d.after × (file ≡ i.file) × StopsAt d i (too_long_answer file)
 FileRead view d i (Err NoMemory) = OnlyReads d
 FileRead view d i (Err failure) = ⊥
 
 -- these input files were read, and nothing changed
 pub record HasRead (before after : FilesAt) (inputs : List Input) (contents : List (List ℕ)) : Type 0 where
-  pub same : Unchanged before after
-  pub hold : HoldAll before.contents inputs contents
+  pub same : AreFilesUnchanged before after
+  pub hold : HoldBytesInTurn before.contents inputs contents
 
 -- the reading of files, one after the other, ends at one of them
 abbrev pub StopsAmong : Disk → List Input → Answer → Type 0
 StopsAmong d [] answer = ⊥
 StopsAmong d (i ∷ is) answer =
     StopsAt d i answer
-    ⊎ ((bytes : List ℕ) × Holds d.before.contents i bytes × StopsAmong d is answer)
+    ⊎ ((bytes : List ℕ) × HoldsBytes d.before.contents i bytes × StopsAmong d is answer)
 
 -- the reading of input files, one after the other
 abbrev pub AllRead :
     {V : Type 0} (view : V → List (List ℕ)) → Disk → List Input → Result V Failure → Type 0
 AllRead view d is (Ok v) = HasRead d.before d.after is (view v)
-AllRead view d is (Err ReadFault) = OnlyReads d × StopsAmong d is read_fault
+AllRead view d is (Err ReadFault) = OnlyReads d × StopsAmong d is read_fault_answer
 AllRead view d is (Err (TooLong file)) =
-    Unchanged d.before d.after × StopsAmong d is (too_long file)
+    AreFilesUnchanged d.before d.after × StopsAmong d is (too_long_answer file)
 AllRead view d is (Err NoMemory) = OnlyReads d
 AllRead view d is (Err failure) = ⊥
 
 -- what files hold was refused, or a certificate doesn't hold of it, or its translation or listing is too long, or it has no listing: this
 -- is said of it
-abbrev pub RefusedBy : {V : Type 0} → (Answer → Type 0) → Result V Failure → Type 0
-RefusedBy says (Ok v) = Unit {0}
-RefusedBy says (Err (Refused file refusal)) = says (refused file refusal)
-RefusedBy says (Err (ImageRefused fault)) = says (refused_image fault)
-RefusedBy says (Err (TooLong file)) = says (too_long file)
-RefusedBy says (Err NoListing) = says no_listing
-RefusedBy says (Err SaysNo) = says says_no
-RefusedBy says (Err NoMemory) = Unit {0}
-RefusedBy says (Err failure) = ⊥
+abbrev pub SaysRefusal : {V : Type 0} → (Answer → Type 0) → Result V Failure → Type 0
+SaysRefusal says (Ok v) = Unit {0}
+SaysRefusal says (Err (Refused file refusal)) = says (refused_file_answer file refusal)
+SaysRefusal says (Err (ImageRefused fault)) = says (refused_image_answer fault)
+SaysRefusal says (Err (TooLong file)) = says (too_long_answer file)
+SaysRefusal says (Err NoListing) = says no_listing_answer
+SaysRefusal says (Err SaysNo) = says says_no_answer
+SaysRefusal says (Err NoMemory) = Unit {0}
+SaysRefusal says (Err failure) = ⊥
 
 -- the writing of a whole text
-abbrev pub TextWritten : List ℕ → Taking → Outcome → Type 0
-TextWritten text s (Ok done) = Took s.before s.after text × (s.after.faults ≡ s.before.faults)
+abbrev pub TextWritten : List ℕ → SinkMoments → Outcome → Type 0
+TextWritten text s (Ok done) = TookBytes s.before s.after text × (s.after.faults ≡ s.before.faults)
 TextWritten text s (Err WriteFault) =
-    TookPrefix s.before s.after text × Rose s.before.faults s.after.faults × (s.before.faults ≤ s.after.faults)
+    TookPrefix s.before s.after text × CountRose s.before.faults s.after.faults × (s.before.faults ≤ s.after.faults)
 TextWritten text s (Err NoMemory) = TookPrefix s.before s.after text × (s.after.faults ≡ s.before.faults)
 TextWritten text s (Err failure) = ⊥
 
@@ -83,54 +83,54 @@ FileWritten d name bytes (Err NoMemory) =
 FileWritten d name bytes (Err failure) = ⊥
 
 -- a failure whose line isn't written yet
-pub record Fails (c : Option Command) (d : Disk) (s : Taking) (failure : Failure) : Type 0 where
+pub record FailsWith (c : Option Command) (d : Disk) (s : SinkMoments) (failure : Failure) : Type 0 where
   pub line : List ℕ
-  pub has_line : line_of failure ≡ Some line
-  pub answers : Answers c d (record { outcome = Err failure; text = line })
+  pub has_line : line_of_failure failure ≡ Some line
+  pub answers : IsAnswerOfCall c d (record { outcome = Err failure; text = line })
   pub sink : s.after ≡ s.before
   pub counts : CountsReads d (Err failure)
   pub only_reads : OnlyReads d
 
 -- how a command came out before the line of its failure is written; that of a chain which is too deep was written
-abbrev pub Comes : Option Command → Disk → Taking → Outcome → Type 0
-Comes c d s (Ok done) = (text : List ℕ) × IsSaid c d s (record { outcome = Ok done; text = text })
-Comes c d s (Err WriteFault) = IsWriteFault c d s
-Comes c d s (Err NoMemory) = IsNoMemory c d s
-Comes c d s (Err TooDeep) =
-    (text : List ℕ) × IsSaid c d s (record { outcome = Err TooDeep; text = text })
-Comes c d s (Err failure) = Fails c d s failure
+abbrev pub ComesOutAs : Option Command → Disk → SinkMoments → Outcome → Type 0
+ComesOutAs c d s (Ok done) = (text : List ℕ) × SaysWholeText c d s (record { outcome = Ok done; text = text })
+ComesOutAs c d s (Err WriteFault) = IsWriteFault c d s
+ComesOutAs c d s (Err NoMemory) = IsNoMemory c d s
+ComesOutAs c d s (Err TooDeep) =
+    (text : List ℕ) × SaysWholeText c d s (record { outcome = Err TooDeep; text = text })
+ComesOutAs c d s (Err failure) = FailsWith c d s failure
 
 -- how a command comes out behind the reading of its input files, which held this
-abbrev pub ComesOf : Command → (contents : List (List ℕ)) → Disk → Taking → Outcome → Type 0
+abbrev pub ComesOf : Command → (contents : List (List ℕ)) → Disk → SinkMoments → Outcome → Type 0
 ComesOf c contents d s came =
     (start : FilesAt) → HasRead start d.before (inputs_of c) contents
-    → Comes (Some c) (disk start d.after) s came
+    → ComesOutAs (Some c) (disk_moments start d.after) s came
 
 -- a command whose input files hold this writes these bytes to this file, its only one, and `OK`
 pub record IsOutput (c : Command) (contents : List (List ℕ)) (name bytes : List ℕ) : Type 0 where
   pub outputs : outputs_of c ≡ name ∷ []
-  pub writes : Writes c contents name bytes
-  pub says : Says c contents (done ok_line)
+  pub writes : WritesOutputFile c contents name bytes
+  pub says : CommandSays c contents (done_answer ok_line)
 
 -- a file and what is written to it
-pub record Written : Type 0 where
+pub record WrittenFile : Type 0 where
   pub name : List ℕ
   pub bytes : List ℕ
 
 -- what is written so
-abbrev pub written_to : Output → Written
-written_to o = record { name = o.name.now; bytes = o.bytes.now }
+abbrev pub written_file : Output → WrittenFile
+written_file o = record { name = o.name.now; bytes = o.bytes.now }
 
 -- a command whose input files hold this writes these two files, its only ones, the first one first, and `OK`
-pub record AreOutputs (c : Command) (contents : List (List ℕ)) (first second : Written) : Type 0 where
+pub record AreOutputs (c : Command) (contents : List (List ℕ)) (first second : WrittenFile) : Type 0 where
   pub outputs : outputs_of c ≡ first.name ∷ second.name ∷ []
   pub apart : first.name ≢ second.name
-  pub writes_first : Writes c contents first.name first.bytes
-  pub writes_second : Writes c contents second.name second.bytes
-  pub says : Says c contents (done ok_line)
+  pub writes_first : WritesOutputFile c contents first.name first.bytes
+  pub writes_second : WritesOutputFile c contents second.name second.bytes
+  pub says : CommandSays c contents (done_answer ok_line)
 
 -- the writing of a failure's line, if it has one
-abbrev pub LineWritten : Option (List ℕ) → Failure → Taking → Failure → Type 0
+abbrev pub LineWritten : Option (List ℕ) → Failure → SinkMoments → Failure → Type 0
 LineWritten None failure s ended = (ended ≡ failure) × (s.after ≡ s.before)
 LineWritten (Some line) failure s WriteFault = TextWritten line s (Err WriteFault)
 LineWritten (Some line) failure s NoMemory = TextWritten line s (Err NoMemory)

@@ -58,19 +58,19 @@ unfoldable pub ok_line : List ℕ
 ok_line = codes "OK\n"
 
 -- the line of a failure; a failed write and want of memory have none of their own, and that of a chain which is too deep goes by the chain
-abbrev pub line_of : Failure → Option (List ℕ)
-line_of WordsRefused = Some words_refused_text
-line_of ReadFault = Some read_fault_text
-line_of (TooLong file) = Some (too_long_text file)
-line_of (Refused file refusal) = Some (refusal_text file refusal)
-line_of (ImageRefused fault) = Some (image_refused_text fault)
-line_of NoListing = Some no_listing_text
-line_of SaysNo = Some says_no_text
-line_of TooDeep = None
-line_of WriteFault = None
-line_of NoMemory = None
+abbrev pub line_of_failure : Failure → Option (List ℕ)
+line_of_failure WordsRefused = Some words_refused_text
+line_of_failure ReadFault = Some read_fault_text
+line_of_failure (TooLong file) = Some (too_long_text file)
+line_of_failure (Refused file refusal) = Some (refusal_text file refusal)
+line_of_failure (ImageRefused fault) = Some (image_refused_text fault)
+line_of_failure NoListing = Some no_listing_text
+line_of_failure SaysNo = Some says_no_text
+line_of_failure TooDeep = None
+line_of_failure WriteFault = None
+line_of_failure NoMemory = None
 
 -- the same, and for a chain that is too deep the line of such a chain
-abbrev pub IsLineOf : Failure → List ℕ → Type 0
-IsLineOf TooDeep line = (chain : List BlockId) × (line ≡ chain_text chain)
-IsLineOf failure line = line_of failure ≡ Some line
+abbrev pub IsFailureLine : Failure → List ℕ → Type 0
+IsFailureLine TooDeep line = (chain : List BlockId) × (line ≡ chain_text chain)
+IsFailureLine failure line = line_of_failure failure ≡ Some line

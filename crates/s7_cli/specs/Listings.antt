@@ -7,7 +7,7 @@ use Rattle.stl_list.specs.Listing.{listed_source}
 use Rattle.stl_list.specs.Symbols.{listed_names}
 use Rattle.stl_symbols.specs.declared.languages.Language.TheVariants.{English}
 use Rattle.s7_cli.specs.Command.{Command, ListImage}
-use Rattle.s7_cli.specs.Compiling.{IsCompiled}
+use Rattle.s7_cli.specs.Compiling.{IsImageOfEnglishSource}
 use Rattle.s7_cli.specs.ListSays.{HasListing, IsShortListing}
 use Rattle.s7_cli.specs.Loads.{LoadsAs}
 use Rattle.s7_cli.specs.Reading.{Disk}
@@ -25,7 +25,7 @@ ListingsGiveImages =
     (german : Bool) (image source symbols : List ℕ) → IsSourceImage german image source symbols
     → (l : LoadedProgram) → LoadsAs image (Ok l) → HasListing l.program
     → (bytes : List ℕ)
-    → IsCompiled bytes (listed_source l.program) (listed_names l.program.names)
+    → IsImageOfEnglishSource bytes (listed_source l.program) (listed_names l.program.names)
     → bytes ≡ image
 
 -- it does compile to the program of such an image, where neither of its texts is longer than it may be

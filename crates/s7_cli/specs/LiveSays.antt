@@ -7,10 +7,10 @@ use Rattle.image_file.specs.Loaded.{LoadedProgram}
 use Rattle.image_file.specs.declared.faults.LoadFault.{LoadFault}
 use Rattle.machine.specs.Flat.{code_of}
 use Rattle.event_text.specs.HistoryText.{history_text}
-use Rattle.event_text.specs.Texts.{history_of, script_of, stimuli_of}
+use Rattle.event_text.specs.Texts.{history_of_text, script_of, stimuli_of}
 use Rattle.s7_cli.specs.declared.failures.File.TheVariants.{Stimuli, Script}
 use Rattle.s7_cli.specs.run_text.RunText.{run_text}
-use Rattle.s7_cli.specs.Answer.{Answer, done, refused, refused_image}
+use Rattle.s7_cli.specs.Answer.{Answer, done_answer, refused_file_answer, refused_image_answer}
 use Rattle.s7_cli.specs.Living.{IsLive}
 use Rattle.s7_cli.specs.Loads.{LoadsAs}
 
@@ -41,18 +41,18 @@ pub record RanLive (loaded : LoadedProgram) (steps : ℕ) (stimuli : List Entry)
   pub history : List Entry
   pub live : IsLive loaded steps stimuli scripts history
   -- where it isn't longer than a history may be, `run` gives the written history the same text
-  pub read_back : history_of loaded.program.names (history_text history) ≡ Ok history
-  pub says : answer ≡ done (live_text loaded history)
+  pub read_back : history_of_text loaded.program.names (history_text history) ≡ Ok history
+  pub says : answer ≡ done_answer (live_text loaded history)
 
 -- the stimuli are checked first, then the scripts in their order
 abbrev pub LiveAnswer : LoadedProgram → (steps : ℕ) → Result (List Entry) Refusal → Result (List (List Entry)) RefusedScript → Answer → Type 0
-LiveAnswer loaded steps (Err refusal) scripts answer = answer ≡ refused Stimuli refusal
-LiveAnswer loaded steps (Ok stimuli) (Err script) answer = answer ≡ refused (Script script.number) script.refusal
+LiveAnswer loaded steps (Err refusal) scripts answer = answer ≡ refused_file_answer Stimuli refusal
+LiveAnswer loaded steps (Ok stimuli) (Err script) answer = answer ≡ refused_file_answer (Script script.number) script.refusal
 LiveAnswer loaded steps (Ok stimuli) (Ok scripts) answer = RanLive loaded steps stimuli scripts answer
 
 -- the image is loaded before
 abbrev pub LoadedLive : Result LoadedProgram LoadFault → (steps : ℕ) → (stimuli : List ℕ) (scripts : List (List ℕ)) → Answer → Type 0
-LoadedLive (Err fault) steps stimuli scripts answer = answer ≡ refused_image fault
+LoadedLive (Err fault) steps stimuli scripts answer = answer ≡ refused_image_answer fault
 LoadedLive (Ok loaded) steps stimuli scripts answer =
     LiveAnswer loaded steps (stimuli_of stimuli) (scripts_from loaded.program.names 1 scripts) answer
 

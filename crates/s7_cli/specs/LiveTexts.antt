@@ -33,8 +33,8 @@ pub record IsLiveText (text : LiveText) : Type 0 where
   pub few : length text.scripts.items ≤ 4
 
 -- what `live` answers for these files
-abbrev pub TextSays : (steps : ℕ) → LiveText → Answer → Type 0
-TextSays steps text answer = LiveSays steps text.image.items text.stimuli.items (scripts_of text) answer
+abbrev pub LiveTextSays : (steps : ℕ) → LiveText → Answer → Type 0
+LiveTextSays steps text answer = LiveSays steps text.image.items text.stimuli.items (scripts_of text) answer
 
 -- the first script that is refused is told, or memory was wanting
 abbrev pub TellsScript : Result (List (List Entry)) RefusedScript → Failure → Type 0
@@ -44,7 +44,7 @@ TellsScript scripts failure =
     × (failure ≡ Refused (Script script.number) script.refusal))
 
 -- the program and the lists of the workers; an entry has four bytes of its text at least
-pub record Finds (text : LiveText) (loaded : LoadedProgram) (stimuli : List Entry) (scripts : List (List Entry)) : Type 0 where
+pub record FindsProgramAndScripts (text : LiveText) (loaded : LoadedProgram) (stimuli : List Entry) (scripts : List (List Entry)) : Type 0 where
   pub loads : LoadsAs text.image.items (Ok loaded)
   pub are_stimuli : stimuli_of text.stimuli.items ≡ Ok stimuli
   pub are_scripts : scripts_from loaded.program.names 1 (scripts_of text) ≡ Ok scripts

@@ -8,7 +8,7 @@ use Rattle.event_text.specs.Workers.{one_step}
 use Rattle.station.specs.declared.shared.Opening.{Opening}
 use Rattle.station.specs.declared.shared.StationFault.{StationFault}
 use Rattle.station.specs.declared.shared.StationFault.TheVariants.{Full}
-use Rattle.s7_cli.specs.Working.{EndsInStop, RunsBefore, entries_of}
+use Rattle.s7_cli.specs.Working.{EndsInStop, RunsBefore, entries_of_worker}
 
 -- the lists are of the workers from this one on, one each: regular entries of their workers
 abbrev pub AreRegularBy : (who : ℕ) → List (List Entry) → Type 0
@@ -21,9 +21,9 @@ total_length [] = 0
 total_length (x ∷ xs) = length x + total_length xs
 
 -- each list stands whole and in its order in the history, as the entries of its worker
-abbrev pub StandIn : (who : ℕ) → List (List Entry) → (history : List Entry) → Type 0
-StandIn who [] history = Unit {0}
-StandIn who (x ∷ xs) history = (entries_of who history ≡ x) × StandIn (suc who) xs history
+abbrev pub StandInHistory : (who : ℕ) → List (List Entry) → (history : List Entry) → Type 0
+StandInHistory who [] history = Unit {0}
+StandInHistory who (x ∷ xs) history = (entries_of_worker who history ≡ x) × StandInHistory (suc who) xs history
 
 -- a station that begins with a program, at its profile, and no entry
 abbrev pub opened_on : LoadedProgram → Opening
@@ -35,10 +35,10 @@ opened_on loaded = record { program = loaded.program; profile = loaded.profile; 
 pub record IsLive (loaded : LoadedProgram) (steps : ℕ) (stimuli : List Entry) (scripts : List (List Entry)) (history : List Entry) : Type 0 where
   pub count : ℕ
   pub few : count ≤ steps
-  pub stepper : entries_of 1 history ≡ replicate count one_step
+  pub stepper : entries_of_worker 1 history ≡ replicate count one_step
   pub runs : RunsBefore 1 (opened_on loaded) 1 history
   pub ends : (count ≡ steps) ⊎ EndsInStop (opened_on loaded) 1 history
-  pub others : StandIn 2 (stimuli ∷ scripts) history
+  pub others : StandInHistory 2 (stimuli ∷ scripts) history
   pub workers : All (λ e. (1 ≤ e.who) × (e.who ≤ 2 + length scripts)) history
 
 -- the outcome isn't that the station was full

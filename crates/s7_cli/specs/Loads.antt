@@ -7,11 +7,11 @@ use Rattle.image_file.specs.Loaded.{LoadedProgram}
 use Rattle.image_file.specs.declared.faults.LoadFault.{LoadFault}
 
 -- bytes are the image of a program in some version, which verifies, and it has the profile that this version has or names
-pub record Loads (bytes : List ℕ) (loaded : LoadedProgram) : Type 0 where
+pub record IsImageOfLoadable (bytes : List ℕ) (loaded : LoadedProgram) : Type 0 where
   pub image : IsImageOf bytes loaded
   pub loadable : IsLoadable bytes image.stamp loaded.program
 
 -- bytes load as a program with its profile, or are refused by their least fault, by offset, then code
 abbrev pub LoadsAs : List ℕ → Result LoadedProgram LoadFault → Type 0
-LoadsAs bytes (Ok loaded) = Loads bytes loaded
+LoadsAs bytes (Ok loaded) = IsImageOfLoadable bytes loaded
 LoadsAs bytes (Err fault) = IsLeastFault fault (faults_of bytes)

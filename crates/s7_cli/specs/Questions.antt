@@ -1,16 +1,16 @@
 -- What the program tells of itself.
 use Rattle.std.specs.Prelude.{◌≡◌, ◌≢◌, ◌⊎◌, ◌||◌, ℕ, List, [], ◌∷◌, Option, Some, None, codes, bytes_eq, if◌then◌else◌}
-use Rattle.plc_io.specs.Counts.{Rose}
+use Rattle.plc_io.specs.Counts.{CountRose}
 use Rattle.plc_io.specs.Moments.{SinkAt}
-use Rattle.plc_io.specs.Taken.{Took, TookPrefix}
+use Rattle.plc_io.specs.Taken.{TookBytes, TookPrefix}
 use Rattle.s7_cli.specs.declared.help.Question.{Question}
 use Rattle.s7_cli.specs.declared.help.Question.TheVariants.{Help, Version}
 use Rattle.s7_cli.specs.declared.help.TheConstants.{HELP, VERSION}
 
 -- the text that answers it
-abbrev pub text_of : Question → List ℕ
-text_of Help = HELP.now
-text_of Version = VERSION.now
+abbrev pub question_text : Question → List ℕ
+question_text Help = HELP.now
+question_text Version = VERSION.now
 
 -- the question that a word asks: `--help` or `-h`, `--version` or `-V`
 abbrev pub question_by : List ℕ → Option Question
@@ -26,7 +26,7 @@ question_of words = None
 -- its text was written: whole at status 0; a front of it at 6, where the sink's count of faults rose, and at 7
 pub record AnswerWritten (text : List ℕ) (before after : SinkAt) (code : ℕ) : Type 0 where
   pub statuses : (code ≡ 0) ⊎ (code ≡ 6) ⊎ (code ≡ 7)
-  pub whole : code ≡ 0 → Took before after text
+  pub whole : code ≡ 0 → TookBytes before after text
   pub cut : code ≢ 0 → TookPrefix before after text
-  pub failed : code ≡ 6 → Rose before.faults after.faults
+  pub failed : code ≡ 6 → CountRose before.faults after.faults
   pub unfailed : code ≢ 6 → after.faults ≡ before.faults

@@ -10,16 +10,16 @@ use Rattle.image_file.specs.Loaded.{LoadedProgram}
 use Rattle.image_file.specs.declared.faults.LoadFault.{LoadFault}
 use Rattle.machine.specs.Code.{Code}
 use Rattle.machine.specs.Flat.{code_of}
-use Rattle.generator.specs.History.{history as generated_history}
+use Rattle.generator.specs.History.{generated_history}
 use Rattle.generator.specs.Source.{source_text}
 use Rattle.de_mnemonics.specs.Translation.{IsTranslation}
 use Rattle.stl_symbols.specs.declared.languages.Language.{Language}
 use Rattle.sem_kept.specs.Agreement.{names_read_in}
-use Rattle.sem_kept.specs.Meaning.{IsJudged, IsJudgedIn, IsRefusedSourceIn, Refused, InSymbols, InSource}
-use Rattle.event_text.specs.Texts.{history_of}
+use Rattle.sem_kept.specs.Meaning.{IsJudged, IsJudgedIn, IsRefusedSourceIn, RefusedFile, InSymbols, InSource}
+use Rattle.event_text.specs.Texts.{history_of_text}
 use Rattle.s7_cli.specs.run_text.RunText.{run_text}
 use Rattle.s7_cli.specs.declared.failures.File.TheVariants.{Source, Symbols, History}
-use Rattle.s7_cli.specs.Answer.{Answer, done, refused, refused_image}
+use Rattle.s7_cli.specs.Answer.{Answer, done_answer, refused_file_answer, refused_image_answer}
 use Rattle.s7_cli.specs.BoundSays.{BoundSays, IsCertificate, RecheckSays}
 use Rattle.s7_cli.specs.Command.{Command, Go, Check, Compile, Translate, Run, Gen, Live, Watch, Upgrade, ListImage, Bound, Recheck}
 use Rattle.s7_cli.specs.GenText.{summary_text}
@@ -31,28 +31,28 @@ use Rattle.s7_cli.specs.Translating.{InEnglish, IsSourceImage, SaysTranslated, l
 use Rattle.s7_cli.specs.WatchSays.{WatchSays}
 
 -- a source is refused by what its symbols break, or by what it breaks itself
-abbrev pub refused_program : Refused → Answer
-refused_program (InSymbols refusal) = refused Symbols refusal
-refused_program (InSource refusal) = refused Source refusal
+abbrev pub refused_program : RefusedFile → Answer
+refused_program (InSymbols refusal) = refused_file_answer Symbols refusal
+refused_program (InSource refusal) = refused_file_answer Source refusal
 
 -- `go`: the source with its symbols is checked first, then the history; else the text of the run is
 -- told, at a profile
-abbrev pub go_answer : Profile → Result Code Refused → Result (List Entry) Refusal → Answer
+abbrev pub go_answer : Profile → Result Code RefusedFile → Result (List Entry) Refusal → Answer
 go_answer profile (Err why) history = refused_program why
-go_answer profile (Ok code) (Err refusal) = refused History refusal
-go_answer profile (Ok code) (Ok entries) = done (run_text profile code entries)
+go_answer profile (Ok code) (Err refusal) = refused_file_answer History refusal
+go_answer profile (Ok code) (Ok entries) = done_answer (run_text profile code entries)
 
 -- `check` and `compile`: the source with its symbols is checked
-abbrev pub check_answer : Result Code Refused → Answer
+abbrev pub check_answer : Result Code RefusedFile → Answer
 check_answer (Err why) = refused_program why
-check_answer (Ok code) = done ok_line
+check_answer (Ok code) = done_answer ok_line
 
 -- over the contents of its files, with symbols in a language; a history may name the variables of the
 -- symbols
 abbrev pub SourceSays : Language → Profile → (source symbols history : List ℕ) → Answer → Type 0
 SourceSays language profile source symbols history answer =
-    (judged : Result Code Refused) × IsJudgedIn language source symbols judged
-    × (answer ≡ go_answer profile judged (history_of (names_read_in language symbols) history))
+    (judged : Result Code RefusedFile) × IsJudgedIn language source symbols judged
+    × (answer ≡ go_answer profile judged (history_of_text (names_read_in language symbols) history))
 
 -- what `go` answers, of the English text of the source: it has the sizes of the large profile
 abbrev pub GoSays : (german : Bool) → (source symbols history : List ℕ) → Answer → Type 0
@@ -61,14 +61,14 @@ GoSays german source symbols history answer =
     (λ text. SourceSays (language_of german) Large text symbols history) answer
 
 -- `run`: the image is loaded first, and then the history is checked; else the text of the run is told, at the image's profile
-abbrev pub ran : LoadedProgram → Result (List Entry) Refusal → Answer
-ran loaded (Err refusal) = refused History refusal
-ran loaded (Ok entries) = done (run_text loaded.profile (code_of loaded.program) entries)
+abbrev pub run_outcome : LoadedProgram → Result (List Entry) Refusal → Answer
+run_outcome loaded (Err refusal) = refused_file_answer History refusal
+run_outcome loaded (Ok entries) = done_answer (run_text loaded.profile (code_of loaded.program) entries)
 
 -- a history may name the variables whose names stand in the image
 abbrev pub run_answer : Result LoadedProgram LoadFault → (history : List ℕ) → Answer
-run_answer (Err fault) history = refused_image fault
-run_answer (Ok loaded) history = ran loaded (history_of loaded.program.names history)
+run_answer (Err fault) history = refused_image_answer fault
+run_answer (Ok loaded) history = run_outcome loaded (history_of_text loaded.program.names history)
 
 -- what `run` answers, over the contents of its files
 abbrev pub RunSays : (image history : List ℕ) → Answer → Type 0
@@ -78,8 +78,8 @@ RunSays image history answer =
 
 -- `upgrade`: the image is loaded
 abbrev pub upgrade_answer : Result LoadedProgram LoadFault → Answer
-upgrade_answer (Err fault) = refused_image fault
-upgrade_answer (Ok loaded) = done ok_line
+upgrade_answer (Err fault) = refused_image_answer fault
+upgrade_answer (Ok loaded) = done_answer ok_line
 
 -- what `upgrade` answers, over the contents of its file
 abbrev pub UpgradeSays : (image : List ℕ) → Answer → Type 0
@@ -92,31 +92,31 @@ IsUpgraded bytes image =
     (loaded : LoadedProgram) × LoadsAs image (Ok loaded) × (bytes ≡ image_of (Two loaded.profile) loaded.program)
 
 -- `gen`: the source of the number is checked; its run along the history of the number is summed up
-abbrev pub gen_answer : (number : ℕ) → Result Code Refused → Answer
+abbrev pub gen_answer : (number : ℕ) → Result Code RefusedFile → Answer
 gen_answer number (Err why) = refused_program why
-gen_answer number (Ok code) = done (summary_text number Large code (generated_history number))
+gen_answer number (Ok code) = done_answer (summary_text number Large code (generated_history number))
 
 -- what `gen` answers; it reads no file
 abbrev pub GenSays : (number : ℕ) → Answer → Type 0
 GenSays number answer =
-    (judged : Result Code Refused) × IsJudged (source_text number) [] judged
+    (judged : Result Code RefusedFile) × IsJudged (source_text number) [] judged
     × (answer ≡ gen_answer number judged)
 
 -- what is said of an English text with symbols in a language
-abbrev pub TextSays : Language → (symbols text : List ℕ) → Answer → Type 0
-TextSays language symbols text answer =
-    (judged : Result Code Refused) × IsJudgedIn language text symbols judged
+abbrev pub ChecksAs : Language → (symbols text : List ℕ) → Answer → Type 0
+ChecksAs language symbols text answer =
+    (judged : Result Code RefusedFile) × IsJudgedIn language text symbols judged
     × (answer ≡ check_answer judged)
 
 -- what `check` and `compile` answer, over the contents of their files
 abbrev pub CheckSays : (german : Bool) → (source symbols : List ℕ) → Answer → Type 0
 CheckSays german source symbols answer =
-    InEnglish german source symbols (TextSays (language_of german) symbols) answer
+    InEnglish german source symbols (ChecksAs (language_of german) symbols) answer
 
 -- an English text with symbols in a language is refused so
 abbrev pub RefusedText : Language → (symbols text : List ℕ) → Answer → Type 0
 RefusedText language symbols text answer =
-    (why : Refused) × IsRefusedSourceIn language text symbols why × (answer ≡ refused_program why)
+    (why : RefusedFile) × IsRefusedSourceIn language text symbols why × (answer ≡ refused_program why)
 
 -- a source with its symbols is refused so, or its translation is too long
 abbrev pub RefusedProgram : (german : Bool) → (source symbols : List ℕ) → Answer → Type 0
@@ -126,55 +126,55 @@ RefusedProgram german source symbols answer =
 -- what `english` and `german` answer
 abbrev pub TranslateSays : Language → (source : List ℕ) → Answer → Type 0
 TranslateSays language source answer =
-    SaysTranslated language source (λ text a. a ≡ done ok_line) answer
+    SaysTranslated language source (λ text a. a ≡ done_answer ok_line) answer
 
 -- over the contents of the command's input files, in the order of reading; without a symbols file the
 -- symbols are no bytes
-abbrev pub Says : Command → List (List ℕ) → Answer → Type 0
-Says (Go _ None german _) (source ∷ history ∷ []) answer = GoSays german source [] history answer
-Says (Go _ (Some _) german _) (source ∷ symbols ∷ history ∷ []) answer =
+abbrev pub CommandSays : Command → List (List ℕ) → Answer → Type 0
+CommandSays (Go _ None german _) (source ∷ history ∷ []) answer = GoSays german source [] history answer
+CommandSays (Go _ (Some _) german _) (source ∷ symbols ∷ history ∷ []) answer =
     GoSays german source symbols history answer
-Says (Check _ None german) (source ∷ []) answer = CheckSays german source [] answer
-Says (Check _ (Some _) german) (source ∷ symbols ∷ []) answer =
+CommandSays (Check _ None german) (source ∷ []) answer = CheckSays german source [] answer
+CommandSays (Check _ (Some _) german) (source ∷ symbols ∷ []) answer =
     CheckSays german source symbols answer
-Says (Compile _ None german _) (source ∷ []) answer = CheckSays german source [] answer
-Says (Compile _ (Some _) german _) (source ∷ symbols ∷ []) answer =
+CommandSays (Compile _ None german _) (source ∷ []) answer = CheckSays german source [] answer
+CommandSays (Compile _ (Some _) german _) (source ∷ symbols ∷ []) answer =
     CheckSays german source symbols answer
-Says (Translate language _ _) (source ∷ []) answer = TranslateSays language source answer
-Says (Run _ _) (image ∷ history ∷ []) answer = RunSays image history answer
-Says (Gen number) [] answer = GenSays number answer
-Says (Live _ _ _ steps) (image ∷ stimuli ∷ scripts) answer =
+CommandSays (Translate language _ _) (source ∷ []) answer = TranslateSays language source answer
+CommandSays (Run _ _) (image ∷ history ∷ []) answer = RunSays image history answer
+CommandSays (Gen number) [] answer = GenSays number answer
+CommandSays (Live _ _ _ steps) (image ∷ stimuli ∷ scripts) answer =
     LiveSays steps image stimuli scripts answer
-Says (Watch _ _ _ _ steps) (image ∷ stimuli ∷ vars ∷ scripts) answer =
+CommandSays (Watch _ _ _ _ steps) (image ∷ stimuli ∷ vars ∷ scripts) answer =
     WatchSays steps image stimuli vars scripts answer
-Says (Upgrade _ _) (image ∷ []) answer = UpgradeSays image answer
-Says (ListImage _ _ _) (image ∷ []) answer = ListSays image answer
-Says (Bound _ _) (image ∷ []) answer = BoundSays image answer
-Says (Recheck _ _) (image ∷ certificate ∷ []) answer = RecheckSays image certificate answer
-Says _ contents answer = ⊥
+CommandSays (Upgrade _ _) (image ∷ []) answer = UpgradeSays image answer
+CommandSays (ListImage _ _ _) (image ∷ []) answer = ListSays image answer
+CommandSays (Bound _ _) (image ∷ []) answer = BoundSays image answer
+CommandSays (Recheck _ _) (image ∷ certificate ∷ []) answer = RecheckSays image certificate answer
+CommandSays _ contents answer = ⊥
 
 -- what the command writes to an output file, over the same contents
-abbrev pub Writes : Command → List (List ℕ) → (name bytes : List ℕ) → Type 0
-Writes (Compile _ None german image) (source ∷ []) name bytes =
+abbrev pub WritesOutputFile : Command → List (List ℕ) → (name bytes : List ℕ) → Type 0
+WritesOutputFile (Compile _ None german image) (source ∷ []) name bytes =
     (name ≡ image) × IsSourceImage german bytes source []
-Writes (Compile _ (Some _) german image) (source ∷ symbols ∷ []) name bytes =
+WritesOutputFile (Compile _ (Some _) german image) (source ∷ symbols ∷ []) name bytes =
     (name ≡ image) × IsSourceImage german bytes source symbols
-Writes (Compile _ _ _ _) contents name bytes = ⊥
-Writes (Translate language _ translation) (source ∷ []) name bytes =
+WritesOutputFile (Compile _ _ _ _) contents name bytes = ⊥
+WritesOutputFile (Translate language _ translation) (source ∷ []) name bytes =
     (name ≡ translation) × IsTranslation language source bytes
-Writes (Translate _ _ _) contents name bytes = ⊥
-Writes (Go _ _ _ _) contents name bytes = ⊥
-Writes (Check _ _ _) contents name bytes = ⊥
-Writes (Run _ _) contents name bytes = ⊥
-Writes (Gen _) contents name bytes = ⊥
-Writes (Live _ _ _ _) contents name bytes = ⊥
-Writes (Watch _ _ _ _ _) contents name bytes = ⊥
-Writes (Upgrade _ upgraded) (image ∷ []) name bytes = (name ≡ upgraded) × IsUpgraded bytes image
-Writes (Upgrade _ _) contents name bytes = ⊥
-Writes (ListImage _ source symbols) (image ∷ []) name bytes =
+WritesOutputFile (Translate _ _ _) contents name bytes = ⊥
+WritesOutputFile (Go _ _ _ _) contents name bytes = ⊥
+WritesOutputFile (Check _ _ _) contents name bytes = ⊥
+WritesOutputFile (Run _ _) contents name bytes = ⊥
+WritesOutputFile (Gen _) contents name bytes = ⊥
+WritesOutputFile (Live _ _ _ _) contents name bytes = ⊥
+WritesOutputFile (Watch _ _ _ _ _) contents name bytes = ⊥
+WritesOutputFile (Upgrade _ upgraded) (image ∷ []) name bytes = (name ≡ upgraded) × IsUpgraded bytes image
+WritesOutputFile (Upgrade _ _) contents name bytes = ⊥
+WritesOutputFile (ListImage _ source symbols) (image ∷ []) name bytes =
     IsListed source symbols image name bytes
-Writes (ListImage _ _ _) contents name bytes = ⊥
-Writes (Bound _ certificate) (image ∷ []) name bytes =
+WritesOutputFile (ListImage _ _ _) contents name bytes = ⊥
+WritesOutputFile (Bound _ certificate) (image ∷ []) name bytes =
     (name ≡ certificate) × IsCertificate bytes image
-Writes (Bound _ _) contents name bytes = ⊥
-Writes (Recheck _ _) contents name bytes = ⊥
+WritesOutputFile (Bound _ _) contents name bytes = ⊥
+WritesOutputFile (Recheck _ _) contents name bytes = ⊥

@@ -1,21 +1,21 @@
 -- The table of statuses, in so many words.
 use Rattle.std.specs.Prelude.{◌≡◌, ◌≢◌, ◌<◌, ◌≤◌, ◌⊎◌, ℕ, List, Option, Some, None, Err, true}
 use Rattle.plc_io.specs.Contents.{SameFiles}
-use Rattle.plc_io.specs.Counts.{Rose}
-use Rattle.plc_io.specs.Taken.{Took}
+use Rattle.plc_io.specs.Counts.{CountRose}
+use Rattle.plc_io.specs.Taken.{TookBytes}
 use Rattle.s7_cli.specs.declared.failures.Failure.{Failure}
-use Rattle.s7_cli.specs.Answer.{Answer, code_of}
+use Rattle.s7_cli.specs.Answer.{Answer, exit_status}
 use Rattle.s7_cli.specs.BoundSays.{StacksSuffice}
 use Rattle.s7_cli.specs.Command.{Command, Live, Watch, Bound, inputs_of}
-use Rattle.s7_cli.specs.Ends.{Taking, InputRose, OutputRose, CutShort, ChangesOutputs, WritesOutputs}
-use Rattle.s7_cli.specs.Lines.{IsLineOf}
+use Rattle.s7_cli.specs.Ends.{SinkMoments, InputRose, OutputRose, CutShort, ChangesOutputs, WritesOutputs}
+use Rattle.s7_cli.specs.Lines.{IsFailureLine}
 use Rattle.s7_cli.specs.Listings.{IsNotCompiled}
-use Rattle.s7_cli.specs.Reading.{Disk, Allows, FailsOnTheWay}
-use Rattle.s7_cli.specs.Says.{Says}
+use Rattle.s7_cli.specs.Reading.{Disk, AllowsAnswer, FailsOnTheWay}
+use Rattle.s7_cli.specs.Says.{CommandSays}
 
 -- the answer of a command that its input files allow where no read of them fails
 abbrev pub IsAllowed : Command → Disk → Answer → Type 0
-IsAllowed k d answer = Allows d.before.contents (inputs_of k) (Says k) answer
+IsAllowed k d answer = AllowsAnswer d.before.contents (inputs_of k) (CommandSays k) answer
 
 -- told files allow one text of such a command. The workers of `live` and `watch` take turns in many ways, and each way has a text of its own;
 -- `bound` tells one of the chains that are too deep
@@ -27,13 +27,13 @@ HasOneText command = Unit {0}
 
 -- told files allow one outcome, and one answer where there is one text, and the call gave it: 0, 2, 3, 4, 8, 9 and 10 come exactly where
 -- the files say so
-pub record IsDecided (k : Command) (d : Disk) (s : Taking) (code : ℕ) : Type 0 where
+pub record IsDecided (k : Command) (d : Disk) (s : SinkMoments) (code : ℕ) : Type 0 where
   pub answer : Answer
   pub allowed : IsAllowed k d answer
   pub only : (other : Answer) → IsAllowed k d other
       → (other.outcome ≡ answer.outcome) × (HasOneText k → other ≡ answer)
-  pub status : code ≡ code_of answer.outcome
-  pub took : Took s.before s.after answer.text
+  pub status : code ≡ exit_status answer.outcome
+  pub took : TookBytes s.before s.after answer.text
 
 -- the statuses that there are
 abbrev pub IsStatus : ℕ → Type 0
@@ -44,7 +44,7 @@ abbrev pub IsCutOff : ℕ → Type 0
 IsCutOff code = (code ≡ 6) ⊎ (code ≡ 7)
 
 -- the table of statuses
-pub record StatusTable (c : Option Command) (d : Disk) (s : Taking) (code : ℕ) : Type 0 where
+pub record StatusTable (c : Option Command) (d : Disk) (s : SinkMoments) (code : ℕ) : Type 0 where
   -- no other status than these
   pub statuses : IsStatus code
   -- over files that tell what they hold: the outcome and, but for `live`, `watch` and `bound`, the one answer that they allow, unless a read of a file on the way fails (5), a write fails
@@ -53,18 +53,18 @@ pub record StatusTable (c : Option Command) (d : Disk) (s : Taking) (code : ℕ)
       → ((code ≡ 5) × FailsOnTheWay d (inputs_of k)) ⊎ IsCutOff code ⊎ IsDecided k d s code
   -- so where no count of an input file, an output file or the sink rose, want of memory alone is free
   pub complete : (k : Command) → c ≡ Some k → d.before.contents.told ≡ true
-      → (InputRose c d → ⊥) → (OutputRose c d → ⊥) → (Rose s.before.faults s.after.faults → ⊥)
+      → (InputRose c d → ⊥) → (OutputRose c d → ⊥) → (CountRose s.before.faults s.after.faults → ⊥)
       → (code ≡ 7) ⊎ IsDecided k d s code
   -- 1: exactly where the words are refused, whatever the files hold; a write may fail, or memory be wanting, at its line
   pub words_refused_only : code ≡ 1 → c ≡ None
   pub words_refused : c ≡ None → (code ≡ 1) ⊎ IsCutOff code
   -- 1, 2, 3, 4, 5, 8, 9, 10: the sink took the one line of the failure
   pub takes_line : code ≢ 0 → (IsCutOff code → ⊥)
-      → (failure : Failure) × (line : List ℕ) × (code ≡ code_of (Err failure)) × IsLineOf failure line × Took s.before s.after line
+      → (failure : Failure) × (line : List ℕ) × (code ≡ exit_status (Err failure)) × IsFailureLine failure line × TookBytes s.before s.after line
   -- 5: only where the count of failed reads of an input file rose
   pub read_fault : code ≡ 5 → InputRose c d
   -- 6: only where the count of failed writes of an output file rose, or that of the sink
-  pub write_fault : code ≡ 6 → Rose s.before.faults s.after.faults ⊎ OutputRose c d
+  pub write_fault : code ≡ 6 → CountRose s.before.faults s.after.faults ⊎ OutputRose c d
   -- 6 and 7: a front was taken of a text that another status allows, or nothing
   pub cut_short : IsCutOff code → CutShort c d s
   -- a greater count of failed reads gives 5, 6 or 7

@@ -1,6 +1,6 @@
 -- A source in German, and the translation of a source: what is said of it.
 use Rattle.std.specs.Prelude.{◌≡◌, ◌≤◌, nat_le, ℕ, Bool, true, false, List, length, Result, Ok, Err}
-use Rattle.de_mnemonics.specs.Translation.{IsTranslation, IsUntranslated}
+use Rattle.de_mnemonics.specs.Translation.{IsTranslation, IsTranslationViolation}
 use Rattle.stl_symbols.specs.declared.languages.Language.{Language}
 use Rattle.stl_symbols.specs.declared.languages.Language.TheVariants.{English, German}
 use Rattle.flat_code.specs.Programs.{Program}
@@ -11,7 +11,7 @@ use Rattle.sem_kept.specs.Compiles.{CompilesTo}
 use Rattle.stl_symbols.specs.Symbol.{Symbol}
 use Rattle.stl_symbols.specs.Symbols.{symbols_in}
 use Rattle.s7_cli.specs.declared.failures.File.TheVariants.{Source, Translation, Symbols}
-use Rattle.s7_cli.specs.Answer.{Answer, refused, too_long}
+use Rattle.s7_cli.specs.Answer.{Answer, refused_file_answer, too_long_answer}
 use Rattle.s7_cli.specs.Command.{limit_of}
 use Rattle.s7_cli.specs.Compiling.{HasProgramIn, IsCompiledIn}
 
@@ -21,20 +21,20 @@ language_of false = English
 language_of true = German
 
 -- the translation of a source, or its refusal
-abbrev pub Translates : Language → (source : List ℕ) → Result (List ℕ) Refusal → Type 0
-Translates language source (Ok text) = IsTranslation language source text
-Translates language source (Err refusal) =
-    IsUntranslated language source refusal.line refusal.rule
+abbrev pub TranslatesSource : Language → (source : List ℕ) → Result (List ℕ) Refusal → Type 0
+TranslatesSource language source (Ok text) = IsTranslation language source text
+TranslatesSource language source (Err refusal) =
+    IsTranslationViolation language source refusal.line refusal.rule
 
 -- this is said of a text that is as long as it may be; else it is too long
 abbrev pub IfFits : Bool → Type 0 → Answer → Type 0
 IfFits true said answer = said
-IfFits false said answer = answer ≡ too_long Translation
+IfFits false said answer = answer ≡ too_long_answer Translation
 
 -- this is said of a translation, or the source is refused
 abbrev pub OfTranslation :
     (says : List ℕ → Answer → Type 0) → Result (List ℕ) Refusal → Answer → Type 0
-OfTranslation says (Err refusal) answer = answer ≡ refused Source refusal
+OfTranslation says (Err refusal) answer = answer ≡ refused_file_answer Source refusal
 OfTranslation says (Ok text) answer =
     IfFits (nat_le (length text) (limit_of Translation)) (says text answer) answer
 
@@ -43,13 +43,13 @@ OfTranslation says (Ok text) answer =
 abbrev pub SaysTranslated :
     Language → (source : List ℕ) → (says : List ℕ → Answer → Type 0) → Answer → Type 0
 SaysTranslated language source says answer =
-    (translation : Result (List ℕ) Refusal) × Translates language source translation
+    (translation : Result (List ℕ) Refusal) × TranslatesSource language source translation
     × OfTranslation says translation answer
 
 -- the same with symbols, which are judged before
 abbrev pub OfSymbols : Result (List Symbol) Refusal → (source : List ℕ)
     → (says : List ℕ → Answer → Type 0) → Answer → Type 0
-OfSymbols (Err refusal) source says answer = answer ≡ refused Symbols refusal
+OfSymbols (Err refusal) source says answer = answer ≡ refused_file_answer Symbols refusal
 OfSymbols (Ok list) source says answer = SaysTranslated English source says answer
 
 -- this is said of the English text of a source: of an English one itself, and of a German one its

@@ -10,15 +10,15 @@ use Rattle.image_file.specs.Loaded.{LoadedProgram}
 use Rattle.image_file.specs.declared.faults.LoadFault.{LoadFault}
 use Rattle.event_text.specs.HistoryText.{history_text}
 use Rattle.event_text.specs.Replies.{outcome_text}
-use Rattle.event_text.specs.Texts.{history_of, stimuli_of}
-use Rattle.event_text.specs.WatchedVars.{vars_of}
+use Rattle.event_text.specs.Texts.{history_of_text, stimuli_of}
+use Rattle.event_text.specs.WatchedVars.{watched_vars_of}
 use Rattle.watch_board.specs.declared.shown.Shown.{Shown}
 use Rattle.s7_cli.specs.declared.failures.File.TheVariants.{Stimuli, Script, Vars}
-use Rattle.s7_cli.specs.Answer.{Answer, done, refused, refused_image}
+use Rattle.s7_cli.specs.Answer.{Answer, done_answer, refused_file_answer, refused_image_answer}
 use Rattle.s7_cli.specs.LiveSays.{RefusedScript, live_text, scripts_from}
 use Rattle.s7_cli.specs.Living.{IsLive, opened_on}
 use Rattle.s7_cli.specs.Loads.{LoadsAs}
-use Rattle.s7_cli.specs.Watching.{AreViews, reading, watch_lists}
+use Rattle.s7_cli.specs.Watching.{AreViews, read_entry_of, watch_lists}
 
 -- how often the variables are read and published, and how often the board is viewed
 abbrev pub watch_count : ℕ
@@ -47,23 +47,23 @@ pub record RanWatch (loaded : LoadedProgram) (steps : ℕ) (stimuli : List Entry
   pub history : List Entry
   pub live : IsLive loaded steps stimuli (watch_lists watch_count scripts vars) history
   -- where it isn't longer than a history may be, `run` gives the written history the same text
-  pub read_back : history_of loaded.program.names (history_text history) ≡ Ok history
+  pub read_back : history_of_text loaded.program.names (history_text history) ≡ Ok history
   pub seen : List Shown
-  pub views : AreViews (reading 6 vars) (opened_on loaded) history watch_count seen
-  pub says : answer ≡ done (watch_text loaded history vars seen)
+  pub views : AreViews (read_entry_of 6 vars) (opened_on loaded) history watch_count seen
+  pub says : answer ≡ done_answer (watch_text loaded history vars seen)
 
 -- the stimuli are checked first, then the variables, then the scripts in their order
 abbrev pub WatchAnswer : LoadedProgram → (steps : ℕ) → Result (List Entry) Refusal → Result (List Var) Refusal → Result (List (List Entry)) RefusedScript → Answer → Type 0
-WatchAnswer loaded steps (Err refusal) vars scripts answer = answer ≡ refused Stimuli refusal
-WatchAnswer loaded steps (Ok stimuli) (Err refusal) scripts answer = answer ≡ refused Vars refusal
-WatchAnswer loaded steps (Ok stimuli) (Ok vars) (Err script) answer = answer ≡ refused (Script script.number) script.refusal
+WatchAnswer loaded steps (Err refusal) vars scripts answer = answer ≡ refused_file_answer Stimuli refusal
+WatchAnswer loaded steps (Ok stimuli) (Err refusal) scripts answer = answer ≡ refused_file_answer Vars refusal
+WatchAnswer loaded steps (Ok stimuli) (Ok vars) (Err script) answer = answer ≡ refused_file_answer (Script script.number) script.refusal
 WatchAnswer loaded steps (Ok stimuli) (Ok vars) (Ok scripts) answer = RanWatch loaded steps stimuli vars scripts answer
 
 -- the image is loaded before
 abbrev pub LoadedWatch : Result LoadedProgram LoadFault → (steps : ℕ) → (stimuli vars : List ℕ) (scripts : List (List ℕ)) → Answer → Type 0
-LoadedWatch (Err fault) steps stimuli vars scripts answer = answer ≡ refused_image fault
+LoadedWatch (Err fault) steps stimuli vars scripts answer = answer ≡ refused_image_answer fault
 LoadedWatch (Ok loaded) steps stimuli vars scripts answer =
-    WatchAnswer loaded steps (stimuli_of stimuli) (vars_of loaded.program.names vars) (scripts_from loaded.program.names 1 scripts) answer
+    WatchAnswer loaded steps (stimuli_of stimuli) (watched_vars_of loaded.program.names vars) (scripts_from loaded.program.names 1 scripts) answer
 
 -- what `watch` answers, over the contents of its files
 abbrev pub WatchSays : (steps : ℕ) (image stimuli vars : List ℕ) (scripts : List (List ℕ)) → Answer → Type 0

@@ -6,7 +6,7 @@ use Rattle.var_access.specs.declared.Entry.{Entry}
 use Rattle.var_access.specs.declared.Var.{Var}
 use Rattle.event_text.specs.Regular.{IsRegularOf}
 use Rattle.event_text.specs.Texts.{stimuli_of}
-use Rattle.event_text.specs.WatchedVars.{vars_of}
+use Rattle.event_text.specs.WatchedVars.{watched_vars_of}
 use Rattle.s7_cli.specs.declared.failures.Failure.{Failure}
 use Rattle.s7_cli.specs.declared.failures.Failure.TheVariants.{Refused}
 use Rattle.s7_cli.specs.declared.failures.File.TheVariants.{Vars}
@@ -17,7 +17,7 @@ use Rattle.s7_cli.specs.LiveTexts.{AreScriptsWithin}
 use Rattle.s7_cli.specs.Living.{AreRegularBy, total_length}
 use Rattle.s7_cli.specs.Loads.{LoadsAs}
 use Rattle.s7_cli.specs.WatchSays.{WatchSays}
-use Rattle.s7_cli.specs.Watching.{reading}
+use Rattle.s7_cli.specs.Watching.{read_entry_of}
 
 -- the bytes of the scripts, in their order
 abbrev pub watch_scripts : WatchText → List (List ℕ)
@@ -47,9 +47,9 @@ TellsVars vars failure = (refusal : Refusal) × (vars ≡ Err refusal) × (failu
 pub record FindsWatch (text : WatchText) (loaded : LoadedProgram) (stimuli : List Entry) (vars : List Var) (scripts : List (List Entry)) : Type 0 where
   pub loads : LoadsAs text.image.items (Ok loaded)
   pub are_stimuli : stimuli_of text.stimuli.items ≡ Ok stimuli
-  pub are_vars : vars_of loaded.program.names text.vars.items ≡ Ok vars
+  pub are_vars : watched_vars_of loaded.program.names text.vars.items ≡ Ok vars
   pub are_scripts : scripts_from loaded.program.names 1 (watch_scripts text) ≡ Ok scripts
   pub regular : AreRegularBy 2 (stimuli ∷ scripts)
-  pub reads : IsRegularOf 6 (reading 6 vars)
+  pub reads : IsRegularOf 6 (read_entry_of 6 vars)
   pub few : length stimuli + total_length scripts ≤ 2097152
   pub many : length scripts ≡ length text.scripts.items

@@ -6,23 +6,23 @@ use Rattle.var_access.specs.declared.Entry.{Entry}
 use Rattle.var_access.specs.declared.What.TheVariants.{Ask}
 use Rattle.var_access.specs.declared.Request.TheVariants.{ReadVars}
 use Rattle.var_access.specs.declared.Var.{Var}
-use Rattle.tracked_lock.specs.Passes.{Passed, Locked}
+use Rattle.tracked_lock.specs.Passes.{PassView, LockView}
 use Rattle.station.specs.Openings.{reply_at, the_opening}
 use Rattle.station.specs.Turns.{HasMade, HasMadeNone}
 use Rattle.station.specs.declared.shared.Opening.{Opening}
 use Rattle.station.specs.declared.shared.StationFault.{StationFault}
 use Rattle.station.specs.declared.shared.StationFault.TheVariants.{NoMemory}
 use Rattle.s7_cli.specs.Working.{HasBegun, IsFaultAt}
-use Rattle.watch_board.specs.BoardList.{Known, last_of, opening}
+use Rattle.watch_board.specs.BoardList.{KnownBoard, last_item_of, initial_item}
 use Rattle.watch_board.specs.declared.shown.Shown.{Shown}
 
 -- a worker reads these variables
-abbrev pub reading : (who : ℕ) → List Var → Entry
-reading who vars = record { who = who; what = Ask (ReadVars vars) }
+abbrev pub read_entry_of : (who : ℕ) → List Var → Entry
+read_entry_of who vars = record { who = who; what = Ask (ReadVars vars) }
 
 -- the lists of the four operators of a watch: its scripts, none for an operator without one, and so many reads by the last operator
 abbrev pub watch_lists : (reads : ℕ) → List (List Entry) → List Var → List (List Entry)
-watch_lists reads scripts vars = (scripts ++ replicate (3 - length scripts) []) ++ replicate reads (reading 6 vars) ∷ []
+watch_lists reads scripts vars = (scripts ++ replicate (3 - length scripts) []) ++ replicate reads (read_entry_of 6 vars) ∷ []
 
 -- the item is the reply to this entry at a place of the history, with the number of the place, from 1
 pub record IsReplyTo (e : Entry) (o : Opening) (story : List Entry) (item : Shown) : Type 0 where
@@ -34,42 +34,42 @@ pub record IsReplyTo (e : Entry) (o : Opening) (story : List Entry) (item : Show
 
 -- a board shows the opening item, or such a reply
 abbrev pub IsShownOf : (e : Entry) → Opening → (story : List Entry) → Shown → Type 0
-IsShownOf e o story item = (item ≡ opening) ⊎ IsReplyTo e o story item
+IsShownOf e o story item = (item ≡ initial_item) ⊎ IsReplyTo e o story item
 
 -- all items of a list are such
 abbrev pub AreShownOf : (e : Entry) → Opening → (story : List Entry) → List Shown → Type 0
 AreShownOf e o story items = AllByRecursion (IsShownOf e o story) items
 
 -- the last item of a board stands for an entry of what is known of the history
-abbrev pub IsWithin : List Shown → (story : List Entry) → Type 0
-IsWithin list story = IfSome (last_of list) (λ last. last.length ≤ length story)
+abbrev pub IsLastWithinHistory : List Shown → (story : List Entry) → Type 0
+IsLastWithinHistory list story = IfSome (last_item_of list) (λ last. last.length ≤ length story)
 
 -- the last item of a board has this number
 abbrev pub IsLastAt : List Shown → (number : ℕ) → Type 0
-IsLastAt list number = (last : Shown) × (last_of list ≡ Some last) × (last.length ≡ number)
+IsLastAt list number = (last : Shown) × (last_item_of list ≡ Some last) × (last.length ≡ number)
 
 -- a pass made an entry, and its reply was put on the board, with the number of its place
-pub record HasPublished (old new : Passed Opening Entry) (was now : Known) (e : Entry) : Type 0 where
+pub record HasPublished (old new : PassView Opening Entry) (was now : KnownBoard) (e : Entry) : Type 0 where
   pub before : List Entry
   pub made : HasMade old new before e
   pub shown : now.list ≡ was.list ++ record { length = length new.seen; reply = Some (reply_at (the_opening old.lock.origin) before e) } ∷ []
 
 -- nothing was put on the board: no entry was made, or memory was wanting behind it
-abbrev pub HasPublishedNone : (old new : Passed Opening Entry) (was now : Known) → Entry → StationFault → Type 0
+abbrev pub HasPublishedNone : (old new : PassView Opening Entry) (was now : KnownBoard) → Entry → StationFault → Type 0
 HasPublishedNone old new was now e fault =
     (now ≡ was) × (HasMadeNone old new fault ⊎ ((fault ≡ NoMemory) × (before : List Entry) × HasMade old new before e))
 
 -- a publisher has made so many entries and put each one's reply on the board
-pub record HasShown (s : Locked Opening) (e : Entry) (count : ℕ) (p : Passed Opening Entry) (list : List Shown) : Type 0 where
+pub record HasShown (s : LockView Opening) (e : Entry) (count : ℕ) (p : PassView Opening Entry) (list : List Shown) : Type 0 where
   pub lock : p.lock ≡ s
   pub out : p.out ≡ false
   pub number : p.number ≡ e.who
   pub made : p.made ≡ record { number = e.who; entries = replicate count e } ∷ []
   pub shown : AreShownOf e (the_opening s.origin) p.seen list
-  pub last : IsWithin list p.seen
+  pub last : IsLastWithinHistory list p.seen
 
 -- what a publisher leaves that was to make so many entries: it has begun, and where it wasn't refused has put each one's reply on the board
-pub record Publishes (s : Locked Opening) (e : Entry) (count : ℕ) (p : Passed Opening Entry) (was now : Known) (noted : Result Known StationFault) : Type 0 where
+pub record PublishesReplies (s : LockView Opening) (e : Entry) (count : ℕ) (p : PassView Opening Entry) (was now : KnownBoard) (noted : Result KnownBoard StationFault) : Type 0 where
   pub begun : HasBegun s e.who (replicate count e) p
   pub board : now.board ≡ was.board
   pub fault : IfErr noted (IsFaultAt s p.seen)
@@ -84,7 +84,7 @@ NeverFall (x ∷ y ∷ ys) = (x.length ≤ y.length) × NeverFall (y ∷ ys)
 
 -- the item is the last one of a front of the list
 abbrev pub IsSeenIn : List Shown → Shown → Type 0
-IsSeenIn list item = (front : List Shown) × IsPrefix front list × (last_of front ≡ Some item)
+IsSeenIn list item = (front : List Shown) × IsPrefix front list × (last_item_of front ≡ Some item)
 
 -- the items were seen on a board with this list, none of them older than the one before
 pub record AreSeenIn (list seen : List Shown) : Type 0 where
@@ -92,15 +92,15 @@ pub record AreSeenIn (list seen : List Shown) : Type 0 where
   pub never_fall : NeverFall seen
 
 -- what a viewer leaves that was to view so many times
-pub record Views {E : Type 0} (count : ℕ) (was now : Known) (seen : List Shown) (viewed : Result Unit E) : Type 0 where
+pub record ViewsBoard {E : Type 0} (count : ℕ) (was now : KnownBoard) (seen : List Shown) (viewed : Result Unit E) : Type 0 where
   pub board : now.board ≡ was.board
   pub many : OnOk viewed (length seen ≡ count)
   pub each : OnOk viewed (AreSeenIn now.list seen)
 
 -- all was published and viewed, and the viewer has come to the list of the last note
-pub record HasEnded {E : Type 0} (noted : Result Known StationFault) (viewed : Result Unit E) (viewer : Known) : Type 0 where
+pub record HasEnded {E : Type 0} (noted : Result KnownBoard StationFault) (viewed : Result Unit E) (viewer : KnownBoard) : Type 0 where
   pub viewed_all : IsOk viewed
-  pub note : Known
+  pub note : KnownBoard
   pub noted_all : noted ≡ Ok note
   pub list : viewer.list ≡ note.list
 

@@ -43,8 +43,8 @@ abbrev pub the_line : App
 the_line = with_rule (with_rule (with_rule (with_rule (with_rule s7_alone command_rule) files_rule) symbols_rule) steps_rule) german_rule
 
 -- the number that a word writes in decimal digits without a sign, from 1 to the most; none for another word
-abbrev pub number_up_to : (most : ℕ) (word : List ℕ) → Option ℕ
-number_up_to most word = option_and_then (λ number. if nat_lt 0 number then Some number else None) (decimal_up_to most word)
+abbrev pub number_from_one_up_to : (most : ℕ) (word : List ℕ) → Option ℕ
+number_from_one_up_to most word = option_and_then (λ number. if nat_lt 0 number then Some number else None) (decimal_up_to most word)
 
 -- no option of a command that compiles a source is given
 abbrev pub takes_no_source : (symbols : Option (List ℕ)) (german : Bool) → Bool
@@ -54,7 +54,7 @@ takes_no_source symbols german = not (is_some symbols) && not german
 abbrev pub one_word_command : (command word : List ℕ) (symbols : Option (List ℕ)) (german : Bool) → Option Command
 one_word_command command word symbols german =
     if bytes_eq command (codes "check") then Some (Check word symbols german)
-    else (if bytes_eq command (codes "gen") && takes_no_source symbols german then option_map Gen (number_up_to 10000 word)
+    else (if bytes_eq command (codes "gen") && takes_no_source symbols german then option_map Gen (number_from_one_up_to 10000 word)
     else None)
 
 -- `run IMG HIST`, `upgrade IMG IMG2`, `bound IMG CERT`, `recheck IMG CERT`, `english SRC OUT` and `german SRC OUT`
@@ -92,14 +92,14 @@ short_command command words symbols german = None
 -- `live IMG STIM OPS.. --steps N`, with one script to four
 abbrev pub live_command : (command : List ℕ) (words : List (List ℕ)) (steps : List ℕ) → Option Command
 live_command command (image ∷ stimuli ∷ script ∷ scripts) steps =
-    if bytes_eq command (codes "live") && nat_le (length scripts) 3 then option_map (Live image stimuli (script ∷ scripts)) (number_up_to 1000000 steps)
+    if bytes_eq command (codes "live") && nat_le (length scripts) 3 then option_map (Live image stimuli (script ∷ scripts)) (number_from_one_up_to 1000000 steps)
     else None
 live_command command words steps = None
 
 -- `watch IMG STIM VARS OPS.. --steps N`, with one script to three
 abbrev pub watch_command : (words : List (List ℕ)) (steps : List ℕ) → Option Command
 watch_command (image ∷ stimuli ∷ vars ∷ script ∷ scripts) steps =
-    if nat_le (length scripts) 2 then option_map (Watch image stimuli vars (script ∷ scripts)) (number_up_to 1000000 steps) else None
+    if nat_le (length scripts) 2 then option_map (Watch image stimuli vars (script ∷ scripts)) (number_from_one_up_to 1000000 steps) else None
 watch_command words steps = None
 
 -- a command with steps

@@ -6,7 +6,7 @@ use Rattle.var_access.specs.Entry.{IsInRange}
 use Rattle.var_access.specs.declared.Entry.{Entry}
 use Rattle.var_access.specs.declared.What.TheVariants.{Step}
 use Rattle.controller.specs.State.{is_stop}
-use Rattle.tracked_lock.specs.Passes.{Passed, Locked}
+use Rattle.tracked_lock.specs.Passes.{PassView, LockView}
 use Rattle.tracked_lock.specs.Views.{entries_by, IsMadeOf}
 use Rattle.tracked_lock.specs.declared.views.Made.{Made}
 use Rattle.station.specs.Openings.{mode_at, the_opening}
@@ -20,22 +20,22 @@ abbrev pub IsEntryOf : (who : ℕ) → Entry → Type 0
 IsEntryOf who e = (e.who ≡ who) × IsInRange e.what
 
 -- a step of this worker
-abbrev pub step_by : (who : ℕ) → Entry
-step_by who = record { who = who; what = Step }
+abbrev pub step_entry_by : (who : ℕ) → Entry
+step_entry_by who = record { who = who; what = Step }
 
 -- the worker's entries of a story
-abbrev pub entries_of : (who : ℕ) → List Entry → List Entry
-entries_of who story = entries_by (λ (e : Entry). e.who) who story
+abbrev pub entries_of_worker : (who : ℕ) → List Entry → List Entry
+entries_of_worker who story = entries_by (λ (e : Entry). e.who) who story
 
 -- a pass of this station that has made and joined nothing, and with which no value is out
-pub record IsFresh (s : Locked Opening) (p : Passed Opening Entry) : Type 0 where
+pub record IsFresh (s : LockView Opening) (p : PassView Opening Entry) : Type 0 where
   pub lock : p.lock ≡ s
   pub out : p.out ≡ false
   pub made : p.made ≡ record { number = p.number; entries = [] } ∷ []
   pub agrees : IsMadeOf (λ e. e.who) p.seen p.made
 
 -- of these entries the pass has made the first ones, and nothing else
-pub record HasBegun (s : Locked Opening) (number : ℕ) (entries : List Entry) (p : Passed Opening Entry) : Type 0 where
+pub record HasBegun (s : LockView Opening) (number : ℕ) (entries : List Entry) (p : PassView Opening Entry) : Type 0 where
   pub lock : p.lock ≡ s
   pub out : p.out ≡ false
   pub done : List Entry
@@ -43,34 +43,34 @@ pub record HasBegun (s : Locked Opening) (number : ℕ) (entries : List Entry) (
   pub made : p.made ≡ record { number = number; entries = done } ∷ []
 
 -- a fresh pass for each list, whose entries are of the pass's number
-abbrev pub AreReady : Locked Opening → List (Passed Opening Entry) → List (List Entry) → Type 0
+abbrev pub AreReady : LockView Opening → List (PassView Opening Entry) → List (List Entry) → Type 0
 AreReady s [] [] = Unit {0}
 AreReady s (p ∷ ps) (x ∷ xs) = IsFresh s p × All (IsEntryOf p.number) x × AreReady s ps xs
 AreReady s ps xs = ⊥
 
 -- a fresh pass for the stepper, one for the feeder with its stimuli, and one for each script
-abbrev pub CanWork : Locked Opening → List (Passed Opening Entry) → (stimuli : List Entry) → (scripts : List (List Entry)) → Type 0
+abbrev pub CanWork : LockView Opening → List (PassView Opening Entry) → (stimuli : List Entry) → (scripts : List (List Entry)) → Type 0
 CanWork s [] stimuli scripts = ⊥
 CanWork s (p ∷ ps) stimuli scripts = IsFresh s p × AreReady s ps (stimuli ∷ scripts)
 
 -- each list as it was made whole, under its pass's number
-abbrev pub made_whole : List (Passed Opening Entry) → List (List Entry) → List (Made Entry)
-made_whole (p ∷ ps) (x ∷ xs) = record { number = p.number; entries = x } ∷ made_whole ps xs
-made_whole ps xs = []
+abbrev pub passes_made_whole : List (PassView Opening Entry) → List (List Entry) → List (Made Entry)
+passes_made_whole (p ∷ ps) (x ∷ xs) = record { number = p.number; entries = x } ∷ passes_made_whole ps xs
+passes_made_whole ps xs = []
 
 -- of each list the first entries were made, under its pass's number, and nothing else
-abbrev pub HaveBegun : List (Passed Opening Entry) → List (List Entry) → List (Made Entry) → Type 0
+abbrev pub HaveBegun : List (PassView Opening Entry) → List (List Entry) → List (Made Entry) → Type 0
 HaveBegun [] [] [] = Unit {0}
 HaveBegun (p ∷ ps) (x ∷ xs) (m ∷ ms) = (m.number ≡ p.number) × IsPrefix m.entries x × HaveBegun ps xs ms
 HaveBegun ps xs ms = ⊥
 
 -- a station is full only where its history has so many entries
-abbrev pub IsFaultAt : Locked Opening → (story : List Entry) → StationFault → Type 0
+abbrev pub IsFaultAt : LockView Opening → (story : List Entry) → StationFault → Type 0
 IsFaultAt s story NoMemory = Unit {0}
 IsFaultAt s story Full = FULL ≤ length (the_opening s.origin).first + length story
 
 -- so it is with the refusal of a worker that knows this story
-abbrev pub KnowsFault : Locked Opening → (story : List Entry) → Result Unit StationFault → Type 0
+abbrev pub KnowsFault : LockView Opening → (story : List Entry) → Result Unit StationFault → Type 0
 KnowsFault s story (Ok done) = Unit {0}
 KnowsFault s story (Err fault) = IsFaultAt s story fault
 
@@ -78,7 +78,7 @@ KnowsFault s story (Err fault) = IsFaultAt s story fault
 abbrev pub RunsBefore : (last : ℕ) → Opening → (who : ℕ) → (story : List Entry) → Type 0
 RunsBefore last o who story =
     (before after : List Entry) (e : Entry)
-    → story ≡ before ++ e ∷ after → e.who ≡ who → last ≤ length (entries_of who after)
+    → story ≡ before ++ e ∷ after → e.who ≡ who → last ≤ length (entries_of_worker who after)
     → is_stop (mode_at o before e) ≡ false
 
 -- the worker's last entry leaves STOP at its place in the story
@@ -88,35 +88,35 @@ pub record EndsInStop (o : Opening) (who : ℕ) (story : List Entry) : Type 0 wh
   pub after : List Entry
   pub is : story ≡ before ++ last ∷ after
   pub own : last.who ≡ who
-  pub none : entries_of who after ≡ []
+  pub none : entries_of_worker who after ≡ []
   pub stops : is_stop (mode_at o before last) ≡ true
 
 -- a pass has made steps alone, at most so many, each but the last of which leaves another mode than STOP; a stepper that wasn't refused
 -- made fewer only where the last one leaves STOP
-pub record HasStepped (s : Locked Opening) (number steps : ℕ) (p : Passed Opening Entry) (whole : Bool) : Type 0 where
+pub record HasStepped (s : LockView Opening) (number steps : ℕ) (p : PassView Opening Entry) (whole : Bool) : Type 0 where
   pub lock : p.lock ≡ s
   pub out : p.out ≡ false
   pub agrees : IsMadeOf (λ e. e.who) p.seen p.made
   pub count : ℕ
   pub few : count ≤ steps
-  pub made : p.made ≡ record { number = number; entries = replicate count (step_by number) } ∷ []
+  pub made : p.made ≡ record { number = number; entries = replicate count (step_entry_by number) } ∷ []
   pub runs : RunsBefore 1 (the_opening s.origin) number p.seen
   pub ends : whole ≡ true → (count ≡ steps) ⊎ EndsInStop (the_opening s.origin) number p.seen
 
 -- what the workers made together under the numbers of these passes, the stepper's first: it made steps alone, at most so many, each but
 -- the last of which leaves another mode than STOP, and the others the first entries of their lists. Where no worker was refused the lists
 -- were made whole, and there are fewer steps only where the last one leaves STOP
-pub record WorkedBy (s : Locked Opening) (p : Passed Opening Entry) (ps : List (Passed Opening Entry)) (steps : ℕ) (lists : List (List Entry)) (r : Passed Opening Entry) (whole : Bool) : Type 0 where
+pub record WorkedBy (s : LockView Opening) (p : PassView Opening Entry) (ps : List (PassView Opening Entry)) (steps : ℕ) (lists : List (List Entry)) (r : PassView Opening Entry) (whole : Bool) : Type 0 where
   pub count : ℕ
   pub few : count ≤ steps
   pub others : List (Made Entry)
-  pub made : r.made ≡ record { number = p.number; entries = replicate count (step_by p.number) } ∷ others
+  pub made : r.made ≡ record { number = p.number; entries = replicate count (step_entry_by p.number) } ∷ others
   pub begun : HaveBegun ps lists others
   pub runs : RunsBefore 1 (the_opening s.origin) p.number r.seen
-  pub all : whole ≡ true → others ≡ made_whole ps lists
+  pub all : whole ≡ true → others ≡ passes_made_whole ps lists
   pub ends : whole ≡ true → (count ≡ steps) ⊎ EndsInStop (the_opening s.origin) p.number r.seen
 
 -- the same with the passes of the workers in one list, of which the first is the stepper's
-abbrev pub HasWorked : Locked Opening → List (Passed Opening Entry) → (steps : ℕ) → (stimuli : List Entry) → (scripts : List (List Entry)) → Passed Opening Entry → Bool → Type 0
+abbrev pub HasWorked : LockView Opening → List (PassView Opening Entry) → (steps : ℕ) → (stimuli : List Entry) → (scripts : List (List Entry)) → PassView Opening Entry → Bool → Type 0
 HasWorked s [] steps stimuli scripts r whole = ⊥
 HasWorked s (p ∷ ps) steps stimuli scripts r whole = WorkedBy s p ps steps (stimuli ∷ scripts) r whole

@@ -3,9 +3,9 @@ ghost use Rattle.plc_io.specs.Moments.{FilesAt};
 ghost use Rattle.s7_cli.specs.BoundSays.{BoundSays};
 ghost use Rattle.s7_cli.specs.BoundTexts.{IsChainLine, IsToldOf, TellsOf};
 ghost use Rattle.s7_cli.specs.Command.{Bound};
-ghost use Rattle.s7_cli.specs.Ends.{Ended, taking};
-ghost use Rattle.s7_cli.specs.Inner.{Comes, ComesOf, RefusedBy};
-ghost use Rattle.s7_cli.specs.Reading.{disk};
+ghost use Rattle.s7_cli.specs.Ends.{EndsWithStatus, sink_moments};
+ghost use Rattle.s7_cli.specs.Inner.{ComesOutAs, ComesOf, SaysRefusal};
+ghost use Rattle.s7_cli.specs.Reading.{disk_moments};
 ghost use Rattle.s7_cli.specs.StatusTable.{StatusTable};
 
 use crate::command_checks::loaded;
@@ -47,7 +47,7 @@ fn told_of(alloc: Global, found: &Found) -> Result<Told, NoMemory>
 #[tactic(auto, using(crate::proofs::BoundLemmas::tells))]
 fn check_bound(alloc: Global, image: &[u8]) -> Result<Told, Failure>
     ensures tells { IfOk result (TellsOf image.now) }
-    ensures refused { RefusedBy (BoundSays image.now) result }
+    ensures refused { SaysRefusal (BoundSays image.now) result }
 {
     let loaded = loaded(alloc, image)?;
     let found = find(alloc, &loaded)?;
@@ -56,9 +56,9 @@ fn check_bound(alloc: Global, image: &[u8]) -> Result<Told, Failure>
 
 /// Writes the line of a chain that is too deep.
 fn write_deep<K: Sink>(out: &mut K, line: &[u8]) -> Result<(), Failure>
-    ensures { let took = taking (K.shown out.old) (K.shown out.new) in
+    ensures { let took = sink_moments (K.shown out.old) (K.shown out.new) in
         (img cert image : List ℕ) (at : FilesAt) → IsChainLine line.now image
-        → ComesOf (Bound img cert) (image ∷ []) (disk at at) took result }
+        → ComesOf (Bound img cert) (image ∷ []) (disk_moments at at) took result }
 {
     write_text(out, line)?;
     Err(Failure::TooDeep)
@@ -72,8 +72,8 @@ fn bound_image<F: Files, K: Sink>(
     files: &mut F,
     out: &mut K,
 ) -> Result<(), Failure>
-    ensures { let went = disk (F.shown files.old) (F.shown files.new) in
-        let took = taking (K.shown out.old) (K.shown out.new) in
+    ensures { let went = disk_moments (F.shown files.old) (F.shown files.new) in
+        let took = sink_moments (K.shown out.old) (K.shown out.new) in
         (img : List ℕ) → ComesOf (Bound img cert.now) (image.now ∷ []) went took result }
 {
     match check_bound(alloc, image) {
@@ -91,9 +91,9 @@ fn bound<F: Files, K: Sink>(
     files: &mut F,
     out: &mut K,
 ) -> Result<(), Failure>
-    ensures { let went = disk (F.shown files.old) (F.shown files.new) in
-        let took = taking (K.shown out.old) (K.shown out.new) in
-        Comes (Some (Bound img.now cert.now)) went took result }
+    ensures { let went = disk_moments (F.shown files.old) (F.shown files.new) in
+        let took = sink_moments (K.shown out.old) (K.shown out.new) in
+        ComesOutAs (Some (Bound img.now cert.now)) went took result }
 {
     let image = read_file(alloc, files, File::Image, img)?;
     bound_image(alloc, &image, cert, files, out)
@@ -110,12 +110,12 @@ pub fn cmd_bound<F: Files, K: Sink>(
     files: &mut F,
     out: &mut K,
 ) -> Status
-    ensures ends { let went = disk (F.shown files.old) (F.shown files.new) in
-        Ended (Some (Bound img.now cert.now)) went (taking (K.shown out.old) (K.shown out.new))
+    ensures ends { let went = disk_moments (F.shown files.old) (F.shown files.new) in
+        EndsWithStatus (Some (Bound img.now cert.now)) went (sink_moments (K.shown out.old) (K.shown out.new))
         result.code }
-    ensures table { let went = disk (F.shown files.old) (F.shown files.new) in
+    ensures table { let went = disk_moments (F.shown files.old) (F.shown files.new) in
         StatusTable (Some (Bound img.now cert.now)) went
-        (taking (K.shown out.old) (K.shown out.new)) result.code }
+        (sink_moments (K.shown out.old) (K.shown out.new)) result.code }
 {
     let came = bound(alloc, img, cert, files, out);
     end_command(out, came)

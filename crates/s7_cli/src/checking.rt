@@ -2,11 +2,11 @@ ghost use Rattle.std.specs.Prelude.{ℕ, List, Option, Some};
 ghost use Rattle.std.specs.Option.{option_map};
 ghost use Rattle.plc_io.specs.Moments.{FilesAt};
 ghost use Rattle.s7_cli.specs.Command.{Check};
-ghost use Rattle.s7_cli.specs.Ends.{Ended, taking};
-ghost use Rattle.s7_cli.specs.Inner.{Comes, ComesOf};
-ghost use Rattle.s7_cli.specs.Reading.{disk};
+ghost use Rattle.s7_cli.specs.Ends.{EndsWithStatus, sink_moments};
+ghost use Rattle.s7_cli.specs.Inner.{ComesOutAs, ComesOf};
+ghost use Rattle.s7_cli.specs.Reading.{disk_moments};
 ghost use Rattle.s7_cli.specs.StatusTable.{StatusTable};
-ghost use Rattle.s7_cli.specs.Texts.{IsWithin, contents_of};
+ghost use Rattle.s7_cli.specs.Texts.{AreFilesWithinLimits, file_contents_of};
 
 use crate::command_checks::check_program;
 use crate::failures::{Failure, Status};
@@ -22,10 +22,10 @@ fn check_text<K: Sink>(
     german: bool,
     out: &mut K,
 ) -> Result<(), Failure>
-    requires { IsWithin text.now }
-    ensures { let took = taking (K.shown out.old) (K.shown out.new) in
+    requires { AreFilesWithinLimits text.now }
+    ensures { let took = sink_moments (K.shown out.old) (K.shown out.new) in
         (src : List ℕ) (symbols : Option (List ℕ)) (at : FilesAt)
-        → ComesOf (Check src symbols german) (contents_of text.now) (disk at at) took result }
+        → ComesOf (Check src symbols german) (file_contents_of text.now) (disk_moments at at) took result }
 {
     check_program(alloc, text, german)?;
     write_text(out, OK_LINE)
@@ -40,9 +40,9 @@ fn check<F: Files, K: Sink>(
     files: &mut F,
     out: &mut K,
 ) -> Result<(), Failure>
-    ensures { let files_went = disk (F.shown files.old) (F.shown files.new) in
-        Comes (Some (Check src.now (option_map (λ s. s.now) symbols.entry) german)) files_went
-        (taking (K.shown out.old) (K.shown out.new)) result }
+    ensures { let files_went = disk_moments (F.shown files.old) (F.shown files.new) in
+        ComesOutAs (Some (Check src.now (option_map (λ s. s.now) symbols.entry) german)) files_went
+        (sink_moments (K.shown out.old) (K.shown out.new)) result }
 {
     let text = read_program(alloc, files, src, symbols)?;
     check_text(alloc, &text, german, out)
@@ -58,11 +58,11 @@ pub fn cmd_check<F: Files, K: Sink>(
     files: &mut F,
     out: &mut K,
 ) -> Status
-    ensures ends { let went = disk (F.shown files.old) (F.shown files.new) in
-        Ended (Some (Check src.now (option_map (λ s. s.now) symbols.entry) german)) went
-        (taking (K.shown out.old) (K.shown out.new)) result.code }
-    ensures table { let went = disk (F.shown files.old) (F.shown files.new) in
-        let took = taking (K.shown out.old) (K.shown out.new) in
+    ensures ends { let went = disk_moments (F.shown files.old) (F.shown files.new) in
+        EndsWithStatus (Some (Check src.now (option_map (λ s. s.now) symbols.entry) german)) went
+        (sink_moments (K.shown out.old) (K.shown out.new)) result.code }
+    ensures table { let went = disk_moments (F.shown files.old) (F.shown files.new) in
+        let took = sink_moments (K.shown out.old) (K.shown out.new) in
         StatusTable (Some (Check src.now (option_map (λ s. s.now) symbols.entry) german)) went took
         result.code }
 {

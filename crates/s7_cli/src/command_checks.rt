@@ -6,14 +6,14 @@ ghost use Rattle.flat_code.specs.declared.stamps.Stamp.TheVariants.{Two};
 ghost use Rattle.image_file.specs.Refusing.{IsLoadError};
 ghost use Rattle.plc_base.specs.declared.Profile.TheVariants.{Large};
 ghost use Rattle.sem_kept.specs.Agreement.{names_read_in};
-ghost use Rattle.event_text.specs.Texts.{history_of};
-ghost use Rattle.s7_cli.specs.Inner.{RefusedBy};
+ghost use Rattle.event_text.specs.Texts.{history_of_text};
+ghost use Rattle.s7_cli.specs.Inner.{SaysRefusal};
 ghost use Rattle.s7_cli.specs.LiveSays.{scripts_from};
-ghost use Rattle.s7_cli.specs.LiveTexts.{AreScriptsWithin, Finds, IsLiveText, TellsScript, TextSays};
+ghost use Rattle.s7_cli.specs.LiveTexts.{AreScriptsWithin, FindsProgramAndScripts, IsLiveText, TellsScript, LiveTextSays};
 ghost use Rattle.s7_cli.specs.Living.{AreRegularBy, total_length};
 ghost use Rattle.s7_cli.specs.Loads.{LoadsAs};
 ghost use Rattle.s7_cli.specs.Says.{GoSays, IsUpgraded, RefusedProgram, RunSays, UpgradeSays};
-ghost use Rattle.s7_cli.specs.Texts.{IsWithin, symbols_of};
+ghost use Rattle.s7_cli.specs.Texts.{AreFilesWithinLimits, symbols_text_of};
 ghost use Rattle.s7_cli.specs.Translating.{HasProgramOf, IsSourceImage, KeepsText, language_of};
 
 use crate::compiling::{compiled, compiled_image, judged};
@@ -30,11 +30,11 @@ use var_access::{Entries, Entry};
 
 /// Checks a source with its symbols, which are German where `german` says so.
 pub fn check_program(alloc: Global, text: &ProgramText, german: bool) -> Result<(), Failure>
-    requires { IsWithin text.now }
+    requires { AreFilesWithinLimits text.now }
     ensures accepted { IfOk result
-        (λ done. HasProgramOf german text.now.source.items (symbols_of text.now)) }
-    ensures refused { RefusedBy
-        (RefusedProgram german text.now.source.items (symbols_of text.now)) result }
+        (λ done. HasProgramOf german text.now.source.items (symbols_text_of text.now)) }
+    ensures refused { SaysRefusal
+        (RefusedProgram german text.now.source.items (symbols_text_of text.now)) result }
 {
     if german {
         return judged_german(alloc, text);
@@ -44,11 +44,11 @@ pub fn check_program(alloc: Global, text: &ProgramText, german: bool) -> Result<
 
 /// Checks a source with its symbols, and makes the image of its program.
 pub fn check_image(alloc: Global, text: &ProgramText, german: bool) -> Result<Vec<u8>, Failure>
-    requires { IsWithin text.now }
+    requires { AreFilesWithinLimits text.now }
     ensures keeps { IfOk result
-        (λ v. IsSourceImage german v.items text.now.source.items (symbols_of text.now)) }
-    ensures refused { RefusedBy
-        (RefusedProgram german text.now.source.items (symbols_of text.now)) result }
+        (λ v. IsSourceImage german v.items text.now.source.items (symbols_text_of text.now)) }
+    ensures refused { SaysRefusal
+        (RefusedProgram german text.now.source.items (symbols_text_of text.now)) result }
 {
     if german {
         return image_german(alloc, text);
@@ -58,12 +58,12 @@ pub fn check_image(alloc: Global, text: &ProgramText, german: bool) -> Result<Ve
 
 /// The loaded program of a source with its symbols.
 fn check_loaded(alloc: Global, text: &ProgramText, german: bool) -> Result<Loaded, Failure>
-    requires { IsWithin text.now }
+    requires { AreFilesWithinLimits text.now }
     ensures keeps { IfOk result
-        (λ l. KeepsText german text.now.source.items (symbols_of text.now) l.program) }
+        (λ l. KeepsText german text.now.source.items (symbols_text_of text.now) l.program) }
     ensures large { IfOk result (λ l. l.profile ≡ Large) }
-    ensures refused { RefusedBy
-        (RefusedProgram german text.now.source.items (symbols_of text.now)) result }
+    ensures refused { SaysRefusal
+        (RefusedProgram german text.now.source.items (symbols_text_of text.now)) result }
 {
     if german {
         return compiled_german(alloc, text);
@@ -78,17 +78,17 @@ pub fn check_with_history(
     german: bool,
     history: &[u8],
 ) -> Result<(Loaded, Entries), Failure>
-    requires text { IsWithin text.now }
+    requires text { AreFilesWithinLimits text.now }
     requires history { length history.now ≤ 4194304 }
     ensures keeps { IfOk result
-        (λ v. KeepsText german text.now.source.items (symbols_of text.now) v.0.program) }
+        (λ v. KeepsText german text.now.source.items (symbols_text_of text.now) v.0.program) }
     ensures large { IfOk result (λ v. v.0.profile ≡ Large) }
     ensures spells { IfOk result
-        (λ v. history_of (names_read_in (language_of german) (symbols_of text.now)) history.now
+        (λ v. history_of_text (names_read_in (language_of german) (symbols_text_of text.now)) history.now
         ≡ Ok v.1.entries) }
     ensures valid { IfOk result (λ v. All IsValid v.1.entries) }
-    ensures refused { RefusedBy
-        (GoSays german text.now.source.items (symbols_of text.now) history.now) result }
+    ensures refused { SaysRefusal
+        (GoSays german text.now.source.items (symbols_text_of text.now) history.now) result }
 {
     let program = check_loaded(alloc, text, german)?;
     let entries = read_history(alloc, history, program.names())?;
@@ -109,9 +109,9 @@ pub fn check_run(alloc: Global, image: &[u8], history: &[u8]) -> Result<(Loaded,
     requires { length history.now ≤ 4194304 }
     ensures loads { IfOk result (λ v. LoadsAs image.now (Ok v.0)) }
     ensures spells { IfOk result
-        (λ v. history_of v.0.program.names history.now ≡ Ok v.1.entries) }
+        (λ v. history_of_text v.0.program.names history.now ≡ Ok v.1.entries) }
     ensures valid { IfOk result (λ v. All IsValid v.1.entries) }
-    ensures refused { RefusedBy (RunSays image.now history.now) result }
+    ensures refused { SaysRefusal (RunSays image.now history.now) result }
 {
     let program = loaded(alloc, image)?;
     let entries = read_history(alloc, history, program.names())?;
@@ -130,7 +130,7 @@ fn image_again(alloc: Global, loaded: &Loaded) -> Result<Vec<u8>, NoMemory>
 /// Checks an image, and makes the image of version 2 of its program, names and profile.
 pub fn check_upgrade(alloc: Global, image: &[u8]) -> Result<Vec<u8>, Failure>
     ensures upgrades { IfOk result (λ v. IsUpgraded v.items image.now) }
-    ensures refused { RefusedBy (UpgradeSays image.now) result }
+    ensures refused { SaysRefusal (UpgradeSays image.now) result }
 {
     let loaded = loaded(alloc, image)?;
     Ok(image_again(alloc, &loaded)?)
@@ -175,9 +175,9 @@ pub(crate) fn check_scripts(
 /// whose names stand in the image.
 pub fn check_live(alloc: Global, text: &LiveText) -> Result<LiveWork, Failure>
     requires { IsLiveText text.now }
-    ensures finds { IfOk result (λ w. Finds text.now w.program w.stimuli.items
+    ensures finds { IfOk result (λ w. FindsProgramAndScripts text.now w.program w.stimuli.items
         (map (λ x. x.items) w.scripts.items)) }
-    ensures refused { (steps : ℕ) → RefusedBy (TextSays steps text.now) result }
+    ensures refused { (steps : ℕ) → SaysRefusal (LiveTextSays steps text.now) result }
 {
     let program = loaded(alloc, &text.image)?;
     let stimuli = match read_stimuli(alloc, &text.stimuli) {

@@ -1,11 +1,11 @@
 ghost use Rattle.std.specs.Prelude.{ℕ, List, Option, Some};
 ghost use Rattle.std.specs.Option.{option_map};
 ghost use Rattle.s7_cli.specs.Command.{Compile};
-ghost use Rattle.s7_cli.specs.Ends.{Ended, taking};
-ghost use Rattle.s7_cli.specs.Inner.{Comes, ComesOf};
-ghost use Rattle.s7_cli.specs.Reading.{disk};
+ghost use Rattle.s7_cli.specs.Ends.{EndsWithStatus, sink_moments};
+ghost use Rattle.s7_cli.specs.Inner.{ComesOutAs, ComesOf};
+ghost use Rattle.s7_cli.specs.Reading.{disk_moments};
 ghost use Rattle.s7_cli.specs.StatusTable.{StatusTable};
-ghost use Rattle.s7_cli.specs.Texts.{IsWithin, contents_of};
+ghost use Rattle.s7_cli.specs.Texts.{AreFilesWithinLimits, file_contents_of};
 
 use crate::command_checks::check_image;
 use crate::failures::{Failure, Status};
@@ -23,11 +23,11 @@ fn compile_text<F: Files, K: Sink>(
     files: &mut F,
     out: &mut K,
 ) -> Result<(), Failure>
-    requires { IsWithin text.now }
-    ensures { let went = disk (F.shown files.old) (F.shown files.new) in
-        let took = taking (K.shown out.old) (K.shown out.new) in
+    requires { AreFilesWithinLimits text.now }
+    ensures { let went = disk_moments (F.shown files.old) (F.shown files.new) in
+        let took = sink_moments (K.shown out.old) (K.shown out.new) in
         (src : List ℕ) (symbols : Option (List ℕ))
-        → ComesOf (Compile src symbols german img.now) (contents_of text.now) went took result }
+        → ComesOf (Compile src symbols german img.now) (file_contents_of text.now) went took result }
 {
     let image = check_image(alloc, text, german)?;
     write_output(files, out, img, &image)
@@ -43,9 +43,9 @@ fn compile<F: Files, K: Sink>(
     files: &mut F,
     out: &mut K,
 ) -> Result<(), Failure>
-    ensures { let went = disk (F.shown files.old) (F.shown files.new) in
-        let took = taking (K.shown out.old) (K.shown out.new) in
-        Comes (Some (Compile src.now (option_map (λ s. s.now) symbols.entry) german img.now)) went
+    ensures { let went = disk_moments (F.shown files.old) (F.shown files.new) in
+        let took = sink_moments (K.shown out.old) (K.shown out.new) in
+        ComesOutAs (Some (Compile src.now (option_map (λ s. s.now) symbols.entry) german img.now)) went
         took result }
 {
     let text = read_program(alloc, files, src, symbols)?;
@@ -65,12 +65,12 @@ pub fn cmd_compile<F: Files, K: Sink>(
     files: &mut F,
     out: &mut K,
 ) -> Status
-    ensures ends { let went = disk (F.shown files.old) (F.shown files.new) in
-        let took = taking (K.shown out.old) (K.shown out.new) in
-        Ended (Some (Compile src.now (option_map (λ s. s.now) symbols.entry) german img.now)) went
+    ensures ends { let went = disk_moments (F.shown files.old) (F.shown files.new) in
+        let took = sink_moments (K.shown out.old) (K.shown out.new) in
+        EndsWithStatus (Some (Compile src.now (option_map (λ s. s.now) symbols.entry) german img.now)) went
         took result.code }
-    ensures table { let went = disk (F.shown files.old) (F.shown files.new) in
-        let took = taking (K.shown out.old) (K.shown out.new) in
+    ensures table { let went = disk_moments (F.shown files.old) (F.shown files.new) in
+        let took = sink_moments (K.shown out.old) (K.shown out.new) in
         StatusTable (Some (Compile src.now (option_map (λ s. s.now) symbols.entry) german img.now))
         went took result.code }
 {

@@ -10,21 +10,21 @@ ghost use Rattle.stl_types.specs.Table.{statement_refusals};
 ghost use Rattle.block_layout.specs.Table.{layout_refusals};
 ghost use Rattle.sem_kept.specs.Agreement.{AreFiles, IsRunnable, KeepsSource};
 ghost use Rattle.sem_kept.specs.Compiles.{CompilesTo, IsProgramUnique};
-ghost use Rattle.sem_kept.specs.Meaning.{HasSymbolsIn, HasTokens, HasTree, IsSound};
+ghost use Rattle.sem_kept.specs.Meaning.{HasSymbolsIn, HasTokens, HasTreeOrRefusal, IsSound};
 ghost use Rattle.plc_base.specs.declared.refusals.SourceFault.TheVariants.{NoMemory};
-ghost use Rattle.sem_kept.specs.Stages.{InTurn};
+ghost use Rattle.sem_kept.specs.Stages.{HaveOutcomeInTurn};
 ghost use Rattle.stl_symbols.specs.declared.languages.Language.TheVariants.{English};
 ghost use Rattle.s7_cli.specs.declared.faults.CompileFault.TheVariants as compiling;
 ghost use Rattle.s7_cli.specs.Compiling.{
   AreRead,
   CompilesWith,
-  Finds,
+  MakesOrRefuses,
   HasProgram,
   HasProgramWith,
-  IsCompiled,
-  IsLaid,
+  IsImageOfEnglishSource,
+  IsSourceLaidOut,
   KeepsWith,
-  Lays,
+  LaysOutTree,
   RefusedHaveNone,
   RefusesBy,
   RefusesLaid,
@@ -60,7 +60,7 @@ fn read_symbols_in(
     symbols: &[u8],
 ) -> Result<Symbols, SourceFault>
     requires { length symbols.now ≤ symbols_limit }
-    ensures { Finds (HasSymbolsIn language symbols.now) result }
+    ensures { MakesOrRefuses (HasSymbolsIn language symbols.now) result }
 {
     let list = match language {
         Language::English => read_symbols(alloc, symbols)?,
@@ -88,7 +88,7 @@ pub(crate) fn symbols_in(
 /// The tree of a source.
 fn tree_of(alloc: Global, source: &[u8]) -> Result<Tree, SourceFault>
     requires { length source.now ≤ source_limit }
-    ensures { Finds (InTurn HasTokens (HasTree source.now) source.now) result }
+    ensures { MakesOrRefuses (HaveOutcomeInTurn HasTokens (HasTreeOrRefusal source.now) source.now) result }
 {
     let tokens = lex(alloc, source)?;
     let tree = parse(alloc, &tokens)?;
@@ -132,7 +132,7 @@ fn least_refusal(
 
 /// The layouts of a tree that breaks no rule on them.
 fn layouts_of(alloc: Global, tree: &Tree, symbols: &Symbols) -> Result<Layouts, SourceFault>
-    ensures { Lays symbols.now tree.now result }
+    ensures { LaysOutTree symbols.now tree.now result }
 {
     match lay_out(alloc, tree, symbols) {
         Ok(layouts) => Ok(layouts),
@@ -149,7 +149,7 @@ fn layouts_of(alloc: Global, tree: &Tree, symbols: &Symbols) -> Result<Layouts, 
 /// and of those on statements.
 fn laid_out(alloc: Global, source: &[u8], symbols: Symbols) -> Result<LaidSource, CompileFault>
     requires { length source.now ≤ source_limit }
-    ensures laid { IfOk result (IsLaid source.now) }
+    ensures laid { IfOk result (IsSourceLaidOut source.now) }
     ensures symbols { IfOk result (λ laid. laid.symbols ≡ symbols) }
     ensures refused { IfErr result (RefusesWith source.now symbols) }
 {
@@ -295,7 +295,7 @@ pub fn compiled(alloc: Global, source: &[u8], symbols: &[u8]) -> Result<Loaded, 
     ensures program { IfOk result (λ l. CompilesTo English source.now symbols.now l.program) }
     ensures large { IfOk result (λ l. l.profile ≡ Large) }
     ensures image { IfOk result
-        (λ l. IsCompiled (image (Two l.profile) l.program) source.now symbols.now) }
+        (λ l. IsImageOfEnglishSource (image (Two l.profile) l.program) source.now symbols.now) }
     ensures refused { IfErr result
         (RefusesBy source.now symbols.now) }
 {
@@ -314,7 +314,7 @@ pub fn compiled(alloc: Global, source: &[u8], symbols: &[u8]) -> Result<Loaded, 
 pub fn compiled_image(alloc: Global, source: &[u8], symbols: &[u8]) -> Result<Vec<u8>, CompileFault>
     requires source { length source.now ≤ source_limit }
     requires symbols { length symbols.now ≤ symbols_limit }
-    ensures ok { IfOk result (λ v. IsCompiled v.items source.now symbols.now) }
+    ensures ok { IfOk result (λ v. IsImageOfEnglishSource v.items source.now symbols.now) }
     ensures refused { IfErr result
         (RefusesBy source.now symbols.now) }
 {

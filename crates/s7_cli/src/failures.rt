@@ -1,5 +1,5 @@
 ghost use Rattle.std.specs.Prelude.{◌≡◌};
-ghost use Rattle.s7_cli.specs.Answer.{code_of, refused_code};
+ghost use Rattle.s7_cli.specs.Answer.{exit_status, refused_file_status};
 ghost use Rattle.s7_cli.specs.Faults.{failure_of_certificate, failure_of_compiling, failure_of_history, failure_of_loading, failure_of_text};
 
 use crate::faults::CompileFault;
@@ -135,7 +135,7 @@ pub struct Status {
 
 /// The exit status where this file breaks a rule.
 fn refused_code(file: File) -> u8
-    ensures { result ≡ refused_code file }
+    ensures { result ≡ refused_file_status file }
 {
     match file {
         File::Source | File::Translation | File::Symbols => 2,
@@ -147,7 +147,7 @@ fn refused_code(file: File) -> u8
 impl Status {
     /// The exit status of a command that came out so.
     pub fn of(outcome: Result<(), Failure>) -> Status
-        ensures { result.code ≡ code_of outcome }
+        ensures { result.code ≡ exit_status outcome }
     {
         let code = match outcome {
             Ok(()) => 0,

@@ -3,8 +3,8 @@ ghost use Rattle.std.specs.Option.{option_map};
 ghost use Rattle.s7_cli.specs.Command.{Input, limit_of, live_inputs, program_inputs, script_inputs, symbols_inputs};
 ghost use Rattle.s7_cli.specs.Inner.{AllRead, FileRead, FileWritten};
 ghost use Rattle.s7_cli.specs.LiveTexts.{live_contents};
-ghost use Rattle.s7_cli.specs.Reading.{disk};
-ghost use Rattle.s7_cli.specs.Texts.{contents_of, symbols_of};
+ghost use Rattle.s7_cli.specs.Reading.{disk_moments};
+ghost use Rattle.s7_cli.specs.Texts.{file_contents_of, symbols_text_of};
 
 use crate::failures::{Failure, File};
 use crate::lists::add;
@@ -44,7 +44,7 @@ pub struct ProgramText {
 impl ProgramText {
     /// The bytes of the symbols file; none where there is no file.
     pub fn symbols(&self) -> &[u8]
-        ensures { result.now ≡ symbols_of self.now }
+        ensures { result.now ≡ symbols_text_of self.now }
     {
         match &self.symbols {
             Some(bytes) => bytes.as_slice(),
@@ -87,7 +87,7 @@ pub fn read_file<F: Files>(
     name: &str,
 ) -> Result<Vec<u8>, Failure>
     ensures { let input : Input = record { file = file; name = name.now } in
-        FileRead (λ v. v.items) (disk (F.shown files.old) (F.shown files.new)) input result }
+        FileRead (λ v. v.items) (disk_moments (F.shown files.old) (F.shown files.new)) input result }
 {
     let limit = limit_of(file);
     match read_to_limit(alloc, files, name, limit) {
@@ -105,7 +105,7 @@ fn read_symbols_file<F: Files>(
     symbols: Option<&str>,
 ) -> Result<Option<Vec<u8>>, Failure>
     ensures { AllRead (λ o. option_to_list (option_map (λ v. v.items) o))
-        (disk (F.shown files.old) (F.shown files.new))
+        (disk_moments (F.shown files.old) (F.shown files.new))
         (symbols_inputs (option_map (λ s. s.now) symbols.entry)) result }
 {
     match symbols {
@@ -121,7 +121,7 @@ pub fn read_program<F: Files>(
     source: &str,
     symbols: Option<&str>,
 ) -> Result<ProgramText, Failure>
-    ensures { AllRead contents_of (disk (F.shown files.old) (F.shown files.new))
+    ensures { AllRead file_contents_of (disk_moments (F.shown files.old) (F.shown files.new))
         (program_inputs source.now (option_map (λ s. s.now) symbols.entry)) result }
 {
     let source = read_file(alloc, files, File::Source, source)?;
@@ -137,7 +137,7 @@ pub fn read_scripts<F: Files>(
 ) -> Result<Vec<Vec<u8>>, Failure>
     requires { length names.now ≤ 4 }
     ensures { AllRead (λ v. map (λ w. w.items) v.items)
-        (disk (F.shown files.old) (F.shown files.new))
+        (disk_moments (F.shown files.old) (F.shown files.new))
         (script_inputs 1 (map (λ s. s.now) names.now)) result }
 {
     let mut scripts = Vec::new(alloc);
@@ -158,7 +158,7 @@ pub fn read_live<F: Files>(
     scripts: &[&str],
 ) -> Result<LiveText, Failure>
     requires { length scripts.now ≤ 4 }
-    ensures { AllRead live_contents (disk (F.shown files.old) (F.shown files.new))
+    ensures { AllRead live_contents (disk_moments (F.shown files.old) (F.shown files.new))
         (live_inputs image.now stimuli.now (map (λ s. s.now) scripts.now)) result }
 {
     let image = read_file(alloc, files, File::Image, image)?;
@@ -173,7 +173,7 @@ pub fn read_live<F: Files>(
 
 /// Makes bytes the whole contents of an output file.
 pub fn write_file<F: Files>(files: &mut F, name: &str, bytes: &[u8]) -> Result<(), Failure>
-    ensures { FileWritten (disk (F.shown files.old) (F.shown files.new)) name.now bytes.now
+    ensures { FileWritten (disk_moments (F.shown files.old) (F.shown files.new)) name.now bytes.now
         result }
 {
     match files.write_whole(name, bytes) {

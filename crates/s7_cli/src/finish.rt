@@ -1,11 +1,11 @@
 ghost use Rattle.std.specs.Prelude.{ℕ, List, Option};
 ghost use Rattle.plc_io.specs.Moments.{SinkAt};
-ghost use Rattle.plc_io.specs.Taken.{Wrote};
+ghost use Rattle.plc_io.specs.Taken.{WroteText};
 ghost use Rattle.s7_cli.specs.Command.{Command};
-ghost use Rattle.s7_cli.specs.Ends.{Ended, Ends, taking};
-ghost use Rattle.s7_cli.specs.Inner.{AreOutputs, Comes, ComesOf, IsOutput, LineWritten, TextWritten, written_to};
-ghost use Rattle.s7_cli.specs.Lines.{line_of};
-ghost use Rattle.s7_cli.specs.Reading.{Disk, disk};
+ghost use Rattle.s7_cli.specs.Ends.{EndsWithStatus, EndsWithOutcome, sink_moments};
+ghost use Rattle.s7_cli.specs.Inner.{AreOutputs, ComesOutAs, ComesOf, IsOutput, LineWritten, TextWritten, written_file};
+ghost use Rattle.s7_cli.specs.Lines.{line_of_failure};
+ghost use Rattle.s7_cli.specs.Reading.{Disk, disk_moments};
 ghost use Rattle.s7_cli.specs.StatusTable.{StatusTable};
 
 use crate::failures::{Failure, Status};
@@ -21,7 +21,7 @@ pub const OK_LINE: &[u8] = b"OK\n";
 /// How a command came out whose text was written so.
 pub fn written(outcome: Result<(), IoFault>) -> Result<(), Failure>
     ensures { (before after : SinkAt) (text : List ℕ)
-        → Wrote before after text outcome → TextWritten text (taking before after) result }
+        → WroteText before after text outcome → TextWritten text (sink_moments before after) result }
 {
     match outcome {
         Ok(()) => Ok(()),
@@ -32,7 +32,7 @@ pub fn written(outcome: Result<(), IoFault>) -> Result<(), Failure>
 
 /// Writes a whole text.
 pub fn write_text<K: Sink>(out: &mut K, text: &[u8]) -> Result<(), Failure>
-    ensures { TextWritten text.now (taking (K.shown out.old) (K.shown out.new)) result }
+    ensures { TextWritten text.now (sink_moments (K.shown out.old) (K.shown out.new)) result }
 {
     written(push_all(out, text))
 }
@@ -44,8 +44,8 @@ pub fn write_output<F: Files, K: Sink>(
     name: &str,
     bytes: &[u8],
 ) -> Result<(), Failure>
-    ensures { let went = disk (F.shown files.old) (F.shown files.new) in
-        let took = taking (K.shown out.old) (K.shown out.new) in
+    ensures { let went = disk_moments (F.shown files.old) (F.shown files.new) in
+        let took = sink_moments (K.shown out.old) (K.shown out.new) in
         (c : Command) (contents : List (List ℕ)) → IsOutput c contents name.now bytes.now
         → ComesOf c contents went took result }
 {
@@ -67,10 +67,10 @@ pub fn write_outputs<F: Files, K: Sink>(
     first: &Output<'_>,
     second: &Output<'_>,
 ) -> Result<(), Failure>
-    ensures { let went = disk (F.shown files.old) (F.shown files.new) in
-        let took = taking (K.shown out.old) (K.shown out.new) in
+    ensures { let went = disk_moments (F.shown files.old) (F.shown files.new) in
+        let took = sink_moments (K.shown out.old) (K.shown out.new) in
         (c : Command) (contents : List (List ℕ))
-        → AreOutputs c contents (written_to first.now) (written_to second.now)
+        → AreOutputs c contents (written_file first.now) (written_file second.now)
         → ComesOf c contents went took result }
 {
     write_file(files, first.name, first.bytes)?;
@@ -80,8 +80,8 @@ pub fn write_outputs<F: Files, K: Sink>(
 
 /// Writes the line of a failure, if it has one, and answers the failure, or that of the writing.
 fn say<K: Sink>(out: &mut K, failure: Failure) -> Failure
-    ensures { LineWritten (line_of failure) failure
-        (taking (K.shown out.old) (K.shown out.new)) result }
+    ensures { LineWritten (line_of_failure failure) failure
+        (sink_moments (K.shown out.old) (K.shown out.new)) result }
 {
     let Some(line) = failure_line(failure) else {
         return failure;
@@ -95,8 +95,8 @@ fn say<K: Sink>(out: &mut K, failure: Failure) -> Failure
 /// Writes the line of a command's failure, where it came out with one.
 fn finish<K: Sink>(out: &mut K, came: Result<(), Failure>) -> Result<(), Failure>
     ensures { (c : Option Command) (d : Disk) (start : SinkAt)
-        → Comes c d (taking start (K.shown out.old)) came
-        → Ends c d (taking start (K.shown out.new)) result }
+        → ComesOutAs c d (sink_moments start (K.shown out.old)) came
+        → EndsWithOutcome c d (sink_moments start (K.shown out.new)) result }
 {
     match came {
         Ok(()) => Ok(()),
@@ -107,11 +107,11 @@ fn finish<K: Sink>(out: &mut K, came: Result<(), Failure>) -> Result<(), Failure
 /// Ends a command, whose failure isn't written yet.
 pub fn end_command<K: Sink>(out: &mut K, came: Result<(), Failure>) -> Status
     ensures ends { (c : Option Command) (d : Disk) (start : SinkAt)
-        → Comes c d (taking start (K.shown out.old)) came
-        → Ended c d (taking start (K.shown out.new)) result.code }
+        → ComesOutAs c d (sink_moments start (K.shown out.old)) came
+        → EndsWithStatus c d (sink_moments start (K.shown out.new)) result.code }
     ensures table { (c : Option Command) (d : Disk) (start : SinkAt)
-        → Comes c d (taking start (K.shown out.old)) came
-        → StatusTable c d (taking start (K.shown out.new)) result.code }
+        → ComesOutAs c d (sink_moments start (K.shown out.old)) came
+        → StatusTable c d (sink_moments start (K.shown out.new)) result.code }
 {
     // a source has one meaning or one refusal, and one translation or one violation
     sem_kept::laws::law_of_sources();

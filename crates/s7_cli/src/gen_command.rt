@@ -6,9 +6,9 @@ ghost use Rattle.generator.specs.Source.{source_text};
 ghost use Rattle.sem_kept.specs.Agreement.{KeepsSource};
 ghost use Rattle.s7_cli.specs.Command.{Gen};
 ghost use Rattle.s7_cli.specs.declared.failures.Failure.TheVariants.{NoMemory};
-ghost use Rattle.s7_cli.specs.Ends.{Ended, taking};
-ghost use Rattle.s7_cli.specs.Inner.{Comes, RefusedBy};
-ghost use Rattle.s7_cli.specs.Reading.{disk};
+ghost use Rattle.s7_cli.specs.Ends.{EndsWithStatus, sink_moments};
+ghost use Rattle.s7_cli.specs.Inner.{ComesOutAs, SaysRefusal};
+ghost use Rattle.s7_cli.specs.Reading.{disk_moments};
 ghost use Rattle.s7_cli.specs.Says.{GenSays};
 ghost use Rattle.s7_cli.specs.StatusTable.{StatusTable};
 
@@ -29,7 +29,7 @@ use var_access::Entries;
 fn program_of(alloc: Global, number: u32) -> Result<Loaded, Failure>
     ensures keeps { IfOk result (λ l. KeepsSource Large (source_text number) [] l.program) }
     ensures large { IfOk result (λ l. l.profile ≡ Large) }
-    ensures refused { RefusedBy (GenSays number) result }
+    ensures refused { SaysRefusal (GenSays number) result }
 {
     let source = source_text(alloc, number)?;
     Ok(compiled(alloc, &source, &[])?)
@@ -63,8 +63,8 @@ fn controller_behind(
 /// Compiles the program of a number, runs it along the history of the number, and writes the
 /// summary.
 fn generate<K: Sink>(alloc: Global, number: u32, out: &mut K) -> Result<(), Failure>
-    ensures { (files : FilesAt) → Comes (Some (Gen number)) (disk files files)
-        (taking (K.shown out.old) (K.shown out.new)) result }
+    ensures { (files : FilesAt) → ComesOutAs (Some (Gen number)) (disk_moments files files)
+        (sink_moments (K.shown out.old) (K.shown out.new)) result }
 {
     let program = program_of(alloc, number)?;
     let entries = history(alloc, number)?;
@@ -76,10 +76,10 @@ fn generate<K: Sink>(alloc: Global, number: u32, out: &mut K) -> Result<(), Fail
 /// summary: how many entries the history has, the mode behind them, and the sum of the bytes MB 0 to
 /// MB 255; or the line of a refusal. No file is read.
 pub fn cmd_gen<K: Sink>(alloc: Global, number: u32, out: &mut K) -> Status
-    ensures ends { (files : FilesAt) → Ended (Some (Gen number)) (disk files files)
-        (taking (K.shown out.old) (K.shown out.new)) result.code }
-    ensures table { (files : FilesAt) → StatusTable (Some (Gen number)) (disk files files)
-        (taking (K.shown out.old) (K.shown out.new)) result.code }
+    ensures ends { (files : FilesAt) → EndsWithStatus (Some (Gen number)) (disk_moments files files)
+        (sink_moments (K.shown out.old) (K.shown out.new)) result.code }
+    ensures table { (files : FilesAt) → StatusTable (Some (Gen number)) (disk_moments files files)
+        (sink_moments (K.shown out.old) (K.shown out.new)) result.code }
 {
     let came = generate(alloc, number, out);
     end_command(out, came)

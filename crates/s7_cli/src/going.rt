@@ -2,11 +2,11 @@ ghost use Rattle.std.specs.Prelude.{ℕ, ◌≤◌, List, [], ◌∷◌, ◌++�
 ghost use Rattle.std.specs.Option.{option_map};
 ghost use Rattle.plc_io.specs.Moments.{FilesAt};
 ghost use Rattle.s7_cli.specs.Command.{Go};
-ghost use Rattle.s7_cli.specs.Ends.{Ended, taking};
-ghost use Rattle.s7_cli.specs.Inner.{Comes, ComesOf};
-ghost use Rattle.s7_cli.specs.Reading.{disk};
+ghost use Rattle.s7_cli.specs.Ends.{EndsWithStatus, sink_moments};
+ghost use Rattle.s7_cli.specs.Inner.{ComesOutAs, ComesOf};
+ghost use Rattle.s7_cli.specs.Reading.{disk_moments};
 ghost use Rattle.s7_cli.specs.StatusTable.{StatusTable};
-ghost use Rattle.s7_cli.specs.Texts.{IsWithin, contents_of};
+ghost use Rattle.s7_cli.specs.Texts.{AreFilesWithinLimits, file_contents_of};
 
 use crate::command_checks::check_with_history;
 use crate::failures::{Failure, File, Status};
@@ -24,12 +24,12 @@ fn go_along<K: Sink>(
     history: &[u8],
     out: &mut K,
 ) -> Result<(), Failure>
-    requires text { IsWithin text.now }
+    requires text { AreFilesWithinLimits text.now }
     requires history { length history.now ≤ 4194304 }
-    ensures { let took = taking (K.shown out.old) (K.shown out.new) in
+    ensures { let took = sink_moments (K.shown out.old) (K.shown out.new) in
         (src hist : List ℕ) (symbols : Option (List ℕ)) (at : FilesAt)
-        → ComesOf (Go src symbols german hist) (contents_of text.now ++ history.now ∷ [])
-        (disk at at) took result }
+        → ComesOf (Go src symbols german hist) (file_contents_of text.now ++ history.now ∷ [])
+        (disk_moments at at) took result }
 {
     let (program, entries) = check_with_history(alloc, text, german, history)?;
     // programs that no history tells apart have one text
@@ -47,9 +47,9 @@ fn go<F: Files, K: Sink>(
     files: &mut F,
     out: &mut K,
 ) -> Result<(), Failure>
-    ensures { let went = disk (F.shown files.old) (F.shown files.new) in
-        let took = taking (K.shown out.old) (K.shown out.new) in
-        Comes (Some (Go src.now (option_map (λ s. s.now) symbols.entry) german hist.now)) went took
+    ensures { let went = disk_moments (F.shown files.old) (F.shown files.new) in
+        let took = sink_moments (K.shown out.old) (K.shown out.new) in
+        ComesOutAs (Some (Go src.now (option_map (λ s. s.now) symbols.entry) german hist.now)) went took
         result }
 {
     let text = read_program(alloc, files, src, symbols)?;
@@ -68,12 +68,12 @@ pub fn cmd_go<F: Files, K: Sink>(
     files: &mut F,
     out: &mut K,
 ) -> Status
-    ensures ends { let went = disk (F.shown files.old) (F.shown files.new) in
-        let took = taking (K.shown out.old) (K.shown out.new) in
-        Ended (Some (Go src.now (option_map (λ s. s.now) symbols.entry) german hist.now)) went took
+    ensures ends { let went = disk_moments (F.shown files.old) (F.shown files.new) in
+        let took = sink_moments (K.shown out.old) (K.shown out.new) in
+        EndsWithStatus (Some (Go src.now (option_map (λ s. s.now) symbols.entry) german hist.now)) went took
         result.code }
-    ensures table { let went = disk (F.shown files.old) (F.shown files.new) in
-        let took = taking (K.shown out.old) (K.shown out.new) in
+    ensures table { let went = disk_moments (F.shown files.old) (F.shown files.new) in
+        let took = sink_moments (K.shown out.old) (K.shown out.new) in
         StatusTable (Some (Go src.now (option_map (λ s. s.now) symbols.entry) german hist.now)) went took
         result.code }
 {

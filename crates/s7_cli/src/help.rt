@@ -1,6 +1,6 @@
 //! What the program tells of itself: its commands and its version.
 ghost use Rattle.std.specs.Prelude.{◌≡◌, map, string_bytes};
-ghost use Rattle.s7_cli.specs.Questions.{AnswerWritten, question_by, question_of, text_of};
+ghost use Rattle.s7_cli.specs.Questions.{AnswerWritten, question_by, question_of, question_text};
 
 use crate::failures::{Failure, Status};
 use plc_io::{IoFault, Sink, push_all};
@@ -237,7 +237,7 @@ pub fn question_in(words: &[String]) -> Option<Question>
 impl Question {
     /// The text that answers it.
     fn text(self) -> &'static str
-        ensures { result.now ≡ text_of self }
+        ensures { result.now ≡ question_text self }
     {
         match self {
             Question::Help => HELP,
@@ -249,7 +249,7 @@ impl Question {
 /// Writes the answer to a question. The status is 0, or 6 where the sink failed, or 7 where memory
 /// was wanting.
 pub fn write_answer<K: Sink>(out: &mut K, question: Question) -> Status
-    ensures { AnswerWritten (text_of question) (K.shown out.old) (K.shown out.new) result.code }
+    ensures { AnswerWritten (question_text question) (K.shown out.old) (K.shown out.new) result.code }
 {
     let outcome = match push_all(out, question.text().as_bytes()) {
         Ok(()) => Ok(()),

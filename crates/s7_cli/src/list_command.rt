@@ -1,8 +1,8 @@
 ghost use Rattle.std.specs.Prelude.{◌≢◌, ℕ, List, [], ◌∷◌, Some};
 ghost use Rattle.s7_cli.specs.Command.{ListImage};
-ghost use Rattle.s7_cli.specs.Ends.{Ended, taking};
-ghost use Rattle.s7_cli.specs.Inner.{Comes, ComesOf};
-ghost use Rattle.s7_cli.specs.Reading.{disk};
+ghost use Rattle.s7_cli.specs.Ends.{EndsWithStatus, sink_moments};
+ghost use Rattle.s7_cli.specs.Inner.{ComesOutAs, ComesOf};
+ghost use Rattle.s7_cli.specs.Reading.{disk_moments};
 ghost use Rattle.s7_cli.specs.StatusTable.{StatusTable};
 
 use crate::failures::{Failure, File, Status};
@@ -22,8 +22,8 @@ fn list_image<F: Files, K: Sink>(
     out: &mut K,
 ) -> Result<(), Failure>
     requires { src.now ≢ sym.now }
-    ensures { let went = disk (F.shown files.old) (F.shown files.new) in
-        let took = taking (K.shown out.old) (K.shown out.new) in
+    ensures { let went = disk_moments (F.shown files.old) (F.shown files.new) in
+        let took = sink_moments (K.shown out.old) (K.shown out.new) in
         (img : List ℕ)
         → ComesOf (ListImage img src.now sym.now) (image.now ∷ []) went took result }
 {
@@ -49,9 +49,9 @@ fn list<F: Files, K: Sink>(
     out: &mut K,
 ) -> Result<(), Failure>
     requires { src.now ≢ sym.now }
-    ensures { let went = disk (F.shown files.old) (F.shown files.new) in
-        let took = taking (K.shown out.old) (K.shown out.new) in
-        Comes (Some (ListImage img.now src.now sym.now)) went took result }
+    ensures { let went = disk_moments (F.shown files.old) (F.shown files.new) in
+        let took = sink_moments (K.shown out.old) (K.shown out.new) in
+        ComesOutAs (Some (ListImage img.now src.now sym.now)) went took result }
 {
     let image = read_file(alloc, files, File::Image, img)?;
     list_image(alloc, &image, src, sym, files, out)
@@ -70,12 +70,12 @@ pub fn cmd_list<F: Files, K: Sink>(
     out: &mut K,
 ) -> Status
     requires { src.now ≢ sym.now }
-    ensures ends { let went = disk (F.shown files.old) (F.shown files.new) in
-        Ended (Some (ListImage img.now src.now sym.now)) went
-        (taking (K.shown out.old) (K.shown out.new)) result.code }
-    ensures table { let went = disk (F.shown files.old) (F.shown files.new) in
+    ensures ends { let went = disk_moments (F.shown files.old) (F.shown files.new) in
+        EndsWithStatus (Some (ListImage img.now src.now sym.now)) went
+        (sink_moments (K.shown out.old) (K.shown out.new)) result.code }
+    ensures table { let went = disk_moments (F.shown files.old) (F.shown files.new) in
         StatusTable (Some (ListImage img.now src.now sym.now)) went
-        (taking (K.shown out.old) (K.shown out.new)) result.code }
+        (sink_moments (K.shown out.old) (K.shown out.new)) result.code }
 {
     let came = list(alloc, img, src, sym, files, out);
     end_command(out, came)

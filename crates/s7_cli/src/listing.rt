@@ -2,7 +2,7 @@ ghost use Rattle.std.specs.Prelude.{◌≡◌, IfOk};
 ghost use Rattle.flat_code.specs.Image.{IsProgram};
 ghost use Rattle.stl_list.specs.Listing.{listed_source};
 ghost use Rattle.stl_list.specs.Symbols.{listed_names};
-ghost use Rattle.s7_cli.specs.Inner.{RefusedBy};
+ghost use Rattle.s7_cli.specs.Inner.{SaysRefusal};
 ghost use Rattle.s7_cli.specs.ListSays.{IsListing, IsListingOf, IsShortListing, ListSays, ListedAnswer};
 ghost use Rattle.s7_cli.specs.Listings.{CompiledHaveListings, ListingsGiveImages, ListingsGivePrograms};
 
@@ -20,7 +20,7 @@ fn short_listing(alloc: Global, loaded: &Loaded) -> Result<Listing, Failure>
     ensures symbols { IfOk result
         (λ x. x.symbols.items ≡ listed_names loaded.now.program.names) }
     ensures short { IfOk result (λ x. IsShortListing loaded.now.program) }
-    ensures refused { RefusedBy (ListedAnswer loaded.now.program) result }
+    ensures refused { SaysRefusal (ListedAnswer loaded.now.program) result }
 {
     match list_within(alloc, loaded, limit_of(File::Listing))? {
         Some(listing) => Ok(listing),
@@ -35,7 +35,7 @@ fn listing_of(alloc: Global, loaded: &Loaded) -> Result<Listing, Failure>
     requires { IsProgram loaded.now.program }
     ensures lists { IfOk result
         (λ x. IsListing x.source.items x.symbols.items loaded.now.program) }
-    ensures refused { RefusedBy (ListedAnswer loaded.now.program) result }
+    ensures refused { SaysRefusal (ListedAnswer loaded.now.program) result }
 {
     let listing = short_listing(alloc, loaded)?;
     if compiles_to(alloc, &listing.source, &listing.symbols, loaded)? {
@@ -48,7 +48,7 @@ fn listing_of(alloc: Global, loaded: &Loaded) -> Result<Listing, Failure>
 /// Checks an image, and lists its program.
 pub(crate) fn check_listing(alloc: Global, image: &[u8]) -> Result<Listing, Failure>
     ensures lists { IfOk result (λ x. IsListingOf x.source.items x.symbols.items image.now) }
-    ensures refused { RefusedBy (ListSays image.now) result }
+    ensures refused { SaysRefusal (ListSays image.now) result }
 {
     let loaded = loaded(alloc, image)?;
     listing_of(alloc, &loaded)

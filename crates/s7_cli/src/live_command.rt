@@ -1,20 +1,20 @@
 //! A live run: several workers run an image, and the history that they made is written, and its run.
 ghost use Rattle.std.specs.Prelude.{◌≡◌, ℕ, ◌^◌, ◌<◌, ◌≤◌, List, ◌++◌, codes, length, map, All, IfOk, Some};
 ghost use Rattle.plc_io.specs.Moments.{FilesAt};
-ghost use Rattle.plc_io.specs.Taken.{Wrote};
+ghost use Rattle.plc_io.specs.Taken.{WroteText};
 ghost use Rattle.machine.specs.Flat.{code_of};
 ghost use Rattle.var_access.specs.Entry.{IsValid};
-ghost use Rattle.var_access.specs.Runs.{AreRuns, written_out};
+ghost use Rattle.var_access.specs.Runs.{AreRuns, entries_of_runs};
 ghost use Rattle.event_text.specs.HistoryText.{history_text};
-ghost use Rattle.s7_cli.specs.Answer.{done};
+ghost use Rattle.s7_cli.specs.Answer.{done_answer};
 ghost use Rattle.s7_cli.specs.Command.{Live};
-ghost use Rattle.s7_cli.specs.Ends.{Ended, taking};
-ghost use Rattle.s7_cli.specs.Inner.{Comes, ComesOf, RefusedBy};
+ghost use Rattle.s7_cli.specs.Ends.{EndsWithStatus, sink_moments};
+ghost use Rattle.s7_cli.specs.Inner.{ComesOutAs, ComesOf, SaysRefusal};
 ghost use Rattle.s7_cli.specs.LiveSays.{live_text};
-ghost use Rattle.s7_cli.specs.LiveTexts.{IsLiveText, TextSays, live_contents};
-ghost use Rattle.s7_cli.specs.Reading.{disk};
+ghost use Rattle.s7_cli.specs.LiveTexts.{IsLiveText, LiveTextSays, live_contents};
+ghost use Rattle.s7_cli.specs.Reading.{disk_moments};
 ghost use Rattle.s7_cli.specs.StatusTable.{StatusTable};
-ghost use Rattle.s7_cli.specs.run_text.Behind.{program_of};
+ghost use Rattle.s7_cli.specs.run_text.Behind.{program_of_recording};
 ghost use Rattle.s7_cli.specs.run_text.RunText.{run_text};
 
 use crate::command_checks::{LiveWork, check_live};
@@ -43,9 +43,9 @@ fn lived<R: Threads + Wait + Sync, G: Gate + Sync>(
     requires text { IsLiveText text.now }
     requires steps { steps ≤ 1000000 }
     ensures says { IfOk result
-        (λ c. TextSays steps text.now (done (live_text (program_of c) c.history))) }
+        (λ c. LiveTextSays steps text.now (done_answer (live_text (program_of_recording c) c.history))) }
     ensures valid { IfOk result (λ c. All IsValid c.history) }
-    ensures refused { RefusedBy (TextSays steps text.now) result }
+    ensures refused { SaysRefusal (LiveTextSays steps text.now) result }
 {
     event_text::laws::written_is_read();
     let LiveWork {
@@ -59,8 +59,8 @@ fn lived<R: Threads + Wait + Sync, G: Gate + Sync>(
 /// The entries of runs.
 fn entries_of(alloc: Global, runs: &[Run]) -> Result<Entries, NoMemory>
     requires are { AreRuns runs.now }
-    requires bounded { length (written_out runs.now) < 2 ^ 64 }
-    ensures { IfOk result (λ v. v.entries ≡ written_out runs.now) }
+    requires bounded { length (entries_of_runs runs.now) < 2 ^ 64 }
+    ensures { IfOk result (λ v. v.entries ≡ entries_of_runs runs.now) }
 {
     let mut entries = Entries::new(alloc);
     for run in runs {
@@ -71,7 +71,7 @@ fn entries_of(alloc: Global, runs: &[Run]) -> Result<Entries, NoMemory>
 
 /// Writes the history of a controller, and a line `---`.
 fn push_history<K: Sink>(alloc: Global, controller: &Controller, out: &mut K) -> Result<(), IoFault>
-    ensures { Wrote (K.shown out.old) (K.shown out.new)
+    ensures { WroteText (K.shown out.old) (K.shown out.new)
         (history_text controller.now.history ++ codes "---\n") result }
 {
     let history = write_history(alloc, controller)?;
@@ -86,8 +86,8 @@ fn replay_history<K: Sink>(
     out: &mut K,
 ) -> Result<(), IoFault>
     requires { All IsValid controller.history }
-    ensures { Wrote (K.shown out.old) (K.shown out.new)
-        (let p = program_of controller in
+    ensures { WroteText (K.shown out.old) (K.shown out.new)
+        (let p = program_of_recording controller in
         run_text p.profile (code_of p.program) controller.history) result }
 {
     // a history has fewer than 2^64 entries
@@ -103,8 +103,8 @@ pub fn write_live<K: Sink>(
     out: &mut K,
 ) -> Result<(), IoFault>
     requires { All IsValid controller.history }
-    ensures { Wrote (K.shown out.old) (K.shown out.new)
-        (live_text (program_of controller) controller.history) result }
+    ensures { WroteText (K.shown out.old) (K.shown out.new)
+        (live_text (program_of_recording controller) controller.history) result }
 {
     push_history(alloc, &controller, out)?;
     replay_history(alloc, controller, out)
@@ -121,9 +121,9 @@ fn live_read<R: Threads + Wait + Sync, K: Sink, G: Gate + Sync>(
 ) -> Result<(), Failure>
     requires text { IsLiveText text.now }
     requires steps { steps ≤ 1000000 }
-    ensures { let took = taking (K.shown out.old) (K.shown out.new) in
+    ensures { let took = sink_moments (K.shown out.old) (K.shown out.new) in
         (img stim : List ℕ) (ops : List (List ℕ)) (at : FilesAt)
-        → ComesOf (Live img stim ops steps) (live_contents text.now) (disk at at) took result }
+        → ComesOf (Live img stim ops steps) (live_contents text.now) (disk_moments at at) took result }
 {
     let controller = lived(rt, alloc, text, steps, gate)?;
     written(write_live(alloc, controller, out))
@@ -143,9 +143,9 @@ fn live<R: Threads + Wait + Sync, F: Files, K: Sink, G: Gate + Sync>(
 ) -> Result<(), Failure>
     requires ops { (1 ≤ length ops.now) × (length ops.now ≤ 4) }
     requires steps { steps ≤ 1000000 }
-    ensures { let went = disk (F.shown files.old) (F.shown files.new) in
-        let took = taking (K.shown out.old) (K.shown out.new) in
-        Comes (Some (Live img.now stim.now (map (λ w. w.now) ops.now) steps)) went took result }
+    ensures { let went = disk_moments (F.shown files.old) (F.shown files.new) in
+        let took = sink_moments (K.shown out.old) (K.shown out.new) in
+        ComesOutAs (Some (Live img.now stim.now (map (λ w. w.now) ops.now) steps)) went took result }
 {
     let text = read_live(alloc, files, img, stim, ops)?;
     live_read(rt, alloc, &text, steps, out, gate)
@@ -169,12 +169,12 @@ pub fn cmd_live<R: Threads + Wait + Sync, F: Files, K: Sink, G: Gate + Sync>(
 ) -> Status
     requires ops { (1 ≤ length ops.now) × (length ops.now ≤ 4) }
     requires steps { (1 ≤ steps) × (steps ≤ 1000000) }
-    ensures ends { let went = disk (F.shown files.old) (F.shown files.new) in
-        Ended (Some (Live img.now stim.now (map (λ w. w.now) ops.now) steps)) went
-        (taking (K.shown out.old) (K.shown out.new)) result.code }
-    ensures table { let went = disk (F.shown files.old) (F.shown files.new) in
+    ensures ends { let went = disk_moments (F.shown files.old) (F.shown files.new) in
+        EndsWithStatus (Some (Live img.now stim.now (map (λ w. w.now) ops.now) steps)) went
+        (sink_moments (K.shown out.old) (K.shown out.new)) result.code }
+    ensures table { let went = disk_moments (F.shown files.old) (F.shown files.new) in
         StatusTable (Some (Live img.now stim.now (map (λ w. w.now) ops.now) steps)) went
-        (taking (K.shown out.old) (K.shown out.new)) result.code }
+        (sink_moments (K.shown out.old) (K.shown out.new)) result.code }
 {
     let came = live(rt, alloc, img, stim, ops, steps, files, out, gate);
     end_command(out, came)

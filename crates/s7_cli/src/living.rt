@@ -3,12 +3,12 @@ ghost use Rattle.std.specs.Prelude.{◌≡◌, ◌+◌, ◌<◌, ◌≤◌, ◌�
 ghost use Rattle.controller.specs.Recording.{Recording};
 ghost use Rattle.event_text.specs.Regular.{IsRegular};
 ghost use Rattle.event_text.specs.Texts.{steps_in};
-ghost use Rattle.tracked_lock.specs.Passes.{missing};
+ghost use Rattle.tracked_lock.specs.Passes.{missing_number_count};
 ghost use Rattle.station.specs.Closing.{IsGivenBack};
 ghost use Rattle.station.specs.Openings.{the_opening};
 ghost use Rattle.station.specs.declared.shared.TheConstants.{FULL};
 ghost use Rattle.s7_cli.specs.Living.{AreRegularBy, IsFullNever, IsLive, total_length};
-ghost use Rattle.s7_cli.specs.run_text.Behind.{program_of};
+ghost use Rattle.s7_cli.specs.run_text.Behind.{program_of_recording};
 
 use crate::working::work;
 use controller::Controller;
@@ -29,7 +29,7 @@ pub(crate) fn ended(
     outcome: Result<(), StationFault>,
 ) -> Result<Controller, NoMemory>
     requires station { (pass.lock ≡ station) × (pass.out ≡ false) }
-    requires all { missing station.passes pass.made ≡ 0 }
+    requires all { missing_number_count station.passes pass.made ≡ 0 }
     requires room { (c : Recording) → IsGivenBack (the_opening station.origin) c pass
         → IsFullNever outcome }
     ensures { IfOk result (λ c. IsGivenBack (the_opening station.origin) c pass
@@ -64,7 +64,7 @@ pub(crate) fn live_run<R: Threads + Wait + Sync, G: Gate + Sync>(
     requires few { steps + length stimuli.now
         + total_length (map (λ v. v.items) scripts.now) < FULL }
     requires entries { AreRegularBy 2 (stimuli.now ∷ map (λ v. v.items) scripts.now) }
-    ensures program { IfOk result (λ c. program_of c ≡ program) }
+    ensures program { IfOk result (λ c. program_of_recording c ≡ program) }
     ensures live { IfOk result (λ c. IsLive program steps stimuli.now
         (map (λ v. v.items) scripts.now) c.history) }
     ensures regular { IfOk result (λ c. All IsRegular c.history) }

@@ -1,8 +1,8 @@
 ghost use Rattle.std.specs.Prelude.{◌≡◌, true, map, string_bytes, Some};
 ghost use Rattle.s7_cli.specs.Asking.{compiles, has_workers, takes_image};
 ghost use Rattle.s7_cli.specs.Words.{KeepsLimits, command_of, command_value};
-ghost use Rattle.s7_cli.specs.Ends.{Ended, taking};
-ghost use Rattle.s7_cli.specs.Reading.{disk};
+ghost use Rattle.s7_cli.specs.Ends.{EndsWithStatus, sink_moments};
+ghost use Rattle.s7_cli.specs.Reading.{disk_moments};
 ghost use Rattle.s7_cli.specs.StatusTable.{StatusTable};
 
 use crate::bound_command::cmd_bound;
@@ -33,11 +33,11 @@ fn with_source<F: Files, K: Sink>(
     out: &mut K,
 ) -> Status
     requires { compiles asked ≡ true }
-    ensures ends { let went = disk (F.shown files.old) (F.shown files.new) in
-        let took = taking (K.shown out.old) (K.shown out.new) in
-        Ended (Some (command_value asked.entry)) went took result.code }
-    ensures table { let went = disk (F.shown files.old) (F.shown files.new) in
-        let took = taking (K.shown out.old) (K.shown out.new) in
+    ensures ends { let went = disk_moments (F.shown files.old) (F.shown files.new) in
+        let took = sink_moments (K.shown out.old) (K.shown out.new) in
+        EndsWithStatus (Some (command_value asked.entry)) went took result.code }
+    ensures table { let went = disk_moments (F.shown files.old) (F.shown files.new) in
+        let took = sink_moments (K.shown out.old) (K.shown out.new) in
         StatusTable (Some (command_value asked.entry)) went took result.code }
 {
     match asked {
@@ -71,11 +71,11 @@ fn with_image<F: Files, K: Sink>(
 ) -> Status
     requires image { takes_image asked ≡ true }
     requires limits { KeepsLimits (command_value asked) }
-    ensures ends { let went = disk (F.shown files.old) (F.shown files.new) in
-        let took = taking (K.shown out.old) (K.shown out.new) in
-        Ended (Some (command_value asked.entry)) went took result.code }
-    ensures table { let went = disk (F.shown files.old) (F.shown files.new) in
-        let took = taking (K.shown out.old) (K.shown out.new) in
+    ensures ends { let went = disk_moments (F.shown files.old) (F.shown files.new) in
+        let took = sink_moments (K.shown out.old) (K.shown out.new) in
+        EndsWithStatus (Some (command_value asked.entry)) went took result.code }
+    ensures table { let went = disk_moments (F.shown files.old) (F.shown files.new) in
+        let took = sink_moments (K.shown out.old) (K.shown out.new) in
         StatusTable (Some (command_value asked.entry)) went took result.code }
 {
     match asked {
@@ -105,11 +105,11 @@ fn with_workers<R: Threads + Wait + Sync, F: Files, K: Sink, G: Gate + Sync>(
 ) -> Status
     requires workers { has_workers asked ≡ true }
     requires limits { KeepsLimits (command_value asked) }
-    ensures ends { let went = disk (F.shown files.old) (F.shown files.new) in
-        let took = taking (K.shown out.old) (K.shown out.new) in
-        Ended (Some (command_value asked.entry)) went took result.code }
-    ensures table { let went = disk (F.shown files.old) (F.shown files.new) in
-        let took = taking (K.shown out.old) (K.shown out.new) in
+    ensures ends { let went = disk_moments (F.shown files.old) (F.shown files.new) in
+        let took = sink_moments (K.shown out.old) (K.shown out.new) in
+        EndsWithStatus (Some (command_value asked.entry)) went took result.code }
+    ensures table { let went = disk_moments (F.shown files.old) (F.shown files.new) in
+        let took = sink_moments (K.shown out.old) (K.shown out.new) in
         StatusTable (Some (command_value asked.entry)) went took result.code }
 {
     match asked {
@@ -161,11 +161,11 @@ fn carry_out<R: Threads + Wait + Sync, F: Files, K: Sink, G: Gate + Sync>(
     gate: &G,
 ) -> Status
     requires limits { KeepsLimits (command_value asked) }
-    ensures ends { let went = disk (F.shown files.old) (F.shown files.new) in
-        let took = taking (K.shown out.old) (K.shown out.new) in
-        Ended (Some (command_value asked.entry)) went took result.code }
-    ensures table { let went = disk (F.shown files.old) (F.shown files.new) in
-        let took = taking (K.shown out.old) (K.shown out.new) in
+    ensures ends { let went = disk_moments (F.shown files.old) (F.shown files.new) in
+        let took = sink_moments (K.shown out.old) (K.shown out.new) in
+        EndsWithStatus (Some (command_value asked.entry)) went took result.code }
+    ensures table { let went = disk_moments (F.shown files.old) (F.shown files.new) in
+        let took = sink_moments (K.shown out.old) (K.shown out.new) in
         StatusTable (Some (command_value asked.entry)) went took result.code }
 {
     match asked {
@@ -224,11 +224,11 @@ pub fn s7_main<R: Threads + Wait + Sync, F: Files, K: Sink, G: Gate + Sync>(
     out: &mut K,
     gate: &G,
 ) -> Status
-    ensures ends { let went = disk (F.shown files.old) (F.shown files.new) in
-        let took = taking (K.shown out.old) (K.shown out.new) in
-        Ended (command_of (map string_bytes words.now)) went took result.code }
-    ensures table { let went = disk (F.shown files.old) (F.shown files.new) in
-        let took = taking (K.shown out.old) (K.shown out.new) in
+    ensures ends { let went = disk_moments (F.shown files.old) (F.shown files.new) in
+        let took = sink_moments (K.shown out.old) (K.shown out.new) in
+        EndsWithStatus (command_of (map string_bytes words.now)) went took result.code }
+    ensures table { let went = disk_moments (F.shown files.old) (F.shown files.new) in
+        let took = sink_moments (K.shown out.old) (K.shown out.new) in
         StatusTable (command_of (map string_bytes words.now)) went took result.code }
 {
     match read_words(alloc, words) {

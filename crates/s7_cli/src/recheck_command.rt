@@ -1,11 +1,11 @@
 ghost use Rattle.std.specs.Prelude.{ℕ, ◌≤◌, List, [], ◌∷◌, length, Some, OnOk};
 ghost use Rattle.plc_io.specs.Moments.{FilesAt};
 ghost use Rattle.s7_cli.specs.BoundSays.{RecheckSays};
-ghost use Rattle.s7_cli.specs.BoundTexts.{IsHeld};
+ghost use Rattle.s7_cli.specs.BoundTexts.{IsCertificateOfImage};
 ghost use Rattle.s7_cli.specs.Command.{Recheck};
-ghost use Rattle.s7_cli.specs.Ends.{Ended, taking};
-ghost use Rattle.s7_cli.specs.Inner.{Comes, ComesOf, RefusedBy};
-ghost use Rattle.s7_cli.specs.Reading.{disk};
+ghost use Rattle.s7_cli.specs.Ends.{EndsWithStatus, sink_moments};
+ghost use Rattle.s7_cli.specs.Inner.{ComesOutAs, ComesOf, SaysRefusal};
+ghost use Rattle.s7_cli.specs.Reading.{disk_moments};
 ghost use Rattle.s7_cli.specs.StatusTable.{StatusTable};
 
 use crate::command_checks::loaded;
@@ -19,8 +19,8 @@ use std::alloc::Global;
 /// Checks an image, and then a certificate of it.
 fn check_recheck(alloc: Global, image: &[u8], certificate: &[u8]) -> Result<(), Failure>
     requires { length certificate.now ≤ 4194304 }
-    ensures holds { OnOk result (IsHeld image.now certificate.now) }
-    ensures refused { RefusedBy (RecheckSays image.now certificate.now) result }
+    ensures holds { OnOk result (IsCertificateOfImage image.now certificate.now) }
+    ensures refused { SaysRefusal (RecheckSays image.now certificate.now) result }
 {
     let loaded = loaded(alloc, image)?;
     let list = read_certificate(alloc, &loaded, certificate)?;
@@ -38,9 +38,9 @@ fn recheck_image<K: Sink>(
     out: &mut K,
 ) -> Result<(), Failure>
     requires { length certificate.now ≤ 4194304 }
-    ensures { let took = taking (K.shown out.old) (K.shown out.new) in
+    ensures { let took = sink_moments (K.shown out.old) (K.shown out.new) in
         (img cert : List ℕ) (at : FilesAt)
-        → ComesOf (Recheck img cert) (image.now ∷ certificate.now ∷ []) (disk at at) took result }
+        → ComesOf (Recheck img cert) (image.now ∷ certificate.now ∷ []) (disk_moments at at) took result }
 {
     check_recheck(alloc, image, certificate)?;
     write_text(out, OK_LINE)
@@ -54,9 +54,9 @@ fn recheck<F: Files, K: Sink>(
     files: &mut F,
     out: &mut K,
 ) -> Result<(), Failure>
-    ensures { let went = disk (F.shown files.old) (F.shown files.new) in
-        let took = taking (K.shown out.old) (K.shown out.new) in
-        Comes (Some (Recheck img.now cert.now)) went took result }
+    ensures { let went = disk_moments (F.shown files.old) (F.shown files.new) in
+        let took = sink_moments (K.shown out.old) (K.shown out.new) in
+        ComesOutAs (Some (Recheck img.now cert.now)) went took result }
 {
     let image = read_file(alloc, files, File::Image, img)?;
     let certificate = read_file(alloc, files, File::Certificate, cert)?;
@@ -73,12 +73,12 @@ pub fn cmd_recheck<F: Files, K: Sink>(
     files: &mut F,
     out: &mut K,
 ) -> Status
-    ensures ends { let went = disk (F.shown files.old) (F.shown files.new) in
-        Ended (Some (Recheck img.now cert.now)) went (taking (K.shown out.old) (K.shown out.new))
+    ensures ends { let went = disk_moments (F.shown files.old) (F.shown files.new) in
+        EndsWithStatus (Some (Recheck img.now cert.now)) went (sink_moments (K.shown out.old) (K.shown out.new))
         result.code }
-    ensures table { let went = disk (F.shown files.old) (F.shown files.new) in
+    ensures table { let went = disk_moments (F.shown files.old) (F.shown files.new) in
         StatusTable (Some (Recheck img.now cert.now)) went
-        (taking (K.shown out.old) (K.shown out.new)) result.code }
+        (sink_moments (K.shown out.old) (K.shown out.new)) result.code }
 {
     let came = recheck(alloc, img, cert, files, out);
     end_command(out, came)

@@ -1,9 +1,9 @@
 ghost use Rattle.std.specs.Prelude.{ℕ, ◌≤◌, List, [], ◌∷◌, length, Some};
 ghost use Rattle.plc_io.specs.Moments.{FilesAt};
 ghost use Rattle.s7_cli.specs.Command.{Run};
-ghost use Rattle.s7_cli.specs.Ends.{Ended, taking};
-ghost use Rattle.s7_cli.specs.Inner.{Comes, ComesOf};
-ghost use Rattle.s7_cli.specs.Reading.{disk};
+ghost use Rattle.s7_cli.specs.Ends.{EndsWithStatus, sink_moments};
+ghost use Rattle.s7_cli.specs.Inner.{ComesOutAs, ComesOf};
+ghost use Rattle.s7_cli.specs.Reading.{disk_moments};
 ghost use Rattle.s7_cli.specs.StatusTable.{StatusTable};
 
 use crate::command_checks::check_run;
@@ -22,9 +22,9 @@ fn run_along<K: Sink>(
     out: &mut K,
 ) -> Result<(), Failure>
     requires { length history.now ≤ 4194304 }
-    ensures { let took = taking (K.shown out.old) (K.shown out.new) in
+    ensures { let took = sink_moments (K.shown out.old) (K.shown out.new) in
         (img hist : List ℕ) (at : FilesAt)
-        → ComesOf (Run img hist) (image.now ∷ history.now ∷ []) (disk at at) took result }
+        → ComesOf (Run img hist) (image.now ∷ history.now ∷ []) (disk_moments at at) took result }
 {
     let (program, entries) = check_run(alloc, image, history)?;
     written(replay_text(alloc, program, &entries, out))
@@ -38,9 +38,9 @@ fn run<F: Files, K: Sink>(
     files: &mut F,
     out: &mut K,
 ) -> Result<(), Failure>
-    ensures { let went = disk (F.shown files.old) (F.shown files.new) in
-        let took = taking (K.shown out.old) (K.shown out.new) in
-        Comes (Some (Run img.now hist.now)) went took result }
+    ensures { let went = disk_moments (F.shown files.old) (F.shown files.new) in
+        let took = sink_moments (K.shown out.old) (K.shown out.new) in
+        ComesOutAs (Some (Run img.now hist.now)) went took result }
 {
     let image = read_file(alloc, files, File::Image, img)?;
     let history = read_file(alloc, files, File::History, hist)?;
@@ -57,11 +57,11 @@ pub fn cmd_run<F: Files, K: Sink>(
     files: &mut F,
     out: &mut K,
 ) -> Status
-    ensures ends { let went = disk (F.shown files.old) (F.shown files.new) in
-        Ended (Some (Run img.now hist.now)) went (taking (K.shown out.old) (K.shown out.new))
+    ensures ends { let went = disk_moments (F.shown files.old) (F.shown files.new) in
+        EndsWithStatus (Some (Run img.now hist.now)) went (sink_moments (K.shown out.old) (K.shown out.new))
         result.code }
-    ensures table { let went = disk (F.shown files.old) (F.shown files.new) in
-        StatusTable (Some (Run img.now hist.now)) went (taking (K.shown out.old) (K.shown out.new))
+    ensures table { let went = disk_moments (F.shown files.old) (F.shown files.new) in
+        StatusTable (Some (Run img.now hist.now)) went (sink_moments (K.shown out.old) (K.shown out.new))
         result.code }
 {
     let came = run(alloc, img, hist, files, out);

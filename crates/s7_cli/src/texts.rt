@@ -2,7 +2,7 @@ ghost use Rattle.std.specs.Prelude.{◌≡◌, ◌≤◌, ◌+◌, ◌++◌, len
 ghost use Rattle.s7_cli.specs.Lines.{
   file_text,
   image_refused_text,
-  line_of,
+  line_of_failure,
   no_listing_text,
   read_fault_text,
   refusal_text,
@@ -95,7 +95,7 @@ fn fixed_line(text: &[u8]) -> Line
 /// was written.
 #[tactic(auto, unfolding(crate::specs::Lines::words_refused_text, crate::specs::Lines::read_fault_text, crate::specs::Lines::no_listing_text, crate::specs::Lines::says_no_text))]
 pub fn failure_line(failure: Failure) -> Option<Line>
-    ensures { result ≡ line_of failure }
+    ensures { result ≡ line_of_failure failure }
 {
     match failure {
         Failure::WordsRefused => Some(fixed_line(b"words refused\n")),

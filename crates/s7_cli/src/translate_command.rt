@@ -2,9 +2,9 @@ ghost use Rattle.std.specs.Prelude.{ℕ, ◌≤◌, List, [], ◌∷◌, length,
 ghost use Rattle.stl_lexer.specs.Limits.{source_limit};
 ghost use Rattle.stl_symbols.specs.declared.languages.Language.TheVariants.{English, German};
 ghost use Rattle.s7_cli.specs.Command.{Translate};
-ghost use Rattle.s7_cli.specs.Ends.{Ended, taking};
-ghost use Rattle.s7_cli.specs.Inner.{Comes, ComesOf};
-ghost use Rattle.s7_cli.specs.Reading.{disk};
+ghost use Rattle.s7_cli.specs.Ends.{EndsWithStatus, sink_moments};
+ghost use Rattle.s7_cli.specs.Inner.{ComesOutAs, ComesOf};
+ghost use Rattle.s7_cli.specs.Reading.{disk_moments};
 ghost use Rattle.s7_cli.specs.StatusTable.{StatusTable};
 
 use crate::failures::{Failure, File, Status};
@@ -25,8 +25,8 @@ fn translate_text<F: Files, K: Sink>(
     out: &mut K,
 ) -> Result<(), Failure>
     requires { length source.now ≤ source_limit }
-    ensures { let went = disk (F.shown files.old) (F.shown files.new) in
-        let took = taking (K.shown out.old) (K.shown out.new) in
+    ensures { let went = disk_moments (F.shown files.old) (F.shown files.new) in
+        let took = sink_moments (K.shown out.old) (K.shown out.new) in
         (src : List ℕ)
         → ComesOf (Translate language src translation.now) (source.now ∷ []) went took result }
 {
@@ -43,9 +43,9 @@ fn translate<F: Files, K: Sink>(
     files: &mut F,
     out: &mut K,
 ) -> Result<(), Failure>
-    ensures { let went = disk (F.shown files.old) (F.shown files.new) in
-        let took = taking (K.shown out.old) (K.shown out.new) in
-        Comes (Some (Translate language src.now translation.now)) went took result }
+    ensures { let went = disk_moments (F.shown files.old) (F.shown files.new) in
+        let took = sink_moments (K.shown out.old) (K.shown out.new) in
+        ComesOutAs (Some (Translate language src.now translation.now)) went took result }
 {
     let source = read_file(alloc, files, File::Source, src)?;
     translate_text(alloc, language, &source, translation, files, out)
@@ -61,12 +61,12 @@ pub fn cmd_translate<F: Files, K: Sink>(
     files: &mut F,
     out: &mut K,
 ) -> Status
-    ensures ends { let went = disk (F.shown files.old) (F.shown files.new) in
-        Ended (Some (Translate language src.now translation.now)) went
-        (taking (K.shown out.old) (K.shown out.new)) result.code }
-    ensures table { let went = disk (F.shown files.old) (F.shown files.new) in
+    ensures ends { let went = disk_moments (F.shown files.old) (F.shown files.new) in
+        EndsWithStatus (Some (Translate language src.now translation.now)) went
+        (sink_moments (K.shown out.old) (K.shown out.new)) result.code }
+    ensures table { let went = disk_moments (F.shown files.old) (F.shown files.new) in
         StatusTable (Some (Translate language src.now translation.now)) went
-        (taking (K.shown out.old) (K.shown out.new)) result.code }
+        (sink_moments (K.shown out.old) (K.shown out.new)) result.code }
 {
     let came = translate(alloc, language, src, translation, files, out);
     end_command(out, came)
@@ -82,12 +82,12 @@ pub fn cmd_english<F: Files, K: Sink>(
     files: &mut F,
     out: &mut K,
 ) -> Status
-    ensures ends { let went = disk (F.shown files.old) (F.shown files.new) in
-        Ended (Some (Translate English src.now translation.now)) went
-        (taking (K.shown out.old) (K.shown out.new)) result.code }
-    ensures table { let went = disk (F.shown files.old) (F.shown files.new) in
+    ensures ends { let went = disk_moments (F.shown files.old) (F.shown files.new) in
+        EndsWithStatus (Some (Translate English src.now translation.now)) went
+        (sink_moments (K.shown out.old) (K.shown out.new)) result.code }
+    ensures table { let went = disk_moments (F.shown files.old) (F.shown files.new) in
         StatusTable (Some (Translate English src.now translation.now)) went
-        (taking (K.shown out.old) (K.shown out.new)) result.code }
+        (sink_moments (K.shown out.old) (K.shown out.new)) result.code }
 {
     cmd_translate(alloc, Language::English, src, translation, files, out)
 }
@@ -100,12 +100,12 @@ pub fn cmd_german<F: Files, K: Sink>(
     files: &mut F,
     out: &mut K,
 ) -> Status
-    ensures ends { let went = disk (F.shown files.old) (F.shown files.new) in
-        Ended (Some (Translate German src.now translation.now)) went
-        (taking (K.shown out.old) (K.shown out.new)) result.code }
-    ensures table { let went = disk (F.shown files.old) (F.shown files.new) in
+    ensures ends { let went = disk_moments (F.shown files.old) (F.shown files.new) in
+        EndsWithStatus (Some (Translate German src.now translation.now)) went
+        (sink_moments (K.shown out.old) (K.shown out.new)) result.code }
+    ensures table { let went = disk_moments (F.shown files.old) (F.shown files.new) in
         StatusTable (Some (Translate German src.now translation.now)) went
-        (taking (K.shown out.old) (K.shown out.new)) result.code }
+        (sink_moments (K.shown out.old) (K.shown out.new)) result.code }
 {
     cmd_translate(alloc, Language::German, src, translation, files, out)
 }

@@ -1,12 +1,12 @@
 ghost use Rattle.std.specs.Prelude.{◌≡◌, ◌≤◌, true, length, IfOk, IfErr, Ok};
-ghost use Rattle.de_mnemonics.specs.Translation.{IsRefused, IsTranslation};
+ghost use Rattle.de_mnemonics.specs.Translation.{IsTranslationRefused, IsTranslation};
 ghost use Rattle.plc_base.specs.declared.Profile.TheVariants.{Large};
 ghost use Rattle.sem_kept.specs.Meaning.{HasSymbolsIn};
 ghost use Rattle.stl_lexer.specs.Limits.{source_limit};
 ghost use Rattle.stl_symbols.specs.declared.languages.Language.TheVariants.{German};
-ghost use Rattle.s7_cli.specs.Inner.{RefusedBy};
+ghost use Rattle.s7_cli.specs.Inner.{SaysRefusal};
 ghost use Rattle.s7_cli.specs.Says.{RefusedProgram};
-ghost use Rattle.s7_cli.specs.Texts.{IsWithin, symbols_of};
+ghost use Rattle.s7_cli.specs.Texts.{AreFilesWithinLimits, symbols_text_of};
 ghost use Rattle.s7_cli.specs.Translating.{
   HasProgramOf,
   IsEnglish,
@@ -35,7 +35,7 @@ fn whole_translation(
 ) -> Result<Vec<u8>, SourceFault>
     requires { length source.now ≤ source_limit }
     ensures ok { IfOk result (λ text. IsTranslation language source.now text.items) }
-    ensures refused { IfErr result (IsRefused language source.now) }
+    ensures refused { IfErr result (IsTranslationRefused language source.now) }
 {
     match language {
         Language::English => to_english(alloc, source),
@@ -52,7 +52,7 @@ pub(crate) fn translated(
     requires { length source.now ≤ source_limit }
     ensures ok { IfOk result (λ text. IsTranslation language source.now text.items) }
     ensures fits { IfOk result (λ text. length text.items ≤ 1048576) }
-    ensures refused { RefusedBy (NotTranslated language source.now) result }
+    ensures refused { SaysRefusal (NotTranslated language source.now) result }
 {
     match whole_translation(alloc, language, source) {
         Ok(text) if text.len() <= limit_of(File::Translation) => Ok(text),
@@ -78,13 +78,13 @@ struct EnglishProgram {
 
 /// Reads the symbols of a German program, and then translates its source.
 fn english_program(alloc: Global, text: &ProgramText) -> Result<EnglishProgram, Failure>
-    requires { IsWithin text.now }
+    requires { AreFilesWithinLimits text.now }
     ensures english { IfOk result
         (λ p. IsEnglish true text.now.source.items p.source.items) }
     ensures symbols { IfOk result
-        (λ p. HasSymbolsIn German (symbols_of text.now) (Ok p.symbols)) }
-    ensures refused { RefusedBy
-        (NotInEnglish text.now.source.items (symbols_of text.now)) result }
+        (λ p. HasSymbolsIn German (symbols_text_of text.now) (Ok p.symbols)) }
+    ensures refused { SaysRefusal
+        (NotInEnglish text.now.source.items (symbols_text_of text.now)) result }
 {
     let symbols = symbols_in(alloc, Language::German, text.symbols())?;
     let source = translated(alloc, Language::English, &text.source)?;
@@ -93,11 +93,11 @@ fn english_program(alloc: Global, text: &ProgramText) -> Result<EnglishProgram, 
 
 /// Checks a German source with its symbols.
 pub(crate) fn judged_german(alloc: Global, text: &ProgramText) -> Result<(), Failure>
-    requires { IsWithin text.now }
+    requires { AreFilesWithinLimits text.now }
     ensures accepted { IfOk result
-        (λ done. HasProgramOf true text.now.source.items (symbols_of text.now)) }
-    ensures refused { RefusedBy
-        (RefusedProgram true text.now.source.items (symbols_of text.now)) result }
+        (λ done. HasProgramOf true text.now.source.items (symbols_text_of text.now)) }
+    ensures refused { SaysRefusal
+        (RefusedProgram true text.now.source.items (symbols_text_of text.now)) result }
 {
     let EnglishProgram { source, symbols } = english_program(alloc, text)?;
     law_of_files(&source, text.symbols());
@@ -106,13 +106,13 @@ pub(crate) fn judged_german(alloc: Global, text: &ProgramText) -> Result<(), Fai
 
 /// The program of a German source with its symbols.
 fn german_program(alloc: Global, text: &ProgramText) -> Result<Program, Failure>
-    requires { IsWithin text.now }
+    requires { AreFilesWithinLimits text.now }
     ensures keeps { IfOk result
-        (KeepsText true text.now.source.items (symbols_of text.now)) }
+        (KeepsText true text.now.source.items (symbols_text_of text.now)) }
     ensures made { IfOk result
-        (IsProgramOf true text.now.source.items (symbols_of text.now)) }
-    ensures refused { RefusedBy
-        (RefusedProgram true text.now.source.items (symbols_of text.now)) result }
+        (IsProgramOf true text.now.source.items (symbols_text_of text.now)) }
+    ensures refused { SaysRefusal
+        (RefusedProgram true text.now.source.items (symbols_text_of text.now)) result }
 {
     let EnglishProgram { source, symbols } = english_program(alloc, text)?;
     law_of_files(&source, text.symbols());
@@ -121,12 +121,12 @@ fn german_program(alloc: Global, text: &ProgramText) -> Result<Program, Failure>
 
 /// The same, loaded with the large profile.
 pub(crate) fn compiled_german(alloc: Global, text: &ProgramText) -> Result<Loaded, Failure>
-    requires { IsWithin text.now }
+    requires { AreFilesWithinLimits text.now }
     ensures keeps { IfOk result
-        (λ l. KeepsText true text.now.source.items (symbols_of text.now) l.program) }
+        (λ l. KeepsText true text.now.source.items (symbols_text_of text.now) l.program) }
     ensures large { IfOk result (λ l. l.profile ≡ Large) }
-    ensures refused { RefusedBy
-        (RefusedProgram true text.now.source.items (symbols_of text.now)) result }
+    ensures refused { SaysRefusal
+        (RefusedProgram true text.now.source.items (symbols_text_of text.now)) result }
 {
     let program = german_program(alloc, text)?;
     Ok(loaded_large(alloc, program)?)
@@ -134,11 +134,11 @@ pub(crate) fn compiled_german(alloc: Global, text: &ProgramText) -> Result<Loade
 
 /// Its image, of version 2 for the large profile.
 pub(crate) fn image_german(alloc: Global, text: &ProgramText) -> Result<Vec<u8>, Failure>
-    requires { IsWithin text.now }
+    requires { AreFilesWithinLimits text.now }
     ensures keeps { IfOk result
-        (λ v. IsSourceImage true v.items text.now.source.items (symbols_of text.now)) }
-    ensures refused { RefusedBy
-        (RefusedProgram true text.now.source.items (symbols_of text.now)) result }
+        (λ v. IsSourceImage true v.items text.now.source.items (symbols_text_of text.now)) }
+    ensures refused { SaysRefusal
+        (RefusedProgram true text.now.source.items (symbols_text_of text.now)) result }
 {
     let program = german_program(alloc, text)?;
     Ok(write_image2(alloc, &program, Profile::Large)?)

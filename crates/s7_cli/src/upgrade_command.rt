@@ -1,8 +1,8 @@
 ghost use Rattle.std.specs.Prelude.{ℕ, List, [], ◌∷◌, Some};
 ghost use Rattle.s7_cli.specs.Command.{Upgrade};
-ghost use Rattle.s7_cli.specs.Ends.{Ended, taking};
-ghost use Rattle.s7_cli.specs.Inner.{Comes, ComesOf};
-ghost use Rattle.s7_cli.specs.Reading.{disk};
+ghost use Rattle.s7_cli.specs.Ends.{EndsWithStatus, sink_moments};
+ghost use Rattle.s7_cli.specs.Inner.{ComesOutAs, ComesOf};
+ghost use Rattle.s7_cli.specs.Reading.{disk_moments};
 ghost use Rattle.s7_cli.specs.StatusTable.{StatusTable};
 
 use crate::command_checks::check_upgrade;
@@ -20,8 +20,8 @@ fn upgrade_image<F: Files, K: Sink>(
     files: &mut F,
     out: &mut K,
 ) -> Result<(), Failure>
-    ensures { let went = disk (F.shown files.old) (F.shown files.new) in
-        let took = taking (K.shown out.old) (K.shown out.new) in
+    ensures { let went = disk_moments (F.shown files.old) (F.shown files.new) in
+        let took = sink_moments (K.shown out.old) (K.shown out.new) in
         (img : List ℕ) → ComesOf (Upgrade img img2.now) (image.now ∷ []) went took result }
 {
     let upgraded = check_upgrade(alloc, image)?;
@@ -36,9 +36,9 @@ fn upgrade<F: Files, K: Sink>(
     files: &mut F,
     out: &mut K,
 ) -> Result<(), Failure>
-    ensures { let went = disk (F.shown files.old) (F.shown files.new) in
-        let took = taking (K.shown out.old) (K.shown out.new) in
-        Comes (Some (Upgrade img.now img2.now)) went took result }
+    ensures { let went = disk_moments (F.shown files.old) (F.shown files.new) in
+        let took = sink_moments (K.shown out.old) (K.shown out.new) in
+        ComesOutAs (Some (Upgrade img.now img2.now)) went took result }
 {
     let image = read_file(alloc, files, File::Image, img)?;
     upgrade_image(alloc, &image, img2, files, out)
@@ -54,12 +54,12 @@ pub fn cmd_upgrade<F: Files, K: Sink>(
     files: &mut F,
     out: &mut K,
 ) -> Status
-    ensures ends { let went = disk (F.shown files.old) (F.shown files.new) in
-        Ended (Some (Upgrade img.now img2.now)) went (taking (K.shown out.old) (K.shown out.new))
+    ensures ends { let went = disk_moments (F.shown files.old) (F.shown files.new) in
+        EndsWithStatus (Some (Upgrade img.now img2.now)) went (sink_moments (K.shown out.old) (K.shown out.new))
         result.code }
-    ensures table { let went = disk (F.shown files.old) (F.shown files.new) in
+    ensures table { let went = disk_moments (F.shown files.old) (F.shown files.new) in
         StatusTable (Some (Upgrade img.now img2.now)) went
-        (taking (K.shown out.old) (K.shown out.new)) result.code }
+        (sink_moments (K.shown out.old) (K.shown out.new)) result.code }
 {
     let came = upgrade(alloc, img, img2, files, out);
     end_command(out, came)

@@ -1,10 +1,10 @@
 //! What the files of a watch hold, checked.
 ghost use Rattle.std.specs.Prelude.{◌≡◌, ℕ, ◌≤◌, length, map, IfErr, IfOk, Ok};
 ghost use Rattle.event_text.specs.Regular.{IsRegularOf};
-ghost use Rattle.event_text.specs.WatchedVars.{vars_of};
-ghost use Rattle.s7_cli.specs.Inner.{RefusedBy};
+ghost use Rattle.event_text.specs.WatchedVars.{watched_vars_of};
+ghost use Rattle.s7_cli.specs.Inner.{SaysRefusal};
 ghost use Rattle.s7_cli.specs.WatchTexts.{FindsWatch, IsWatchText, TellsVars, WatchTextSays};
-ghost use Rattle.s7_cli.specs.Watching.{reading};
+ghost use Rattle.s7_cli.specs.Watching.{read_entry_of};
 
 use crate::command_checks::{check_scripts, loaded};
 use crate::failures::{Failure, File, failure_of_text};
@@ -27,9 +27,9 @@ pub struct WatchWork {
 /// Checks the variables of a watch, with the names of a program.
 fn check_vars(bytes: &[u8], names: &Names) -> Result<Vars, Failure>
     requires { length bytes.now ≤ 1048576 }
-    ensures spells { IfOk result (λ vars. vars_of names.now bytes.now ≡ Ok vars) }
-    ensures regular { IfOk result (λ vars. IsRegularOf 6 (reading 6 vars)) }
-    ensures refused { IfErr result (TellsVars (vars_of names.now bytes.now)) }
+    ensures spells { IfOk result (λ vars. watched_vars_of names.now bytes.now ≡ Ok vars) }
+    ensures regular { IfOk result (λ vars. IsRegularOf 6 (read_entry_of 6 vars)) }
+    ensures refused { IfErr result (TellsVars (watched_vars_of names.now bytes.now)) }
 {
     match read_vars(bytes, names) {
         Ok(vars) => Ok(vars),
@@ -46,7 +46,7 @@ pub fn check_watch(alloc: Global, text: &WatchText) -> Result<WatchWork, Failure
     requires { IsWatchText text.now }
     ensures finds { IfOk result (λ w. FindsWatch text.now w.program w.stimuli.items w.vars
         (map (λ x. x.items) w.scripts.items)) }
-    ensures refused { (steps : ℕ) → RefusedBy (WatchTextSays steps text.now) result }
+    ensures refused { (steps : ℕ) → SaysRefusal (WatchTextSays steps text.now) result }
 {
     let program = loaded(alloc, &text.image)?;
     let stimuli = match read_stimuli(alloc, &text.stimuli) {

@@ -2,17 +2,17 @@
 //! they made is written, its run, and the views.
 ghost use Rattle.std.specs.Prelude.{◌≡◌, ℕ, List, ◌++◌, ◌≤◌, codes, length, map, All, IfOk, OnOk, Some};
 ghost use Rattle.plc_io.specs.Moments.{FilesAt};
-ghost use Rattle.plc_io.specs.Taken.{Wrote};
+ghost use Rattle.plc_io.specs.Taken.{WroteText};
 ghost use Rattle.var_access.specs.Entry.{IsValid};
-ghost use Rattle.s7_cli.specs.Answer.{done};
+ghost use Rattle.s7_cli.specs.Answer.{done_answer};
 ghost use Rattle.s7_cli.specs.Command.{Watch};
-ghost use Rattle.s7_cli.specs.Ends.{Ended, taking};
-ghost use Rattle.s7_cli.specs.Inner.{Comes, ComesOf, RefusedBy};
-ghost use Rattle.s7_cli.specs.Reading.{disk};
+ghost use Rattle.s7_cli.specs.Ends.{EndsWithStatus, sink_moments};
+ghost use Rattle.s7_cli.specs.Inner.{ComesOutAs, ComesOf, SaysRefusal};
+ghost use Rattle.s7_cli.specs.Reading.{disk_moments};
 ghost use Rattle.s7_cli.specs.StatusTable.{StatusTable};
 ghost use Rattle.s7_cli.specs.WatchSays.{seen_line, seen_reply, seen_text, watch_text};
 ghost use Rattle.s7_cli.specs.WatchTexts.{IsWatchText, WatchTextSays, watch_contents};
-ghost use Rattle.s7_cli.specs.run_text.Behind.{program_of};
+ghost use Rattle.s7_cli.specs.run_text.Behind.{program_of_recording};
 
 use crate::failures::{Failure, Status};
 use crate::finish::{end_command, written};
@@ -52,10 +52,10 @@ fn run_watch<R: Threads + Wait + Sync, G: Gate + Sync>(
 ) -> Result<Watched, Failure>
     requires text { IsWatchText text.now }
     requires steps { steps ≤ 1000000 }
-    ensures says { IfOk result (λ w. WatchTextSays steps text.now (done
-        (watch_text (program_of w.controller) w.controller.history w.vars w.views.items))) }
+    ensures says { IfOk result (λ w. WatchTextSays steps text.now (done_answer
+        (watch_text (program_of_recording w.controller) w.controller.history w.vars w.views.items))) }
     ensures valid { IfOk result (λ w. All IsValid w.controller.history) }
-    ensures refused { RefusedBy (WatchTextSays steps text.now) result }
+    ensures refused { SaysRefusal (WatchTextSays steps text.now) result }
 {
     event_text::laws::written_is_read();
     let WatchWork {
@@ -121,7 +121,7 @@ fn write_views<K: Sink>(
     views: &[Shown],
     out: &mut K,
 ) -> Result<(), IoFault>
-    ensures { Wrote (K.shown out.old) (K.shown out.new)
+    ensures { WroteText (K.shown out.old) (K.shown out.new)
         (codes "---\n" ++ seen_text vars.now views.now) result }
 {
     push_all(out, b"---\n")?;
@@ -132,8 +132,8 @@ fn write_views<K: Sink>(
 /// Writes the text of a live run, a line `---`, and the lines of the views.
 fn write_watch<K: Sink>(alloc: Global, watched: Watched, out: &mut K) -> Result<(), IoFault>
     requires { All IsValid watched.controller.history }
-    ensures { Wrote (K.shown out.old) (K.shown out.new)
-        (watch_text (program_of watched.controller) watched.controller.history watched.vars
+    ensures { WroteText (K.shown out.old) (K.shown out.new)
+        (watch_text (program_of_recording watched.controller) watched.controller.history watched.vars
         watched.views.items) result }
 {
     let Watched {
@@ -157,9 +157,9 @@ fn watch_read<R: Threads + Wait + Sync, K: Sink, G: Gate + Sync>(
 ) -> Result<(), Failure>
     requires text { IsWatchText text.now }
     requires steps { steps ≤ 1000000 }
-    ensures { let took = taking (K.shown out.old) (K.shown out.new) in
+    ensures { let took = sink_moments (K.shown out.old) (K.shown out.new) in
         (img stim vars : List ℕ) (ops : List (List ℕ)) (at : FilesAt)
-        → ComesOf (Watch img stim vars ops steps) (watch_contents text.now) (disk at at) took
+        → ComesOf (Watch img stim vars ops steps) (watch_contents text.now) (disk_moments at at) took
         result }
 {
     let watched = run_watch(rt, alloc, text, steps, gate)?;
@@ -182,10 +182,10 @@ fn watch<R: Threads + Wait + Sync, F: Files, K: Sink, G: Gate + Sync>(
 ) -> Result<(), Failure>
     requires ops { (1 ≤ length ops.now) × (length ops.now ≤ 3) }
     requires steps { steps ≤ 1000000 }
-    ensures { let went = disk (F.shown files.old) (F.shown files.new) in
-        let took = taking (K.shown out.old) (K.shown out.new) in
+    ensures { let went = disk_moments (F.shown files.old) (F.shown files.new) in
+        let took = sink_moments (K.shown out.old) (K.shown out.new) in
         let asked = Watch img.now stim.now vars.now (map (λ w. w.now) ops.now) steps in
-        Comes (Some asked) went took result }
+        ComesOutAs (Some asked) went took result }
 {
     let text = read_watch(alloc, files, img, stim, vars, ops)?;
     watch_read(rt, alloc, &text, steps, out, gate)
@@ -210,12 +210,12 @@ pub fn cmd_watch<R: Threads + Wait + Sync, F: Files, K: Sink, G: Gate + Sync>(
 ) -> Status
     requires ops { (1 ≤ length ops.now) × (length ops.now ≤ 3) }
     requires steps { (1 ≤ steps) × (steps ≤ 1000000) }
-    ensures ends { let went = disk (F.shown files.old) (F.shown files.new) in
+    ensures ends { let went = disk_moments (F.shown files.old) (F.shown files.new) in
         let asked = Watch img.now stim.now vars.now (map (λ w. w.now) ops.now) steps in
-        Ended (Some asked) went (taking (K.shown out.old) (K.shown out.new)) result.code }
-    ensures table { let went = disk (F.shown files.old) (F.shown files.new) in
+        EndsWithStatus (Some asked) went (sink_moments (K.shown out.old) (K.shown out.new)) result.code }
+    ensures table { let went = disk_moments (F.shown files.old) (F.shown files.new) in
         let asked = Watch img.now stim.now vars.now (map (λ w. w.now) ops.now) steps in
-        StatusTable (Some asked) went (taking (K.shown out.old) (K.shown out.new)) result.code }
+        StatusTable (Some asked) went (sink_moments (K.shown out.old) (K.shown out.new)) result.code }
 {
     let came = watch(rt, alloc, img, stim, vars, ops, steps, files, out, gate);
     end_command(out, came)

@@ -2,7 +2,7 @@
 ghost use Rattle.std.specs.Prelude.{◌≤◌, length, map};
 ghost use Rattle.s7_cli.specs.Command.{watch_inputs};
 ghost use Rattle.s7_cli.specs.Inner.{AllRead};
-ghost use Rattle.s7_cli.specs.Reading.{disk};
+ghost use Rattle.s7_cli.specs.Reading.{disk_moments};
 ghost use Rattle.s7_cli.specs.WatchTexts.{watch_contents};
 
 use crate::failures::{Failure, File};
@@ -33,7 +33,7 @@ pub fn read_watch<F: Files>(
     scripts: &[&str],
 ) -> Result<WatchText, Failure>
     requires { length scripts.now ≤ 3 }
-    ensures { AllRead watch_contents (disk (F.shown files.old) (F.shown files.new))
+    ensures { AllRead watch_contents (disk_moments (F.shown files.old) (F.shown files.new))
         (watch_inputs image.now stimuli.now vars.now (map (λ s. s.now) scripts.now)) result }
 {
     let image = read_file(alloc, files, File::Image, image)?;

@@ -5,8 +5,8 @@ ghost use Rattle.event_text.specs.Regular.{IsRegular, IsRegularOf};
 ghost use Rattle.event_text.specs.Texts.{steps_in};
 ghost use Rattle.station.specs.declared.shared.TheConstants.{FULL};
 ghost use Rattle.s7_cli.specs.Living.{AreRegularBy, IsLive, opened_on, total_length};
-ghost use Rattle.s7_cli.specs.Watching.{AreViews, reading, watch_lists};
-ghost use Rattle.s7_cli.specs.run_text.Behind.{program_of};
+ghost use Rattle.s7_cli.specs.Watching.{AreViews, read_entry_of, watch_lists};
+ghost use Rattle.s7_cli.specs.run_text.Behind.{program_of_recording};
 
 use crate::lists::add;
 use crate::living::ended;
@@ -74,13 +74,13 @@ pub(crate) fn watch_run<R: Threads + Wait + Sync, G: Gate + Sync>(
     requires few { steps + length stimuli.now
         + total_length (map (λ v. v.items) scripts.items) + 100 < FULL }
     requires entries { AreRegularBy 2 (stimuli.now ∷ map (λ v. v.items) scripts.items) }
-    requires reads { IsRegularOf 6 (reading 6 vars.now) }
-    ensures program { IfOk result (λ r. program_of r.0 ≡ program) }
+    requires reads { IsRegularOf 6 (read_entry_of 6 vars.now) }
+    ensures program { IfOk result (λ r. program_of_recording r.0 ≡ program) }
     ensures live { IfOk result (λ r. IsLive program steps stimuli.now
         (watch_lists 100 (map (λ v. v.items) scripts.items) vars.now) r.0.history) }
     ensures regular { IfOk result (λ r. All IsRegular r.0.history) }
     ensures steps { IfOk result (λ r. steps_in r.0.history ≤ steps) }
-    ensures views { IfOk result (λ r. AreViews (reading 6 vars.now) (opened_on program)
+    ensures views { IfOk result (λ r. AreViews (read_entry_of 6 vars.now) (opened_on program)
         r.0.history 100 r.1.items) }
 {
     let scripts = padded(alloc, scripts)?;

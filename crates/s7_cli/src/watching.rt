@@ -7,9 +7,9 @@ ghost use Rattle.var_access.specs.declared.Request.TheVariants.{ReadVars};
 ghost use Rattle.tracked_lock.specs.Views.{IsMadeOf};
 ghost use Rattle.station.specs.Openings.{the_opening};
 ghost use Rattle.station.specs.declared.shared.StationFault.TheVariants.{NoMemory};
-ghost use Rattle.watch_board.specs.BoardList.{opening};
+ghost use Rattle.watch_board.specs.BoardList.{initial_item};
 ghost use Rattle.s7_cli.specs.Working.{CanWork, HasWorked, IsFresh, KnowsFault};
-ghost use Rattle.s7_cli.specs.Watching.{AreViews, HasEnded, HasPublished, HasPublishedNone, IsLastAt, IsWithin, Publishes, Views, reading};
+ghost use Rattle.s7_cli.specs.Watching.{AreViews, HasEnded, HasPublished, HasPublishedNone, IsLastAt, IsLastWithinHistory, PublishesReplies, ViewsBoard, read_entry_of};
 
 use crate::lists::add;
 use crate::working::{Worked, together, work};
@@ -47,12 +47,12 @@ pub fn publish_read<R: Wait>(
     requires station { p.old.lock ≡ s.now }
     requires free { p.old.out ≡ false }
     requires valid { IsRequest (ReadVars vars.now) }
-    requires within { IsWithin b.old.list p.old.seen }
+    requires within { IsLastWithinHistory b.old.list p.old.seen }
     ensures ok { OnOk result
-        (HasPublished p.old p.new b.old b.new (reading p.old.number vars.now)) }
+        (HasPublished p.old p.new b.old b.new (read_entry_of p.old.number vars.now)) }
     ensures note { IfOk result (λ note. note ≡ b.new) }
     ensures err { IfErr result
-        (HasPublishedNone p.old p.new b.old b.new (reading p.old.number vars.now)) }
+        (HasPublishedNone p.old p.new b.old b.new (read_entry_of p.old.number vars.now)) }
     ensures board { b.new.board ≡ b.old.board }
     ensures pass { p.new ≡ record p.old { seen = p.new.seen; made = p.new.made } }
     ensures made { IsMadeOf (λ e. e.who) p.new.seen p.new.made }
@@ -80,8 +80,8 @@ fn publish_all<R: Wait, G: Gate>(
 ) -> Result<Note, StationFault>
     requires fresh { IsFresh s.now p.old }
     requires valid { IsRequest (ReadVars vars.now) }
-    requires opening { publisher.old.list ≡ opening ∷ [] }
-    ensures { Publishes s.now (reading p.old.number vars.now) PUBLISHED p.new publisher.old
+    requires opening { publisher.old.list ≡ initial_item ∷ [] }
+    ensures { PublishesReplies s.now (read_entry_of p.old.number vars.now) PUBLISHED p.new publisher.old
         publisher.new result }
 {
     let who = p.number();
@@ -97,7 +97,7 @@ fn publish_all<R: Wait, G: Gate>(
 /// The viewer: views the board again and again.
 fn view_all(viewer: &mut Viewer, views: &mut Vec<Shown>) -> Result<(), NoMemory>
     requires none { views.old.items ≡ [] }
-    ensures { Views VIEWED viewer.old viewer.new views.new.items result }
+    ensures { ViewsBoard VIEWED viewer.old viewer.new views.new.items result }
 {
     for _ in 0..VIEWED {
         // so that it isn't at its end before the others have begun
@@ -120,23 +120,23 @@ fn publish_beside_views<R: Threads + Wait + Sync, G: Gate + Sync>(
 ) -> (Result<Note, StationFault>, Result<(), NoMemory>)
     requires fresh { IsFresh s.now p.old }
     requires valid { IsRequest (ReadVars vars.now) }
-    requires opening { publisher.old.list ≡ opening ∷ [] }
+    requires opening { publisher.old.list ≡ initial_item ∷ [] }
     requires none { views.old.items ≡ [] }
-    ensures published { Publishes s.now (reading p.old.number vars.now) PUBLISHED p.new
+    ensures published { PublishesReplies s.now (read_entry_of p.old.number vars.now) PUBLISHED p.new
         publisher.old publisher.new result.0 }
-    ensures viewed { Views VIEWED viewer.old viewer.new views.new.items result.1 }
+    ensures viewed { ViewsBoard VIEWED viewer.old viewer.new views.new.items result.1 }
 {
     join_mut(
         rt,
         &mut || -> Result<Note, StationFault>
             requires { IsFresh s.now p.now × IsRequest (ReadVars vars.now)
-                × (publisher.now.list ≡ opening ∷ []) }
-            ensures { Publishes s.entry.now (reading p.entry.now.number vars.entry.now) PUBLISHED
+                × (publisher.now.list ≡ initial_item ∷ []) }
+            ensures { PublishesReplies s.entry.now (read_entry_of p.entry.now.number vars.entry.now) PUBLISHED
                 p.exit.now publisher.entry.now publisher.exit.now result }
         { publish_all(rt, s, p, publisher, vars, gate) },
         &mut || -> Result<(), NoMemory>
             requires { views.now.items ≡ [] }
-            ensures { Views VIEWED viewer.entry.now viewer.exit.now views.exit.now.items result }
+            ensures { ViewsBoard VIEWED viewer.entry.now viewer.exit.now views.exit.now.items result }
         { view_all(viewer, views) },
     )
 }
@@ -168,16 +168,16 @@ fn work_beside_watch<R: Threads + Wait + Sync, G: Gate + Sync>(
     requires ready { CanWork s.now passes.items stimuli.now (map (λ v. v.items) scripts.now) }
     requires fresh { IsFresh s.now p.old }
     requires valid { IsRequest (ReadVars vars.now) }
-    requires opening { publisher.old.list ≡ opening ∷ [] }
+    requires opening { publisher.old.list ≡ initial_item ∷ [] }
     requires none { views.old.items ≡ [] }
     ensures pass { (result.0.0.lock ≡ s.now) × (result.0.0.out ≡ false) }
     ensures agrees { IsMadeOf (λ e. e.who) result.0.0.seen result.0.0.made }
     ensures made { HasWorked s.now passes.items steps stimuli.now
         (map (λ v. v.items) scripts.now) result.0.0 (is_ok result.0.1) }
     ensures fault { KnowsFault s.now result.0.0.seen result.0.1 }
-    ensures published { Publishes s.now (reading p.old.number vars.now) PUBLISHED p.new
+    ensures published { PublishesReplies s.now (read_entry_of p.old.number vars.now) PUBLISHED p.new
         publisher.old publisher.new result.1.0 }
-    ensures viewed { Views VIEWED viewer.old viewer.new views.new.items result.1.1 }
+    ensures viewed { ViewsBoard VIEWED viewer.old viewer.new views.new.items result.1.1 }
 {
     join_mut(
         rt,
@@ -202,10 +202,10 @@ fn work_beside_watch<R: Threads + Wait + Sync, G: Gate + Sync>(
         },
         &mut || -> (Result<Note, StationFault>, Result<(), NoMemory>)
             requires { IsFresh s.now p.now × IsRequest (ReadVars vars.now)
-                × (publisher.now.list ≡ opening ∷ []) × (views.now.items ≡ []) }
-            ensures published { Publishes s.entry.now (reading p.entry.now.number vars.entry.now)
+                × (publisher.now.list ≡ initial_item ∷ []) × (views.now.items ≡ []) }
+            ensures published { PublishesReplies s.entry.now (read_entry_of p.entry.now.number vars.entry.now)
                 PUBLISHED p.exit.now publisher.entry.now publisher.exit.now result.0 }
-            ensures viewed { Views VIEWED viewer.entry.now viewer.exit.now views.exit.now.items
+            ensures viewed { ViewsBoard VIEWED viewer.entry.now viewer.exit.now views.exit.now.items
                 result.1 }
         { publish_beside_views(rt, s, p, publisher, viewer, views, vars, gate) },
     )
@@ -273,16 +273,16 @@ pub(crate) fn watch_station<R: Threads + Wait + Sync, G: Gate + Sync>(
     requires ready { CanWork s.now passes.items stimuli.now (map (λ v. v.items) scripts.now) }
     requires fresh { IsFresh s.now p }
     requires valid { IsRequest (ReadVars vars.now) }
-    requires opening { publisher.list ≡ opening ∷ [] }
+    requires opening { publisher.list ≡ initial_item ∷ [] }
     requires board { viewer.board ≡ publisher.board }
     requires none { views.old.items ≡ [] }
     ensures pass { (result.0.lock ≡ s.now) × (result.0.out ≡ false) }
     ensures agrees { IsMadeOf (λ e. e.who) result.0.seen result.0.made }
     ensures made { HasWorked s.now (passes.items ++ p ∷ []) steps stimuli.now
-        (map (λ v. v.items) scripts.now ++ replicate PUBLISHED (reading p.number vars.now) ∷ [])
+        (map (λ v. v.items) scripts.now ++ replicate PUBLISHED (read_entry_of p.number vars.now) ∷ [])
         result.0 (is_ok result.1) }
     ensures fault { KnowsFault s.now result.0.seen result.1 }
-    ensures views { OnOk result.1 (AreViews (reading p.number vars.now) (the_opening s.now.origin)
+    ensures views { OnOk result.1 (AreViews (read_entry_of p.number vars.now) (the_opening s.now.origin)
         result.0.seen VIEWED views.new.items) }
 {
     let (worked, (published, viewed)) = work_beside_watch(

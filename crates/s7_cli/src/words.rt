@@ -1,7 +1,7 @@
 ghost use Rattle.std.specs.Prelude.{◌≡◌, ◌≢◌, false, map, string_bytes, option_map, IfOk, None};
 ghost use Rattle.clap.specs.Words.{FailsBy, app_of, fault_of, found_of, kind_of, matches_of, rows_of, rule_of};
 ghost use Rattle.clap.specs.declared.error.kind.ErrorKind.TheVariants.{OutOfMemory};
-ghost use Rattle.s7_cli.specs.Words.{the_line, command_rule, files_rule, symbols_rule, steps_rule, german_rule, has_german, takes_no_source, number_up_to, one_word_command, file_command, two_word_command, short_command, three_word_command, live_command, stepped_command, watch_command, asked_for, asked_by, command_of, command_value, CommandsKeepLimits, ReadsPlainWords, ReadsGermanAnywhere, ReadsStepsAnywhere, ReadsSymbolsAnywhere, ReadsWordsBehindDashes, RefusesNoValue};
+ghost use Rattle.s7_cli.specs.Words.{the_line, command_rule, files_rule, symbols_rule, steps_rule, german_rule, has_german, takes_no_source, number_from_one_up_to, one_word_command, file_command, two_word_command, short_command, three_word_command, live_command, stepped_command, watch_command, asked_for, asked_by, command_of, command_value, CommandsKeepLimits, ReadsPlainWords, ReadsGermanAnywhere, ReadsStepsAnywhere, ReadsSymbolsAnywhere, ReadsWordsBehindDashes, RefusesNoValue};
 
 use arrayvec::ArrayVec;
 use clap::error::ErrorKind;
@@ -175,7 +175,7 @@ fn find_matches<'a>(alloc: Global, words: &'a [String]) -> Result<ArgMatches<'a>
 
 /// The number that a word writes in decimal digits, from 1 to `most`.
 fn number_up_to(word: &str, most: u32) -> Option<u32>
-    ensures { result ≡ number_up_to most word.now }
+    ensures { result ≡ number_from_one_up_to most word.now }
 {
     let number = decimal_up_to(word.as_bytes(), most)?;
     (number > 0).then_some(number)

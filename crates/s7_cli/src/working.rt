@@ -7,7 +7,7 @@ ghost use Rattle.var_access.specs.declared.Entry.{Entry as AnEntry};
 ghost use Rattle.controller.specs.State.{is_stop as is_stop_of};
 ghost use Rattle.tracked_lock.specs.Views.{IsMadeOf};
 ghost use Rattle.station.specs.Turns.{HasMade, HasMadeNone};
-ghost use Rattle.s7_cli.specs.Working.{AreReady, CanWork, HasBegun, HasStepped, HasWorked, HaveBegun, IsEntryOf, IsFresh, KnowsFault, made_whole};
+ghost use Rattle.s7_cli.specs.Working.{AreReady, CanWork, HasBegun, HasStepped, HasWorked, HaveBegun, IsEntryOf, IsFresh, KnowsFault, passes_made_whole};
 
 use plc_base::Mode;
 use plc_io::Gate;
@@ -161,7 +161,7 @@ fn make_scripts<R: Threads + Wait + Sync, G: Gate + Sync>(
     ensures pass { (result.0.lock ≡ s.now) × (result.0.out ≡ false) }
     ensures begun { HaveBegun passes.items (map (λ v. v.items) scripts.now) result.0.made }
     ensures made { OnOk result.1 (result.0.made
-        ≡ made_whole passes.items (map (λ v. v.items) scripts.now)) }
+        ≡ passes_made_whole passes.items (map (λ v. v.items) scripts.now)) }
     ensures fault { KnowsFault s.now result.0.seen result.1 }
 {
     let first = first_pass(&mut passes);
@@ -185,7 +185,7 @@ fn make_scripts<R: Threads + Wait + Sync, G: Gate + Sync>(
             ensures begun { HaveBegun passes.items (map (λ v. v.items) others.entry.now)
                 result.0.made }
             ensures made { OnOk result.1 (result.0.made
-                ≡ made_whole passes.items (map (λ v. v.items) others.entry.now)) }
+                ≡ passes_made_whole passes.items (map (λ v. v.items) others.entry.now)) }
             ensures fault { KnowsFault s.entry.now result.0.seen result.1 }
         { make_scripts(rt, s, passes, others, gate) },
     );
@@ -208,7 +208,7 @@ fn feed_and_ask<R: Threads + Wait + Sync, G: Gate + Sync>(
     ensures begun { HaveBegun passes.items
         (stimuli.now ∷ map (λ v. v.items) scripts.now) result.0.made }
     ensures made { OnOk result.1 (result.0.made
-        ≡ made_whole passes.items (stimuli.now ∷ map (λ v. v.items) scripts.now)) }
+        ≡ passes_made_whole passes.items (stimuli.now ∷ map (λ v. v.items) scripts.now)) }
     ensures fault { KnowsFault s.now result.0.seen result.1 }
 {
     let feeder = first_pass(&mut passes);
@@ -228,7 +228,7 @@ fn feed_and_ask<R: Threads + Wait + Sync, G: Gate + Sync>(
             ensures begun { HaveBegun passes.items (map (λ v. v.items) scripts.entry.now)
                 result.0.made }
             ensures made { OnOk result.1 (result.0.made
-                ≡ made_whole passes.items (map (λ v. v.items) scripts.entry.now)) }
+                ≡ passes_made_whole passes.items (map (λ v. v.items) scripts.entry.now)) }
             ensures fault { KnowsFault s.entry.now result.0.seen result.1 }
         { make_scripts(rt, s, passes, scripts, gate) },
     );
@@ -277,7 +277,7 @@ pub fn work<R: Threads + Wait + Sync, G: Gate + Sync>(
             ensures pass { (result.0.lock ≡ s.entry.now) × (result.0.out ≡ false) }
             ensures begun { HaveBegun passes.items
                 (stimuli.entry.now ∷ map (λ v. v.items) scripts.entry.now) result.0.made }
-            ensures made { OnOk result.1 (result.0.made ≡ made_whole passes.items
+            ensures made { OnOk result.1 (result.0.made ≡ passes_made_whole passes.items
                 (stimuli.entry.now ∷ map (λ v. v.items) scripts.entry.now)) }
             ensures fault { KnowsFault s.entry.now result.0.seen result.1 }
         { feed_and_ask(rt, s, passes, stimuli, scripts, gate) },

@@ -4,7 +4,7 @@ use Rattle.plc_base.specs.declared.refusals.Refusal.{Refusal}
 use Rattle.block_layout.specs.Layouts.{layouts_of}
 use Rattle.block_layout.specs.Table.{layout_refusals}
 use Rattle.stl_ast.specs.declared.blocks.Tree.{Tree}
-use Rattle.stl_codegen.specs.Generated.{code_blocks_of, data_blocks_of, names_of}
+use Rattle.stl_codegen.specs.Generated.{code_blocks_of, data_blocks_of, name_entries_of}
 use Rattle.stl_lexer.specs.declared.kinds.Token.{Token}
 use Rattle.plc_base.specs.Least.{least, lesser}
 use Rattle.stl_symbols.specs.Symbol.{Symbol}
@@ -15,13 +15,13 @@ use Rattle.sem_kept.specs.Accepted.{IsAccepted, program_in, AcceptedVerifies}
 use Rattle.sem_kept.specs.Verified.{VerifiedIsCompilable}
 use Rattle.sem_kept.specs.Kept.{ProgramsAreKept}
 use Rattle.sem_kept.specs.Agreement.{AreFiles, IsRunnable, ProgramsRun, names_among}
-use Rattle.sem_kept.specs.Meaning.{HasSymbolsIn, HasTokens, HasTree, refusals_of, sound_by, code_in, IsJudgedIn, MeansCodeIn}
+use Rattle.sem_kept.specs.Meaning.{HasSymbolsIn, HasTokens, HasTreeOrRefusal, refusals_of, sound_by, stated_code_of_tree, IsJudgedIn, MeansCodeIn}
 
 means : (language : Language) (source symbols : List ℕ) (list : List Symbol) (tokens : List Token)
     (tree : Tree)
     → HasSymbolsIn language symbols (Ok list) → HasTokens source (Ok tokens)
-    → HasTree source tokens (Ok tree)
-    → least (refusals_of list tree) ≡ None → MeansCodeIn language source symbols (code_in list tree)
+    → HasTreeOrRefusal source tokens (Ok tree)
+    → least (refusals_of list tree) ≡ None → MeansCodeIn language source symbols (stated_code_of_tree list tree)
 unfolding IsJudgedIn
 means language source symbols list tokens tree has_list has_tokens has_tree sound = (
   list,
@@ -41,7 +41,7 @@ pub accepted : (language : Language) (source symbols : List ℕ) (list : List Sy
     (tokens : List Token) (tree : Tree)
     → AreFiles source symbols
     → HasSymbolsIn language symbols (Ok list) → HasTokens source (Ok tokens)
-    → HasTree source tokens (Ok tree)
+    → HasTreeOrRefusal source tokens (Ok tree)
     → least (refusals_of list tree) ≡ None → IsAccepted source symbols list tree
 accepted language source symbols list tokens tree are has_list has_tokens has_tree sound = record {
   short = are.source_short;
@@ -73,10 +73,10 @@ programs_run verifies compilable kept language profile source symbols list token
   runnable = runnable;
   names = ap names_among has_list;
   runs = (
-    code_in list tree,
+    stated_code_of_tree list tree,
     means language source symbols list tokens tree has_list has_tokens has_tree sound,
     kept profile (code_blocks_of tree list (layouts_of tree list))
-        (data_blocks_of tree list (layouts_of tree list)) (names_of list)
+        (data_blocks_of tree list (layouts_of tree list)) (name_entries_of list)
         (compilable tree list (layouts_of tree list) runnable.verifies),
   );
 }

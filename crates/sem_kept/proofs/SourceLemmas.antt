@@ -3,15 +3,15 @@ use Rattle.std.proofs.Common.{◌≡◌, refl, sym, ◌∙◌, ℕ, List, Result
 use Rattle.plc_base.specs.declared.refusals.Refusal.{Refusal}
 use Rattle.machine.specs.Code.{Code}
 use Rattle.stl_lexer.specs.declared.kinds.Token.{Token}
-use Rattle.stl_lexer.specs.Tokens.{AreTokensUnique, ExcludesViolation as TokensExclude, IsViolationUnique as OneTokenViolation, HasTokensOrViolation, IsTotal as EachHasTokens}
+use Rattle.stl_lexer.specs.Tokens.{AreTokensUnique, ExcludesViolation as TokensExclude, IsViolationUnique as OneTokenViolation, HasTokensOrViolation, IsLexingTotal as EachHasTokens}
 use Rattle.stl_ast.specs.declared.blocks.Tree.{Tree}
-use Rattle.stl_parser.specs.Source.{IsTreeUnique, TreeExcludesViolation, IsViolationUnique as OneClauseViolation, HasTreeOrViolation, IsTotal as EachHasTree}
+use Rattle.stl_parser.specs.Source.{IsTreeUnique, TreeExcludesViolation, IsClauseViolationUnique as OneClauseViolation, HasTreeOrViolation, IsParsingTotal as EachHasTree}
 use Rattle.plc_base.specs.Least.{least}
 use Rattle.stl_symbols.specs.Symbol.{Symbol}
 use Rattle.stl_symbols.specs.Symbols.{symbols_in, with_lines}
 use Rattle.stl_symbols.specs.declared.languages.Language.{Language}
-use Rattle.sem_kept.specs.Stages.{InTurn, Told, HasOneOutcome, HasOutcome}
-use Rattle.sem_kept.specs.Meaning.{HasSymbolsIn, HasTokens, HasTree, refusals_of, sound_by, IsSound, code_in, HasCode, IsJudgedWith, Refused, InSymbols, InSource, IsJudgedIn, MeansCodeIn, IsRefusedSourceIn, IsMeaningUnique, ExcludesRefusal, IsRefusalUnique, IsTotal, NoFileHasNone}
+use Rattle.sem_kept.specs.Stages.{HaveOutcomeInTurn, TellsRefusalOf, HasOneOutcome, HasOutcome}
+use Rattle.sem_kept.specs.Meaning.{HasSymbolsIn, HasTokens, HasTreeOrRefusal, refusals_of, sound_by, IsSound, stated_code_of_tree, HasCode, IsJudgedWith, RefusedFile, InSymbols, InSource, IsJudgedIn, MeansCodeIn, IsRefusedSourceIn, IsMeaningUnique, ExcludesRefusal, IsRefusalUnique, HasEachSourceOutcome, NoFileHasNone}
 use Rattle.sem_kept.proofs.StageLemmas.{same_refusal, one_by_parts, in_turn_one, in_turn_some, told_one, told_some}
 
 -- what is known of tokens and of clauses
@@ -43,10 +43,10 @@ tokens_one laws =
     same_refusal r s
     (laws.one_token_violation source r.line r.rule s.line s.rule breaks_r breaks_s))
 
-tree_one : Laws → (source : List ℕ) → HasOneOutcome (HasTree source)
+tree_one : Laws → (source : List ℕ) → HasOneOutcome (HasTreeOrRefusal source)
 tree_one laws source =
     one_by_parts
-    (HasTree source)
+    (HasTreeOrRefusal source)
     (laws.one_tree source)
     (λ tokens t r is_t breaks. laws.tree_excludes source tokens t r.line r.rule is_t breaks)
     (λ tokens r s breaks_r breaks_s.
@@ -61,9 +61,9 @@ code_one symbols tree x y is_x is_y = is_x ∙ sym is_y
 
 with_one : Laws → (source : List ℕ) → HasOneOutcome (IsJudgedWith source)
 with_one laws source symbols =
-    in_turn_one HasTokens (InTurn (HasTree source) (InTurn (IsSound symbols) (HasCode symbols)))
+    in_turn_one HasTokens (HaveOutcomeInTurn (HasTreeOrRefusal source) (HaveOutcomeInTurn (IsSound symbols) (HasCode symbols)))
     (tokens_one laws)
-    (in_turn_one (HasTree source) (InTurn (IsSound symbols) (HasCode symbols))
+    (in_turn_one (HasTreeOrRefusal source) (HaveOutcomeInTurn (IsSound symbols) (HasCode symbols))
     (tree_one laws source)
     (in_turn_one (IsSound symbols) (HasCode symbols) (sound_one symbols) (code_one symbols)))
     source
@@ -71,11 +71,11 @@ with_one laws source symbols =
 symbols_one : (language : Language) → HasOneOutcome (HasSymbolsIn language)
 symbols_one language bytes x y is_x is_y = is_x ∙ sym is_y
 
-judged_one : Laws → (language : Language) (source symbols : List ℕ) (x y : Result Code Refused)
+judged_one : Laws → (language : Language) (source symbols : List ℕ) (x y : Result Code RefusedFile)
     → IsJudgedIn language source symbols x → IsJudgedIn language source symbols y → x ≡ y
 unfolding IsJudgedIn
 judged_one laws language source =
-    in_turn_one (Told InSymbols (HasSymbolsIn language)) (Told InSource (IsJudgedWith source))
+    in_turn_one (TellsRefusalOf InSymbols (HasSymbolsIn language)) (TellsRefusalOf InSource (IsJudgedWith source))
     (told_one InSymbols (HasSymbolsIn language) (symbols_one language))
     (told_one InSource (IsJudgedWith source) (with_one laws source))
 
@@ -83,21 +83,21 @@ pub one_meaning : Laws → IsMeaningUnique
 one_meaning laws language source symbols c d means_c means_d =
     same c d (judged_one laws language source symbols (Ok c) (Ok d) means_c means_d)
   where
-    same : (c d : Code) → ◌≡◌ {A = Result Code Refused} (Ok c) (Ok d) → c ≡ d
+    same : (c d : Code) → ◌≡◌ {A = Result Code RefusedFile} (Ok c) (Ok d) → c ≡ d
     same c d e = cc
 
 pub meaning_or_refusal : Laws → ExcludesRefusal
 meaning_or_refusal laws language source symbols c r means refused =
     other (judged_one laws language source symbols (Ok c) (Err r) means refused)
   where
-    other : ◌≡◌ {A = Result Code Refused} (Ok c) (Err r) → ⊥
+    other : ◌≡◌ {A = Result Code RefusedFile} (Ok c) (Err r) → ⊥
     other e = cc
 
 pub one_refusal : Laws → IsRefusalUnique
 one_refusal laws language source symbols r s refused_r refused_s =
     same (judged_one laws language source symbols (Err r) (Err s) refused_r refused_s)
   where
-    same : ◌≡◌ {A = Result Code Refused} (Err r) (Err s) → r ≡ s
+    same : ◌≡◌ {A = Result Code RefusedFile} (Err r) (Err s) → r ≡ s
     same e = cc
 
 -- ---- and one at least
@@ -111,25 +111,25 @@ tokens_some : Laws → HasOutcome HasTokens
 tokens_some laws source = tokens_at source (laws.tokens_or_violation source)
 
 tree_at : (source : List ℕ) (tokens : List Token) → HasTreeOrViolation source tokens
-    → (x : Result Tree Refusal) × HasTree source tokens x
+    → (x : Result Tree Refusal) × HasTreeOrRefusal source tokens x
 tree_at source tokens (inl (tree, is, outlined)) = (Ok tree, is)
 tree_at source tokens (inr (line, rule, breaks)) =
     (Err (record { line = line; rule = rule }), breaks)
 
-tree_some : Laws → (source : List ℕ) → HasOutcome (HasTree source)
+tree_some : Laws → (source : List ℕ) → HasOutcome (HasTreeOrRefusal source)
 tree_some laws source tokens = tree_at source tokens (laws.tree_or_violation source tokens)
 
 sound_some : (symbols : List Symbol) → HasOutcome (IsSound symbols)
 sound_some symbols tree = (sound_by tree (least (refusals_of symbols tree)), refl)
 
 code_some : (symbols : List Symbol) → HasOutcome (HasCode symbols)
-code_some symbols tree = (Ok (code_in symbols tree), refl)
+code_some symbols tree = (Ok (stated_code_of_tree symbols tree), refl)
 
 with_some : Laws → (source : List ℕ) → HasOutcome (IsJudgedWith source)
 with_some laws source symbols =
-    in_turn_some HasTokens (InTurn (HasTree source) (InTurn (IsSound symbols) (HasCode symbols)))
+    in_turn_some HasTokens (HaveOutcomeInTurn (HasTreeOrRefusal source) (HaveOutcomeInTurn (IsSound symbols) (HasCode symbols)))
     (tokens_some laws)
-    (in_turn_some (HasTree source) (InTurn (IsSound symbols) (HasCode symbols))
+    (in_turn_some (HasTreeOrRefusal source) (HaveOutcomeInTurn (IsSound symbols) (HasCode symbols))
     (tree_some laws source)
     (in_turn_some (IsSound symbols) (HasCode symbols) (sound_some symbols)
     (code_some symbols)))
@@ -139,24 +139,24 @@ symbols_some : (language : Language) → HasOutcome (HasSymbolsIn language)
 symbols_some language bytes = (symbols_in language bytes, refl)
 
 judged_some : Laws → (language : Language) (source symbols : List ℕ)
-    → (x : Result Code Refused) × IsJudgedIn language source symbols x
+    → (x : Result Code RefusedFile) × IsJudgedIn language source symbols x
 unfolding IsJudgedIn
 judged_some laws language source =
-    in_turn_some (Told InSymbols (HasSymbolsIn language)) (Told InSource (IsJudgedWith source))
+    in_turn_some (TellsRefusalOf InSymbols (HasSymbolsIn language)) (TellsRefusalOf InSource (IsJudgedWith source))
     (told_some InSymbols (HasSymbolsIn language) (symbols_some language))
     (told_some InSource (IsJudgedWith source) (with_some laws source))
 
 abbrev Judged : Language → (source symbols : List ℕ) → Type 0
 Judged language source symbols =
     ((code : Code) × MeansCodeIn language source symbols code)
-    ⊎ ((refused : Refused) × IsRefusedSourceIn language source symbols refused)
+    ⊎ ((refused : RefusedFile) × IsRefusedSourceIn language source symbols refused)
 
 by_outcome : (language : Language) (source symbols : List ℕ)
-    → (x : Result Code Refused) × IsJudgedIn language source symbols x
+    → (x : Result Code RefusedFile) × IsJudgedIn language source symbols x
     → Judged language source symbols
 by_outcome language source symbols (Ok code, judged) = inl (code, judged)
 by_outcome language source symbols (Err refused, judged) = inr (refused, judged)
 
-pub each_judged : Laws → IsTotal
+pub each_judged : Laws → HasEachSourceOutcome
 each_judged laws language source symbols =
     by_outcome language source symbols (judged_some laws language source symbols)

@@ -1,7 +1,7 @@
 -- Stages with one outcome at most have one in turn.
 use Rattle.std.proofs.Common.{◌≡◌, ◌∙◌, ap, subst, sym, refl, ℕ, Result, Ok, Err, inl, inr}
 use Rattle.plc_base.specs.declared.refusals.Refusal.{Refusal}
-use Rattle.sem_kept.specs.Stages.{InTurn, Told, HasOneOutcome, HasOutcome}
+use Rattle.sem_kept.specs.Stages.{HaveOutcomeInTurn, TellsRefusalOf, HasOneOutcome, HasOutcome}
 
 -- a refusal is its line and its rule
 pub same_refusal : (r s : Refusal) → (r.line ≡ s.line) × (r.rule ≡ s.rule) → r ≡ s
@@ -39,7 +39,7 @@ made {B = B} {C = C} first second one a b c x at_b at_c after =
 
 -- two stages in turn
 pub in_turn_one : {A B C E : Type 0} (first : A → Result B E → Type 0) (second : B → Result C E → Type 0)
-    → HasOneOutcome first → HasOneOutcome second → HasOneOutcome (InTurn first second)
+    → HasOneOutcome first → HasOneOutcome second → HasOneOutcome (HaveOutcomeInTurn first second)
 in_turn_one first second one_first one_second a (Ok x) (Ok y) (b, at_b, x_after) (c, at_c, y_after) =
     one_second c (Ok x) (Ok y) (made first second one_first a b c (Ok x) at_b at_c x_after) y_after
 in_turn_one first second one_first one_second a (Ok x) (Err r) (b, at_b, x_after) (inl at_r) =
@@ -60,23 +60,23 @@ in_turn_one first second one_first one_second a (Err r) (Err s) (inr (b, at_b, r
 
 -- an outcome of the second stage for what the first has made
 after_first : {A B C E : Type 0} (first : A → Result B E → Type 0) (second : B → Result C E → Type 0) (a : A) (b : B)
-    → first a (Ok b) → (x : Result C E) × second b x → (x : Result C E) × InTurn first second a x
+    → first a (Ok b) → (x : Result C E) × second b x → (x : Result C E) × HaveOutcomeInTurn first second a x
 after_first first second a b at_b (Ok c, after) = (Ok c, (b, at_b, after))
 after_first first second a b at_b (Err r, after) = (Err r, inr (b, at_b, after))
 
 -- two stages in turn
 in_turn_at : {A B C E : Type 0} (first : A → Result B E → Type 0) (second : B → Result C E → Type 0) (a : A)
-    → (x : Result B E) × first a x → HasOutcome second → (y : Result C E) × InTurn first second a y
+    → (x : Result B E) × first a x → HasOutcome second → (y : Result C E) × HaveOutcomeInTurn first second a y
 in_turn_at first second a (Ok b, at_b) some_second = after_first first second a b at_b (some_second b)
 in_turn_at first second a (Err r, at_r) some_second = (Err r, inl at_r)
 
 pub in_turn_some : {A B C E : Type 0} (first : A → Result B E → Type 0) (second : B → Result C E → Type 0)
-    → HasOutcome first → HasOutcome second → HasOutcome (InTurn first second)
+    → HasOutcome first → HasOutcome second → HasOutcome (HaveOutcomeInTurn first second)
 in_turn_some first second some_first some_second a = in_turn_at first second a (some_first a) some_second
 
 -- a stage whose refusals are told with what they are of
 pub told_one : {A B E : Type 0} (of : Refusal → E) (stage : A → Result B Refusal → Type 0)
-    → HasOneOutcome stage → HasOneOutcome (Told of stage)
+    → HasOneOutcome stage → HasOneOutcome (TellsRefusalOf of stage)
 told_one of stage one a (Ok b) (Ok c) at_b at_c =
     ap Ok (ok_same b c (one a (Ok b) (Ok c) at_b at_c))
 told_one of stage one a (Ok b) (Err f) at_b (s, is_s, at_s) =
@@ -87,10 +87,10 @@ told_one of stage one a (Err e) (Err f) (r, is_r, at_r) (s, is_s, at_s) =
     ap Err (is_r ∙ ap of (err_same r s (one a (Err r) (Err s) at_r at_s)) ∙ sym is_s)
 
 told_at : {A B E : Type 0} (of : Refusal → E) (stage : A → Result B Refusal → Type 0) (a : A)
-    → (x : Result B Refusal) × stage a x → (y : Result B E) × Told of stage a y
+    → (x : Result B Refusal) × stage a x → (y : Result B E) × TellsRefusalOf of stage a y
 told_at of stage a (Ok b, at_b) = (Ok b, at_b)
 told_at of stage a (Err r, at_r) = (Err (of r), (r, refl, at_r))
 
 pub told_some : {A B E : Type 0} (of : Refusal → E) (stage : A → Result B Refusal → Type 0)
-    → HasOutcome stage → HasOutcome (Told of stage)
+    → HasOutcome stage → HasOutcome (TellsRefusalOf of stage)
 told_some of stage some a = told_at of stage a (some a)

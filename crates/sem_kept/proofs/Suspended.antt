@@ -9,7 +9,7 @@ use Rattle.frames.specs.declared.Activation.{Activation}
 use Rattle.frames.specs.declared.bindings.Binding.{Binding}
 use Rattle.machine.specs.Code.{Code}
 use Rattle.machine.specs.Flat.{code_of}
-use Rattle.machine.specs.Statement.{Step, Went, Ended, SyncError, SysCall, Stop, Stuck, statement}
+use Rattle.machine.specs.Statement.{StatementStep, Went, Ended, SyncError, SysCall, Stop, Stuck, statement_step}
 use Rattle.ob_sched.specs.TickState.{TickState, ob_requested}
 use Rattle.ob_sched.specs.Millisecond.{tick_begun, after_tick}
 use Rattle.ob_sched.specs.OrganizationBlock.{priority_class_in}
@@ -22,49 +22,49 @@ use Rattle.var_access.specs.declared.Request.TheVariants as request
 use Rattle.var_access.specs.declared.What.{What}
 use Rattle.var_access.specs.declared.What.TheVariants as entry
 use Rattle.controller.specs.Asking.{request_effect}
-use Rattle.controller.specs.Beginning.{ob_in, begun_above}
+use Rattle.controller.specs.Beginning.{ob_activation, with_ob_begun}
 use Rattle.controller.specs.Errors.{is_synchronous, error_in, error_ob_started, error_raised}
 use Rattle.controller.specs.Event.{entry_counted, entry_effect, state_after}
-use Rattle.controller.specs.Replay.{happens, replay, ContinuesReplay}
+use Rattle.controller.specs.Replay.{entry_result, replay, ContinuesReplay}
 use Rattle.controller.specs.Requests.{stopped_if, tick_state_taken, arrival_served}
-use Rattle.controller.specs.Serving.{Served, Returns, Passes, Stops, system_function_served, result_given, after_service}
+use Rattle.controller.specs.Serving.{ServiceResult, Returns, Passes, Stops, system_function_served, result_given, after_service}
 use Rattle.controller.specs.Settling.{may_start, request_taken, request_started, best_started, after_settling}
 use Rattle.controller.specs.Start.{warm_restarted}
 use Rattle.controller.specs.State.{State, is_stop, diagnosis_recorded, each_diagnosed}
 use Rattle.controller.specs.Stepping.{with_activations, run_starts, ob_ended, after_statement, step_of_first, after_step}
-use Rattle.controller.specs.Stopping.{spot_of, stop_entered_at, stop_entered}
+use Rattle.controller.specs.Stopping.{spot_of_frame, stop_entered_at, stop_entered}
 use Rattle.controller.specs.Ticking.{timers_moved, active_obs, time_passed}
-use Rattle.sem_kept.specs.Resumption.{after, standing, IsSuspended, Resumes, SourcesResume, ImagesResume}
+use Rattle.sem_kept.specs.Resumption.{state_after_first, activation_at_place, IsSuspended, Resumes, SourcesResume, ImagesResume}
 
 -- the activation at this place is there, and is the same
 record Keeps (before later : List Activation) (place : ℕ) : Type 0 where
   there : place < length later
-  same : standing later place ≡ standing before place
+  same : activation_at_place later place ≡ activation_at_place before place
 
 -- one more activation on top changes nothing below it
-standing-∷ : (a : Activation) (acts : List Activation) (place : ℕ) → place < length acts
-    → standing (a ∷ acts) place ≡ standing acts place
-standing-∷ a acts place below =
+activation_at_place-∷ : (a : Activation) (acts : List Activation) (place : ℕ) → place < length acts
+    → activation_at_place (a ∷ acts) place ≡ activation_at_place acts place
+activation_at_place-∷ a acts place below =
     let differs : nat_eq place (length acts) ≡ false = ne_eqb place (length acts) (λ e. omega (arith, e, below)) in
-    ap (λ (b : Bool). cond b (Some a) (standing acts place)) differs
+    ap (λ (b : Bool). cond b (Some a) (activation_at_place acts place)) differs
 
 stays : (acts : List Activation) (place : ℕ) → place < length acts → Keeps acts acts place
 stays acts place there = record { there = there; same = refl }
 
 pushed : (a : Activation) (acts : List Activation) (place : ℕ) → place < length acts
     → Keeps acts (a ∷ acts) place
-pushed a acts place there = record { there = omega arith; same = standing-∷ a acts place there }
+pushed a acts place there = record { there = omega arith; same = activation_at_place-∷ a acts place there }
 
 fallen : (a : Activation) (below : List Activation) (place : ℕ) → place < length below
     → Keeps (a ∷ below) below place
 fallen a below place there =
-    record { there = there; same = sym (standing-∷ a below place there) }
+    record { there = there; same = sym (activation_at_place-∷ a below place there) }
 
 replaced : (a b : Activation) (below : List Activation) (place : ℕ) → place < length below
     → Keeps (a ∷ below) (b ∷ below) place
 replaced a b below place there = record {
   there = omega arith;
-  same = standing-∷ b below place there ∙ sym (standing-∷ a below place there);
+  same = activation_at_place-∷ b below place there ∙ sym (activation_at_place-∷ a below place there);
 }
 
 then_keeps : (first second third : List Activation) (place : ℕ)
@@ -74,11 +74,11 @@ then_keeps first second third place h k = record { there = k.there; same = k.sam
 -- ---- settling
 
 begun_keeps : (o : Option Activation) (s : State) (place : ℕ) → place < length s.activations
-    → Keeps s.activations (begun_above o s).activations place
+    → Keeps s.activations (with_ob_begun o s).activations place
 begun_keeps None s place there = stays s.activations place there
 begun_keeps (Some a) s place there = pushed a s.activations place there
 
-begun_mode : (o : Option Activation) (s : State) → (begun_above o s).mode ≡ s.mode
+begun_mode : (o : Option Activation) (s : State) → (with_ob_begun o s).mode ≡ s.mode
 begun_mode None s = refl
 begun_mode (Some a) s = refl
 
@@ -90,7 +90,7 @@ best_keeps code (Some best) s place there = by (may_start best.class s.activatio
   where
     by : (b : Bool)
         → Keeps s.activations (if b then request_started code best s else s).activations place
-    by true = begun_keeps (ob_in s.profile code best.class best.ob best.info) (request_taken s) place there
+    by true = begun_keeps (ob_activation s.profile code best.class best.ob best.info) (request_taken s) place there
     by false = stays s.activations place there
 
 best_mode : (code : Code) (o : Option Pending) (s : State) → (best_started code o s).mode ≡ s.mode
@@ -98,7 +98,7 @@ best_mode code None s = refl
 best_mode code (Some best) s = by (may_start best.class s.activations)
   where
     by : (b : Bool) → (if b then request_started code best s else s).mode ≡ s.mode
-    by true = begun_mode (ob_in s.profile code best.class best.ob best.info) (request_taken s)
+    by true = begun_mode (ob_activation s.profile code best.class best.ob best.info) (request_taken s)
     by false = refl
 
 settled_keeps : (code : Code) (s : State) (place : ℕ) → place < length s.activations
@@ -151,7 +151,7 @@ failed_keeps code old error at a below s place there on = by (is_synchronous a.o
         answered_keeps old (error_in code error at a) error at a below (diagnosis_recorded 4 error s) place
         there on
 
-serves_keeps : (old : Activation) (at : Option Spot) (r : Served) (to : Option Binding)
+serves_keeps : (old : Activation) (at : Option Spot) (r : ServiceResult) (to : Option Binding)
     (below : List Activation) (s : State) (place : ℕ)
     → place < length below → is_stop (after_service at r to below s).mode ≡ false
     → Keeps (old ∷ below) (after_service at r to below s).activations place
@@ -167,7 +167,7 @@ ended_same ob s = by (nat_eq ob 100)
     by true = refl
     by false = refl
 
-statement_keeps : (code : Code) (old : Activation) (step : Step) (ob : ℕ) (at : Option Spot)
+statement_keeps : (code : Code) (old : Activation) (step : StatementStep) (ob : ℕ) (at : Option Spot)
     (below : List Activation) (s : State) (place : ℕ)
     → s.activations ≡ old ∷ below → place < length below
     → is_stop (after_statement code step ob at below s).mode ≡ false
@@ -192,7 +192,7 @@ stepped_on_keeps : (code : Code) (acts : List Activation) (s : State) (place : �
     → Keeps acts (step_of_first code acts s).activations place
 stepped_on_keeps code [] s place were there on = absurd (omega (arith, there))
 stepped_on_keeps code (a ∷ below) s place were there on =
-    statement_keeps code a (statement code a s.world) a.ob (spot_of code a.running.frame) below s
+    statement_keeps code a (statement_step code a s.world) a.ob (spot_of_frame code a.running.frame) below s
     place were (omega (arith, there)) on
 
 stepped_keeps : (code : Code) (s : State) (place : ℕ) → place + 1 < length s.activations
@@ -304,7 +304,7 @@ effect_keeps code (entry.Ask r) s place runs there on =
 
 state_keeps : (code : Code) (w : What) (s : State) (place : ℕ) → is_stop s.mode ≡ false
     → place + 1 < length s.activations → is_stop (state_after code w s).mode ≡ false
-    → standing (state_after code w s).activations place ≡ standing s.activations place
+    → activation_at_place (state_after code w s).activations place ≡ activation_at_place s.activations place
 unfolding state_after
 state_keeps code w s place runs there on =
     let next : State = entry_effect code w (entry_counted s) in
@@ -318,43 +318,43 @@ state_keeps code w s place runs there on =
 -- a replay of one more entry
 replay_more : ContinuesReplay → (profile : Profile) (code : Code) (history : List What) (w : What)
     → replay profile code (history ++ w ∷ []) ≡ state_after code w (replay profile code history)
-unfolding happens
+unfolding entry_result
 replay_more continues profile code history w = continues profile code history w
 
 -- the state after one more of the entries
 after_one : ContinuesReplay → (profile : Profile) (code : Code) (history : List What) (k : ℕ) → k < length history
-    → after profile code history (k + 1)
-    ≡ state_after code (get_or history k entry.Step) (after profile code history k)
+    → state_after_first profile code history (k + 1)
+    ≡ state_after code (get_or history k entry.Step) (state_after_first profile code history k)
 after_one continues profile code history k inside =
     ap (replay profile code) (take_more history k entry.Step inside)
     ∙ replay_more continues profile code (take k history) (get_or history k entry.Step)
 
 same_next : ContinuesReplay → (profile : Profile) (code : Code) (history : List What) (place k : ℕ)
-    → k < length history → is_stop (after profile code history k).mode ≡ false
-    → place + 1 < length (after profile code history k).activations
-    → is_stop (after profile code history (k + 1)).mode ≡ false
-    → standing (after profile code history (k + 1)).activations place
-    ≡ standing (after profile code history k).activations place
+    → k < length history → is_stop (state_after_first profile code history k).mode ≡ false
+    → place + 1 < length (state_after_first profile code history k).activations
+    → is_stop (state_after_first profile code history (k + 1)).mode ≡ false
+    → activation_at_place (state_after_first profile code history (k + 1)).activations place
+    ≡ activation_at_place (state_after_first profile code history k).activations place
 same_next continues profile code history place k inside runs suspended goes_on =
     let w : What = get_or history k entry.Step in
-    let next : after profile code history (k + 1) ≡ state_after code w (after profile code history k)
+    let next : state_after_first profile code history (k + 1) ≡ state_after code w (state_after_first profile code history k)
     = after_one continues profile code history k inside in
-    let on : is_stop (state_after code w (after profile code history k)).mode ≡ false
+    let on : is_stop (state_after code w (state_after_first profile code history k)).mode ≡ false
     = sym (ap (λ (s : State). is_stop s.mode) next) ∙ goes_on in
-    ap (λ (s : State). standing s.activations place) next
-    ∙ state_keeps code w (after profile code history k) place runs suspended on
+    ap (λ (s : State). activation_at_place s.activations place) next
+    ∙ state_keeps code w (state_after_first profile code history k) place runs suspended on
 
 same_after : ContinuesReplay → (profile : Profile) (code : Code) (history : List What) (place first last : ℕ)
     → IsSuspended profile code history place first last → (j : ℕ) → first + j ≤ last
-    → standing (after profile code history (first + j)).activations place
-    ≡ standing (after profile code history first).activations place
+    → activation_at_place (state_after_first profile code history (first + j)).activations place
+    ≡ activation_at_place (state_after_first profile code history first).activations place
 same_after continues profile code history place first last is zero within =
     let e : first + zero ≡ first = omega arith in
-    ap (λ (k : ℕ). standing (after profile code history k).activations place) e
+    ap (λ (k : ℕ). activation_at_place (state_after_first profile code history k).activations place) e
 same_after continues profile code history place first last is (suc j) within =
     let e : first + suc j ≡ first + j + 1 = omega arith in
     let final : last ≤ length history = is.within in
-    ap (λ (k : ℕ). standing (after profile code history k).activations place) e
+    ap (λ (k : ℕ). activation_at_place (state_after_first profile code history k).activations place) e
     ∙ same_next continues profile code history place (first + j) (omega arith)
     (is.goes_on (first + j) (omega arith) (omega arith))
     (is.suspended (first + j) (omega arith) (omega arith))
@@ -366,7 +366,7 @@ resumes : ContinuesReplay → (profile : Profile) (code : Code) (history : List 
     → IsSuspended profile code history place first last → Resumes profile code history place first last
 resumes continues profile code history place first last is k from to =
     let e : first + (k - first) ≡ k = omega arith in
-    ap (λ (n : ℕ). standing (after profile code history n).activations place) (sym e)
+    ap (λ (n : ℕ). activation_at_place (state_after_first profile code history n).activations place) (sym e)
     ∙ same_after continues profile code history place first last is (k - first) (omega arith)
 
 pub sources_resume : ContinuesReplay → SourcesResume

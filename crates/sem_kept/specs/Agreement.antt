@@ -12,7 +12,7 @@ use Rattle.stl_ast.specs.Literals.{AreBytes}
 use Rattle.plc_base.specs.declared.profiles.Profile.{Profile}
 use Rattle.plc_base.specs.declared.refusals.Refusal.{Refusal}
 use Rattle.stl_ast.specs.declared.blocks.Tree.{Tree}
-use Rattle.stl_codegen.specs.Generated.{names_of}
+use Rattle.stl_codegen.specs.Generated.{name_entries_of}
 use Rattle.stl_lexer.specs.Limits.{source_limit}
 use Rattle.stl_lexer.specs.declared.kinds.Token.{Token}
 use Rattle.plc_base.specs.Least.{least}
@@ -21,14 +21,14 @@ use Rattle.stl_symbols.specs.Symbols.{symbols_in, symbols_limit}
 use Rattle.stl_symbols.specs.declared.languages.Language.{Language}
 use Rattle.stl_symbols.specs.declared.languages.Language.TheVariants.{English, German}
 use Rattle.sem_kept.specs.Accepted.{program_in}
-use Rattle.sem_kept.specs.Kept.{IsKept}
-use Rattle.sem_kept.specs.Meaning.{HasSymbolsIn, HasTokens, HasTree, refusals_of, MeansCodeIn}
+use Rattle.sem_kept.specs.Kept.{BehavesAlike}
+use Rattle.sem_kept.specs.Meaning.{HasSymbolsIn, HasTokens, HasTreeOrRefusal, refusals_of, MeansCodeIn}
 
 -- the source with these symbols means a code, and at this profile no history tells it from the one that
 -- runs
 abbrev pub RunsAsIn : Language → Profile → (source symbols : List ℕ) → (running : Code) → Type 0
 RunsAsIn language profile source symbols running =
-    (code : Code) × MeansCodeIn language source symbols code × IsKept profile code running
+    (code : Code) × MeansCodeIn language source symbols code × BehavesAlike profile code running
 
 -- a program has an image and verifies
 pub record IsRunnable (p : Program) : Type 0 where
@@ -37,7 +37,7 @@ pub record IsRunnable (p : Program) : Type 0 where
 
 -- the names of the symbols that were read, and none where they are refused
 abbrev pub names_among : Result (List Symbol) Refusal → List NameEntry
-names_among (Ok list) = names_of list
+names_among (Ok list) = name_entries_of list
 names_among (Err refusal) = []
 
 -- the names of variables that a symbols file gives
@@ -94,7 +94,7 @@ ProgramsRun =
     (tokens : List Token) (tree : Tree)
     → AreFiles source symbols
     → HasSymbolsIn language symbols (Ok list) → HasTokens source (Ok tokens)
-    → HasTree source tokens (Ok tree)
+    → HasTreeOrRefusal source tokens (Ok tree)
     → least (refusals_of list tree) ≡ None
     → KeepsSourceIn language profile source symbols (program_in list tree)
 
@@ -105,7 +105,7 @@ ImagesKeepSourcesIn language =
     (tree : Tree)
     → AreFiles source symbols
     → HasSymbolsIn language symbols (Ok list) → HasTokens source (Ok tokens)
-    → HasTree source tokens (Ok tree)
+    → HasTreeOrRefusal source tokens (Ok tree)
     → least (refusals_of list tree) ≡ None
     → ImageKeepsSourceIn language (image stamp (program_in list tree)) source symbols
 

@@ -14,20 +14,20 @@ use Rattle.flat_code.specs.declared.operations.Operation.TheVariants as operatio
 use Rattle.machine.specs.Code.{Fetched}
 use Rattle.machine.specs.Flat.{statement_fetched, is_jl}
 use Rattle.machine.specs.Moved.{aimed_instr}
-use Rattle.stl_codegen.specs.Compiled.{Stated, ops_in, offset_of}
+use Rattle.stl_codegen.specs.Compiled.{SourceInstruction, ops_in, offset_of_statement}
 use Rattle.stl_codegen.specs.Instruction.{numbers_from}
 
 -- the statement of a number, at its offset
-abbrev pub aimed_statement : (ℕ → ℕ) → (n : ℕ) → Stated → Fetched
+abbrev pub aimed_statement : (ℕ → ℕ) → (n : ℕ) → SourceInstruction → Fetched
 aimed_statement f n s =
     record { instr = aimed_instr f s.instr; next = f (suc n); line = s.line }
 
 -- an operation of an instruction that goes on to the next statement
-abbrev pub goes_on : Operation → Bool
-goes_on operation.Jump = false
-goes_on (operation.Call how) = false
-goes_on (operation.End how) = false
-goes_on _ = true
+abbrev pub goes_to_next_statement : Operation → Bool
+goes_to_next_statement operation.Jump = false
+goes_to_next_statement (operation.Call how) = false
+goes_to_next_statement (operation.End how) = false
+goes_to_next_statement _ = true
 
 -- an operand with a target, which no such operation has
 abbrev pub is_target : Operand → Bool
@@ -35,9 +35,9 @@ is_target (operand.Jump kind target) = true
 is_target _ = false
 
 -- no data block has the number 0
-abbrev pub IsInstance : Option ℕ → Type 0
-IsInstance None = Unit {0}
-IsInstance (Some number) = 1 ≤ number
+abbrev pub IsInstanceNumber : Option ℕ → Type 0
+IsInstanceNumber None = Unit {0}
+IsInstanceNumber (Some number) = 1 ≤ number
 
 -- JU, the only instruction in the list of a JL
 abbrev pub is_ju : Instr → Bool
@@ -45,11 +45,11 @@ is_ju (Jumps jump.Ju target) = true
 is_ju _ = false
 
 -- a statement whose instruction is JU
-abbrev pub IsJu : Stated → Type 0
+abbrev pub IsJu : SourceInstruction → Type 0
 IsJu s = is_ju s.instr ≡ true
 
 -- the list of a JL: the JU statements behind it, at most 255, up to its target
-pub record IsList (n : ℕ) (targets : List ℕ) (otherwise : ℕ) (behind : List Stated) : Type 0 where
+pub record IsList (n : ℕ) (targets : List ℕ) (otherwise : ℕ) (behind : List SourceInstruction) : Type 0 where
   pub few : length targets ≤ 255
   pub numbers : targets ≡ numbers_from (suc n) (length targets)
   pub ends : otherwise ≡ suc n + length targets
@@ -57,21 +57,21 @@ pub record IsList (n : ℕ) (targets : List ℕ) (otherwise : ℕ) (behind : Lis
   pub jumps : AllByRecursion IsJu (take (length targets) behind)
 
 -- an instruction that code is generated for: the one of a statement, with those behind it
-abbrev pub IsCompiled : (n : ℕ) → Instr → (behind : List Stated) → Type 0
-IsCompiled n (Does use_db w o) behind = (goes_on w ≡ true) × (is_target o ≡ false)
-IsCompiled n (Jumps how target) behind = is_jl how ≡ false
-IsCompiled n (JumpsByList targets otherwise) behind = IsList n targets otherwise behind
-IsCompiled n (Calls how block instance passings) behind =
-    (is_callable block.kind ≡ true) × IsInstance instance × (length passings ≤ 63)
-IsCompiled n (Returns how) behind = Unit {0}
+abbrev pub IsGeneratedInstruction : (n : ℕ) → Instr → (behind : List SourceInstruction) → Type 0
+IsGeneratedInstruction n (Does use_db w o) behind = (goes_to_next_statement w ≡ true) × (is_target o ≡ false)
+IsGeneratedInstruction n (Jumps how target) behind = is_jl how ≡ false
+IsGeneratedInstruction n (JumpsByList targets otherwise) behind = IsList n targets otherwise behind
+IsGeneratedInstruction n (Calls how block instance passings) behind =
+    (is_callable block.kind ≡ true) × IsInstanceNumber instance × (length passings ≤ 63)
+IsGeneratedInstruction n (Returns how) behind = Unit {0}
 
 -- so is each of these statements, the first of which has this number
-abbrev pub AreCompiled : (n : ℕ) → List Stated → Type 0
+abbrev pub AreCompiled : (n : ℕ) → List SourceInstruction → Type 0
 AreCompiled n [] = Unit {0}
-AreCompiled n (s ∷ behind) = IsCompiled n s.instr behind × AreCompiled (suc n) behind
+AreCompiled n (s ∷ behind) = IsGeneratedInstruction n s.instr behind × AreCompiled (suc n) behind
 
 -- the code of a block is read back as its statements, and nothing begins behind them
-abbrev pub IsReadBack : CodeBlock → List Stated → Type 0
+abbrev pub IsReadBack : CodeBlock → List SourceInstruction → Type 0
 IsReadBack b statements =
-    (n : ℕ) → statement_fetched b (offset_of (ops_in statements) n)
-    ≡ option_map (aimed_statement (offset_of (ops_in statements)) n) (slice_get statements n)
+    (n : ℕ) → statement_fetched b (offset_of_statement (ops_in statements) n)
+    ≡ option_map (aimed_statement (offset_of_statement (ops_in statements)) n) (slice_get statements n)

@@ -34,7 +34,7 @@ abbrev pub TreeHasBytes : Tree → Type 0
 TreeHasBytes t = AllByRecursion (λ b. AllByRecursion StatementHasBytes b.body) t.blocks
 
 -- the code of a block
-pub record IsCoded (b : CodeBlock) : Type 0 where
+pub record IsBlockCoded (b : CodeBlock) : Type 0 where
   pub ops : are_ops b.code ≡ true
   pub right : code_fault b.code ≡ None
 
@@ -43,10 +43,10 @@ abbrev pub AreCoded : Type 0
 AreCoded =
     (source file : List ℕ) (symbols : List Symbol) (t : Tree)
     → IsAccepted source file symbols t → AreBytes source
-    → AllByRecursion IsCoded (program_in symbols t).code_blocks
+    → AllByRecursion IsBlockCoded (program_in symbols t).code_blocks
 
 -- what is coded is good as the code field of an image, whether its faults are checked or not
 abbrev pub CodedIsGood : Type 0
 CodedIsGood =
-    (judged : Bool) (b : CodeBlock) → IsCoded b
+    (judged : Bool) (b : CodeBlock) → IsBlockCoded b
     → (code_layout judged (length (code_bytes b.code))).good b.code ≡ true

@@ -8,7 +8,7 @@ use Rattle.stl_lexer.specs.declared.kinds.Token.{Token}
 use Rattle.stl_symbols.specs.Symbol.{Symbol}
 use Rattle.stl_symbols.specs.declared.languages.Language.{Language}
 use Rattle.sem_kept.specs.Accepted.{program_in}
-use Rattle.sem_kept.specs.Meaning.{HasSymbolsIn, HasTokens, HasTree, refusals_of}
+use Rattle.sem_kept.specs.Meaning.{HasSymbolsIn, HasTokens, HasTreeOrRefusal, refusals_of}
 
 -- a source with its symbols breaks no rule, and its program, the names of its symbols with it, is this
 -- one
@@ -18,7 +18,7 @@ pub record CompilesTo (language : Language) (source symbols : List ℕ) (p : Pro
   pub tree : Tree
   pub named : HasSymbolsIn language symbols (Ok list)
   pub lexed : HasTokens source (Ok tokens)
-  pub parsed : HasTree source tokens (Ok tree)
+  pub parsed : HasTreeOrRefusal source tokens (Ok tree)
   pub right : least (refusals_of list tree) ≡ None
   pub program : program_in list tree ≡ p
 

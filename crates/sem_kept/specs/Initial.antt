@@ -10,9 +10,9 @@ use Rattle.stl_ast.specs.declared.blocks.Setting.{Setting}
 use Rattle.stl_ast.specs.declared.blocks.Tree.{Tree}
 use Rattle.stl_ast.specs.declared.declarations.Bounds.{Bounds}
 use Rattle.stl_symbols.specs.Symbol.{Symbol}
-use Rattle.block_layout.specs.InitialBytes.{Write, element_starts, initial_bytes, preset_values, put, setting_write, setting_writes, settings_at, structure_writes}
+use Rattle.block_layout.specs.InitialBytes.{Write, element_starts, initial_bytes, preset_values, bytes_with_write, setting_write, setting_writes, settings_at, structure_writes}
 use Rattle.block_layout.specs.Layouts.{layouts_of}
-use Rattle.block_layout.specs.Paths.{cells_at, folded_path, structure_of, walked_data}
+use Rattle.block_layout.specs.Paths.{cells_at, folded_path, structure_of, path_end_in_data_block}
 use Rattle.block_layout.specs.declared.blocks.BlockLayout.{BlockLayout}
 use Rattle.block_layout.specs.declared.cells.Cell.{Cell}
 use Rattle.block_layout.specs.declared.cells.Element.{Element}
@@ -41,9 +41,9 @@ pub record HasRoom (c : Cell) : Type 0 where
   pub elements : HasElements c.bounds c.presets c.of
 
 -- a setting is a write
-pub record IsSet (l : List BlockLayout) (block : ℕ) (s : Setting) : Type 0 where
+pub record IsSettingWritten (l : List BlockLayout) (block : ℕ) (s : Setting) : Type 0 where
   pub write : Write
-  pub alone : setting_write l s.value (walked_data l block (folded_path s.path)) ≡ write ∷ []
+  pub alone : setting_write l s.value (path_end_in_data_block l block (folded_path s.path)) ≡ write ∷ []
 
 -- the initial values of the data block at this place, and behind them its settings
 abbrev pub writes_of : List BlockLayout → List Block → (block : ℕ) → List Write
@@ -53,12 +53,12 @@ writes_of l blocks block =
 
 -- the initial bytes of a data block are made by such writes alone, over as many zeros as it is long. Its
 -- structure is known, the components of this and of each other block have room, and each setting is written
-pub record IsWritten (l : List BlockLayout) (blocks : List Block) (block len : ℕ) : Type 0 where
-  pub made : initial_bytes l blocks block ≡ fold put (replicate len 0) (writes_of l blocks block)
+pub record IsMadeByWrites (l : List BlockLayout) (blocks : List Block) (block len : ℕ) : Type 0 where
+  pub made : initial_bytes l blocks block ≡ fold bytes_with_write (replicate len 0) (writes_of l blocks block)
   pub whole : AllByRecursion (IsWhole len) (writes_of l blocks block)
   pub known : is_some (structure_of l block) ≡ true
   pub room : (k : ℕ) → AllByRecursion HasRoom (cells_at l k false)
-  pub set : AllByRecursion (IsSet l block) (settings_at (slice_get blocks block))
+  pub set : AllByRecursion (IsSettingWritten l block) (settings_at (slice_get blocks block))
 
 -- so are those of each data block of an accepted source
 abbrev pub InitialValuesAreWhole : Type 0
@@ -67,4 +67,4 @@ InitialValuesAreWhole =
     → IsAccepted source file symbols t → AreBytes source
     → (k : ℕ) (l : BlockLayout) (id : BlockId) → slice_get (layouts_of t symbols) k ≡ Some l
     → l.id ≡ Some id → is_data_block id.kind ≡ true
-    → IsWritten (layouts_of t symbols) t.blocks k l.length
+    → IsMadeByWrites (layouts_of t symbols) t.blocks k l.length

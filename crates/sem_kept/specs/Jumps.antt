@@ -1,9 +1,9 @@
 -- Jumps, brackets and zones of the code of a block that have no fault.
 use Rattle.std.specs.Prelude.{◌≡◌, ℕ, List, [], Option, Some, None}
 use Rattle.std.specs.List.{AllByRecursion}
-use Rattle.flat_code.specs.Blocks.{Around, block_faults, bracket_fault, jump_fault, zone_fault}
+use Rattle.flat_code.specs.Blocks.{Environment, block_faults, bracket_fault, jump_fault, zone_fault}
 use Rattle.flat_code.specs.Ops.{OpData}
-use Rattle.flat_code.specs.Placed.{Placed, StatementSpot, open_behind, code_places, spots, zones_left}
+use Rattle.flat_code.specs.Placed.{PlacedOp, StatementSpot, open_behind, code_places, statement_spots, zones_left}
 use Rattle.flat_code.specs.declared.operands.Operand.{Operand}
 use Rattle.flat_code.specs.declared.operands.Operand.TheVariants as operand
 use Rattle.stl_ast.specs.declared.blocks.Tree.{Tree}
@@ -15,19 +15,19 @@ use Rattle.sem_kept.specs.Accepted.{IsAccepted}
 use Rattle.sem_kept.specs.Operands.{AreFine}
 
 -- a jump, and nothing else, is checked by the statements of its block
-abbrev pub jump_fault_of : List StatementSpot → Placed → Operand → Option ℕ
+abbrev pub jump_fault_of : List StatementSpot → PlacedOp → Operand → Option ℕ
 jump_fault_of statements p (operand.Jump kind target) = jump_fault statements p kind target
 jump_fault_of statements p _ = None
 
 -- an op whose jump, bracket and zone have no fault
-pub record LandsRight (statements : List StatementSpot) (p : Placed) : Type 0 where
+pub record LandsRight (statements : List StatementSpot) (p : PlacedOp) : Type 0 where
   pub jump : jump_fault_of statements p p.op.operand ≡ None
   pub brackets : bracket_fault p.op.code p.brackets ≡ None
   pub zones : zone_fault p.op.code p.zones ≡ None
 
 -- all ops of a block, behind which no bracket and no zone is open
 pub record AllLandRight (ops : List OpData) : Type 0 where
-  pub each : AllByRecursion (LandsRight (spots ops)) (code_places ops)
+  pub each : AllByRecursion (LandsRight (statement_spots ops)) (code_places ops)
   pub closed : open_behind 0 [] ops ≡ []
   pub ended : zones_left 0 [] ops ≡ []
 
@@ -42,5 +42,5 @@ JumpsLandRight =
 -- ops that have no fault by their operands, calls and marks have none at all where they land right
 abbrev pub FineIsFaultless : Type 0
 FineIsFaultless =
-    (a : Around) (lens : List (ℕ × ℕ)) (start : ℕ) (ops : List OpData) → a.data_lens ≡ Some lens
-    → AreFine a lens (spots ops) (code_places ops) → AllLandRight ops → block_faults a start ops ≡ []
+    (a : Environment) (lens : List (ℕ × ℕ)) (start : ℕ) (ops : List OpData) → a.data_lens ≡ Some lens
+    → AreFine a lens (statement_spots ops) (code_places ops) → AllLandRight ops → block_faults a start ops ≡ []

@@ -6,23 +6,23 @@ use Rattle.flat_code.specs.Programs.{DataBlock, NameEntry}
 use Rattle.machine.specs.Code.{Code}
 use Rattle.machine.specs.Flat.{code_of}
 use Rattle.var_access.specs.declared.What.{What}
-use Rattle.controller.specs.Replay.{happens, replay}
+use Rattle.controller.specs.Replay.{entry_result, replay}
 use Rattle.stl_codegen.specs.Compiled.{StatedBlock}
 use Rattle.sem_kept.specs.Statements.{stated_code, IsCompilable, program_with}
 
 -- of two codes the second does at a profile what the first one means: after every history the mode,
 -- memory with timers and counters, the scheduler and the diagnostics are the same, and every entry
 -- answers and shows the same
-pub record IsKept (profile : Profile) (c d : Code) : Type 0 where
+pub record BehavesAlike (profile : Profile) (c d : Code) : Type 0 where
   pub world : (history : List What) → (replay profile d history).world ≡ (replay profile c history).world
   pub mode : (history : List What) → (replay profile d history).mode ≡ (replay profile c history).mode
   pub sched : (history : List What) → (replay profile d history).sched ≡ (replay profile c history).sched
   pub diagnostics : (history : List What)
       → (replay profile d history).diagnostics ≡ (replay profile c history).diagnostics
   pub reply : (history : List What) (entry : What)
-      → (happens d (replay profile d history) entry).reply ≡ (happens c (replay profile c history) entry).reply
+      → (entry_result d (replay profile d history) entry).reply ≡ (entry_result c (replay profile c history) entry).reply
   pub seen : (history : List What) (entry : What)
-      → (happens d (replay profile d history) entry).seen ≡ (happens c (replay profile c history) entry).seen
+      → (entry_result d (replay profile d history) entry).seen ≡ (entry_result c (replay profile c history) entry).seen
 
 -- the program that is compiled of blocks that can be compiled does at each profile what their statements
 -- mean, whatever its data blocks and its names are
@@ -30,4 +30,4 @@ abbrev pub ProgramsAreKept : Type 0
 ProgramsAreKept =
     (profile : Profile) (blocks : List StatedBlock) (data_blocks : List DataBlock) (names : List NameEntry)
     → AllByRecursion IsCompilable blocks
-    → IsKept profile (stated_code blocks data_blocks) (code_of (program_with blocks data_blocks names))
+    → BehavesAlike profile (stated_code blocks data_blocks) (code_of (program_with blocks data_blocks names))

@@ -6,7 +6,7 @@ use Rattle.machine.specs.Code.{Code}
 use Rattle.stl_ast.specs.declared.blocks.Tree.{Tree}
 use Rattle.stl_lexer.specs.declared.kinds.Token.{Token}
 use Rattle.stl_lexer.specs.Tokens.{AreTokens, IsViolation as BreaksTokenRule}
-use Rattle.stl_parser.specs.Source.{IsTree, IsViolation as BreaksClauseRule}
+use Rattle.stl_parser.specs.Source.{IsTree, IsClauseViolation as BreaksClauseRule}
 use Rattle.plc_base.specs.Least.{least}
 use Rattle.stl_symbols.specs.Symbol.{Symbol}
 use Rattle.stl_symbols.specs.Symbols.{symbols_in}
@@ -17,7 +17,7 @@ use Rattle.block_layout.specs.Table.{layout_refusals}
 use Rattle.stl_types.specs.Table.{statement_refusals}
 use Rattle.stl_codegen.specs.Generated.{code_blocks_of, data_blocks_of}
 use Rattle.sem_kept.specs.Statements.{stated_code}
-use Rattle.sem_kept.specs.Stages.{InTurn, Told}
+use Rattle.sem_kept.specs.Stages.{HaveOutcomeInTurn, TellsRefusalOf}
 
 -- ---- stages
 
@@ -36,9 +36,9 @@ HasTokens source (Ok tokens) = AreTokens source tokens
 HasTokens source (Err refusal) = BreaksTokenRule source refusal.line refusal.rule
 
 -- the tree of the tokens of a source, or its first clause that breaks a rule
-abbrev pub HasTree : (source : List ℕ) → List Token → Result Tree Refusal → Type 0
-HasTree source tokens (Ok tree) = IsTree source tokens tree
-HasTree source tokens (Err refusal) = BreaksClauseRule source tokens refusal.line refusal.rule
+abbrev pub HasTreeOrRefusal : (source : List ℕ) → List Token → Result Tree Refusal → Type 0
+HasTreeOrRefusal source tokens (Ok tree) = IsTree source tokens tree
+HasTreeOrRefusal source tokens (Err refusal) = BreaksClauseRule source tokens refusal.line refusal.rule
 
 -- what a tree breaks of the rules on layout and of those on statements
 abbrev pub refusals_of : List Symbol → Tree → List Refusal
@@ -55,14 +55,14 @@ abbrev pub IsSound : List Symbol → Tree → Result Tree Refusal → Type 0
 IsSound symbols tree outcome = outcome ≡ sound_by tree (least (refusals_of symbols tree))
 
 -- the statements of a tree, by their numbers in each block
-abbrev pub code_in : List Symbol → Tree → Code
-code_in symbols tree =
+abbrev pub stated_code_of_tree : List Symbol → Tree → Code
+stated_code_of_tree symbols tree =
     stated_code (code_blocks_of tree symbols (layouts_of tree symbols))
     (data_blocks_of tree symbols (layouts_of tree symbols))
 
 -- a tree that breaks no rule means them; nothing is refused here
 abbrev pub HasCode : List Symbol → Tree → Result Code Refusal → Type 0
-HasCode symbols tree outcome = outcome ≡ Ok (code_in symbols tree)
+HasCode symbols tree outcome = outcome ≡ Ok (stated_code_of_tree symbols tree)
 
 -- ---- in turn
 
@@ -70,18 +70,18 @@ HasCode symbols tree outcome = outcome ≡ Ok (code_in symbols tree)
 -- its statements; where it breaks no rule, it means its statements
 abbrev pub IsJudgedWith : (source : List ℕ) → List Symbol → Result Code Refusal → Type 0
 IsJudgedWith source symbols outcome =
-    InTurn HasTokens (InTurn (HasTree source) (InTurn (IsSound symbols) (HasCode symbols)))
+    HaveOutcomeInTurn HasTokens (HaveOutcomeInTurn (HasTreeOrRefusal source) (HaveOutcomeInTurn (IsSound symbols) (HasCode symbols)))
     source outcome
 
 -- a refusal is that of the symbols file or that of the source
-pub data Refused : Type 0 where
-  InSymbols : (refusal : Refusal) → Refused
-  InSource : (refusal : Refusal) → Refused
+pub data RefusedFile : Type 0 where
+  InSymbols : (refusal : Refusal) → RefusedFile
+  InSource : (refusal : Refusal) → RefusedFile
 
 -- the symbols are checked first, and then the source with them
-unfoldable pub IsJudgedIn : Language → (source symbols : List ℕ) → Result Code Refused → Type 0
+unfoldable pub IsJudgedIn : Language → (source symbols : List ℕ) → Result Code RefusedFile → Type 0
 IsJudgedIn language source symbols outcome =
-    InTurn (Told InSymbols (HasSymbolsIn language)) (Told InSource (IsJudgedWith source)) symbols
+    HaveOutcomeInTurn (TellsRefusalOf InSymbols (HasSymbolsIn language)) (TellsRefusalOf InSource (IsJudgedWith source)) symbols
     outcome
 
 -- this source with these symbols means this code
@@ -89,14 +89,14 @@ abbrev pub MeansCodeIn : Language → (source symbols : List ℕ) → Code → T
 MeansCodeIn language source symbols code = IsJudgedIn language source symbols (Ok code)
 
 -- this source with these symbols is refused so
-abbrev pub IsRefusedSourceIn : Language → (source symbols : List ℕ) → Refused → Type 0
+abbrev pub IsRefusedSourceIn : Language → (source symbols : List ℕ) → RefusedFile → Type 0
 IsRefusedSourceIn language source symbols refused =
     IsJudgedIn language source symbols (Err refused)
 
 -- ---- in English
 
 -- what a source with English mnemonics comes to: its code, or its refusal
-abbrev pub IsJudged : (source symbols : List ℕ) → Result Code Refused → Type 0
+abbrev pub IsJudged : (source symbols : List ℕ) → Result Code RefusedFile → Type 0
 IsJudged source symbols outcome = IsJudgedIn English source symbols outcome
 
 -- a source with English mnemonics means a code
@@ -104,7 +104,7 @@ abbrev pub MeansCode : (source symbols : List ℕ) → Code → Type 0
 MeansCode source symbols code = MeansCodeIn English source symbols code
 
 -- a source with English mnemonics is refused
-abbrev pub IsRefusedSource : (source symbols : List ℕ) → Refused → Type 0
+abbrev pub IsRefusedSource : (source symbols : List ℕ) → RefusedFile → Type 0
 IsRefusedSource source symbols refused = IsRefusedSourceIn English source symbols refused
 
 -- ---- laws, in each language
@@ -122,20 +122,20 @@ IsMeaningUnique =
 -- none where it is refused
 abbrev pub ExcludesRefusal : Type 0
 ExcludesRefusal =
-    (language : Language) (source symbols : List ℕ) (code : Code) (refused : Refused)
+    (language : Language) (source symbols : List ℕ) (code : Code) (refused : RefusedFile)
     → MeansCodeIn language source symbols code → IsRefusedSourceIn language source symbols refused
     → ⊥
 
 -- and it is refused in one way at most
 abbrev pub IsRefusalUnique : Type 0
 IsRefusalUnique =
-    (language : Language) (source symbols : List ℕ) (r s : Refused)
+    (language : Language) (source symbols : List ℕ) (r s : RefusedFile)
     → IsRefusedSourceIn language source symbols r → IsRefusedSourceIn language source symbols s
     → r ≡ s
 
 -- each source means a code or is refused
-abbrev pub IsTotal : Type 0
-IsTotal =
+abbrev pub HasEachSourceOutcome : Type 0
+HasEachSourceOutcome =
     (language : Language) (source symbols : List ℕ)
     → ((code : Code) × MeansCodeIn language source symbols code)
-    ⊎ ((refused : Refused) × IsRefusedSourceIn language source symbols refused)
+    ⊎ ((refused : RefusedFile) × IsRefusedSourceIn language source symbols refused)

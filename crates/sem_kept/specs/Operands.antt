@@ -1,13 +1,13 @@
 -- When the ops of a block have no fault by their operands, their end marks and their calls.
 use Rattle.std.specs.Prelude.{◌≡◌, ℕ, true, false, ◌&&◌, List, [], ◌∷◌, map, Option, Some, None}
 use Rattle.std.specs.List.{AllByRecursion}
-use Rattle.flat_code.specs.Blocks.{Around, CalleeSeen, callee, call_fault, is_above, is_bad_actual, is_bad_call, is_bad_place, is_in_db, is_in_parameter, lacks_own, lacks_width, mark_fault, misfits_callee, operand_fault, parameter_meant, prepares, writes_operand}
+use Rattle.flat_code.specs.Blocks.{Environment, CalleeSeen, callee_among, call_fault, is_above, is_bad_actual, is_bad_call, is_bad_place, is_in_db, is_in_parameter, lacks_own_parameter, lacks_width, mark_fault, misfits_callee, operand_fault, parameter_meant, prepares_statement, writes_operand}
 use Rattle.flat_code.specs.Instr.{Instr, Passing, Does, Calls}
 use Rattle.flat_code.specs.OpCodes.{op_code_of}
 use Rattle.flat_code.specs.Ops.{OpData}
 use Rattle.flat_code.specs.Image.{record_of_block}
-use Rattle.flat_code.specs.Loading.{around_block, lens_of}
-use Rattle.flat_code.specs.Placed.{Placed, StatementSpot, code_places, spots}
+use Rattle.flat_code.specs.Loading.{environment_of_block, lens_of}
+use Rattle.flat_code.specs.Placed.{PlacedOp, StatementSpot, code_places, statement_spots}
 use Rattle.flat_code.specs.Programs.{CodeBlock, Program}
 use Rattle.flat_code.specs.declared.operands.Operand.{Operand}
 use Rattle.flat_code.specs.declared.operands.Operand.TheVariants as operand
@@ -16,7 +16,7 @@ use Rattle.flat_code.specs.declared.operations.CallOperation.TheVariants as call
 use Rattle.stl_ast.specs.Literals.{AreBytes}
 use Rattle.stl_ast.specs.declared.blocks.Tree.{Tree}
 use Rattle.stl_symbols.specs.Symbol.{Symbol}
-use Rattle.stl_codegen.specs.Emitted.{ending, instance_number, passing}
+use Rattle.stl_codegen.specs.Emitted.{op_with_end_mark, instance_number_or_zero, pass_ops}
 use Rattle.stl_codegen.specs.Fitting.{IsStill}
 use Rattle.sem_kept.specs.Accepted.{IsAccepted, program_in}
 use Rattle.plc_base.specs.Kinds.{kind_number}
@@ -24,19 +24,19 @@ use Rattle.plc_base.specs.Kinds.{kind_number}
 -- ---- what fits
 
 -- the operand of an op that goes on, with the code of the op
-abbrev pub IsRightOperand : Around → OpData → Operand → Type 0
-IsRightOperand a op (operand.Direct area w byte bit) =
+abbrev pub IsOperandRightFor : Environment → OpData → Operand → Type 0
+IsOperandRightFor a op (operand.Direct area w byte bit) =
     (lacks_width op w ≡ false) × (is_bad_place a area w byte bit ≡ false)
-IsRightOperand a op (operand.ByMemory area w from byte) = lacks_width op w ≡ false
-IsRightOperand a op (operand.ByRegister area w register bits) = lacks_width op w ≡ false
-IsRightOperand a op (operand.Parameter index w) =
-    (lacks_width op w ≡ false) × (lacks_own (parameter_meant a index) w ≡ false)
+IsOperandRightFor a op (operand.ByMemory area w from byte) = lacks_width op w ≡ false
+IsOperandRightFor a op (operand.ByRegister area w register bits) = lacks_width op w ≡ false
+IsOperandRightFor a op (operand.Parameter index w) =
+    (lacks_width op w ≡ false) × (lacks_own_parameter (parameter_meant a index) w ≡ false)
     × ((writes_operand op.code && is_in_parameter (parameter_meant a index)) ≡ false)
-IsRightOperand a op (operand.Jump kind target) = ⊥
-IsRightOperand a op (operand.UseDb number) = ⊥
-IsRightOperand a op (operand.Pass index actual) = ⊥
-IsRightOperand a op (operand.Called kind number instance) = ⊥
-IsRightOperand a op _ = Unit {0}
+IsOperandRightFor a op (operand.Jump kind target) = ⊥
+IsOperandRightFor a op (operand.UseDb number) = ⊥
+IsOperandRightFor a op (operand.Pass index actual) = ⊥
+IsOperandRightFor a op (operand.Called kind number instance) = ⊥
+IsOperandRightFor a op _ = Unit {0}
 
 -- a data block is opened for an operand in DB alone
 abbrev pub IsOpenedFor : Operand → Option ℕ → Type 0
@@ -44,7 +44,7 @@ IsOpenedFor o None = Unit {0}
 IsOpenedFor o (Some number) = is_in_db o ≡ true
 
 -- what a CALL passes, by rising indices behind one
-abbrev pub ArePassed : Around → Option CalleeSeen → (before : Option ℕ) → List Passing → Type 0
+abbrev pub ArePassed : Environment → Option CalleeSeen → (before : Option ℕ) → List Passing → Type 0
 ArePassed a s before [] = Unit {0}
 ArePassed a s before (p ∷ ps) =
     (is_above p.index before ≡ true) × (is_bad_actual a p.actual ≡ false)
@@ -56,26 +56,26 @@ PassesAlone calls.Call ps = Unit {0}
 PassesAlone _ ps = ps ≡ []
 
 -- an instruction fits what surrounds its block
-abbrev pub InstrFits : Around → List (ℕ × ℕ) → Instr → Type 0
+abbrev pub InstrFits : Environment → List (ℕ × ℕ) → Instr → Type 0
 InstrFits a lens (Does use_db w o) =
-    (prepares (op_code_of w) ≡ false) × IsRightOperand a (ending w o) o × IsOpenedFor o use_db
+    (prepares_statement (op_code_of w) ≡ false) × IsOperandRightFor a (op_with_end_mark w o) o × IsOpenedFor o use_db
 InstrFits a lens (Calls how block instance ps) =
     PassesAlone how ps
-    × ArePassed a (callee a.blocks (kind_number block.kind) block.number) None ps
-    × (is_bad_call lens (callee a.blocks (kind_number block.kind) block.number)
-    (instance_number instance) (passing ps) ≡ false)
+    × ArePassed a (callee_among a.blocks (kind_number block.kind) block.number) None ps
+    × (is_bad_call lens (callee_among a.blocks (kind_number block.kind) block.number)
+    (instance_number_or_zero instance) (pass_ops ps) ≡ false)
 InstrFits a lens _ = Unit {0}
 
 -- ---- ops at their places
 
 -- an op that has no fault but by a jump or a bracket
-pub record IsFine (a : Around) (lens : List (ℕ × ℕ)) (ss : List StatementSpot) (p : Placed) : Type 0 where
+pub record IsFine (a : Environment) (lens : List (ℕ × ℕ)) (ss : List StatementSpot) (p : PlacedOp) : Type 0 where
   pub operand : IsStill p.op.operand → operand_fault a ss p p.op.operand ≡ None
   pub call : call_fault a (Some lens) p ≡ None
   pub mark : mark_fault p.op ≡ None
 
 -- of these ops each has no fault but by a jump or a bracket
-abbrev pub AreFine : Around → List (ℕ × ℕ) → List StatementSpot → List Placed → Type 0
+abbrev pub AreFine : Environment → List (ℕ × ℕ) → List StatementSpot → List PlacedOp → Type 0
 AreFine a lens ss ps = AllByRecursion (IsFine a lens ss) ps
 
 -- ---- a program
@@ -84,8 +84,8 @@ AreFine a lens ss ps = AllByRecursion (IsFine a lens ss) ps
 abbrev pub BlockIsFine : Program → CodeBlock → Type 0
 BlockIsFine p b =
     AreFine
-    (around_block (Some (lens_of p.data_blocks)) (map record_of_block p.code_blocks) (record_of_block b))
-    (lens_of p.data_blocks) (spots b.code) (code_places b.code)
+    (environment_of_block (Some (lens_of p.data_blocks)) (map record_of_block p.code_blocks) (record_of_block b))
+    (lens_of p.data_blocks) (statement_spots b.code) (code_places b.code)
 
 -- of an accepted source, whose elements are bytes
 abbrev pub OperandsAreFine : Type 0

@@ -4,14 +4,14 @@ use Rattle.std.specs.Prelude.{◌≡◌, ◌<◌, ℕ, Bool, true, List, length,
 use Rattle.std.specs.List.{AllByRecursion}
 use Rattle.flat_code.specs.Checking.{good_counts}
 use Rattle.flat_code.specs.Codes.{are_ops, code_bytes, code_fault}
-use Rattle.flat_code.specs.Image.{body}
+use Rattle.flat_code.specs.Image.{body_layout}
 use Rattle.flat_code.specs.Programs.{CodeBlock, Program}
 use Rattle.stl_ast.specs.declared.blocks.Tree.{Tree}
 use Rattle.stl_symbols.specs.Symbol.{Symbol}
 use Rattle.sem_kept.specs.Accepted.{IsAccepted, program_in}
 
 -- the code of a block without fault
-pub record HasCode (b : CodeBlock) : Type 0 where
+pub record HasFaultlessCode (b : CodeBlock) : Type 0 where
   pub ops : are_ops b.code ≡ true
   pub ends : code_fault b.code ≡ None
   pub statements : length b.lines < 65536
@@ -31,5 +31,5 @@ abbrev pub RecordsAreRight : Type 0
 RecordsAreRight =
     (source file : List ℕ) (symbols : List Symbol) (t : Tree)
     → IsAccepted source file symbols t → IsOfBytes file
-    → AllByRecursion HasCode (program_in symbols t).code_blocks → HasCounts (program_in symbols t)
-    → (judged : Bool) → (body judged).good (program_in symbols t) ≡ true
+    → AllByRecursion HasFaultlessCode (program_in symbols t).code_blocks → HasCounts (program_in symbols t)
+    → (judged : Bool) → (body_layout judged).good (program_in symbols t) ≡ true

@@ -12,32 +12,32 @@ use Rattle.stl_symbols.specs.declared.languages.Language.{Language}
 use Rattle.sem_kept.specs.Meaning.{MeansCodeIn}
 
 -- the state after the first k entries
-abbrev pub after : Profile → Code → List What → ℕ → State
-after profile code history k = replay profile code (take k history)
+abbrev pub state_after_first : Profile → Code → List What → ℕ → State
+state_after_first profile code history k = replay profile code (take k history)
 
 -- the activation at a place of the list, counted from 0 at the bottom
-abbrev pub standing : List Activation → ℕ → Option Activation
-standing [] place = None
-standing (a ∷ below) place =
-    if nat_eq place (length below) then Some a else standing below place
+abbrev pub activation_at_place : List Activation → ℕ → Option Activation
+activation_at_place [] place = None
+activation_at_place (a ∷ below) place =
+    if nat_eq place (length below) then Some a else activation_at_place below place
 
 -- from `first` entries on, up to `last` entries, the mode isn't STOP and an activation stands at
 -- this place. After `last` entries it is the running one; before that it is suspended
 pub record IsSuspended (profile : Profile) (code : Code) (history : List What) (place first last : ℕ) : Type 0 where
   pub earlier : first < last
   pub within : last ≤ length history
-  pub goes_on : (k : ℕ) → first ≤ k → k ≤ last → is_stop (after profile code history k).mode ≡ false
+  pub goes_on : (k : ℕ) → first ≤ k → k ≤ last → is_stop (state_after_first profile code history k).mode ≡ false
   pub suspended : (k : ℕ) → first ≤ k → k < last
-      → place + 1 < length (after profile code history k).activations
-  pub runs : length (after profile code history last).activations ≡ place + 1
+      → place + 1 < length (state_after_first profile code history k).activations
+  pub runs : length (state_after_first profile code history last).activations ≡ place + 1
 
 -- all the while the activation is the same: its class, registers, delay count, frames and all that
 -- they hold
 abbrev pub Resumes : Profile → Code → List What → (place first last : ℕ) → Type 0
 Resumes profile code history place first last =
     (k : ℕ) → first ≤ k → k ≤ last
-    → standing (after profile code history k).activations place
-    ≡ standing (after profile code history first).activations place
+    → activation_at_place (state_after_first profile code history k).activations place
+    ≡ activation_at_place (state_after_first profile code history first).activations place
 
 -- so it is over the statements of a source, at each profile, with symbols of each language
 abbrev pub SourcesResume : Type 0

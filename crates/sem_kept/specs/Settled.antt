@@ -12,18 +12,18 @@ use Rattle.stl_ast.specs.declared.blocks.Tree.{Tree}
 use Rattle.stl_ast.specs.declared.operands.Operand.TheVariants as operand
 use Rattle.stl_ast.specs.declared.statements.Actual.{Actual}
 use Rattle.stl_ast.specs.declared.statements.Statement.{Statement}
-use Rattle.stl_symbols.specs.Names.{place_of}
+use Rattle.stl_symbols.specs.Names.{name_place}
 use Rattle.stl_symbols.specs.Symbol.{Symbol}
 use Rattle.block_layout.specs.Layouts.{layouts_of}
-use Rattle.stl_types.specs.Calls.{names_none, supplied_twice}
+use Rattle.stl_types.specs.Calls.{names_no_formal, actuals_supplied_twice}
 use Rattle.stl_types.specs.Context.{Context}
 use Rattle.stl_types.specs.Labels.{labels_of}
 use Rattle.stl_types.specs.Parameters.{Callee, callee_of}
-use Rattle.stl_types.specs.Resolution.{seen}
-use Rattle.stl_types.specs.Resolved.{resolved}
+use Rattle.stl_types.specs.Resolution.{resolution_of}
+use Rattle.stl_types.specs.Resolved.{resolved_operand}
 use Rattle.stl_types.specs.declared.views.ResolvedOperand.{ResolvedOperand}
 use Rattle.stl_types.specs.declared.views.ResolvedOperand.TheVariants as view
-use Rattle.stl_codegen.specs.Operations.{call_of, jump_of}
+use Rattle.stl_codegen.specs.Operations.{call_operation_of, jump_operation_of}
 use Rattle.stl_codegen.specs.Passed.{passed_seen}
 use Rattle.sem_kept.specs.Accepted.{IsAccepted}
 
@@ -32,37 +32,37 @@ pub record HasLabel (body : List Statement) (s : Statement) : Type 0 where
   pub name : List ℕ
   pub is : s.operand ≡ operand.Label name
   pub place : ℕ
-  pub there : place_of name (labels_of body) ≡ Some place
+  pub there : name_place name (labels_of body) ≡ Some place
 
 -- a call: its operand names the block that it calls, whose parameters are known; each actual parameter names one of
 -- them, and no two the same one
 pub record HasCalled (c : Context) (s : Statement) : Type 0 where
   pub id : BlockId
   pub instance : Option ℕ
-  pub called : resolved c s ≡ Some (view.Called id instance)
+  pub called : resolved_operand c s ≡ Some (view.Called id instance)
   pub callee : Callee
   pub found : callee_of c s.operand ≡ Some callee
   pub same : callee.id ≡ id
-  pub named : AllByRecursion (λ a. names_none callee.formals a ≡ false) s.actuals
-  pub once : supplied_twice callee.formals [] s.actuals ≡ []
+  pub named : AllByRecursion (λ a. names_no_formal callee.formals a ≡ false) s.actuals
+  pub once : actuals_supplied_twice callee.formals [] s.actuals ≡ []
 
 -- a statement that is no jump: its operand names what its instruction takes
 abbrev pub HasOperand : Context → Statement → Option CallOperation → Type 0
-HasOperand c s None = (v : ResolvedOperand) × (resolved c s ≡ Some v)
+HasOperand c s None = (v : ResolvedOperand) × (resolved_operand c s ≡ Some v)
 HasOperand c s (Some how) = HasCalled c s
 
 -- any statement
 abbrev pub HasInstruction : Context → List Statement → Statement → Option JumpOperation → Type 0
-HasInstruction c body s None = HasOperand c s (call_of s.code)
+HasInstruction c body s None = HasOperand c s (call_operation_of s.code)
 HasInstruction c body s (Some how) = HasLabel body s
 
 -- an actual parameter names what is passed
 abbrev pub HasPassed : Context → Actual → Type 0
-HasPassed c a = (p : Passed) × (passed_seen a.value (seen c a.value) ≡ Some p)
+HasPassed c a = (p : Passed) × (passed_seen a.value (resolution_of c a.value) ≡ Some p)
 
 -- a statement and its actual parameters
 pub record IsSettled (c : Context) (body : List Statement) (s : Statement) : Type 0 where
-  pub instruction : HasInstruction c body s (jump_of s.code)
+  pub instruction : HasInstruction c body s (jump_operation_of s.code)
   pub actuals : AllByRecursion (HasPassed c) s.actuals
 
 -- what the block at a place is checked and compiled by

@@ -4,17 +4,17 @@ use Rattle.plc_base.specs.declared.refusals.Refusal.{Refusal}
 
 -- two stages in turn: the second checks what the first has made; a refusal of the first is that of
 -- both
-abbrev pub InTurn : {A B C E : Type 0} (first : A → Result B E → Type 0)
+abbrev pub HaveOutcomeInTurn : {A B C E : Type 0} (first : A → Result B E → Type 0)
     (second : B → Result C E → Type 0) → A → Result C E → Type 0
-InTurn {B = B} first second a (Ok c) = (b : B) × first a (Ok b) × second b (Ok c)
-InTurn {B = B} first second a (Err refused) =
+HaveOutcomeInTurn {B = B} first second a (Ok c) = (b : B) × first a (Ok b) × second b (Ok c)
+HaveOutcomeInTurn {B = B} first second a (Err refused) =
     first a (Err refused) ⊎ ((b : B) × first a (Ok b) × second b (Err refused))
 
 -- a stage whose refusals are told with what they are of
-abbrev pub Told : {A B E : Type 0} (of : Refusal → E) (stage : A → Result B Refusal → Type 0)
+abbrev pub TellsRefusalOf : {A B E : Type 0} (of : Refusal → E) (stage : A → Result B Refusal → Type 0)
     → A → Result B E → Type 0
-Told of stage a (Ok b) = stage a (Ok b)
-Told of stage a (Err refused) =
+TellsRefusalOf of stage a (Ok b) = stage a (Ok b)
+TellsRefusalOf of stage a (Err refused) =
     (refusal : Refusal) × (refused ≡ of refusal) × stage a (Err refusal)
 
 -- a stage has one outcome at most

@@ -7,22 +7,22 @@ use Rattle.flat_code.specs.Programs.{DataBlock, NameEntry, Program}
 use Rattle.image_file.specs.Readers.{is_same_id}
 use Rattle.machine.specs.Code.{Code, Fetched, BlockHead}
 use Rattle.machine.specs.Flat.{numbered_bytes, code_of}
-use Rattle.machine.specs.Moved.{Follows}
-use Rattle.stl_codegen.specs.Compiled.{Stated, StatedBlock, ops_in, offset_of, compiled}
+use Rattle.machine.specs.Moved.{FollowsCode}
+use Rattle.stl_codegen.specs.Compiled.{SourceInstruction, StatedBlock, ops_in, offset_of_statement, compiled_block}
 use Rattle.sem_kept.specs.Back.{AreCompiled}
 
 -- the first block of a kind and number
-abbrev pub stated_at : BlockId → List StatedBlock → Option StatedBlock
-stated_at id [] = None
-stated_at id (b ∷ bs) = if is_same_id b.id id then Some b else stated_at id bs
+abbrev pub stated_block_named : BlockId → List StatedBlock → Option StatedBlock
+stated_block_named id [] = None
+stated_block_named id (b ∷ bs) = if is_same_id b.id id then Some b else stated_block_named id bs
 
 -- the statement of a number, with the next one behind it
-abbrev pub numbered : (n : ℕ) → Stated → Fetched
-numbered n s = record { instr = s.instr; next = suc n; line = s.line }
+abbrev pub fetched_statement : (n : ℕ) → SourceInstruction → Fetched
+fetched_statement n s = record { instr = s.instr; next = suc n; line = s.line }
 
 -- the statement of a block at a number, from 0; none behind the last one
-abbrev pub statement_of : StatedBlock → (n : ℕ) → Option Fetched
-statement_of b n = option_map (numbered n) (slice_get b.statements n)
+abbrev pub numbered_statement : StatedBlock → (n : ℕ) → Option Fetched
+numbered_statement b n = option_map (fetched_statement n) (slice_get b.statements n)
 
 -- the head of a block: its local bytes, the bytes of its instance, its parameters
 abbrev pub stated_head : StatedBlock → BlockHead
@@ -32,19 +32,19 @@ stated_head b =
 -- the code of these blocks and data blocks: positions are the numbers of statements
 abbrev pub stated_code : List StatedBlock → List DataBlock → Code
 stated_code blocks data_blocks = record {
-  fetch = λ id n. option_and_then (λ b. statement_of b n) (stated_at id blocks);
-  head = λ id. option_map stated_head (stated_at id blocks);
+  fetch = λ id n. option_and_then (λ b. numbered_statement b n) (stated_block_named id blocks);
+  head = λ id. option_map stated_head (stated_block_named id blocks);
   blocks = numbered_bytes data_blocks;
 }
 
 -- the position of a statement in the code of its block
 abbrev pub position_in : Option StatedBlock → (n : ℕ) → ℕ
 position_in None n = n
-position_in (Some b) n = offset_of (ops_in b.statements) n
+position_in (Some b) n = offset_of_statement (ops_in b.statements) n
 
 -- the same for the block of a kind and number; where it is absent each number is its position
-abbrev pub position : List StatedBlock → BlockId → (n : ℕ) → ℕ
-position blocks id n = position_in (stated_at id blocks) n
+abbrev pub statement_position : List StatedBlock → BlockId → (n : ℕ) → ℕ
+statement_position blocks id n = position_in (stated_block_named id blocks) n
 
 -- code can be generated for each statement of a block
 abbrev pub IsCompilable : StatedBlock → Type 0
@@ -53,12 +53,12 @@ IsCompilable b = AreCompiled 0 b.statements
 -- the program of these blocks, with their statements as ops, and of these data blocks and names
 abbrev pub program_with : List StatedBlock → List DataBlock → List NameEntry → Program
 program_with blocks data_blocks names =
-    record { code_blocks = map compiled blocks; data_blocks = data_blocks; names = names }
+    record { code_blocks = map compiled_block blocks; data_blocks = data_blocks; names = names }
 
 -- the code of the program that is made of statements follows them
 abbrev pub ProgramsFollow : Type 0
 ProgramsFollow =
     (blocks : List StatedBlock) (data_blocks : List DataBlock) (names : List NameEntry)
     → AllByRecursion IsCompilable blocks
-    → Follows (position blocks) (stated_code blocks data_blocks)
+    → FollowsCode (statement_position blocks) (stated_code blocks data_blocks)
     (code_of (program_with blocks data_blocks names))

@@ -2,7 +2,7 @@
 //! contract is the law.
 ghost use Rattle.std.specs.Prelude.{◌≡◌, List};
 ghost use Rattle.flat_code.specs.Programs.{CodeBlock};
-ghost use Rattle.stl_codegen.specs.Compiled.{Stated, code_in, lines_in};
+ghost use Rattle.stl_codegen.specs.Compiled.{SourceInstruction, code_in, lines_in};
 ghost use Rattle.sem_kept.specs.Back.{AreCompiled, IsReadBack};
 ghost use Rattle.sem_kept.specs.Statements.{ProgramsFollow};
 ghost use Rattle.sem_kept.specs.Verified.{VerifiedIsCompilable};
@@ -13,7 +13,7 @@ ghost use Rattle.sem_kept.specs.Meaning.{
   IsMeaningUnique,
   ExcludesRefusal,
   IsRefusalUnique,
-  IsTotal,
+  HasEachSourceOutcome,
   NoFileHasNone,
 };
 ghost use Rattle.sem_kept.specs.Resumption.{SourcesResume, ImagesResume};
@@ -23,7 +23,7 @@ ghost use Rattle.sem_kept.specs.Settled.{StatementsSettle};
 /// At the offset of each statement of a block stands the statement that was compiled, with offsets
 /// as its targets, and behind the last one none begins.
 pub fn compiled_is_read_back()
-    ensures { (b : CodeBlock) (statements : List Stated) → AreCompiled 0 statements
+    ensures { (b : CodeBlock) (statements : List SourceInstruction) → AreCompiled 0 statements
         → b.code ≡ code_in statements → b.lines ≡ lines_in statements → IsReadBack b statements }
 {
     flat_code::laws::one_number_each();
@@ -81,7 +81,7 @@ pub fn law_of_sources()
     ensures one_meaning { IsMeaningUnique }
     ensures meaning_or_refusal { ExcludesRefusal }
     ensures one_refusal { IsRefusalUnique }
-    ensures total { IsTotal }
+    ensures total { HasEachSourceOutcome }
 {
     stl_lexer::law_of_tokens();
     stl_parser::law_of_clauses();

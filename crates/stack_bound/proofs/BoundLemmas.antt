@@ -8,10 +8,10 @@ use Rattle.plc_base.specs.declared.blocks.BlockKind.TheVariants.{Ob}
 use Rattle.flat_code.specs.Programs.{CodeBlock, Program}
 use Rattle.image_file.specs.Readers.{block_by_id}
 use Rattle.stack_bound.specs.Calls.{Calls, CallsIn}
-use Rattle.stack_bound.specs.Certificates.{bound_of, CountsItself, CountsCalled, Holds, IsWithin}
-use Rattle.stack_bound.specs.Chains.{CallEachOther, IsChain, IsTooDeep, bytes_of_chain, local_bytes, most_local_bytes}
-use Rattle.stack_bound.specs.Finding.{last_of}
-use Rattle.stack_bound.specs.Layers.{layers, number, number_in, weight}
+use Rattle.stack_bound.specs.Certificates.{bound_of, CountsItself, CountsCalled, IsCertificateOf, IsBoundWithinLimits}
+use Rattle.stack_bound.specs.Chains.{CallEachOther, IsCallChain, IsTooDeep, bytes_of_chain, local_bytes, most_local_bytes}
+use Rattle.stack_bound.specs.Finding.{last_block_of}
+use Rattle.stack_bound.specs.Layers.{layer_of_height, measure_of_bound, measure_in_layer, measure_of_block}
 use Rattle.stack_bound.specs.declared.certificates.Bound.{Bound}
 use Rattle.stack_bound.specs.declared.measures.Measure.{Measure}
 use Rattle.stack_bound.specs.declared.measures.Measure.TheVariants.{Depth, Bytes}
@@ -24,7 +24,7 @@ CountedBy len e None = ⊥
 CountedBy len e (Some f) = (f.depth + 1 ≤ e.depth) × (len + f.bytes ≤ e.bytes)
 
 counted_by : (z : Profile) (p : Program) (c : List Bound) (x d : BlockId) (e : Bound) (calls : Calls p x d)
-    → Holds z p c → bound_of x c ≡ Some e → CountedBy calls.from.local_len e (bound_of d c)
+    → IsCertificateOf z p c → bound_of x c ≡ Some e → CountedBy calls.from.local_len e (bound_of d c)
 counted_by z p c x d e calls holds found =
     by (bound_of d c)
     (subst (λ (o : Option Bound). CountsCalled calls.from.local_len o (bound_of d c)) found
@@ -34,7 +34,7 @@ counted_by z p c x d e calls holds found =
     by None counts = counts
     by (Some f) counts = counts
 
-itself : (z : Profile) (p : Program) (c : List Bound) (x : BlockId) (e : Bound) (b : CodeBlock) → Holds z p c
+itself : (z : Profile) (p : Program) (c : List Bound) (x : BlockId) (e : Bound) (b : CodeBlock) → IsCertificateOf z p c
     → bound_of x c ≡ Some e → block_by_id x p.code_blocks ≡ Some b → (1 ≤ e.depth) × (b.local_len ≤ e.bytes)
 itself z p c x e b holds found there =
     subst (λ (o : Option Bound). CountsItself b.local_len o) found (holds.own x b there)
@@ -75,7 +75,7 @@ counts_more p x d more e f calls by counts = (
     bytes_of a len rest f e is one other = omega (arith, is, one, other)
 
 pub chain_counts : (z : Profile) (p : Program) (c : List Bound) (x : BlockId) (rest : List BlockId) (e : Bound)
-    (b : CodeBlock) → Holds z p c → bound_of x c ≡ Some e → block_by_id x p.code_blocks ≡ Some b
+    (b : CodeBlock) → IsCertificateOf z p c → bound_of x c ≡ Some e → block_by_id x p.code_blocks ≡ Some b
     → CallEachOther p x rest → Counts p x rest e
 chain_counts z p c x [] e b holds found there each = counts_one p x e b there (itself z p c x e b holds found there)
 chain_counts z p c x (d ∷ more) e b holds found there each =
@@ -89,30 +89,30 @@ chain_counts z p c x (d ∷ more) e b holds found there each =
 
 -- the bound of the last block of a chain is there
 pub last_there : (z : Profile) (p : Program) (c : List Bound) (x : BlockId) (rest : List BlockId) (e : Bound)
-    → Holds z p c → bound_of x c ≡ Some e → CallEachOther p x rest → IsSome (bound_of (last_of x rest) c)
+    → IsCertificateOf z p c → bound_of x c ≡ Some e → CallEachOther p x rest → IsSome (bound_of (last_block_of x rest) c)
 last_there z p c x [] e holds found each = rw found refl
 last_there z p c x (d ∷ more) e holds found each =
     by (bound_of d c) refl (counted_by z p c x d e each.0 holds found)
     (λ f is. last_there z p c d more f holds is each.1)
   where
     by : (o : Option Bound) → bound_of d c ≡ o → CountedBy each.0.from.local_len e o
-        → ((f : Bound) → bound_of d c ≡ Some f → IsSome (bound_of (last_of d more) c))
-        → IsSome (bound_of (last_of d more) c)
+        → ((f : Bound) → bound_of d c ≡ Some f → IsSome (bound_of (last_block_of d more) c))
+        → IsSome (bound_of (last_block_of d more) c)
     by None is counted next = absurd counted
     by (Some f) is counted next = next f is
 
 -- an organization block that is loaded has a bound within the limits
-pub ob_bound : (z : Profile) (p : Program) (c : List Bound) (ob : BlockId) (b : CodeBlock) → Holds z p c
-    → ob.kind ≡ Ob → block_by_id ob p.code_blocks ≡ Some b → IsWithin z (bound_of ob c)
+pub ob_bound : (z : Profile) (p : Program) (c : List Bound) (ob : BlockId) (b : CodeBlock) → IsCertificateOf z p c
+    → ob.kind ≡ Ob → block_by_id ob p.code_blocks ≡ Some b → IsBoundWithinLimits z (bound_of ob c)
 ob_bound z p c ob b holds kind there =
     let same : b.id ≡ ob = found_id ob p.code_blocks b there in
-    subst (λ (x : BlockId). IsWithin z (bound_of x c)) same
+    subst (λ (x : BlockId). IsBoundWithinLimits z (bound_of x c)) same
     (holds.obs b (subst (λ (x : BlockId). block_by_id x p.code_blocks ≡ Some b) (sym same) there)
     (ap (λ (x : BlockId). x.kind) same ∙ kind))
 
 -- so no chain is too deep
-pub none_deep : (z : Profile) (p : Program) (c : List Bound) (chain : List BlockId) → Holds z p c
-    → IsChain p chain → IsTooDeep z p chain → ⊥
+pub none_deep : (z : Profile) (p : Program) (c : List Bound) (chain : List BlockId) → IsCertificateOf z p c
+    → IsCallChain p chain → IsTooDeep z p chain → ⊥
 none_deep z p c [] holds is deep = is
 none_deep z p c (ob ∷ rest) holds is deep = loaded (block_by_id ob p.code_blocks) refl is.1
   where
@@ -122,7 +122,7 @@ none_deep z p c (ob ∷ rest) holds is deep = loaded (block_by_id ob p.code_bloc
     fails e counts within (inr more) = omega (arith, counts.1, within.1, more)
 
     bounded : (b : CodeBlock) → block_by_id ob p.code_blocks ≡ Some b → (o : Option Bound) → bound_of ob c ≡ o
-        → IsWithin z o → ⊥
+        → IsBoundWithinLimits z o → ⊥
     bounded b there None found within = within
     bounded b there (Some e) found within =
         fails e (chain_counts z p c ob rest e b holds found there is.2) within deep
@@ -135,24 +135,24 @@ none_deep z p c (ob ∷ rest) holds is deep = loaded (block_by_id ob p.code_bloc
 
 number_counts : (m : Measure) (len : ℕ) (e f : Bound) (b : CodeBlock)
     → (f.depth + 1 ≤ e.depth) × (b.local_len + f.bytes ≤ e.bytes)
-    → weight m b + number m f ≤ number m e
+    → measure_of_block m b + measure_of_bound m f ≤ measure_of_bound m e
 number_counts Depth len e f b counts = omega (arith, counts.0)
 number_counts Bytes len e f b counts = counts.1
 
 number_itself : (m : Measure) (e : Bound) (b : CodeBlock) → (1 ≤ e.depth) × (b.local_len ≤ e.bytes)
-    → weight m b ≤ number m e
+    → measure_of_block m b ≤ measure_of_bound m e
 number_itself Depth e b own = own.0
 number_itself Bytes e b own = own.1
 
 -- no layer says more of a block than a certificate that holds
 abbrev IsAbove : Profile → Program → List Bound → Measure → ℕ → Type 0
 IsAbove z p c m k =
-    (x : BlockId) (e : Bound) → bound_of x c ≡ Some e → number_in m (layers k p) (Some x) ≤ number m e
+    (x : BlockId) (e : Bound) → bound_of x c ≡ Some e → measure_in_layer m (layer_of_height k p) (Some x) ≤ measure_of_bound m e
 
 unloaded : (m : Measure) (p : Program) (k : ℕ) (x : BlockId) → block_by_id x p.code_blocks ≡ None
-    → number_in m (layers k p) (Some x) ≡ 0
+    → measure_in_layer m (layer_of_height k p) (Some x) ≡ 0
 unloaded m p zero x is = refl
-unloaded m p (suc k) x is = above_none m p (layers k p) x is
+unloaded m p (suc k) x is = above_none m p (layer_of_height k p) x is
 
 within_of : (w n r f : ℕ) → w + f ≤ n → r ≤ f → w + r ≤ n
 within_of w n r f one other = omega (arith, one, other)
@@ -161,23 +161,23 @@ within_none : (w n r : ℕ) → w ≤ n → r ≡ 0 → w + r ≤ n
 within_none w n r own is = omega (arith, own, is)
 
 called_within : (z : Profile) (p : Program) (c : List Bound) (m : Measure) (k : ℕ) (x called : BlockId) (e : Bound)
-    (b : CodeBlock) → Holds z p c → IsAbove z p c m k → bound_of x c ≡ Some e
+    (b : CodeBlock) → IsCertificateOf z p c → IsAbove z p c m k → bound_of x c ≡ Some e
     → block_by_id x p.code_blocks ≡ Some b → CallsIn b.code called
-    → weight m b + number_in m (layers k p) (Some called) ≤ number m e
+    → measure_of_block m b + measure_in_layer m (layer_of_height k p) (Some called) ≤ measure_of_bound m e
 called_within z p c m k x called e b holds is_above found there calls = by (block_by_id called p.code_blocks) refl
   where
     counted : (d : CodeBlock) → block_by_id called p.code_blocks ≡ Some d → (o : Option Bound)
         → bound_of called c ≡ o → CountsCalled b.local_len (Some e) o
-        → weight m b + number_in m (layers k p) (Some called) ≤ number m e
+        → measure_of_block m b + measure_in_layer m (layer_of_height k p) (Some called) ≤ measure_of_bound m e
     counted d is None none counts = absurd counts
     counted d is (Some f) there_too counts =
-        within_of (weight m b) (number m e) (number_in m (layers k p) (Some called)) (number m f)
+        within_of (measure_of_block m b) (measure_of_bound m e) (measure_in_layer m (layer_of_height k p) (Some called)) (measure_of_bound m f)
         (number_counts m 0 e f b counts) (is_above called f there_too)
 
     by : (o : Option CodeBlock) → block_by_id called p.code_blocks ≡ o
-        → weight m b + number_in m (layers k p) (Some called) ≤ number m e
+        → measure_of_block m b + measure_in_layer m (layer_of_height k p) (Some called) ≤ measure_of_bound m e
     by None is =
-        within_none (weight m b) (number m e) (number_in m (layers k p) (Some called))
+        within_none (measure_of_block m b) (measure_of_bound m e) (measure_in_layer m (layer_of_height k p) (Some called))
         (number_itself m e b (itself z p c x e b holds found there)) (unloaded m p k called is)
     by (Some d) is =
         counted d is (bound_of called c) refl
@@ -187,18 +187,18 @@ called_within z p c m k x called e b holds is_above found there calls = by (bloc
 none_within : (r n : ℕ) → r ≡ 0 → r ≤ n
 none_within r n is = omega (arith, is)
 
-pub is_above : (z : Profile) (p : Program) (c : List Bound) (m : Measure) (k : ℕ) → Holds z p c
+pub is_above : (z : Profile) (p : Program) (c : List Bound) (m : Measure) (k : ℕ) → IsCertificateOf z p c
     → IsAbove z p c m k
 is_above z p c m zero holds x e found = omega arith
 is_above z p c m (suc k) holds x e found =
     by (block_by_id x p.code_blocks) refl (is_above z p c m k holds)
   where
     by : (o : Option CodeBlock) → block_by_id x p.code_blocks ≡ o → IsAbove z p c m k
-        → number_in m (layers (suc k) p) (Some x) ≤ number m e
+        → measure_in_layer m (layer_of_height (suc k) p) (Some x) ≤ measure_of_bound m e
     by None is below =
-        none_within (number_in m (layers (suc k) p) (Some x)) (number m e) (above_none m p (layers k p) x is)
+        none_within (measure_in_layer m (layer_of_height (suc k) p) (Some x)) (measure_of_bound m e) (above_none m p (layer_of_height k p) x is)
     by (Some b) is below =
-        subst (λ (n : ℕ). n ≤ number m e) (sym (above m p (layers k p) x b is))
-        (most_within m (layers k p) b.code (weight m b) (number m e)
+        subst (λ (n : ℕ). n ≤ measure_of_bound m e) (sym (above m p (layer_of_height k p) x b is))
+        (most_within m (layer_of_height k p) b.code (measure_of_block m b) (measure_of_bound m e)
         (number_itself m e b (itself z p c x e b holds found is))
         (λ called calls. called_within z p c m k x called e b holds below found is calls))

@@ -12,10 +12,10 @@ use Rattle.plc_base.specs.declared.blocks.BlockKind.TheVariants.{Ob}
 use Rattle.flat_code.specs.Programs.{CodeBlock, Program}
 use Rattle.image_file.specs.Readers.{block_by_id, block_ids, is_same_id}
 use Rattle.stack_bound.specs.Calls.{Calls, CallsIn}
-use Rattle.stack_bound.specs.Certificates.{bound_of, AreLoaded, AreOnce, CountsItself, CountsCalled, Holds, IsWithin}
-use Rattle.stack_bound.specs.Finding.{AreAmong, IsAtMost, IsLeastCertificate, IsOnChain, last_of}
-use Rattle.stack_bound.specs.Layers.{bound_above, bounds_above, layer_above, layers, most_called, number, number_if, number_in, weight, with_bound}
-use Rattle.stack_bound.specs.Marks.{marked_behind, marks}
+use Rattle.stack_bound.specs.Certificates.{bound_of, HasLoadedBlocksOnly, HasEachBlockOnce, CountsItself, CountsCalled, IsCertificateOf, IsBoundWithinLimits}
+use Rattle.stack_bound.specs.Finding.{AreAmong, IsAtMost, IsLeastCertificate, IsOnChain, last_block_of}
+use Rattle.stack_bound.specs.Layers.{bound_above, bounds_above, layer_above, layer_of_height, most_called, measure_of_bound, measure_if_bound, measure_in_layer, measure_of_block, with_bound}
+use Rattle.stack_bound.specs.Marks.{marked_behind, marks_of_round}
 use Rattle.stack_bound.specs.declared.certificates.Bound.{Bound}
 use Rattle.stack_bound.specs.declared.measures.Measure.{Measure}
 use Rattle.stack_bound.specs.declared.measures.Measure.TheVariants.{Depth, Bytes}
@@ -160,14 +160,14 @@ not_again seen (m ∷ ms) (b ∷ list) x was =
     by true kept next after = rw (apart kept (is_same_id b.block x) refl) after
     by false left next after = next
 
-pub marked_once : (seen : List Bound) (ms : List Bool) (list : List Bound) → AreOnce (marked_behind seen ms list)
+pub marked_once : (seen : List Bound) (ms : List Bool) (list : List Bound) → HasEachBlockOnce (marked_behind seen ms list)
 marked_once seen [] list = tt
 marked_once seen (m ∷ ms) [] = tt
 marked_once seen (m ∷ ms) (b ∷ list) =
     by (m && is_none (bound_of b.block seen)) (marked_once seen ms list) (marked_once (seen ++ b ∷ []) ms list)
   where
-    by : (test : Bool) → AreOnce (marked_behind seen ms list) → AreOnce (marked_behind (seen ++ b ∷ []) ms list)
-        → AreOnce (if test then b ∷ marked_behind (seen ++ b ∷ []) ms list else marked_behind seen ms list)
+    by : (test : Bool) → HasEachBlockOnce (marked_behind seen ms list) → HasEachBlockOnce (marked_behind (seen ++ b ∷ []) ms list)
+        → HasEachBlockOnce (if test then b ∷ marked_behind (seen ++ b ∷ []) ms list else marked_behind seen ms list)
     by true next after = (not_again (seen ++ b ∷ []) ms list b.block (last_found seen b), after)
     by false next after = next
 
@@ -219,17 +219,17 @@ each_kept P seen (m ∷ ms) (b ∷ list) each =
     by true kept next after = (each.0 (and_parts m (is_none (bound_of b.block seen)) kept).0, after)
     by false left next after = next
 
-loaded_kept : (p : Program) (seen : List Bound) (ms : List Bool) (list : List Bound) → AreLoaded p list
-    → AreLoaded p (marked_behind seen ms list)
+loaded_kept : (p : Program) (seen : List Bound) (ms : List Bool) (list : List Bound) → HasLoadedBlocksOnly p list
+    → HasLoadedBlocksOnly p (marked_behind seen ms list)
 loaded_kept p seen [] list loaded = tt
 loaded_kept p seen (m ∷ ms) [] loaded = tt
 loaded_kept p seen (m ∷ ms) (b ∷ list) loaded =
     by (m && is_none (bound_of b.block seen)) (loaded_kept p seen ms list loaded.1)
     (loaded_kept p (seen ++ b ∷ []) ms list loaded.1)
   where
-    by : (test : Bool) → AreLoaded p (marked_behind seen ms list)
-        → AreLoaded p (marked_behind (seen ++ b ∷ []) ms list)
-        → AreLoaded p (if test then b ∷ marked_behind (seen ++ b ∷ []) ms list else marked_behind seen ms list)
+    by : (test : Bool) → HasLoadedBlocksOnly p (marked_behind seen ms list)
+        → HasLoadedBlocksOnly p (marked_behind (seen ++ b ∷ []) ms list)
+        → HasLoadedBlocksOnly p (if test then b ∷ marked_behind (seen ++ b ∷ []) ms list else marked_behind seen ms list)
     by true next after = (loaded.0, after)
     by false next after = next
 
@@ -247,12 +247,12 @@ entries_are p layer (id ∷ ids) = by (block_by_id id p.code_blocks) refl (entri
     by None is rest = rest
     by (Some b) is rest = (layer_has p layer id b is, rest)
 
-are_loaded : (p : Program) (layer : List Bound) (ids : List BlockId) → AreLoaded p (bounds_above p layer ids)
+are_loaded : (p : Program) (layer : List Bound) (ids : List BlockId) → HasLoadedBlocksOnly p (bounds_above p layer ids)
 are_loaded p layer [] = tt
 are_loaded p layer (id ∷ ids) = by (block_by_id id p.code_blocks) refl (are_loaded p layer ids)
   where
-    by : (found : Option CodeBlock) → block_by_id id p.code_blocks ≡ found → AreLoaded p (bounds_above p layer ids)
-        → AreLoaded p (with_bound (option_map (bound_above layer id) found) (bounds_above p layer ids))
+    by : (found : Option CodeBlock) → block_by_id id p.code_blocks ≡ found → HasLoadedBlocksOnly p (bounds_above p layer ids)
+        → HasLoadedBlocksOnly p (with_bound (option_map (bound_above layer id) found) (bounds_above p layer ids))
     by None is rest = rest
     by (Some b) is rest = (rw is refl, rest)
 
@@ -294,10 +294,10 @@ are_among p layer (id ∷ ids) seen ms =
 
 -- the marked bounds of the highest layer
 abbrev pub certificate : Profile → Program → List Bound
-certificate z p = marked_behind [] (marks (most_frames z) p (highest z p)) (highest z p)
+certificate z p = marked_behind [] (marks_of_round (most_frames z) p (highest z p)) (highest z p)
 
-abbrev loaded_highest : (z : Profile) (p : Program) → AreLoaded p (highest z p)
-loaded_highest z p = are_loaded p (layers (most_frames z) p) (block_ids p)
+abbrev loaded_highest : (z : Profile) (p : Program) → HasLoadedBlocksOnly p (highest z p)
+loaded_highest z p = are_loaded p (layer_of_height (most_frames z) p) (block_ids p)
 
 -- what it says of a block is what the layer says, and the block stands on a chain
 Said : Profile → Program → BlockId → Bound → Type 0
@@ -306,22 +306,22 @@ Said z p x e = (bound_of x (highest z p) ≡ Some e) × IsOnChain p x
 said : (z : Profile) (p : Program) (x : BlockId) (e : Bound) → bound_of x (certificate z p) ≡ Some e
     → (bound_of x (highest z p) ≡ Some e) × IsOnChain p x
 said z p x e is =
-    let fact = marked_of (λ (b : Bound). IsOnChain p b.block) (highest z p) [] (marks (most_frames z) p (highest z p))
+    let fact = marked_of (λ (b : Bound). IsOnChain p b.block) (highest z p) [] (marks_of_round (most_frames z) p (highest z p))
     (highest z p) x e (marks_sound p (highest z p) (most_frames z) (loaded_highest z p))
-    (entries_are p (layers (most_frames z) p) (block_ids p)) is in
+    (entries_are p (layer_of_height (most_frames z) p) (block_ids p)) is in
     (fact.0, subst (λ (y : BlockId). IsOnChain p y) fact.2 fact.1)
 
 -- and it has each block on a chain
 has : (z : Profile) (p : Program) (x : BlockId) (b : CodeBlock) → NoneOver z p (highest z p) → IsOnChain p x
     → block_by_id x p.code_blocks ≡ Some b
-    → bound_of x (certificate z p) ≡ Some (bound_above (layers (most_frames z) p) x b)
+    → bound_of x (certificate z p) ≡ Some (bound_above (layer_of_height (most_frames z) p) x b)
 has z p x b none on there =
-    marked_has [] (marks (most_frames z) p (highest z p)) (highest z p) x (bound_above (layers (most_frames z) p) x b)
-    (marked_on_chain z p x on none) (layer_has p (layers (most_frames z) p) x b there) refl
+    marked_has [] (marks_of_round (most_frames z) p (highest z p)) (highest z p) x (bound_above (layer_of_height (most_frames z) p) x b)
+    (marked_on_chain z p x on none) (layer_has p (layer_of_height (most_frames z) p) x b there) refl
 
 of_number : (m : Measure) (z : Profile) (p : Program) (x : BlockId) (e : Bound) → bound_of x (highest z p) ≡ Some e
-    → number_in m (highest z p) (Some x) ≡ number m e
-of_number m z p x e is = ap (λ (o : Option Bound). number_if m o) is
+    → measure_in_layer m (highest z p) (Some x) ≡ measure_of_bound m e
+of_number m z p x e is = ap (λ (o : Option Bound). measure_if_bound m o) is
 
 at_least : (x w most : ℕ) → x ≡ w + most → w ≤ x
 at_least x w most is = omega (arith, is)
@@ -330,12 +330,12 @@ holds_own : (z : Profile) (p : Program) (x : BlockId) (b : CodeBlock) (o : Optio
     → block_by_id x p.code_blocks ≡ Some b → bound_of x (certificate z p) ≡ o → CountsItself b.local_len o
 holds_own z p x b None there is = tt
 holds_own z p x b (Some e) there is = (
-  at_least e.depth 1 (most_called Depth (layers (most_frames z) p) b.code) (counted Depth),
-  at_least e.bytes b.local_len (most_called Bytes (layers (most_frames z) p) b.code) (counted Bytes),
+  at_least e.depth 1 (most_called Depth (layer_of_height (most_frames z) p) b.code) (counted Depth),
+  at_least e.bytes b.local_len (most_called Bytes (layer_of_height (most_frames z) p) b.code) (counted Bytes),
 )
   where
-    counted : (m : Measure) → number m e ≡ weight m b + most_called m (layers (most_frames z) p) b.code
-    counted m = sym (of_number m z p x e (said z p x e is).0) ∙ above m p (layers (most_frames z) p) x b there
+    counted : (m : Measure) → measure_of_bound m e ≡ measure_of_block m b + most_called m (layer_of_height (most_frames z) p) b.code
+    counted m = sym (of_number m z p x e (said z p x e is).0) ∙ above m p (layer_of_height (most_frames z) p) x b there
 
 one_more : (a b : ℕ) → 1 + a ≤ b → a + 1 ≤ b
 one_more a b is = omega (arith, is)
@@ -348,7 +348,7 @@ holds_calls z p x called b d None none there to calls is = tt
 holds_calls z p x called b d (Some e) none there to calls is =
     subst (λ (o : Option Bound). CountsCalled b.local_len (Some e) o)
     (sym (has z p called d none (on_chain_more p x called on call) to)) (
-      one_more (bound_above (layers (most_frames z) p) called d).depth e.depth (counted Depth),
+      one_more (bound_above (layer_of_height (most_frames z) p) called d).depth e.depth (counted Depth),
       counted Bytes,
     )
   where
@@ -359,27 +359,27 @@ holds_calls z p x called b d (Some e) none there to calls is =
     call = record { from = b; to = d; is_loaded = there; called_is_loaded = to; calls = calls }
 
     counted : (m : Measure)
-        → weight m b + number m (bound_above (layers (most_frames z) p) called d) ≤ number m e
+        → measure_of_block m b + measure_of_bound m (bound_above (layer_of_height (most_frames z) p) called d) ≤ measure_of_bound m e
     counted m =
-        subst (λ (n : ℕ). weight m b + number m (bound_above (layers (most_frames z) p) called d) ≤ n)
+        subst (λ (n : ℕ). measure_of_block m b + measure_of_bound m (bound_above (layer_of_height (most_frames z) p) called d) ≤ n)
         (of_number m z p x e (said z p x e is).0)
-        (subst (λ (n : ℕ). weight m b + n ≤ number_in m (highest z p) (Some x))
-        (of_number m z p called (bound_above (layers (most_frames z) p) called d)
-        (layer_has p (layers (most_frames z) p) called d to))
+        (subst (λ (n : ℕ). measure_of_block m b + n ≤ measure_in_layer m (highest z p) (Some x))
+        (of_number m z p called (bound_above (layer_of_height (most_frames z) p) called d)
+        (layer_has p (layer_of_height (most_frames z) p) called d to))
         (counts_down z p m x called b there calls (few_on_chain z p x on none)))
 
 holds_obs : (z : Profile) (p : Program) (b : CodeBlock) → NoneOver z p (highest z p)
-    → block_by_id b.id p.code_blocks ≡ Some b → b.id.kind ≡ Ob → IsWithin z (bound_of b.id (certificate z p))
+    → block_by_id b.id p.code_blocks ≡ Some b → b.id.kind ≡ Ob → IsBoundWithinLimits z (bound_of b.id (certificate z p))
 holds_obs z p b none there kind =
-    subst (λ (o : Option Bound). IsWithin z o)
+    subst (λ (o : Option Bound). IsBoundWithinLimits z o)
     (sym (has z p b.id b none (ob_on_chain p b.id kind (rw there refl)) there))
-    (ob_within z p (highest z p) b.id b (bound_above (layers (most_frames z) p) b.id b) none kind there
-    (layer_has p (layers (most_frames z) p) b.id b there))
+    (ob_within z p (highest z p) b.id b (bound_above (layer_of_height (most_frames z) p) b.id b) none kind there
+    (layer_has p (layer_of_height (most_frames z) p) b.id b there))
 
-certificate_holds : (z : Profile) (p : Program) → NoneOver z p (highest z p) → Holds z p (certificate z p)
+certificate_holds : (z : Profile) (p : Program) → NoneOver z p (highest z p) → IsCertificateOf z p (certificate z p)
 certificate_holds z p none = record {
-  once = marked_once [] (marks (most_frames z) p (highest z p)) (highest z p);
-  loaded = loaded_kept p [] (marks (most_frames z) p (highest z p)) (highest z p) (loaded_highest z p);
+  once = marked_once [] (marks_of_round (most_frames z) p (highest z p)) (highest z p);
+  loaded = loaded_kept p [] (marks_of_round (most_frames z) p (highest z p)) (highest z p) (loaded_highest z p);
   obs = λ b there kind. holds_obs z p b none there kind;
   own = λ x b there. holds_own z p x b (bound_of x (certificate z p)) there refl;
   calls = λ x called b d there to calls.
@@ -389,27 +389,27 @@ certificate_holds z p none = record {
 -- ---- the least one
 
 -- each certificate that holds has a block on a chain
-in_each : (z : Profile) (p : Program) (d : List Bound) (x : BlockId) → Holds z p d → IsOnChain p x
+in_each : (z : Profile) (p : Program) (d : List Bound) (x : BlockId) → IsCertificateOf z p d → IsOnChain p x
     → IsSome (bound_of x d)
 in_each z p d x holds on =
     subst (λ (y : BlockId). IsSome (bound_of y d)) on.ends (loaded (block_by_id on.ob p.code_blocks) refl on.is_chain.1)
   where
-    bounded : (o : Option Bound) → bound_of on.ob d ≡ o → IsWithin z o → IsSome (bound_of (last_of on.ob on.rest) d)
+    bounded : (o : Option Bound) → bound_of on.ob d ≡ o → IsBoundWithinLimits z o → IsSome (bound_of (last_block_of on.ob on.rest) d)
     bounded None found within = absurd within
     bounded (Some e) found within = last_there z p d on.ob on.rest e holds found on.is_chain.2
 
     loaded : (found : Option CodeBlock) → block_by_id on.ob p.code_blocks ≡ found → IsSome found
-        → IsSome (bound_of (last_of on.ob on.rest) d)
+        → IsSome (bound_of (last_block_of on.ob on.rest) d)
     loaded None there isnt = absurd cc
     loaded (Some b) there some = bounded (bound_of on.ob d) refl (ob_bound z p d on.ob b holds on.is_chain.0 there)
 
-at_most_of : (z : Profile) (p : Program) (d : List Bound) (b : Bound) → Holds z p d → IsOnChain p b.block
+at_most_of : (z : Profile) (p : Program) (d : List Bound) (b : Bound) → IsCertificateOf z p d → IsOnChain p b.block
     → bound_of b.block (highest z p) ≡ Some b → IsAtMost b (bound_of b.block d)
 at_most_of z p d b holds on is = by (bound_of b.block d) refl (in_each z p d b.block holds on)
   where
-    most : (m : Measure) (e : Bound) → bound_of b.block d ≡ Some e → number m b ≤ number m e
+    most : (m : Measure) (e : Bound) → bound_of b.block d ≡ Some e → measure_of_bound m b ≤ measure_of_bound m e
     most m e found =
-        subst (λ (n : ℕ). n ≤ number m e) (of_number m z p b.block b is)
+        subst (λ (n : ℕ). n ≤ measure_of_bound m e) (of_number m z p b.block b is)
         (is_above z p d m (suc (most_frames z)) holds b.block e found)
 
     by : (o : Option Bound) → bound_of b.block d ≡ o → IsSome o → IsAtMost b o
@@ -431,23 +431,23 @@ all_by P Q [] step all = tt
 all_by P Q (b ∷ list) step all = (step b all.0, all_by P Q list step all.1)
 
 pub least : (z : Profile) (p : Program) → NoneOver z p (highest z p)
-    → IsLeastCertificate z p (marked_behind [] (marks (most_frames z) p (layers (suc (most_frames z)) p))
-    (layers (suc (most_frames z)) p))
+    → IsLeastCertificate z p (marked_behind [] (marks_of_round (most_frames z) p (layer_of_height (suc (most_frames z)) p))
+    (layer_of_height (suc (most_frames z)) p))
 least z p none = record {
   fits = λ chain is deep. none_deep z p (certificate z p) chain (certificate_holds z p none) is deep;
   holds = certificate_holds z p none;
   on_chains =
-      each_kept (λ (b : Bound). IsOnChain p b.block) [] (marks (most_frames z) p (highest z p)) (highest z p)
+      each_kept (λ (b : Bound). IsOnChain p b.block) [] (marks_of_round (most_frames z) p (highest z p)) (highest z p)
       (marks_sound p (highest z p) (most_frames z) (loaded_highest z p));
   order =
-      are_among p (layers (most_frames z) p) (block_ids p) [] (marks (most_frames z) p (highest z p));
+      are_among p (layer_of_height (most_frames z) p) (block_ids p) [] (marks_of_round (most_frames z) p (highest z p));
   least = λ d holds.
       all_by (λ (b : Bound). IsOnChain p b.block × (bound_of b.block (highest z p) ≡ Some b))
       (λ (b : Bound). IsAtMost b (bound_of b.block d)) (certificate z p)
       (λ b fact. at_most_of z p d b holds fact.0 fact.1)
       (each_kept (λ (b : Bound). IsOnChain p b.block × (bound_of b.block (highest z p) ≡ Some b)) []
-      (marks (most_frames z) p (highest z p)) (highest z p)
-      (with_entries (λ (b : Bound). IsOnChain p b.block) (highest z p) (marks (most_frames z) p (highest z p)) (highest z p)
+      (marks_of_round (most_frames z) p (highest z p)) (highest z p)
+      (with_entries (λ (b : Bound). IsOnChain p b.block) (highest z p) (marks_of_round (most_frames z) p (highest z p)) (highest z p)
       (marks_sound p (highest z p) (most_frames z) (loaded_highest z p))
-      (entries_are p (layers (most_frames z) p) (block_ids p))));
+      (entries_are p (layer_of_height (most_frames z) p) (block_ids p))));
 }

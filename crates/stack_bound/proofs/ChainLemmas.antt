@@ -9,10 +9,10 @@ use Rattle.plc_base.specs.declared.blocks.BlockId.{BlockId}
 use Rattle.flat_code.specs.Programs.{CodeBlock, Program}
 use Rattle.image_file.specs.Readers.{block_by_id}
 use Rattle.stack_bound.specs.Calls.{Calls, CallsIn}
-use Rattle.stack_bound.specs.Chains.{CallEachOther, IsChain, IsTooDeep, bytes_of_chain, local_bytes, most_local_bytes}
-use Rattle.stack_bound.specs.Deepest.{IsMostCalled, IsOver, LeadsOver, is_too_deep, total}
+use Rattle.stack_bound.specs.Chains.{CallEachOther, IsCallChain, IsTooDeep, bytes_of_chain, local_bytes, most_local_bytes}
+use Rattle.stack_bound.specs.Deepest.{IsMostCalled, IsLoadedObOver, LeadsOver, is_chain_too_deep, measure_of_chain}
 use Rattle.stack_bound.specs.Finding.{IsDeepChain}
-use Rattle.stack_bound.specs.Layers.{layers, limit, most_called, number_if, number_in, weight}
+use Rattle.stack_bound.specs.Layers.{layer_of_height, limit_of_measure, most_called, measure_if_bound, measure_in_layer, measure_of_block}
 use Rattle.stack_bound.specs.declared.certificates.Bound.{Bound}
 use Rattle.stack_bound.specs.declared.deepest.Over.{Over}
 use Rattle.stack_bound.specs.declared.measures.Measure.{Measure}
@@ -33,8 +33,8 @@ calls_more : (p : Program) (first : BlockId) (rest : List BlockId) (x y : BlockI
 calls_more p first [] x y each calls = (each.0, (calls, tt))
 calls_more p first (next ∷ rest) x y each calls = (each.0, calls_more p next rest x y each.1 calls)
 
-chain_more : (p : Program) (chain : List BlockId) (x y : BlockId) → IsChain p (chain ++ x ∷ [])
-    → Calls p x y → IsChain p ((chain ++ x ∷ []) ++ y ∷ [])
+chain_more : (p : Program) (chain : List BlockId) (x y : BlockId) → IsCallChain p (chain ++ x ∷ [])
+    → Calls p x y → IsCallChain p ((chain ++ x ∷ []) ++ y ∷ [])
 chain_more p [] x y is calls = (is.0, is.1, (calls, tt))
 chain_more p (ob ∷ rest) x y is calls = (is.0, is.1, calls_more p ob rest x y is.2 calls)
 
@@ -55,7 +55,7 @@ bytes_more p (first ∷ chain) x b is =
     ∙ sym (sum_more (local_bytes (block_by_id first p.code_blocks)) (bytes_of_chain p chain) b.local_len)
 
 total_more : (m : Measure) (p : Program) (chain : List BlockId) (x : BlockId) (b : CodeBlock)
-    → block_by_id x p.code_blocks ≡ Some b → total m p (chain ++ x ∷ []) ≡ total m p chain + weight m b
+    → block_by_id x p.code_blocks ≡ Some b → measure_of_chain m p (chain ++ x ∷ []) ≡ measure_of_chain m p chain + measure_of_block m b
 total_more Depth p chain x b is = len_more chain x
 total_more Bytes p chain x b is = bytes_more p chain x b is
 
@@ -94,7 +94,7 @@ not_deep profile p chain x n few within less deep = by deep
         (front_bytes p n chain x short) within more
 
 deep_is : (profile : Profile) (p : Program) (chain : List BlockId) (bytes : ℕ)
-    → bytes ≡ bytes_of_chain p chain → is_too_deep profile (length chain) bytes ≡ true
+    → bytes ≡ bytes_of_chain p chain → is_chain_too_deep profile (length chain) bytes ≡ true
     → IsTooDeep profile p chain
 deep_is profile p chain bytes total_is is =
     by (nat_lt (most_frames profile) (length chain)) refl
@@ -113,7 +113,7 @@ deep_is profile p chain bytes total_is is =
 -- ---- the ways of the search
 
 pub begins : (profile : Profile) (p : Program) (layer : List Bound) (over : Over)
-    → IsOver profile p layer over
+    → IsLoadedObOver profile p layer over
     → LeadsOver profile p over.measure layer [] over.block 0
 begins profile p layer over is = record {
   is_chain = (is.organization, is.loaded, tt);
@@ -124,8 +124,8 @@ begins profile p layer over is = record {
   over = by over.measure is.is_over;
 }
   where
-    by : (m : Measure) → limit profile m < number_in m layer (Some over.block)
-        → limit profile m < total m p [] + number_in m layer (Some over.block)
+    by : (m : Measure) → limit_of_measure profile m < measure_in_layer m layer (Some over.block)
+        → limit_of_measure profile m < measure_of_chain m p [] + measure_in_layer m layer (Some over.block)
     by Depth more = omega (arith, more)
     by Bytes more = omega (arith, more)
 
@@ -135,7 +135,7 @@ bytes_are bytes len a b one other = omega (arith, one, other)
 pub ends_deep : (profile : Profile) (p : Program) (m : Measure) (layer : List Bound) (chain : List BlockId)
     (block : BlockId) (bytes : ℕ) (b : CodeBlock) → LeadsOver profile p m layer chain block bytes
     → block_by_id block p.code_blocks ≡ Some b
-    → is_too_deep profile (length (chain ++ block ∷ [])) (bytes + b.local_len) ≡ true
+    → is_chain_too_deep profile (length (chain ++ block ∷ [])) (bytes + b.local_len) ≡ true
     → IsDeepChain profile p (chain ++ block ∷ [])
 ends_deep profile p m layer chain block bytes b leads is deep = record {
   is_chain = leads.is_chain;
@@ -154,15 +154,15 @@ above_more : (limit t w most number t2 : ℕ) → limit < t + number → number 
 above_more limit t w most number t2 over at is = omega (arith, over, at, is)
 
 over_more : (profile : Profile) (p : Program) (m : Measure) (k : ℕ) (chain : List BlockId) (block : BlockId)
-    (b : CodeBlock) → limit profile m < total m p chain + number_in m (layers (suc k) p) (Some block)
+    (b : CodeBlock) → limit_of_measure profile m < measure_of_chain m p chain + measure_in_layer m (layer_of_height (suc k) p) (Some block)
     → block_by_id block p.code_blocks ≡ Some b
-    → limit profile m < total m p (chain ++ block ∷ []) + most_called m (layers (suc k) p) b.code
+    → limit_of_measure profile m < measure_of_chain m p (chain ++ block ∷ []) + most_called m (layer_of_height (suc k) p) b.code
 over_more profile p m k chain block b over is =
-    above_more (limit profile m) (total m p chain) (weight m b) (most_called m (layers (suc k) p) b.code)
-    (number_in m (layers (suc k) p) (Some block)) (total m p (chain ++ block ∷ [])) over
+    above_more (limit_of_measure profile m) (measure_of_chain m p chain) (measure_of_block m b) (most_called m (layer_of_height (suc k) p) b.code)
+    (measure_in_layer m (layer_of_height (suc k) p) (Some block)) (measure_of_chain m p (chain ++ block ∷ [])) over
     (at_most m p k block b is) (total_more m p chain block b is)
 
-not_too : (profile : Profile) (blocks bytes : ℕ) → is_too_deep profile blocks bytes ≡ false
+not_too : (profile : Profile) (blocks bytes : ℕ) → is_chain_too_deep profile blocks bytes ≡ false
     → (blocks ≤ most_frames profile) × (bytes ≤ most_local_bytes)
 not_too profile blocks bytes is =
     let parts = or_parts (nat_lt (most_frames profile) blocks) (nat_lt most_local_bytes bytes) is in
@@ -170,7 +170,7 @@ not_too profile blocks bytes is =
 
 -- a block of which a layer says something is loaded
 said_loaded : (p : Program) (m : Measure) (k : ℕ) (block : BlockId)
-    → 0 < number_in m (layers (suc k) p) (Some block) → IsSome (block_by_id block p.code_blocks)
+    → 0 < measure_in_layer m (layer_of_height (suc k) p) (Some block) → IsSome (block_by_id block p.code_blocks)
 said_loaded p m k block some = by (block_by_id block p.code_blocks) refl
   where
     by : (found : Option CodeBlock) → block_by_id block p.code_blocks ≡ found → IsSome found
@@ -178,7 +178,7 @@ said_loaded p m k block some = by (block_by_id block p.code_blocks) refl
         absurd (omega (
           arith,
           some,
-          ap (λ (o : Option Bound). number_if m o) (layer_lacks p (layers k p) block is),
+          ap (λ (o : Option Bound). measure_if_bound m o) (layer_lacks p (layer_of_height k p) block is),
         ))
     by (Some b) is = refl
 
@@ -194,9 +194,9 @@ calls_of p block called b is calls loaded = by (block_by_id called p.code_blocks
 
 pub leads_on : (profile : Profile) (p : Program) (m : Measure) (k : ℕ) (layer : List Bound)
     (chain : List BlockId) (block called : BlockId) (bytes : ℕ) (b : CodeBlock)
-    → layer ≡ layers (suc k) p
+    → layer ≡ layer_of_height (suc k) p
     → LeadsOver profile p m layer chain block bytes → block_by_id block p.code_blocks ≡ Some b
-    → is_too_deep profile (length (chain ++ block ∷ [])) (bytes + b.local_len) ≡ false
+    → is_chain_too_deep profile (length (chain ++ block ∷ [])) (bytes + b.local_len) ≡ false
     → IsMostCalled m layer b.code (Some called)
     → LeadsOver profile p m layer (chain ++ block ∷ []) called (bytes + b.local_len)
 leads_on profile p m k layer chain block called bytes b layer_is leads is fits most = record {
@@ -208,41 +208,41 @@ leads_on profile p m k layer chain block called bytes b layer_is leads is fits m
   few = (not_too profile (length (chain ++ block ∷ [])) (bytes + b.local_len) fits).0;
   within = (not_too profile (length (chain ++ block ∷ [])) (bytes + b.local_len) fits).1;
   over =
-      subst (λ (n : ℕ). limit profile m < total m p (chain ++ block ∷ []) + n) (sym most.1)
-      (subst (λ (x : List Bound). limit profile m < total m p (chain ++ block ∷ []) + most_called m x b.code)
+      subst (λ (n : ℕ). limit_of_measure profile m < measure_of_chain m p (chain ++ block ∷ []) + n) (sym most.1)
+      (subst (λ (x : List Bound). limit_of_measure profile m < measure_of_chain m p (chain ++ block ∷ []) + most_called m x b.code)
       (sym layer_is)
       (over_more profile p m k chain block b
-      (subst (λ (x : List Bound). limit profile m < total m p chain + number_in m x (Some block)) layer_is leads.over)
+      (subst (λ (x : List Bound). limit_of_measure profile m < measure_of_chain m p chain + measure_in_layer m x (Some block)) layer_is leads.over)
       is));
 }
   where
     there : IsSome (block_by_id called p.code_blocks)
     there =
         said_loaded p m k called
-        (subst (λ (x : List Bound). 0 < number_in m x (Some called)) layer_is
+        (subst (λ (x : List Bound). 0 < measure_in_layer m x (Some called)) layer_is
         (subst (λ (n : ℕ). 0 < n) (sym most.1) most.2))
 
 -- there always is one
 pub leads_somewhere : (profile : Profile) (p : Program) (m : Measure) (k : ℕ) (layer : List Bound)
     (chain : List BlockId) (block : BlockId) (bytes : ℕ) (b : CodeBlock)
-    → layer ≡ layers (suc k) p
+    → layer ≡ layer_of_height (suc k) p
     → LeadsOver profile p m layer chain block bytes → block_by_id block p.code_blocks ≡ Some b
-    → is_too_deep profile (length (chain ++ block ∷ [])) (bytes + b.local_len) ≡ false
+    → is_chain_too_deep profile (length (chain ++ block ∷ [])) (bytes + b.local_len) ≡ false
     → IsMostCalled m layer b.code None → ⊥
 leads_somewhere profile p m k layer chain block bytes b layer_is leads is fits none =
     by m none over
     (not_too profile (length (chain ++ block ∷ [])) (bytes + b.local_len) fits)
   where
-    over : limit profile m < total m p (chain ++ block ∷ []) + most_called m layer b.code
+    over : limit_of_measure profile m < measure_of_chain m p (chain ++ block ∷ []) + most_called m layer b.code
     over =
-        subst (λ (x : List Bound). limit profile m < total m p (chain ++ block ∷ []) + most_called m x b.code)
+        subst (λ (x : List Bound). limit_of_measure profile m < measure_of_chain m p (chain ++ block ∷ []) + most_called m x b.code)
         (sym layer_is)
         (over_more profile p m k chain block b
-        (subst (λ (x : List Bound). limit profile m < total m p chain + number_in m x (Some block)) layer_is leads.over)
+        (subst (λ (x : List Bound). limit_of_measure profile m < measure_of_chain m p chain + measure_in_layer m x (Some block)) layer_is leads.over)
         is)
 
     by : (n : Measure) → most_called n layer b.code ≡ 0
-        → limit profile n < total n p (chain ++ block ∷ []) + most_called n layer b.code
+        → limit_of_measure profile n < measure_of_chain n p (chain ++ block ∷ []) + most_called n layer b.code
         → (length (chain ++ block ∷ []) ≤ most_frames profile) × (bytes + b.local_len ≤ most_local_bytes) → ⊥
     by Depth nil more fit = omega (arith, nil, more, fit.0)
     by Bytes nil more fit = omega (arith, nil, more, fit.1, leads.total_is, bytes_more p chain block b is)

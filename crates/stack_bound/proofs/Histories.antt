@@ -13,7 +13,7 @@ use Rattle.flat_code.specs.Loading.{Verifies}
 use Rattle.flat_code.specs.Programs.{Program}
 use Rattle.machine.specs.Code.{Code, BlockHead}
 use Rattle.machine.specs.Flat.{code_of}
-use Rattle.machine.specs.Statement.{Step, Went, Ended, SyncError, SysCall, Stop as StopsBy, Stuck, statement}
+use Rattle.machine.specs.Statement.{StatementStep, Went, Ended, SyncError, SysCall, Stop as StopsBy, Stuck, statement_step}
 use Rattle.ob_sched.specs.TickState.{TickState, ob_requested}
 use Rattle.ob_sched.specs.Millisecond.{tick_begun as course_begun, after_tick}
 use Rattle.ob_sched.specs.OrganizationBlock.{priority_class_in, is_delay}
@@ -23,30 +23,30 @@ use Rattle.ob_sched.specs.StartInformation.{ob_of_error, start_info}
 use Rattle.ob_sched.specs.declared.requests.Pending.{Pending}
 use Rattle.ob_sched.specs.declared.start_infos.StartEvent.TheVariants.{Arrival}
 use Rattle.ob_sched.specs.declared.start_infos.StartInfo.{StartInfo}
-use Rattle.sys_funcs.specs.Disabling.{refusal}
-use Rattle.sys_funcs.specs.Functions.{dis_airt, en_airt, set_unless, dis_irt, en_irt, srt_dint, can_dint, time_tck, with_delay}
-use Rattle.sys_funcs.specs.Returned.{Returned, returned, passed}
+use Rattle.sys_funcs.specs.Disabling.{selection_error_code}
+use Rattle.sys_funcs.specs.Functions.{dis_airt, en_airt, disabled_or_error, dis_irt, en_irt, srt_dint, can_dint, time_tck, with_delay}
+use Rattle.sys_funcs.specs.Returned.{SystemFunctionResult, int_result, with_br_set}
 use Rattle.var_access.specs.declared.What.{What}
 use Rattle.var_access.specs.declared.What.TheVariants as what
 use Rattle.var_access.specs.declared.Request.{Request}
 use Rattle.var_access.specs.declared.Request.TheVariants as request
 use Rattle.controller.specs.Asking.{request_effect}
-use Rattle.controller.specs.Beginning.{ob_block, ob_frame, with_start_bytes, ob_begun, ob_in, begun_above}
+use Rattle.controller.specs.Beginning.{ob_block_id, ob_frame, with_start_bytes, ob_begun, ob_activation, with_ob_begun}
 use Rattle.controller.specs.CyclePoint.{cycle_point, cycle_finished, cycle_info}
-use Rattle.controller.specs.Errors.{is_synchronous, cause_without, error_event, copied_from, error_in, error_ob_started, error_raised}
+use Rattle.controller.specs.Errors.{is_synchronous, cause_without, error_event, with_caller_registers, error_in, error_ob_started, error_raised}
 use Rattle.controller.specs.Event.{entry_counted, entry_effect, state_after}
 use Rattle.controller.specs.Fitting.{AllFit, AreInRange, EntriesKeepFit, IsFit, StartIsFit}
-use Rattle.controller.specs.Replay.{happens, run_from, replay}
+use Rattle.controller.specs.Replay.{entry_result, state_after_entries, replay}
 use Rattle.controller.specs.Requests.{stopped_if, tick_state_taken, arrival_served}
-use Rattle.controller.specs.Serving.{Served, Returns, Passes, Stops as Halts, in_parameter, system_function_served, result_given, after_service}
+use Rattle.controller.specs.Serving.{ServiceResult, Returns, Passes, Stops as Halts, in_parameter, system_function_served, result_given, after_service}
 use Rattle.controller.specs.Settling.{may_start, request_taken, request_started, best_started, after_settling}
-use Rattle.controller.specs.Start.{before_start, restart_cleared, warm_restarted, start, started_up, startup_info, startup_ob}
+use Rattle.controller.specs.Start.{before_start, restart_cleared, warm_restarted, initial_state, state_in_startup, startup_info, startup_ob}
 use Rattle.controller.specs.State.{State, is_stop, diagnosis_recorded, each_diagnosed}
 use Rattle.controller.specs.Stepping.{after_step, step_of_first, after_statement, run_starts, ob_ended, with_activations}
-use Rattle.controller.specs.Stopping.{stop_entered, stop_entered_at, running_spot, spot_of}
+use Rattle.controller.specs.Stopping.{stop_entered, stop_entered_at, running_spot, spot_of_frame}
 use Rattle.controller.specs.Ticking.{active_obs, time_passed, timers_moved}
 use Rattle.stack_bound.specs.Certificates.{bound_of}
-use Rattle.stack_bound.specs.Overflow.{overflows, NeverOverflows}
+use Rattle.stack_bound.specs.Overflow.{is_stack_overflow, NeverOverflows}
 use Rattle.stack_bound.proofs.Stacks.{Roomy, stack_of, RoomFor, HasRoom, Certifies}
 use Rattle.stack_bound.specs.declared.certificates.Bound.{Bound}
 use Rattle.stack_bound.proofs.Causes.{NoOverflow, requested_fine, ticked_fine}
@@ -60,7 +60,7 @@ AllRoom z c (a ∷ below) = Roomy z c a × AllRoom z c below
 record Bounded (z : Profile) (c : List Bound) (s : State) : Type 0 where
   pub profile : s.profile ≡ z
   pub room : AllRoom z c s.activations
-  pub mode : overflows s.mode ≡ false
+  pub mode : is_stack_overflow s.mode ≡ false
 
 -- ---- organization blocks that begin
 
@@ -83,7 +83,7 @@ told_stack (value ∷ rest) byte a =
     ∙ byte_stack byte value a
 
 begun_room : (z : Profile) (c : List Bound) (class ob : ℕ) (info : StartInfo) (h : BlockHead)
-    → RoomFor z (bound_of (ob_block ob) c) [] → Roomy z c (ob_begun z class ob info h)
+    → RoomFor z (bound_of (ob_block_id ob) c) [] → Roomy z c (ob_begun z class ob info h)
 unfolding ob_begun
 begun_room z c class ob info h room = (
   told_profile info.bytes 0 (activation_begun z class ob (ob_frame ob h)),
@@ -92,19 +92,19 @@ begun_room z c class ob info h room = (
 )
 
 ob_room_by : (z : Profile) (code : Code) (c : List Bound) (class ob : ℕ) (info : StartInfo) (found : Option BlockHead)
-    → Certifies z code c → code.head (ob_block ob) ≡ found
+    → Certifies z code c → code.head (ob_block_id ob) ≡ found
     → RoomIf z c (option_map (ob_begun z class ob info) found)
 ob_room_by z code c class ob info None holds is = tt
 ob_room_by z code c class ob info (Some h) holds is =
     begun_room z c class ob info h (holds.obs ob (rw is refl))
 
 ob_room : (z : Profile) (code : Code) (c : List Bound) (class ob : ℕ) (info : StartInfo) → Certifies z code c
-    → RoomIf z c (ob_in z code class ob info)
+    → RoomIf z c (ob_activation z code class ob info)
 ob_room z code c class ob info holds =
-    ob_room_by z code c class ob info (code.head (ob_block ob)) holds refl
+    ob_room_by z code c class ob info (code.head (ob_block_id ob)) holds refl
 
 begins_room : (z : Profile) (c : List Bound) (one : Option Activation) (s : State) → RoomIf z c one → Bounded z c s
-    → Bounded z c (begun_above one s)
+    → Bounded z c (with_ob_begun one s)
 begins_room z c None s one b = b
 begins_room z c (Some a) s one b = record { profile = b.profile; room = (one, b.room); mode = b.mode }
 
@@ -129,7 +129,7 @@ halted_bounded z code c cause s sized fine = halts z c (running_spot code s.acti
 -- ---- synchronous errors
 
 copied_room : (z : Profile) (c : List Bound) (a : Activation) (one : Option Activation) → RoomIf z c one
-    → RoomIf z c (option_map (copied_from a) one)
+    → RoomIf z c (option_map (with_caller_registers a) one)
 copied_room z c a None room = tt
 copied_room z c a (Some fresh) room = room
 
@@ -162,8 +162,8 @@ failed_bounded z code c error at a below s holds all b = by (is_synchronous a.ob
     by true = halts z c at causes.in_error_ob (diagnosis_recorded 4 error s) b.profile refl
     by false =
         answers z c (error_in code error at a) error at a below (diagnosis_recorded 4 error s)
-        (subst (λ (f : Profile). RoomIf z c (option_map (copied_from a)
-        (ob_in f code a.class (ob_of_error error) (start_info (error_event error at) a.class)))) (sym all.0.0)
+        (subst (λ (f : Profile). RoomIf z c (option_map (with_caller_registers a)
+        (ob_activation f code a.class (ob_of_error error) (start_info (error_event error at) a.class)))) (sym all.0.0)
         (copied_room z c a _
         (ob_room z code c a.class (ob_of_error error) (start_info (error_event error at) a.class) holds)))
         all recorded
@@ -173,12 +173,12 @@ failed_bounded z code c error at a below s holds all b = by (is_synchronous a.ob
 abbrev SameStack : Activation → Activation → Type 0
 SameStack a b = (b.profile ≡ a.profile) × (stack_of b ≡ stack_of a)
 
-abbrev ServedStack : Activation → Served → Type 0
+abbrev ServedStack : Activation → ServiceResult → Type 0
 ServedStack a (Returns r) = SameStack a r.activation
 ServedStack a (Passes sched b) = SameStack a b
 ServedStack a (Halts cause b) = (cause == 6 || cause == 7) ≡ false
 
-if_returned : (test : Bool) (a : Activation) (x y : Returned) → SameStack a x.activation
+if_returned : (test : Bool) (a : Activation) (x y : SystemFunctionResult) → SameStack a x.activation
     → SameStack a y.activation → SameStack a (if test then x else y).activation
 if_returned true a x y one other = one
 if_returned false a x y one other = other
@@ -186,53 +186,53 @@ if_returned false a x y one other = other
 en_airt_same : (s : Scheduler) (a : Activation) → SameStack a (en_airt s a).activation
 unfolding en_airt
 en_airt_same s a =
-    if_returned (a.delay == 0) a (returned s a 0x8080)
-    (returned s (with_delay (a.delay - 1) a) (a.delay - 1)) (refl, refl) (refl, refl)
+    if_returned (a.delay == 0) a (int_result s a 0x8080)
+    (int_result s (with_delay (a.delay - 1) a) (a.delay - 1)) (refl, refl) (refl, refl)
 
 dis_airt_same : (s : Scheduler) (a : Activation) → SameStack a (dis_airt s a).activation
 unfolding dis_airt
 dis_airt_same s a = (refl, refl)
 
 set_same : (code : Option ℕ) (disabled : Bool) (mode ob_nr : ℕ) (s : Scheduler) (a : Activation)
-    → SameStack a (set_unless code disabled mode ob_nr s a).activation
+    → SameStack a (disabled_or_error code disabled mode ob_nr s a).activation
 set_same (Some code) disabled mode ob_nr s a = (refl, refl)
 set_same None disabled mode ob_nr s a = (refl, refl)
 
 dis_irt_same : (s : Scheduler) (a : Activation) (mode ob_nr : ℕ)
     → SameStack a (dis_irt s a mode ob_nr).activation
 unfolding dis_irt
-dis_irt_same s a mode ob_nr = set_same (refusal mode ob_nr) true mode ob_nr s a
+dis_irt_same s a mode ob_nr = set_same (selection_error_code mode ob_nr) true mode ob_nr s a
 
 en_irt_same : (s : Scheduler) (a : Activation) (mode ob_nr : ℕ)
     → SameStack a (en_irt s a mode ob_nr).activation
 unfolding en_irt
-en_irt_same s a mode ob_nr = set_same (refusal mode ob_nr) false mode ob_nr s a
+en_irt_same s a mode ob_nr = set_same (selection_error_code mode ob_nr) false mode ob_nr s a
 
 srt_dint_same : (s : Scheduler) (a : Activation) (ob_nr dtime sign : ℕ)
     → SameStack a (srt_dint s a ob_nr dtime sign).activation
 unfolding srt_dint
 srt_dint_same s a ob_nr dtime sign =
-    if_returned (not (is_delay ob_nr)) a (returned s a 0x8090)
-    (if not (nat_le 1 dtime && nat_le dtime 60000) then returned s a 0x8091
-    else returned (delay_started ob_nr dtime s) a 0) (refl, refl)
-    (if_returned (not (nat_le 1 dtime && nat_le dtime 60000)) a (returned s a 0x8091)
-    (returned (delay_started ob_nr dtime s) a 0) (refl, refl) (refl, refl))
+    if_returned (not (is_delay ob_nr)) a (int_result s a 0x8090)
+    (if not (nat_le 1 dtime && nat_le dtime 60000) then int_result s a 0x8091
+    else int_result (delay_started ob_nr dtime s) a 0) (refl, refl)
+    (if_returned (not (nat_le 1 dtime && nat_le dtime 60000)) a (int_result s a 0x8091)
+    (int_result (delay_started ob_nr dtime s) a 0) (refl, refl) (refl, refl))
 
 can_dint_same : (s : Scheduler) (a : Activation) (ob_nr : ℕ)
     → SameStack a (can_dint s a ob_nr).activation
 unfolding can_dint
 can_dint_same s a ob_nr =
-    if_returned (not (is_delay ob_nr)) a (returned s a 0x8090)
-    (if is_some (delay_of s.countdowns ob_nr) then returned (delay_cancelled ob_nr s) a 0
-    else returned s a 0x80A0) (refl, refl)
-    (if_returned (is_some (delay_of s.countdowns ob_nr)) a (returned (delay_cancelled ob_nr s) a 0)
-    (returned s a 0x80A0) (refl, refl) (refl, refl))
+    if_returned (not (is_delay ob_nr)) a (int_result s a 0x8090)
+    (if is_some (delay_of s.countdowns ob_nr) then int_result (delay_cancelled ob_nr s) a 0
+    else int_result s a 0x80A0) (refl, refl)
+    (if_returned (is_some (delay_of s.countdowns ob_nr)) a (int_result (delay_cancelled ob_nr s) a 0)
+    (int_result s a 0x80A0) (refl, refl) (refl, refl))
 
 time_tck_same : (s : Scheduler) (a : Activation) → SameStack a (time_tck s a).activation
 unfolding time_tck
 time_tck_same s a = (refl, refl)
 
-if_served : (test : Bool) (a : Activation) (x y : Served) → ServedStack a x → ServedStack a y
+if_served : (test : Bool) (a : Activation) (x y : ServiceResult) → ServedStack a x → ServedStack a y
     → ServedStack a (if test then x else y)
 if_served true a x y one other = one
 if_served false a x y one other = other
@@ -248,8 +248,8 @@ served_same number inputs s a =
     (if_served (number == 40) a _ _ (en_irt_same s a (in_parameter 0 inputs) (in_parameter 1 inputs))
     (if_served (number == 41) a _ _ (dis_airt_same s a)
     (if_served (number == 42) a _ _ (en_airt_same s a)
-    (if_served (number == 43) a (Passes (cycle_retriggered s) (passed a)) _ (refl, refl)
-    (if_served (number == 46) a (Halts causes.by_program (passed a)) _ refl (time_tck_same s a))))))))
+    (if_served (number == 43) a (Passes (cycle_retriggered s) (with_br_set a)) _ (refl, refl)
+    (if_served (number == 46) a (Halts causes.by_program (with_br_set a)) _ refl (time_tck_same s a))))))))
 
 given_stack : (to : Option Binding) (value : ℕ) (a : Activation) (m : Areas)
     → stack_of (result_given to value a m).activation ≡ stack_of a
@@ -261,7 +261,7 @@ given_profile : (to : Option Binding) (value : ℕ) (a : Activation) (m : Areas)
 given_profile None value a m = refl
 given_profile (Some to) value a m = refl
 
-service_bounded : (z : Profile) (c : List Bound) (call : Option Spot) (sv : Served) (to : Option Binding)
+service_bounded : (z : Profile) (c : List Bound) (call : Option Spot) (sv : ServiceResult) (to : Option Binding)
     (a : Activation) (below : List Activation) (s : State) → ServedStack a sv
     → AllRoom z c (a ∷ below) → Bounded z c s → Bounded z c (after_service call sv to below s)
 service_bounded z c call (Returns r) to a below s same all b = record {
@@ -295,7 +295,7 @@ ended_bounded z c ob s b = by (ob == 100)
     by true = run_bounded z c s b.profile b.room
     by false = b
 
-statement_bounded : (z : Profile) (code : Code) (c : List Bound) (step : Step) (ob : ℕ) (at : Option Spot)
+statement_bounded : (z : Profile) (code : Code) (c : List Bound) (step : StatementStep) (ob : ℕ) (at : Option Spot)
     (below : List Activation) (s : State) → Certifies z code c → StepHasRoom z c step
     → AllRoom z c below → Bounded z c s → Bounded z c (after_statement code step ob at below s)
 statement_bounded z code c (Went d w) ob at below s holds room rest b = record {
@@ -317,8 +317,8 @@ cycle_bounded : (z : Profile) (code : Code) (c : List Bound) (s : State) → Cer
     → Bounded z c (cycle_point code s)
 unfolding cycle_point
 cycle_bounded z code c s holds b =
-    begins_room z c (ob_in s.profile code (priority_class_in s.mode 1) 1 (cycle_info s)) (cycle_finished s)
-    (subst (λ (f : Profile). RoomIf z c (ob_in f code (priority_class_in s.mode 1) 1 (cycle_info s))) (sym b.profile)
+    begins_room z c (ob_activation s.profile code (priority_class_in s.mode 1) 1 (cycle_info s)) (cycle_finished s)
+    (subst (λ (f : Profile). RoomIf z c (ob_activation f code (priority_class_in s.mode 1) 1 (cycle_info s))) (sym b.profile)
     (ob_room z code c (priority_class_in s.mode 1) 1 (cycle_info s) holds))
     (record { profile = b.profile; room = b.room; mode = b.mode })
 
@@ -327,8 +327,8 @@ stepped_on_bounded : (z : Profile) (p : Program) (c : List Bound) (activations :
     → Bounded z c s → Bounded z c (step_of_first (code_of p) activations s)
 stepped_on_bounded z p c [] s holds fit all b = cycle_bounded z (code_of p) c s holds b
 stepped_on_bounded z p c (a ∷ below) s holds fit all b =
-    statement_bounded z (code_of p) c (statement (code_of p) a s.world) a.ob
-    (spot_of (code_of p) a.running.frame) below s holds
+    statement_bounded z (code_of p) c (statement_step (code_of p) a s.world) a.ob
+    (spot_of_frame (code_of p) a.running.frame) below s holds
     (statement_room z p c a s.world holds fit.0 all.0) all.1 b
 
 step_bounded : (z : Profile) (p : Program) (c : List Bound) (s : State) → Certifies z (code_of p) c → IsFit p s
@@ -376,7 +376,7 @@ time_bounded z code c ms s b =
     (ticked_fine s.mode (active_obs s.activations) ms s.sched) (record { profile = b.profile; room = b.room; mode = b.mode })
 
 started_bounded : (z : Profile) (c : List Bound) (one : Option Activation) (s : State) → RoomIf z c one
-    → Bounded z c s → Bounded z c (started_up one s)
+    → Bounded z c s → Bounded z c (state_in_startup one s)
 started_bounded z c None s one b = run_bounded z c s b.profile b.room
 started_bounded z c (Some a) s one b = record { profile = b.profile; room = (one, b.room); mode = refl }
 
@@ -425,8 +425,8 @@ best_bounded : (z : Profile) (code : Code) (c : List Bound) (best : Option Pendi
 best_bounded z code c None s holds b = b
 best_bounded z code c (Some best) s holds b =
     either_bounded z c (may_start best.class s.activations) (request_started code best s) s
-    (begins_room z c (ob_in s.profile code best.class best.ob best.info) (request_taken s)
-    (subst (λ (f : Profile). RoomIf z c (ob_in f code best.class best.ob best.info)) (sym b.profile)
+    (begins_room z c (ob_activation s.profile code best.class best.ob best.info) (request_taken s)
+    (subst (λ (f : Profile). RoomIf z c (ob_activation f code best.class best.ob best.info)) (sym b.profile)
     (ob_room z code c best.class best.ob best.info holds)) (record { profile = b.profile; room = b.room; mode = b.mode })) b
 
 settled_bounded : (z : Profile) (code : Code) (c : List Bound) (s : State) → Certifies z code c → Bounded z c s
@@ -445,8 +445,8 @@ counted_fit p s fit = record {
 }
 
 entry_bounded : (z : Profile) (p : Program) (c : List Bound) (e : What) (s : State) → Certifies z (code_of p) c
-    → IsFit p s → Bounded z c s → Bounded z c (happens (code_of p) s e).state
-unfolding happens state_after
+    → IsFit p s → Bounded z c s → Bounded z c (entry_result (code_of p) s e).state
+unfolding entry_result state_after
 entry_bounded z p c e s holds fit b =
     settled_bounded z (code_of p) c (entry_effect (code_of p) e (entry_counted s)) holds
     (effect_bounded z p c e (entry_counted s) holds (counted_fit p s fit)
@@ -454,14 +454,14 @@ entry_bounded z p c e s holds fit b =
 
 run_from_bounded : (z : Profile) (p : Program) (c : List Bound) (history : List What) (s : State) → EntriesKeepFit
     → Verifies p → Certifies z (code_of p) c → AreInRange history → IsFit p s → Bounded z c s
-    → Bounded z c (run_from (code_of p) s history)
+    → Bounded z c (state_after_entries (code_of p) s history)
 run_from_bounded z p c [] s keep verifies holds range fit b = b
 run_from_bounded z p c (e ∷ rest) s keep verifies holds range fit b =
-    run_from_bounded z p c rest (happens (code_of p) s e).state keep verifies holds range.1
+    run_from_bounded z p c rest (entry_result (code_of p) s e).state keep verifies holds range.1
     (keep p s e verifies range.0 fit) (entry_bounded z p c e s holds fit b)
 
-start_bounded : (z : Profile) (code : Code) (c : List Bound) → Certifies z code c → Bounded z c (start z code)
-unfolding start
+start_bounded : (z : Profile) (code : Code) (c : List Bound) → Certifies z code c → Bounded z c (initial_state z code)
+unfolding initial_state
 start_bounded z code c holds =
     started_bounded z c (startup_ob z code) (before_start z code) (ob_room z code c 27 100 startup_info holds)
     (record { profile = refl; room = tt; mode = refl })
@@ -470,5 +470,5 @@ pub never_overflows : (z : Profile) (p : Program) (c : List Bound) → StartIsFi
     → Certifies z (code_of p) c → NeverOverflows z p
 unfolding replay
 never_overflows z p c first keep verifies holds history range =
-    (run_from_bounded z p c history (start z (code_of p)) keep verifies holds range (first z p verifies)
+    (run_from_bounded z p c history (initial_state z (code_of p)) keep verifies holds range (first z p verifies)
     (start_bounded z (code_of p) c holds)).mode

@@ -12,10 +12,10 @@ use Rattle.plc_base.specs.declared.blocks.BlockKind.TheVariants.{Ob, Fc, Fb, Db,
 use Rattle.flat_code.specs.Ops.{OpData}
 use Rattle.flat_code.specs.Programs.{CodeBlock, DataBlock, Program}
 use Rattle.image_file.specs.Readers.{block_by_id, data_block_id, block_ids, is_same_id}
-use Rattle.stack_bound.specs.Calls.{CallsIn, callee_of}
-use Rattle.stack_bound.specs.Certificates.{bound_of, AreOnce, AreLoaded, IsWithin, CountsItself, CountsCalled, Holds}
+use Rattle.stack_bound.specs.Calls.{CallsIn, callee_of_op}
+use Rattle.stack_bound.specs.Certificates.{bound_of, HasEachBlockOnce, HasLoadedBlocksOnly, IsBoundWithinLimits, CountsItself, CountsCalled, IsCertificateOf}
 use Rattle.stack_bound.specs.Chains.{most_local_bytes}
-use Rattle.stack_bound.specs.Judging.{are_once, counts_called, counts_callee, counts_ops, counts_block, each_counts, is_within, obs_within, is_certificate}
+use Rattle.stack_bound.specs.Judging.{has_each_block_once, counts_called, counts_callee, counts_ops, counts_block, each_counts, is_bound_within_limits, obs_within, is_certificate}
 use Rattle.stack_bound.specs.declared.certificates.Bound.{Bound}
 use Rattle.stack_bound.proofs.BlockLemmas.{found_id, same_is, same_self}
 
@@ -33,16 +33,16 @@ none_of (Some x) is = absurd cc
 
 -- ---- each block once
 
-are_once_if : (c : List Bound) → are_once c ≡ true → AreOnce c
+are_once_if : (c : List Bound) → has_each_block_once c ≡ true → HasEachBlockOnce c
 are_once_if [] is = tt
 are_once_if (b ∷ rest) is =
-    let parts = and_parts (is_none (bound_of b.block rest)) (are_once rest) is in
+    let parts = and_parts (is_none (bound_of b.block rest)) (has_each_block_once rest) is in
     (none_of (bound_of b.block rest) parts.0, are_once_if rest parts.1)
 
-once_judged : (c : List Bound) → AreOnce c → are_once c ≡ true
+once_judged : (c : List Bound) → HasEachBlockOnce c → has_each_block_once c ≡ true
 once_judged [] is = refl
 once_judged (b ∷ rest) is =
-    and_from (is_none (bound_of b.block rest)) (are_once rest)
+    and_from (is_none (bound_of b.block rest)) (has_each_block_once rest)
     (ap (λ (o : Option Bound). is_none o) is.0) (once_judged rest is.1)
 
 -- each of some bounds is what a list says of its block
@@ -81,7 +81,7 @@ found_behind b c [] none found = tt
 found_behind b c (d ∷ rest) none found =
     (rw (apart b d rest none) found.0, found_behind b c rest (later b d rest none) found.1)
 
-are_found : (c : List Bound) → AreOnce c → AreFound c c
+are_found : (c : List Bound) → HasEachBlockOnce c → AreFound c c
 are_found [] once = tt
 are_found (b ∷ rest) once =
     (rw (same_self b.block) refl, found_behind b rest rest once.0 (are_found rest once.1))
@@ -126,13 +126,13 @@ ops_if : (p : Program) (c : List Bound) (len : ℕ) (b : Bound) (ops : List OpDa
     → CallsIn ops called → CountsCalled len (Some b) (bound_of called c)
 ops_if p c len b [] called d there is calls = absurd calls
 ops_if p c len b (op ∷ ops) called d there is calls =
-    by (and_parts (counts_callee p c len b (callee_of op)) (counts_ops p c len b ops) is)
+    by (and_parts (counts_callee p c len b (callee_of_op op)) (counts_ops p c len b ops) is)
     (λ more behind. ops_if p c len b ops called d there more behind) calls
   where
-    by : (counts_callee p c len b (callee_of op) ≡ true) × (counts_ops p c len b ops ≡ true)
+    by : (counts_callee p c len b (callee_of_op op) ≡ true) × (counts_ops p c len b ops ≡ true)
         → (counts_ops p c len b ops ≡ true → CallsIn ops called
         → CountsCalled len (Some b) (bound_of called c))
-        → (callee_of op ≡ Some called) ⊎ CallsIn ops called
+        → (callee_of_op op ≡ Some called) ⊎ CallsIn ops called
         → CountsCalled len (Some b) (bound_of called c)
     by parts next (inl here) =
         callee_if p c len b called d there
@@ -145,8 +145,8 @@ ops_judged : (p : Program) (c : List Bound) (len : ℕ) (b : Bound) (ops : List 
     → counts_ops p c len b ops ≡ true
 ops_judged p c len b [] counts = refl
 ops_judged p c len b (op ∷ ops) counts =
-    and_from (counts_callee p c len b (callee_of op)) (counts_ops p c len b ops)
-    (callee_judged p c len b (callee_of op) (λ called d is there. counts called d there (inl is)))
+    and_from (counts_callee p c len b (callee_of_op op)) (counts_ops p c len b ops)
+    (callee_judged p c len b (callee_of_op op) (λ called d is there. counts called d there (inl is)))
     (ops_judged p c len b ops (λ called d there calls. counts called d there (inr calls)))
 
 -- ---- each bound of the list
@@ -215,7 +215,7 @@ calls_if p c id called block d (Some b) is here there calls found =
     ops_if p c block.local_len b block.code called d there
     (found_counts p c id block b is here found).2 calls
 
-loaded_if : (p : Program) (c some : List Bound) → each_counts p c some ≡ true → AreLoaded p some
+loaded_if : (p : Program) (c some : List Bound) → each_counts p c some ≡ true → HasLoadedBlocksOnly p some
 loaded_if p c [] is = tt
 loaded_if p c (b ∷ rest) is =
     let parts =
@@ -235,8 +235,8 @@ block_judged p c b block own ops =
     (and_from (nat_le 1 b.depth) (nat_le block.local_len b.bytes) (le_test 1 b.depth own.0)
     (le_test block.local_len b.bytes own.1)) ops
 
-each_judged : (z : Profile) (p : Program) (c some : List Bound) → Holds z p c → AreFound c some
-    → AreLoaded p some → each_counts p c some ≡ true
+each_judged : (z : Profile) (p : Program) (c some : List Bound) → IsCertificateOf z p c → AreFound c some
+    → HasLoadedBlocksOnly p some → each_counts p c some ≡ true
 each_judged z p c [] holds found loaded = refl
 each_judged z p c (b ∷ rest) holds found loaded =
     and_from (counts_block p c b (block_by_id b.block p.code_blocks)) (each_counts p c rest)
@@ -256,51 +256,51 @@ each_judged z p c (b ∷ rest) holds found loaded =
 
 -- ---- organization blocks
 
-within_if : (z : Profile) (b : Option Bound) → is_within z b ≡ true → IsWithin z b
+within_if : (z : Profile) (b : Option Bound) → is_bound_within_limits z b ≡ true → IsBoundWithinLimits z b
 within_if z None is = absurd cc
 within_if z (Some b) is =
     let parts = and_parts (nat_le b.depth (most_frames z)) (nat_le b.bytes most_local_bytes) is in
     (le_of b.depth (most_frames z) parts.0, le_of b.bytes most_local_bytes parts.1)
 
-within_judged : (z : Profile) (b : Option Bound) → IsWithin z b → is_within z b ≡ true
+within_judged : (z : Profile) (b : Option Bound) → IsBoundWithinLimits z b → is_bound_within_limits z b ≡ true
 within_judged z None within = absurd within
 within_judged z (Some b) within =
     and_from (nat_le b.depth (most_frames z)) (nat_le b.bytes most_local_bytes)
     (le_test b.depth (most_frames z) within.0) (le_test b.bytes most_local_bytes within.1)
 
 ob_within : (z : Profile) (c : List Bound) (id : BlockId) → id.kind ≡ Ob
-    → (not (is_organization_block id.kind) || is_within z (bound_of id c)) ≡ true
-    → IsWithin z (bound_of id c)
+    → (not (is_organization_block id.kind) || is_bound_within_limits z (bound_of id c)) ≡ true
+    → IsBoundWithinLimits z (bound_of id c)
 ob_within z c id ob is =
     within_if z (bound_of id c)
-    (sym (ap (λ (k : BlockKind). not (is_organization_block k) || is_within z (bound_of id c)) ob) ∙ is)
+    (sym (ap (λ (k : BlockKind). not (is_organization_block k) || is_bound_within_limits z (bound_of id c)) ob) ∙ is)
 
 obs_if : (z : Profile) (c : List Bound) (blocks : List CodeBlock) (more : List BlockId) (id : BlockId)
     (b : CodeBlock) → obs_within z c (map (λ (x : CodeBlock). x.id) blocks ++ more) ≡ true
-    → block_by_id id blocks ≡ Some b → id.kind ≡ Ob → IsWithin z (bound_of id c)
+    → block_by_id id blocks ≡ Some b → id.kind ≡ Ob → IsBoundWithinLimits z (bound_of id c)
 obs_if z c [] more id b is there ob = absurd cc
 obs_if z c (one ∷ blocks) more id b is there ob =
-    by (and_parts (not (is_organization_block one.id.kind) || is_within z (bound_of one.id c))
+    by (and_parts (not (is_organization_block one.id.kind) || is_bound_within_limits z (bound_of one.id c))
     (obs_within z c (map (λ (x : CodeBlock). x.id) blocks ++ more)) is)
     (λ parts behind. obs_if z c blocks more id b parts behind ob) (is_same_id one.id id) refl there
   where
-    by : ((not (is_organization_block one.id.kind) || is_within z (bound_of one.id c)) ≡ true)
+    by : ((not (is_organization_block one.id.kind) || is_bound_within_limits z (bound_of one.id c)) ≡ true)
         × (obs_within z c (map (λ (x : CodeBlock). x.id) blocks ++ more) ≡ true)
         → (obs_within z c (map (λ (x : CodeBlock). x.id) blocks ++ more) ≡ true
-        → block_by_id id blocks ≡ Some b → IsWithin z (bound_of id c))
+        → block_by_id id blocks ≡ Some b → IsBoundWithinLimits z (bound_of id c))
         → (test : Bool) → is_same_id one.id id ≡ test
-        → (if test then Some one else block_by_id id blocks) ≡ Some b → IsWithin z (bound_of id c)
+        → (if test then Some one else block_by_id id blocks) ≡ Some b → IsBoundWithinLimits z (bound_of id c)
     by parts next true same here =
         let is_it : one.id ≡ id = same_is one.id id same in
         ob_within z c id ob
-        (subst (λ (x : BlockId). (not (is_organization_block x.kind) || is_within z (bound_of x c)) ≡ true)
+        (subst (λ (x : BlockId). (not (is_organization_block x.kind) || is_bound_within_limits z (bound_of x c)) ≡ true)
         is_it parts.0)
     by parts next false same behind = next parts.1 behind
 
 -- that an organization block which is loaded has a bound within the limits
 abbrev ObsWithin : Profile → List Bound → List CodeBlock → Type 0
 ObsWithin z c blocks =
-    (b : CodeBlock) → block_by_id b.id blocks ≡ Some b → b.id.kind ≡ Ob → IsWithin z (bound_of b.id c)
+    (b : CodeBlock) → block_by_id b.id blocks ≡ Some b → b.id.kind ≡ Ob → IsBoundWithinLimits z (bound_of b.id c)
 
 data_judged : (z : Profile) (c : List Bound) (datas : List DataBlock)
     → obs_within z c (map data_block_id datas) ≡ true
@@ -311,12 +311,12 @@ data_judged z c (d ∷ datas) = data_judged z c datas
 is_there : (b : CodeBlock) (rest : List CodeBlock) → block_by_id b.id (b ∷ rest) ≡ Some b
 is_there b rest = rw (same_self b.id) refl
 
-test_judged : (z : Profile) (c : List Bound) (id : BlockId) → (id.kind ≡ Ob → IsWithin z (bound_of id c))
-    → (not (is_organization_block id.kind) || is_within z (bound_of id c)) ≡ true
+test_judged : (z : Profile) (c : List Bound) (id : BlockId) → (id.kind ≡ Ob → IsBoundWithinLimits z (bound_of id c))
+    → (not (is_organization_block id.kind) || is_bound_within_limits z (bound_of id c)) ≡ true
 test_judged z c id within = by id.kind refl
   where
     by : (k : BlockKind) → id.kind ≡ k
-        → (not (is_organization_block k) || is_within z (bound_of id c)) ≡ true
+        → (not (is_organization_block k) || is_bound_within_limits z (bound_of id c)) ≡ true
     by Ob is = within_judged z (bound_of id c) (within is)
     by Fc is = refl
     by Fb is = refl
@@ -329,15 +329,15 @@ abbrev IsFoundIn : List CodeBlock → BlockId → Type 0
 IsFoundIn blocks id = IsSome (block_by_id id blocks)
 
 found_within : (z : Profile) (c : List Bound) (blocks : List CodeBlock) (id : BlockId)
-    → ObsWithin z c blocks → IsFoundIn blocks id → id.kind ≡ Ob → IsWithin z (bound_of id c)
+    → ObsWithin z c blocks → IsFoundIn blocks id → id.kind ≡ Ob → IsBoundWithinLimits z (bound_of id c)
 found_within z c blocks id within found ob = by (block_by_id id blocks) refl found
   where
     by : (there : Option CodeBlock) → block_by_id id blocks ≡ there → IsSome there
-        → IsWithin z (bound_of id c)
+        → IsBoundWithinLimits z (bound_of id c)
     by None is none = absurd cc
     by (Some b) is some =
         let same : b.id ≡ id = found_id id blocks b is in
-        subst (λ (x : BlockId). IsWithin z (bound_of x c)) same
+        subst (λ (x : BlockId). IsBoundWithinLimits z (bound_of x c)) same
         (within b (subst (λ (x : BlockId). block_by_id x blocks ≡ Some b) (sym same) is)
         (ap (λ (x : BlockId). x.kind) same ∙ ob))
 
@@ -354,7 +354,7 @@ obs_judged : (z : Profile) (c : List Bound) (all blocks : List CodeBlock) (datas
     → obs_within z c (map (λ (x : CodeBlock). x.id) blocks ++ map data_block_id datas) ≡ true
 obs_judged z c all [] datas within among = data_judged z c datas
 obs_judged z c all (one ∷ blocks) datas within among =
-    and_from (not (is_organization_block one.id.kind) || is_within z (bound_of one.id c))
+    and_from (not (is_organization_block one.id.kind) || is_bound_within_limits z (bound_of one.id c))
     (obs_within z c (map (λ (x : CodeBlock). x.id) blocks ++ map data_block_id datas))
     (test_judged z c one.id (λ ob. found_within z c all one.id within
     (among one.id (ap (λ (o : Option CodeBlock). is_some o) (is_there one blocks))) ob))
@@ -362,13 +362,13 @@ obs_judged z c all (one ∷ blocks) datas within among =
 
 -- ---- together
 
-holds_if : (z : Profile) (p : Program) (c : List Bound) → is_certificate z p c ≡ true → Holds z p c
+holds_if : (z : Profile) (p : Program) (c : List Bound) → is_certificate z p c ≡ true → IsCertificateOf z p c
 holds_if z p c is =
-    by (and_parts (are_once c && each_counts p c c) (obs_within z c (block_ids p)) is)
+    by (and_parts (has_each_block_once c && each_counts p c c) (obs_within z c (block_ids p)) is)
   where
-    by : ((are_once c && each_counts p c c) ≡ true) × (obs_within z c (block_ids p) ≡ true) → Holds z p c
+    by : ((has_each_block_once c && each_counts p c c) ≡ true) × (obs_within z c (block_ids p) ≡ true) → IsCertificateOf z p c
     by parts =
-        let one = and_parts (are_once c) (each_counts p c c) parts.0 in
+        let one = and_parts (has_each_block_once c) (each_counts p c c) parts.0 in
         record {
           once = are_once_if c one.0;
           loaded = loaded_if p c c one.1;
@@ -378,12 +378,12 @@ holds_if z p c is =
               calls_if p c id called b d (bound_of id c) one.1 here there calls refl;
         }
 
-judged_if : (z : Profile) (p : Program) (c : List Bound) → Holds z p c → is_certificate z p c ≡ true
+judged_if : (z : Profile) (p : Program) (c : List Bound) → IsCertificateOf z p c → is_certificate z p c ≡ true
 judged_if z p c holds =
-    and_from (are_once c && each_counts p c c) (obs_within z c (block_ids p))
-    (and_from (are_once c) (each_counts p c c) (once_judged c holds.once)
+    and_from (has_each_block_once c && each_counts p c c) (obs_within z c (block_ids p))
+    (and_from (has_each_block_once c) (each_counts p c c) (once_judged c holds.once)
     (each_judged z p c c holds (are_found c holds.once) holds.loaded))
     (obs_judged z c p.code_blocks p.code_blocks p.data_blocks holds.obs (λ id found. found))
 
-pub judges : (z : Profile) (p : Program) (c : List Bound) → IsTrue (is_certificate z p c) ↔ Holds z p c
+pub judges : (z : Profile) (p : Program) (c : List Bound) → IsTrue (is_certificate z p c) ↔ IsCertificateOf z p c
 judges z p c = (holds_if z p c, judged_if z p c)

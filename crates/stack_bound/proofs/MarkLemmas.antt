@@ -2,7 +2,7 @@
 use Rattle.std.proofs.Common.{◌≡◌, ℕ, suc, ◌<◌, Bool, true, false, List, [], ◌∷◌, ◌++◌, length, refl, ap, arith, if◌then◌else◌}
 use Rattle.plc_base.specs.declared.blocks.BlockId.{BlockId}
 use Rattle.image_file.specs.Readers.{is_same_id}
-use Rattle.stack_bound.specs.Marks.{mark, marked_behind}
+use Rattle.stack_bound.specs.Marks.{with_block_marked, marked_behind}
 use Rattle.stack_bound.specs.declared.certificates.Bound.{Bound}
 
 -- ---- lengths
@@ -11,15 +11,15 @@ one_more : (a b : ℕ) → a ≡ b → suc a ≡ suc b
 one_more a b same = omega (arith, same)
 
 pub mark_len : (marks : List Bool) (list : List Bound) (block : BlockId)
-    → length (mark marks list block) ≡ length marks
+    → length (with_block_marked marks list block) ≡ length marks
 mark_len [] list block = refl
 mark_len (m ∷ marks) [] block = refl
 mark_len (m ∷ marks) (b ∷ list) block = by (is_same_id b.block block) (mark_len marks list block)
   where
-    by : (test : Bool) → length (mark marks list block) ≡ length marks
-        → length (if test then true ∷ marks else m ∷ mark marks list block) ≡ length (m ∷ marks)
+    by : (test : Bool) → length (with_block_marked marks list block) ≡ length marks
+        → length (if test then true ∷ marks else m ∷ with_block_marked marks list block) ≡ length (m ∷ marks)
     by true rest = one_more (length marks) (length marks) refl
-    by false rest = one_more (length (mark marks list block)) (length marks) rest
+    by false rest = one_more (length (with_block_marked marks list block)) (length marks) rest
 
 -- ---- the end of a list
 

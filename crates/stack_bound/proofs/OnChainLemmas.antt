@@ -11,13 +11,13 @@ use Rattle.plc_base.specs.declared.blocks.BlockKind.TheVariants.{Ob, Fc, Fb, Db,
 use Rattle.flat_code.specs.Ops.{OpData}
 use Rattle.flat_code.specs.Programs.{CodeBlock, Program}
 use Rattle.image_file.specs.Readers.{block_by_id, block_ids, is_same_id}
-use Rattle.stack_bound.specs.Calls.{Calls, CallsIn, callee_of}
-use Rattle.stack_bound.specs.Certificates.{bound_of, AreLoaded}
-use Rattle.stack_bound.specs.Chains.{CallEachOther, IsChain, most_local_bytes}
-use Rattle.stack_bound.specs.Deepest.{IsOver, first_over, measure_over, ob_over, over_or}
-use Rattle.stack_bound.specs.Finding.{IsOnChain, last_of}
-use Rattle.stack_bound.specs.Layers.{bound_above, layers, limit, most_called, number, number_if, number_in, weight}
-use Rattle.stack_bound.specs.Marks.{mark, mark_all, mark_called, mark_called_by, mark_callee, mark_ops, marks, ob_marks}
+use Rattle.stack_bound.specs.Calls.{Calls, CallsIn, callee_of_op}
+use Rattle.stack_bound.specs.Certificates.{bound_of, HasLoadedBlocksOnly}
+use Rattle.stack_bound.specs.Chains.{CallEachOther, IsCallChain, most_local_bytes}
+use Rattle.stack_bound.specs.Deepest.{IsLoadedObOver, first_over, measure_over, ob_over, over_or}
+use Rattle.stack_bound.specs.Finding.{IsOnChain, last_block_of}
+use Rattle.stack_bound.specs.Layers.{bound_above, layer_of_height, limit_of_measure, most_called, measure_of_bound, measure_if_bound, measure_in_layer, measure_of_block}
+use Rattle.stack_bound.specs.Marks.{with_block_marked, with_callees_marked, mark_called, mark_called_by, mark_callee, mark_ops, marks_of_round, ob_marks}
 use Rattle.stack_bound.specs.declared.certificates.Bound.{Bound}
 use Rattle.stack_bound.specs.declared.deepest.Over.{Over}
 use Rattle.stack_bound.specs.declared.measures.Measure.{Measure}
@@ -44,32 +44,32 @@ is_ob Udt is = absurd cc
 
 -- a bound that is over in a measure
 over_by : (profile : Profile) (b : Option Bound) (m : Measure) → measure_over profile b ≡ Some m
-    → limit profile m < number_if m b
+    → limit_of_measure profile m < measure_if_bound m b
 over_by profile None m is = absurd cc
-over_by profile (Some b) m is = by (nat_lt (limit profile Depth) b.depth) refl is
+over_by profile (Some b) m is = by (nat_lt (limit_of_measure profile Depth) b.depth) refl is
   where
     measure_in : Option Measure → Measure
     measure_in None = m
     measure_in (Some x) = x
 
-    in_bytes : (test : Bool) → nat_lt (limit profile Bytes) b.bytes ≡ test
-        → (if test then Some Bytes else None) ≡ Some m → limit profile m < number m b
+    in_bytes : (test : Bool) → nat_lt (limit_of_measure profile Bytes) b.bytes ≡ test
+        → (if test then Some Bytes else None) ≡ Some m → limit_of_measure profile m < measure_of_bound m b
     in_bytes true more same =
-        subst (λ (x : Measure). limit profile x < number x b)
-        (ap (λ (o : Option Measure). measure_in o) same) (less_of (limit profile Bytes) b.bytes more)
+        subst (λ (x : Measure). limit_of_measure profile x < measure_of_bound x b)
+        (ap (λ (o : Option Measure). measure_in o) same) (less_of (limit_of_measure profile Bytes) b.bytes more)
     in_bytes false few same = absurd cc
 
-    by : (test : Bool) → nat_lt (limit profile Depth) b.depth ≡ test
-        → (if test then Some Depth else if nat_lt (limit profile Bytes) b.bytes then Some Bytes else None) ≡ Some m
-        → limit profile m < number m b
+    by : (test : Bool) → nat_lt (limit_of_measure profile Depth) b.depth ≡ test
+        → (if test then Some Depth else if nat_lt (limit_of_measure profile Bytes) b.bytes then Some Bytes else None) ≡ Some m
+        → limit_of_measure profile m < measure_of_bound m b
     by true more same =
-        subst (λ (x : Measure). limit profile x < number x b)
-        (ap (λ (o : Option Measure). measure_in o) same) (less_of (limit profile Depth) b.depth more)
-    by false few same = in_bytes (nat_lt (limit profile Bytes) b.bytes) refl same
+        subst (λ (x : Measure). limit_of_measure profile x < measure_of_bound x b)
+        (ap (λ (o : Option Measure). measure_in o) same) (less_of (limit_of_measure profile Depth) b.depth more)
+    by false few same = in_bytes (nat_lt (limit_of_measure profile Bytes) b.bytes) refl same
 
 -- of which a layer says something
 said_loaded : (p : Program) (m : Measure) (k : ℕ) (block : BlockId) (n : ℕ)
-    → n < number_in m (layers (suc k) p) (Some block) → IsSome (block_by_id block p.code_blocks)
+    → n < measure_in_layer m (layer_of_height (suc k) p) (Some block) → IsSome (block_by_id block p.code_blocks)
 said_loaded p m k block n some = by (block_by_id block p.code_blocks) refl
   where
     by : (found : Option CodeBlock) → block_by_id block p.code_blocks ≡ found → IsSome found
@@ -77,25 +77,25 @@ said_loaded p m k block n some = by (block_by_id block p.code_blocks) refl
         absurd (omega (
           arith,
           some,
-          ap (λ (o : Option Bound). number_if m o) (layer_lacks p (layers k p) block is),
+          ap (λ (o : Option Bound). measure_if_bound m o) (layer_lacks p (layer_of_height k p) block is),
         ))
     by (Some b) is = refl
 
 over_is : (profile : Profile) (p : Program) (k : ℕ) (id : BlockId) (m : Measure)
-    → ob_over profile (layers (suc k) p) id ≡ Some m
-    → IsOver profile p (layers (suc k) p) (record { block = id; measure = m })
+    → ob_over profile (layer_of_height (suc k) p) id ≡ Some m
+    → IsLoadedObOver profile p (layer_of_height (suc k) p) (record { block = id; measure = m })
 over_is profile p k id m is = by (is_organization_block id.kind) refl is
   where
-    more : measure_over profile (bound_of id (layers (suc k) p)) ≡ Some m
-        → limit profile m < number_in m (layers (suc k) p) (Some id)
-    more over = over_by profile (bound_of id (layers (suc k) p)) m over
+    more : measure_over profile (bound_of id (layer_of_height (suc k) p)) ≡ Some m
+        → limit_of_measure profile m < measure_in_layer m (layer_of_height (suc k) p) (Some id)
+    more over = over_by profile (bound_of id (layer_of_height (suc k) p)) m over
 
     by : (test : Bool) → is_organization_block id.kind ≡ test
-        → (if test then measure_over profile (bound_of id (layers (suc k) p)) else None) ≡ Some m
-        → IsOver profile p (layers (suc k) p) (record { block = id; measure = m })
+        → (if test then measure_over profile (bound_of id (layer_of_height (suc k) p)) else None) ≡ Some m
+        → IsLoadedObOver profile p (layer_of_height (suc k) p) (record { block = id; measure = m })
     by true ob over = record {
       organization = is_ob id.kind ob;
-      loaded = said_loaded p m k id (limit profile m) (more over);
+      loaded = said_loaded p m k id (limit_of_measure profile m) (more over);
       is_over = more over;
     }
     by false ob over = absurd cc
@@ -105,18 +105,18 @@ over_in d None = d
 over_in d (Some x) = x
 
 pub first_is_over : (profile : Profile) (p : Program) (k : ℕ) (ids : List BlockId) (over : Over)
-    → first_over profile (layers (suc k) p) ids ≡ Some over → IsOver profile p (layers (suc k) p) over
+    → first_over profile (layer_of_height (suc k) p) ids ≡ Some over → IsLoadedObOver profile p (layer_of_height (suc k) p) over
 first_is_over profile p k [] over is = absurd cc
 first_is_over profile p k (id ∷ ids) over is =
-    by (ob_over profile (layers (suc k) p) id) refl is (λ later. first_is_over profile p k ids over later)
+    by (ob_over profile (layer_of_height (suc k) p) id) refl is (λ later. first_is_over profile p k ids over later)
   where
-    by : (found : Option Measure) → ob_over profile (layers (suc k) p) id ≡ found
-        → over_or id found (first_over profile (layers (suc k) p) ids) ≡ Some over
-        → (first_over profile (layers (suc k) p) ids ≡ Some over → IsOver profile p (layers (suc k) p) over)
-        → IsOver profile p (layers (suc k) p) over
+    by : (found : Option Measure) → ob_over profile (layer_of_height (suc k) p) id ≡ found
+        → over_or id found (first_over profile (layer_of_height (suc k) p) ids) ≡ Some over
+        → (first_over profile (layer_of_height (suc k) p) ids ≡ Some over → IsLoadedObOver profile p (layer_of_height (suc k) p) over)
+        → IsLoadedObOver profile p (layer_of_height (suc k) p) over
     by None none same next = next same
     by (Some m) some same next =
-        subst (λ (o : Over). IsOver profile p (layers (suc k) p) o)
+        subst (λ (o : Over). IsLoadedObOver profile p (layer_of_height (suc k) p) o)
         (ap (λ (o : Option Over). over_in over o) same) (over_is profile p k id m some)
 
 none_over : (profile : Profile) (layer : List Bound) (ids : List BlockId) (id : BlockId)
@@ -137,19 +137,19 @@ none_over profile layer (one ∷ ids) id is there =
 -- a bound that isn't over
 within_by : (profile : Profile) (b : Bound) → measure_over profile (Some b) ≡ None
     → (b.depth ≤ most_frames profile) × (b.bytes ≤ most_local_bytes)
-within_by profile b is = by (nat_lt (limit profile Depth) b.depth) refl is
+within_by profile b is = by (nat_lt (limit_of_measure profile Depth) b.depth) refl is
   where
-    in_bytes : (test : Bool) → nat_lt (limit profile Bytes) b.bytes ≡ test
+    in_bytes : (test : Bool) → nat_lt (limit_of_measure profile Bytes) b.bytes ≡ test
         → (if test then Some Bytes else None) ≡ None → b.bytes ≤ most_local_bytes
     in_bytes true more none = absurd cc
     in_bytes false few none = more_of most_local_bytes b.bytes few
 
-    by : (test : Bool) → nat_lt (limit profile Depth) b.depth ≡ test
-        → (if test then Some Depth else if nat_lt (limit profile Bytes) b.bytes then Some Bytes else None) ≡ None
+    by : (test : Bool) → nat_lt (limit_of_measure profile Depth) b.depth ≡ test
+        → (if test then Some Depth else if nat_lt (limit_of_measure profile Bytes) b.bytes then Some Bytes else None) ≡ None
         → (b.depth ≤ most_frames profile) × (b.bytes ≤ most_local_bytes)
     by true more none = absurd cc
     by false few none =
-        (more_of (most_frames profile) b.depth few, in_bytes (nat_lt (limit profile Bytes) b.bytes) refl none)
+        (more_of (most_frames profile) b.depth few, in_bytes (nat_lt (limit_of_measure profile Bytes) b.bytes) refl none)
 
 -- no organization block is above the limits
 abbrev pub NoneOver : Profile → Program → List Bound → Type 0
@@ -168,7 +168,7 @@ ob_within profile p layer ob b e none kind there found =
 
 -- the highest layer of a profile
 abbrev pub highest : Profile → Program → List Bound
-highest profile p = layers (suc (most_frames profile)) p
+highest profile p = layer_of_height (suc (most_frames profile)) p
 
 below_top : (n most : ℕ) → n ≤ most → n < suc most
 below_top n most is = omega (arith, is)
@@ -179,13 +179,13 @@ counts_in x w most called is less = omega (arith, is, less)
 -- where a block isn't deep, its numbers count what it calls
 pub counts_down : (profile : Profile) (p : Program) (m : Measure) (x called : BlockId) (b : CodeBlock)
     → block_by_id x p.code_blocks ≡ Some b → CallsIn b.code called
-    → number_in Depth (highest profile p) (Some x) ≤ most_frames profile
-    → weight m b + number_in m (highest profile p) (Some called) ≤ number_in m (highest profile p) (Some x)
+    → measure_in_layer Depth (highest profile p) (Some x) ≤ most_frames profile
+    → measure_of_block m b + measure_in_layer m (highest profile p) (Some called) ≤ measure_in_layer m (highest profile p) (Some x)
 counts_down profile p m x called b there calls few =
-    counts_in (number_in m (highest profile p) (Some x)) (weight m b)
-    (most_called m (highest profile p) b.code) (number_in m (highest profile p) (Some called))
+    counts_in (measure_in_layer m (highest profile p) (Some x)) (measure_of_block m b)
+    (most_called m (highest profile p) b.code) (measure_in_layer m (highest profile p) (Some called))
     (settled m p (suc (most_frames profile)) x b there
-    (below_top (number_in Depth (highest profile p) (Some x)) (most_frames profile) few))
+    (below_top (measure_in_layer Depth (highest profile p) (Some x)) (most_frames profile) few))
     (called_most m (highest profile p) b.code called calls)
 
 down_one : (d x most : ℕ) → 1 + d ≤ x → x ≤ most → d ≤ most
@@ -198,33 +198,33 @@ down_none : (x : ℕ) → x + 0 ≤ x
 down_none x = omega arith
 
 down_chain : (profile : Profile) (p : Program) (x : BlockId) (rest : List BlockId)
-    → number_in Depth (highest profile p) (Some x) ≤ most_frames profile → CallEachOther p x rest
-    → number_in Depth (highest profile p) (Some (last_of x rest)) + length rest
-    ≤ number_in Depth (highest profile p) (Some x)
-down_chain profile p x [] few each = down_none (number_in Depth (highest profile p) (Some x))
+    → measure_in_layer Depth (highest profile p) (Some x) ≤ most_frames profile → CallEachOther p x rest
+    → measure_in_layer Depth (highest profile p) (Some (last_block_of x rest)) + length rest
+    ≤ measure_in_layer Depth (highest profile p) (Some x)
+down_chain profile p x [] few each = down_none (measure_in_layer Depth (highest profile p) (Some x))
 down_chain profile p x (d ∷ more) few each =
-    down_more (number_in Depth (highest profile p) (Some (last_of d more))) (length more)
-    (number_in Depth (highest profile p) (Some d)) (number_in Depth (highest profile p) (Some x))
+    down_more (measure_in_layer Depth (highest profile p) (Some (last_block_of d more))) (length more)
+    (measure_in_layer Depth (highest profile p) (Some d)) (measure_in_layer Depth (highest profile p) (Some x))
     (down_chain profile p d more
-    (down_one (number_in Depth (highest profile p) (Some d)) (number_in Depth (highest profile p) (Some x))
+    (down_one (measure_in_layer Depth (highest profile p) (Some d)) (measure_in_layer Depth (highest profile p) (Some x))
     (most_frames profile) step few) each.1) step
   where
-    step : 1 + number_in Depth (highest profile p) (Some d) ≤ number_in Depth (highest profile p) (Some x)
+    step : 1 + measure_in_layer Depth (highest profile p) (Some d) ≤ measure_in_layer Depth (highest profile p) (Some x)
     step = counts_down profile p Depth x d each.0.from each.0.is_loaded each.0.calls few
 
 ob_few : (profile : Profile) (p : Program) (ob : BlockId) → NoneOver profile p (highest profile p)
     → ob.kind ≡ Ob → IsSome (block_by_id ob p.code_blocks)
-    → number_in Depth (highest profile p) (Some ob) ≤ most_frames profile
+    → measure_in_layer Depth (highest profile p) (Some ob) ≤ most_frames profile
 ob_few profile p ob none kind loaded = by (block_by_id ob p.code_blocks) refl loaded
   where
     by : (found : Option CodeBlock) → block_by_id ob p.code_blocks ≡ found → IsSome found
-        → number_in Depth (highest profile p) (Some ob) ≤ most_frames profile
+        → measure_in_layer Depth (highest profile p) (Some ob) ≤ most_frames profile
     by None there isnt = absurd cc
     by (Some b) there some =
-        subst (λ (o : Option Bound). number_if Depth o ≤ most_frames profile)
-        (sym (layer_has p (layers (most_frames profile) p) ob b there))
-        (ob_within profile p (highest profile p) ob b (bound_above (layers (most_frames profile) p) ob b) none kind
-        there (layer_has p (layers (most_frames profile) p) ob b there)).0
+        subst (λ (o : Option Bound). measure_if_bound Depth o ≤ most_frames profile)
+        (sym (layer_has p (layer_of_height (most_frames profile) p) ob b there))
+        (ob_within profile p (highest profile p) ob b (bound_above (layer_of_height (most_frames profile) p) ob b) none kind
+        there (layer_has p (layer_of_height (most_frames profile) p) ob b there)).0
 
 first_of : (a n most : ℕ) → a + n ≤ most → a ≤ most
 first_of a n most is = omega (arith, is)
@@ -237,33 +237,33 @@ within_of a b most one other = omega (arith, one, other)
 
 chain_few : (profile : Profile) (p : Program) (x : BlockId) (on : IsOnChain p x)
     → NoneOver profile p (highest profile p)
-    → number_in Depth (highest profile p) (Some x) + length on.rest ≤ most_frames profile
+    → measure_in_layer Depth (highest profile p) (Some x) + length on.rest ≤ most_frames profile
 chain_few profile p x on none =
-    subst (λ (y : BlockId). number_in Depth (highest profile p) (Some y) + length on.rest ≤ most_frames profile)
+    subst (λ (y : BlockId). measure_in_layer Depth (highest profile p) (Some y) + length on.rest ≤ most_frames profile)
     on.ends
-    (within_of (number_in Depth (highest profile p) (Some (last_of on.ob on.rest)) + length on.rest)
-    (number_in Depth (highest profile p) (Some on.ob)) (most_frames profile)
+    (within_of (measure_in_layer Depth (highest profile p) (Some (last_block_of on.ob on.rest)) + length on.rest)
+    (measure_in_layer Depth (highest profile p) (Some on.ob)) (most_frames profile)
     (down_chain profile p on.ob on.rest few on.is_chain.2) few)
   where
-    few : number_in Depth (highest profile p) (Some on.ob) ≤ most_frames profile
+    few : measure_in_layer Depth (highest profile p) (Some on.ob) ≤ most_frames profile
     few = ob_few profile p on.ob none on.is_chain.0 on.is_chain.1
 
 -- no block on a chain is deep
 pub few_on_chain : (profile : Profile) (p : Program) (x : BlockId) → IsOnChain p x
     → NoneOver profile p (highest profile p)
-    → number_in Depth (highest profile p) (Some x) ≤ most_frames profile
+    → measure_in_layer Depth (highest profile p) (Some x) ≤ most_frames profile
 few_on_chain profile p x on none =
-    first_of (number_in Depth (highest profile p) (Some x)) (length on.rest) (most_frames profile)
+    first_of (measure_in_layer Depth (highest profile p) (Some x)) (length on.rest) (most_frames profile)
     (chain_few profile p x on none)
 
 -- ---- one block more
 
 extend : (p : Program) (x : BlockId) (rest : List BlockId) (y : BlockId) → CallEachOther p x rest
-    → Calls p (last_of x rest) y → CallEachOther p x (rest ++ y ∷ [])
+    → Calls p (last_block_of x rest) y → CallEachOther p x (rest ++ y ∷ [])
 extend p x [] y each calls = (calls, tt)
 extend p x (d ∷ more) y each calls = (each.0, extend p d more y each.1 calls)
 
-last_more : (x : BlockId) (rest : List BlockId) (y : BlockId) → last_of x (rest ++ y ∷ []) ≡ y
+last_more : (x : BlockId) (rest : List BlockId) (y : BlockId) → last_block_of x (rest ++ y ∷ []) ≡ y
 last_more x [] y = refl
 last_more x (d ∷ more) y = last_more d more y
 
@@ -297,28 +297,28 @@ not_both : (test : Bool) → test ≡ true → test ≡ false → ⊥
 not_both test is isnt = let e : true ≡ false = sym is ∙ isnt in cc
 
 mark_keeps : (marks : List Bool) (list : List Bound) (y x : BlockId) → FirstOf marks list x
-    → FirstOf (mark marks list y) list x
+    → FirstOf (with_block_marked marks list y) list x
 mark_keeps [] [] y x all = tt
 mark_keeps [] (b ∷ list) y x all = all
 mark_keeps (m ∷ marks) [] y x all = tt
 mark_keeps (m ∷ marks) (b ∷ list) y x all =
     by (is_same_id b.block y) (λ apart. mark_keeps marks list y x (all.1 apart))
   where
-    by : (test : Bool) → (is_same_id b.block x ≡ false → FirstOf (mark marks list y) list x)
-        → FirstOf (if test then true ∷ marks else m ∷ mark marks list y) (b ∷ list) x
+    by : (test : Bool) → (is_same_id b.block x ≡ false → FirstOf (with_block_marked marks list y) list x)
+        → FirstOf (if test then true ∷ marks else m ∷ with_block_marked marks list y) (b ∷ list) x
     by true rest = (λ same. refl, all.1)
     by false rest = (all.0, rest)
 
 mark_marks : (marks : List Bool) (list : List Bound) (x : BlockId) → length marks ≡ length list
-    → FirstOf (mark marks list x) list x
+    → FirstOf (with_block_marked marks list x) list x
 mark_marks [] [] x same = tt
 mark_marks [] (b ∷ list) x same = absurd (omega (arith, same))
 mark_marks (m ∷ marks) [] x same = tt
 mark_marks (m ∷ marks) (b ∷ list) x same =
     by (is_same_id b.block x) refl (mark_marks marks list x (omega (arith, same)))
   where
-    by : (test : Bool) → is_same_id b.block x ≡ test → FirstOf (mark marks list x) list x
-        → FirstOf (if test then true ∷ marks else m ∷ mark marks list x) (b ∷ list) x
+    by : (test : Bool) → is_same_id b.block x ≡ test → FirstOf (with_block_marked marks list x) list x
+        → FirstOf (if test then true ∷ marks else m ∷ with_block_marked marks list x) (b ∷ list) x
     by true is rest = (λ here. refl, λ apart. absurd (not_both (is_same_id b.block x) is apart))
     by false apart rest = (λ here. absurd (not_both (is_same_id b.block x) here apart), λ isnt. rest)
 
@@ -336,24 +336,24 @@ ops_keep : (marks : List Bool) (list : List Bound) (ops : List OpData) (x : Bloc
     → FirstOf (mark_ops marks list ops) list x
 ops_keep marks list [] x all = all
 ops_keep marks list (op ∷ ops) x all =
-    ops_keep (mark_callee marks list (callee_of op)) list ops x
-    (callee_keeps marks list (callee_of op) x all)
+    ops_keep (mark_callee marks list (callee_of_op op)) list ops x
+    (callee_keeps marks list (callee_of_op op) x all)
 
 ops_len : (marks : List Bool) (list : List Bound) (ops : List OpData)
     → length (mark_ops marks list ops) ≡ length marks
 ops_len marks list [] = refl
 ops_len marks list (op ∷ ops) =
-    ops_len (mark_callee marks list (callee_of op)) list ops ∙ callee_len marks list (callee_of op)
+    ops_len (mark_callee marks list (callee_of_op op)) list ops ∙ callee_len marks list (callee_of_op op)
 
 ops_mark : (marks : List Bool) (list : List Bound) (ops : List OpData) (x : BlockId)
     → length marks ≡ length list → CallsIn ops x → FirstOf (mark_ops marks list ops) list x
 ops_mark marks list [] x same calls = absurd calls
 ops_mark marks list (op ∷ ops) x same (inl here) =
-    ops_keep (mark_callee marks list (callee_of op)) list ops x
+    ops_keep (mark_callee marks list (callee_of_op op)) list ops x
     (subst (λ (o : Option BlockId). FirstOf (mark_callee marks list o) list x) (sym here)
     (mark_marks marks list x same))
 ops_mark marks list (op ∷ ops) x same (inr later) =
-    ops_mark (mark_callee marks list (callee_of op)) list ops x (callee_len marks list (callee_of op) ∙ same) later
+    ops_mark (mark_callee marks list (callee_of_op op)) list ops x (callee_len marks list (callee_of_op op) ∙ same) later
 
 abbrev one_round : Program → List Bound → List Bool → Bool → Bound → List Bool
 one_round p list marks m b =
@@ -380,7 +380,7 @@ round_len p list marks true b = called_len marks list (block_by_id b.block p.cod
 round_len p list marks false b = refl
 
 all_keep : (p : Program) (list : List Bound) (marks before : List Bool) (left : List Bound) (x : BlockId)
-    → FirstOf marks list x → FirstOf (mark_all p list marks before left) list x
+    → FirstOf marks list x → FirstOf (with_callees_marked p list marks before left) list x
 all_keep p list marks [] left x all = all
 all_keep p list marks (m ∷ before) [] x all = all
 all_keep p list marks (m ∷ before) (b ∷ left) x all =
@@ -389,7 +389,7 @@ all_keep p list marks (m ∷ before) (b ∷ left) x all =
 -- what a marked block calls is marked
 all_mark : (p : Program) (list : List Bound) (marks before : List Bool) (left : List Bound) (x y : BlockId)
     (b : CodeBlock) (e : Bound) → length marks ≡ length list → FirstOf before left x → bound_of x left ≡ Some e
-    → block_by_id x p.code_blocks ≡ Some b → CallsIn b.code y → FirstOf (mark_all p list marks before left) list y
+    → block_by_id x p.code_blocks ≡ Some b → CallsIn b.code y → FirstOf (with_callees_marked p list marks before left) list y
 all_mark p list marks before [] x y b e same all found there calls = absurd cc
 all_mark p list marks [] (d ∷ left) x y b e same all found there calls = absurd all
 all_mark p list marks (m ∷ before) (d ∷ left) x y b e same all found there calls =
@@ -406,8 +406,8 @@ all_mark p list marks (m ∷ before) (d ∷ left) x y b e same all found there c
 
     by : (test : Bool) → is_same_id d.block x ≡ test → (if test then Some d else bound_of x left) ≡ Some e
         → (is_same_id d.block x ≡ false → bound_of x left ≡ Some e
-        → FirstOf (mark_all p list (one_round p list marks m d) before left) list y)
-        → FirstOf (mark_all p list (one_round p list marks m d) before left) list y
+        → FirstOf (with_callees_marked p list (one_round p list marks m d) before left) list y)
+        → FirstOf (with_callees_marked p list (one_round p list marks m d) before left) list y
     by true is first next = all_keep p list (one_round p list marks m d) before left y (here is)
     by false is later next = next is later
 
@@ -434,7 +434,7 @@ front_calls p x d [] each = tt
 front_calls p x d (e ∷ more) each = (each.0, front_calls p d e more each.1)
 
 last_calls : (p : Program) (x d : BlockId) (more : List BlockId) → CallEachOther p x (d ∷ more)
-    → Calls p (last_of x (front_of d more)) (last_of d more)
+    → Calls p (last_block_of x (front_of d more)) (last_block_of d more)
 last_calls p x d [] each = each.0
 last_calls p x d (e ∷ more) each = last_calls p d e more each.1
 
@@ -446,32 +446,32 @@ fewer : (a n k : ℕ) → a ≡ n → suc n ≤ suc k → a ≤ k
 fewer a n k is less = omega (arith, is, less)
 
 -- after so many rounds the last block of a chain is marked
-rounds_mark : (p : Program) (j k : ℕ) (ob : BlockId) (rest : List BlockId) → IsChain p (ob ∷ rest)
-    → length rest ≤ k → FirstOf (marks k p (layers (suc j) p)) (layers (suc j) p) (last_of ob rest)
-rounds_mark p j zero ob [] is few = obs_mark (layers (suc j) p) ob is.0
+rounds_mark : (p : Program) (j k : ℕ) (ob : BlockId) (rest : List BlockId) → IsCallChain p (ob ∷ rest)
+    → length rest ≤ k → FirstOf (marks_of_round k p (layer_of_height (suc j) p)) (layer_of_height (suc j) p) (last_block_of ob rest)
+rounds_mark p j zero ob [] is few = obs_mark (layer_of_height (suc j) p) ob is.0
 rounds_mark p j zero ob (d ∷ more) is few = absurd (omega (arith, few))
 rounds_mark p j (suc k) ob [] is few =
-    all_keep p (layers (suc j) p) (ob_marks (layers (suc j) p)) (marks k p (layers (suc j) p)) (layers (suc j) p) ob
-    (obs_mark (layers (suc j) p) ob is.0)
+    all_keep p (layer_of_height (suc j) p) (ob_marks (layer_of_height (suc j) p)) (marks_of_round k p (layer_of_height (suc j) p)) (layer_of_height (suc j) p) ob
+    (obs_mark (layer_of_height (suc j) p) ob is.0)
 rounds_mark p j (suc k) ob (d ∷ more) is few =
-    all_mark p (layers (suc j) p) (ob_marks (layers (suc j) p)) (marks k p (layers (suc j) p)) (layers (suc j) p)
-    (last_of ob (front_of d more)) (last_of d more) call.from
-    (bound_above (layers j p) (last_of ob (front_of d more)) call.from) (obs_len (layers (suc j) p))
+    all_mark p (layer_of_height (suc j) p) (ob_marks (layer_of_height (suc j) p)) (marks_of_round k p (layer_of_height (suc j) p)) (layer_of_height (suc j) p)
+    (last_block_of ob (front_of d more)) (last_block_of d more) call.from
+    (bound_above (layer_of_height j p) (last_block_of ob (front_of d more)) call.from) (obs_len (layer_of_height (suc j) p))
     (rounds_mark p j k ob (front_of d more) (is.0, is.1, front_calls p ob d more is.2)
     (fewer (length (front_of d more)) (length more) k (front_len d more) few))
-    (layer_has p (layers j p) (last_of ob (front_of d more)) call.from call.is_loaded) call.is_loaded call.calls
+    (layer_has p (layer_of_height j p) (last_block_of ob (front_of d more)) call.from call.is_loaded) call.is_loaded call.calls
   where
-    call : Calls p (last_of ob (front_of d more)) (last_of d more)
+    call : Calls p (last_block_of ob (front_of d more)) (last_block_of d more)
     call = last_calls p ob d more is.2
 
 -- so is each block on a chain
 pub marked_on_chain : (profile : Profile) (p : Program) (x : BlockId) → IsOnChain p x
     → NoneOver profile p (highest profile p)
-    → FirstOf (marks (most_frames profile) p (highest profile p)) (highest profile p) x
+    → FirstOf (marks_of_round (most_frames profile) p (highest profile p)) (highest profile p) x
 marked_on_chain profile p x on none =
-    subst (λ (y : BlockId). FirstOf (marks (most_frames profile) p (highest profile p)) (highest profile p) y) on.ends
+    subst (λ (y : BlockId). FirstOf (marks_of_round (most_frames profile) p (highest profile p)) (highest profile p) y) on.ends
     (rounds_mark p (most_frames profile) (most_frames profile) on.ob on.rest on.is_chain
-    (rest_of (number_in Depth (highest profile p) (Some x)) (length on.rest) (most_frames profile)
+    (rest_of (measure_in_layer Depth (highest profile p) (Some x)) (length on.rest) (most_frames profile)
     (chain_few profile p x on none)))
 
 -- ---- and no other block is
@@ -486,16 +486,16 @@ abbrev pub AreOnChains : Program → List Bool → List Bound → Type 0
 AreOnChains p marks list = EachMarked (λ (b : Bound). IsOnChain p b.block) marks list
 
 mark_sound : (p : Program) (marks : List Bool) (list : List Bound) (x : BlockId)
-    → (IsSome (block_by_id x p.code_blocks) → IsOnChain p x) → AreLoaded p list → AreOnChains p marks list
-    → AreOnChains p (mark marks list x) list
+    → (IsSome (block_by_id x p.code_blocks) → IsOnChain p x) → HasLoadedBlocksOnly p list → AreOnChains p marks list
+    → AreOnChains p (with_block_marked marks list x) list
 mark_sound p [] [] x on loaded sound = tt
 mark_sound p [] (b ∷ list) x on loaded sound = tt
 mark_sound p (m ∷ marks) [] x on loaded sound = tt
 mark_sound p (m ∷ marks) (b ∷ list) x on loaded sound =
     by (is_same_id b.block x) refl (mark_sound p marks list x on loaded.1 sound.1)
   where
-    by : (test : Bool) → is_same_id b.block x ≡ test → AreOnChains p (mark marks list x) list
-        → AreOnChains p (if test then true ∷ marks else m ∷ mark marks list x) (b ∷ list)
+    by : (test : Bool) → is_same_id b.block x ≡ test → AreOnChains p (with_block_marked marks list x) list
+        → AreOnChains p (if test then true ∷ marks else m ∷ with_block_marked marks list x) (b ∷ list)
     by true same rest = (
       λ is. subst (λ (y : BlockId). IsOnChain p y) (sym (same_is b.block x same))
           (on (subst (λ (y : BlockId). IsSome (block_by_id y p.code_blocks)) (same_is b.block x same) loaded.0)),
@@ -505,12 +505,12 @@ mark_sound p (m ∷ marks) (b ∷ list) x on loaded sound =
 
 ops_sound : (p : Program) (marks : List Bool) (list : List Bound) (ops : List OpData) (x : BlockId) (b : CodeBlock)
     → block_by_id x p.code_blocks ≡ Some b → IsOnChain p x
-    → ((y : BlockId) → CallsIn ops y → CallsIn b.code y) → AreLoaded p list → AreOnChains p marks list
+    → ((y : BlockId) → CallsIn ops y → CallsIn b.code y) → HasLoadedBlocksOnly p list → AreOnChains p marks list
     → AreOnChains p (mark_ops marks list ops) list
 ops_sound p marks list [] x b there on among loaded sound = sound
 ops_sound p marks list (op ∷ ops) x b there on among loaded sound =
-    ops_sound p (mark_callee marks list (callee_of op)) list ops x b there on (λ y calls. among y (inr calls)) loaded
-    (by (callee_of op) refl)
+    ops_sound p (mark_callee marks list (callee_of_op op)) list ops x b there on (λ y calls. among y (inr calls)) loaded
+    (by (callee_of_op op) refl)
   where
     called : (y : BlockId) → CallsIn b.code y → (found : Option CodeBlock) → block_by_id y p.code_blocks ≡ found
         → IsSome found → IsOnChain p y
@@ -519,15 +519,15 @@ ops_sound p marks list (op ∷ ops) x b there on among loaded sound =
         on_chain_more p x y on
         (record { from = b; to = d; is_loaded = there; called_is_loaded = to; calls = calls })
 
-    by : (callee : Option BlockId) → callee_of op ≡ callee → AreOnChains p (mark_callee marks list callee) list
+    by : (callee : Option BlockId) → callee_of_op op ≡ callee → AreOnChains p (mark_callee marks list callee) list
     by None is = sound
     by (Some y) is =
         mark_sound p marks list y
         (λ some. called y (among y (inl is)) (block_by_id y p.code_blocks) refl some) loaded sound
 
-all_sound : (p : Program) (list : List Bound) (marks before : List Bool) (left : List Bound) → AreLoaded p list
+all_sound : (p : Program) (list : List Bound) (marks before : List Bool) (left : List Bound) → HasLoadedBlocksOnly p list
     → AreOnChains p before left → AreOnChains p marks list
-    → AreOnChains p (mark_all p list marks before left) list
+    → AreOnChains p (with_callees_marked p list marks before left) list
 all_sound p list marks [] left loaded were sound = sound
 all_sound p list marks (m ∷ before) [] loaded were sound = sound
 all_sound p list marks (m ∷ before) (b ∷ left) loaded were sound =
@@ -543,14 +543,14 @@ all_sound p list marks (m ∷ before) (b ∷ left) loaded were sound =
     by true on = called (block_by_id b.block p.code_blocks) refl (on refl)
     by false on = sound
 
-obs_sound : (p : Program) (list : List Bound) → AreLoaded p list → AreOnChains p (ob_marks list) list
+obs_sound : (p : Program) (list : List Bound) → HasLoadedBlocksOnly p list → AreOnChains p (ob_marks list) list
 obs_sound p [] loaded = tt
 obs_sound p (b ∷ list) loaded =
     (λ is. ob_on_chain p b.block (is_ob b.block.kind is) loaded.0, obs_sound p list loaded.1)
 
-pub marks_sound : (p : Program) (list : List Bound) (k : ℕ) → AreLoaded p list
-    → AreOnChains p (marks k p list) list
+pub marks_sound : (p : Program) (list : List Bound) (k : ℕ) → HasLoadedBlocksOnly p list
+    → AreOnChains p (marks_of_round k p list) list
 marks_sound p list zero loaded = obs_sound p list loaded
 marks_sound p list (suc k) loaded =
-    all_sound p list (ob_marks list) (marks k p list) list loaded (marks_sound p list k loaded)
+    all_sound p list (ob_marks list) (marks_of_round k p list) list loaded (marks_sound p list k loaded)
     (obs_sound p list loaded)

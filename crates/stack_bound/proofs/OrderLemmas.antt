@@ -8,8 +8,8 @@ use Rattle.plc_base.specs.Kinds.{kind_order}
 use Rattle.plc_base.specs.declared.blocks.BlockId.{BlockId}
 use Rattle.image_file.specs.Readers.{is_same_id}
 use Rattle.stack_bound.specs.Certificates.{bound_of}
-use Rattle.stack_bound.specs.Judging.{are_once}
-use Rattle.stack_bound.specs.Order.{IsHalved, bound_at, comes_before, is_before, rise}
+use Rattle.stack_bound.specs.Judging.{has_each_block_once}
+use Rattle.stack_bound.specs.Order.{IsHalved, bound_at, stands_before_bounds, is_before, are_blocks_rising}
 use Rattle.stack_bound.specs.declared.certificates.Bound.{Bound}
 
 -- a block stands before another one, by two pairs of numbers
@@ -44,14 +44,14 @@ before_all a b (d ∷ rest) first all = (
   before_all a b rest first all.1,
 )
 
-pub rises : (b : Bound) (rest : List Bound) → rise (b ∷ rest) ≡ true → IsBeforeAll b.block rest
+pub rises : (b : Bound) (rest : List Bound) → are_blocks_rising (b ∷ rest) ≡ true → IsBeforeAll b.block rest
 rises b [] is = tt
 rises b (d ∷ rest) is =
-    let parts = and_parts (is_before b.block d.block) (rise (d ∷ rest)) is in
+    let parts = and_parts (is_before b.block d.block) (are_blocks_rising (d ∷ rest)) is in
     (parts.0, before_all b.block d rest parts.0 (rises d rest parts.1))
 
-pub rest_rises : (b : Bound) (rest : List Bound) → rise (b ∷ rest) ≡ true → rise rest ≡ true
-rest_rises b rest is = (and_parts (comes_before b rest) (rise rest) is).1
+pub rest_rises : (b : Bound) (rest : List Bound) → are_blocks_rising (b ∷ rest) ≡ true → are_blocks_rising rest ≡ true
+rest_rises b rest is = (and_parts (stands_before_bounds b rest) (are_blocks_rising rest) is).1
 
 -- behind a block no list that rises has it
 pub none_behind : (a : BlockId) (rest : List Bound) → IsBeforeAll a rest → bound_of a rest ≡ None
@@ -59,10 +59,10 @@ none_behind a [] all = refl
 none_behind a (b ∷ rest) all =
     rw (not_after (key b.block) b.block.number (key a) a.number all.0) (none_behind a rest all.1)
 
-pub risen_once : (list : List Bound) → rise list ≡ true → are_once list ≡ true
+pub risen_once : (list : List Bound) → are_blocks_rising list ≡ true → has_each_block_once list ≡ true
 risen_once [] is = refl
 risen_once (b ∷ rest) is =
-    and_from (is_none (bound_of b.block rest)) (are_once rest)
+    and_from (is_none (bound_of b.block rest)) (has_each_block_once rest)
     (ap (λ (o : Option Bound). is_none o) (none_behind b.block rest (rises b rest is)))
     (risen_once rest (rest_rises b rest is))
 
@@ -74,7 +74,7 @@ at_of a [] j d all less = absurd (omega (arith, less))
 at_of a (b ∷ rest) zero d all less = all.0
 at_of a (b ∷ rest) (suc j) d all less = at_of a rest j d all.1 (omega (arith, less))
 
-pub parted : (block : BlockId) (list : List Bound) → rise list ≡ true
+pub parted : (block : BlockId) (list : List Bound) → are_blocks_rising list ≡ true
     → IsPartitionedBy (λ (b : Bound). is_before b.block block) list
 parted block [] is i j d le less passes = absurd (omega (arith, less))
 parted block (b ∷ rest) is zero zero d le less passes = passes
@@ -94,7 +94,7 @@ later_point block b rest k point = (
   λ i d low high. point.1 (suc i) d (omega (arith, low)) (omega (arith, high)),
 )
 
-pub halved : (block : BlockId) (list : List Bound) (place : ℕ) → rise list ≡ true
+pub halved : (block : BlockId) (list : List Bound) (place : ℕ) → are_blocks_rising list ≡ true
     → IsHalved list block place
     → bound_at list place block ≡ bound_of block list
 halved block [] zero is point = refl

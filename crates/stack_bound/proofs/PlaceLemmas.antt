@@ -8,13 +8,13 @@ use Rattle.flat_code.specs.Ops.{OpData}
 use Rattle.flat_code.specs.Placed.{op_placed}
 use Rattle.flat_code.specs.Programs.{CodeBlock, Program}
 use Rattle.image_file.specs.Readers.{block_by_id, block_ids, is_same_id}
-use Rattle.stack_bound.specs.Calls.{callee_of}
+use Rattle.stack_bound.specs.Calls.{callee_of_op}
 use Rattle.stack_bound.specs.Certificates.{bound_of}
-use Rattle.stack_bound.specs.Layers.{AreLow, bound_above, bound_above_in, bounds_above, layers, most_called, number, number_if, number_in, with_bound}
-use Rattle.stack_bound.specs.Marks.{mark, mark_all, mark_called, mark_called_by, mark_callee, mark_ops, marks, ob_marks}
-use Rattle.stack_bound.specs.Order.{IsHalved, bound_at, rise}
-use Rattle.stack_bound.specs.Places.{CallerData, bound_alone, bound_by, bounds_alone, caller_in, caller_of, callers_of, layers_by, mark_callers, mark_if, mark_places, marks_by, most_at, number_at, place_in, place_of, places_called, with_caller, with_place}
-use Rattle.stack_bound.specs.Walking.{ops_behind}
+use Rattle.stack_bound.specs.Layers.{AreBoundsAtMost, bound_above, bound_above_in, bounds_above, layer_of_height, most_called, measure_of_bound, measure_if_bound, measure_in_layer, with_bound}
+use Rattle.stack_bound.specs.Marks.{with_block_marked, with_callees_marked, mark_called, mark_called_by, mark_callee, mark_ops, marks_of_round, ob_marks}
+use Rattle.stack_bound.specs.Order.{IsHalved, bound_at, are_blocks_rising}
+use Rattle.stack_bound.specs.Places.{CallerData, bound_alone, bound_by, bounds_alone, caller_in, caller_of, callers_of, layers_by, mark_callers, mark_if, mark_places, marks_by, most_at, measure_at_place, place_in, place_of_bound, places_called, with_caller, with_place}
+use Rattle.stack_bound.specs.Walking.{ops_after_offset}
 use Rattle.stack_bound.specs.declared.certificates.Bound.{Bound}
 use Rattle.stack_bound.specs.declared.measures.Measure.{Measure}
 use Rattle.stack_bound.specs.declared.measures.Measure.TheVariants.{Depth, Bytes}
@@ -23,7 +23,7 @@ use Rattle.stack_bound.proofs.WalkLemmas.{walked, walks}
 
 -- ---- a place is found by halving
 
-no_place_behind : (a : BlockId) (rest : List Bound) → IsBeforeAll a rest → place_of a rest ≡ None
+no_place_behind : (a : BlockId) (rest : List Bound) → IsBeforeAll a rest → place_of_bound a rest ≡ None
 no_place_behind a [] all = refl
 no_place_behind a (b ∷ rest) all =
     rw (not_after (key b.block) b.block.number (key a) a.number all.0)
@@ -37,15 +37,15 @@ one_later : (test : Bool) (place : ℕ) → some_if test (suc place) ≡ option_
 one_later true place = refl
 one_later false place = refl
 
-found_at : (block : BlockId) (list : List Bound) (place : ℕ) → rise list ≡ true → IsHalved list block place
-    → some_if (is_some (bound_at list place block)) place ≡ place_of block list
+found_at : (block : BlockId) (list : List Bound) (place : ℕ) → are_blocks_rising list ≡ true → IsHalved list block place
+    → some_if (is_some (bound_at list place block)) place ≡ place_of_bound block list
 found_at block [] zero is point = refl
 found_at block [] (suc place) is point = refl
 found_at block (b ∷ rest) zero is point = by (is_same_id b.block block) refl
   where
     by : (test : Bool) → is_same_id b.block block ≡ test
         → some_if (is_some (if test then Some b else None)) zero
-        ≡ (if test then Some 0 else option_map suc (place_of block rest))
+        ≡ (if test then Some 0 else option_map suc (place_of_bound block rest))
     by true same = refl
     by false apart =
         sym (ap (λ (o : Option ℕ). option_map suc o)
@@ -61,18 +61,18 @@ found_at block (b ∷ rest) (suc place) is point =
     (point.0 zero b (omega arith) (omega arith))))
   where
     passed : is_same_id b.block block ≡ false
-        → (if is_same_id b.block block then Some 0 else option_map suc (place_of block rest))
-        ≡ option_map suc (place_of block rest)
+        → (if is_same_id b.block block then Some 0 else option_map suc (place_of_bound block rest))
+        ≡ option_map suc (place_of_bound block rest)
     passed apart = rw apart refl
 
 -- the place has the block, or the block isn't there
-pub found_here : (block : BlockId) (list : List Bound) (place : ℕ) → rise list ≡ true → IsHalved list block place
-    → is_some (bound_at list place block) ≡ true → Some place ≡ place_of block list
+pub found_here : (block : BlockId) (list : List Bound) (place : ℕ) → are_blocks_rising list ≡ true → IsHalved list block place
+    → is_some (bound_at list place block) ≡ true → Some place ≡ place_of_bound block list
 found_here block list place is point here =
     sym (ap (λ (test : Bool). some_if test place) here) ∙ found_at block list place is point
 
-pub found_nowhere : (block : BlockId) (list : List Bound) (place : ℕ) → rise list ≡ true → IsHalved list block place
-    → is_some (bound_at list place block) ≡ false → None ≡ place_of block list
+pub found_nowhere : (block : BlockId) (list : List Bound) (place : ℕ) → are_blocks_rising list ≡ true → IsHalved list block place
+    → is_some (bound_at list place block) ≡ false → None ≡ place_of_bound block list
 found_nowhere block list place is point none =
     sym (ap (λ (test : Bool). some_if test place) none) ∙ found_at block list place is point
 
@@ -91,17 +91,17 @@ shifted i (Some n) = ap (λ (k : ℕ). Some k) (plus_more i n)
 
 place_from : (block : BlockId) (i : ℕ) (list : List Bound)
     → position_from (λ (b : Bound). is_same_id b.block block) i list
-    ≡ option_map (λ n. i + n) (place_of block list)
+    ≡ option_map (λ n. i + n) (place_of_bound block list)
 place_from block i [] = refl
 place_from block i (b ∷ rest) = by (is_same_id b.block block) (place_from block (i + 1) rest)
   where
     by : (test : Bool)
         → position_from (λ (d : Bound). is_same_id d.block block) (i + 1) rest
-        ≡ option_map (λ n. i + 1 + n) (place_of block rest)
+        ≡ option_map (λ n. i + 1 + n) (place_of_bound block rest)
         → (if test then Some i else position_from (λ (d : Bound). is_same_id d.block block) (i + 1) rest)
-        ≡ option_map (λ n. i + n) (if test then Some 0 else option_map suc (place_of block rest))
+        ≡ option_map (λ n. i + n) (if test then Some 0 else option_map suc (place_of_bound block rest))
     by true later = ap (λ (k : ℕ). Some k) (plus_zero i)
-    by false later = later ∙ shifted i (place_of block rest)
+    by false later = later ∙ shifted i (place_of_bound block rest)
 
 from_zero : (o : Option ℕ) → option_map (λ n. 0 + n) o ≡ o
 from_zero None = refl
@@ -111,11 +111,11 @@ from_zero (Some n) = ap (λ (k : ℕ). Some k) (zero_plus n)
     zero_plus k = omega arith
 
 walked_from : (block : BlockId) (list : List Bound)
-    → position_from (λ (b : Bound). is_same_id b.block block) 0 list ≡ place_of block list
-walked_from block list = place_from block 0 list ∙ from_zero (place_of block list)
+    → position_from (λ (b : Bound). is_same_id b.block block) 0 list ≡ place_of_bound block list
+walked_from block list = place_from block 0 list ∙ from_zero (place_of_bound block list)
 
 pub walked_to : (block : BlockId) (list : List Bound) (place : Option ℕ)
-    → place ≡ position_from (λ (b : Bound). is_same_id b.block block) 0 list → place ≡ place_of block list
+    → place ≡ position_from (λ (b : Bound). is_same_id b.block block) 0 list → place ≡ place_of_bound block list
 walked_to block list place is = is ∙ walked_from block list
 
 -- ---- lists of the same blocks
@@ -125,13 +125,13 @@ SameBlocks [] [] = Unit {0}
 SameBlocks (a ∷ xs) (b ∷ ys) = (a.block ≡ b.block) × SameBlocks xs ys
 SameBlocks _ _ = ⊥
 
-place_same : (x : BlockId) (xs ys : List Bound) → SameBlocks xs ys → place_of x xs ≡ place_of x ys
+place_same : (x : BlockId) (xs ys : List Bound) → SameBlocks xs ys → place_of_bound x xs ≡ place_of_bound x ys
 place_same x [] [] same = refl
 place_same x [] (b ∷ ys) same = absurd same
 place_same x (a ∷ xs) [] same = absurd same
 place_same x (a ∷ xs) (b ∷ ys) same =
     ap (λ (o : Option ℕ). if is_same_id a.block x then Some 0 else option_map suc o) (place_same x xs ys same.1)
-    ∙ ap (λ (y : BlockId). if is_same_id y x then Some 0 else option_map suc (place_of x ys)) same.0
+    ∙ ap (λ (y : BlockId). if is_same_id y x then Some 0 else option_map suc (place_of_bound x ys)) same.0
 
 called_same : (callee : Option BlockId) (xs ys : List Bound) → SameBlocks xs ys → place_in xs callee ≡ place_in ys callee
 called_same None xs ys same = refl
@@ -141,8 +141,8 @@ places_same : (ops : List OpData) (xs ys : List Bound) → SameBlocks xs ys
     → places_called xs ops ≡ places_called ys ops
 places_same [] xs ys same = refl
 places_same (op ∷ ops) xs ys same =
-    ap (λ (o : Option ℕ). with_place o (places_called xs ops)) (called_same (callee_of op) xs ys same)
-    ∙ ap (λ (rest : List ℕ). with_place (place_in ys (callee_of op)) rest) (places_same ops xs ys same)
+    ap (λ (o : Option ℕ). with_place o (places_called xs ops)) (called_same (callee_of_op op) xs ys same)
+    ∙ ap (λ (rest : List ℕ). with_place (place_in ys (callee_of_op op)) rest) (places_same ops xs ys same)
 
 caller_same : (id : BlockId) (found : Option CodeBlock) (xs ys : List Bound) → SameBlocks xs ys
     → option_map (caller_of xs id) found ≡ option_map (caller_of ys id) found
@@ -177,7 +177,7 @@ same_above p below other (id ∷ ids) =
 
 abbrev number_placed : Measure → List Bound → Option ℕ → ℕ
 number_placed m layer None = 0
-number_placed m layer (Some place) = number_at m layer place
+number_placed m layer (Some place) = measure_at_place m layer place
 
 placed_later : (m : Measure) (b : Bound) (layer : List Bound) (o : Option ℕ)
     → number_placed m layer o ≡ number_placed m (b ∷ layer) (option_map suc o)
@@ -185,18 +185,18 @@ placed_later m b layer None = refl
 placed_later m b layer (Some place) = refl
 
 number_there : (m : Measure) (x : BlockId) (layer : List Bound)
-    → number_if m (bound_of x layer) ≡ number_placed m layer (place_of x layer)
+    → measure_if_bound m (bound_of x layer) ≡ number_placed m layer (place_of_bound x layer)
 number_there m x [] = refl
 number_there m x (b ∷ layer) = by (is_same_id b.block x) (number_there m x layer)
   where
-    by : (test : Bool) → number_if m (bound_of x layer) ≡ number_placed m layer (place_of x layer)
-        → number_if m (if test then Some b else bound_of x layer)
-        ≡ number_placed m (b ∷ layer) (if test then Some 0 else option_map suc (place_of x layer))
+    by : (test : Bool) → measure_if_bound m (bound_of x layer) ≡ number_placed m layer (place_of_bound x layer)
+        → measure_if_bound m (if test then Some b else bound_of x layer)
+        ≡ number_placed m (b ∷ layer) (if test then Some 0 else option_map suc (place_of_bound x layer))
     by true rest = refl
-    by false rest = rest ∙ placed_later m b layer (place_of x layer)
+    by false rest = rest ∙ placed_later m b layer (place_of_bound x layer)
 
 callee_there : (m : Measure) (callee : Option BlockId) (layer : List Bound)
-    → number_in m layer callee ≡ number_placed m layer (place_in layer callee)
+    → measure_in_layer m layer callee ≡ number_placed m layer (place_in layer callee)
 callee_there m None layer = refl
 callee_there m (Some x) layer = number_there m x layer
 
@@ -212,9 +212,9 @@ most_there : (m : Measure) (layer : List Bound) (ops : List OpData)
     → most_called m layer ops ≡ most_at m layer (places_called layer ops)
 most_there m layer [] = refl
 most_there m layer (op ∷ ops) =
-    ap (λ (n : ℕ). max n (most_called m layer ops)) (callee_there m (callee_of op) layer)
-    ∙ ap (λ (n : ℕ). max (number_placed m layer (place_in layer (callee_of op))) n) (most_there m layer ops)
-    ∙ most_placed m layer (place_in layer (callee_of op)) (places_called layer ops)
+    ap (λ (n : ℕ). max n (most_called m layer ops)) (callee_there m (callee_of_op op) layer)
+    ∙ ap (λ (n : ℕ). max (number_placed m layer (place_in layer (callee_of_op op))) n) (most_there m layer ops)
+    ∙ most_placed m layer (place_in layer (callee_of_op op)) (places_called layer ops)
 
 -- ---- layers
 
@@ -253,24 +253,24 @@ above_is p first layer (id ∷ ids) same =
 
 -- the callers of a program, by the places in its lowest layer
 abbrev pub program_callers : Program → List CallerData
-program_callers p = callers_of p (layers 1 p) (block_ids p)
+program_callers p = callers_of p (layer_of_height 1 p) (block_ids p)
 
-pub layers_are : (p : Program) (k : ℕ) → layers_by (program_callers p) (layers 1 p) k ≡ layers (suc k) p
+pub layers_are : (p : Program) (k : ℕ) → layers_by (program_callers p) (layer_of_height 1 p) k ≡ layer_of_height (suc k) p
 layers_are p zero = refl
 layers_are p (suc k) =
     ap (λ (layer : List Bound). map (bound_by layer) (program_callers p)) (layers_are p k)
-    ∙ sym (above_is p (layers 1 p) (layers (suc k) p) (block_ids p) (same_above p [] (layers k p) (block_ids p)))
+    ∙ sym (above_is p (layer_of_height 1 p) (layer_of_height (suc k) p) (block_ids p) (same_above p [] (layer_of_height k p) (block_ids p)))
 
 -- ---- the lowest layer
 
-none_said : (m : Measure) (callee : Option BlockId) → number_in m [] callee ≡ 0
+none_said : (m : Measure) (callee : Option BlockId) → measure_in_layer m [] callee ≡ 0
 none_said m None = refl
 none_said m (Some x) = refl
 
 none_called : (m : Measure) (ops : List OpData) → most_called m [] ops ≡ 0
 none_called m [] = refl
 none_called m (op ∷ ops) =
-    ap (λ (n : ℕ). max n (most_called m [] ops)) (none_said m (callee_of op))
+    ap (λ (n : ℕ). max n (most_called m [] ops)) (none_said m (callee_of_op op))
     ∙ max_none (most_called m [] ops) ∙ none_called m ops
 
 one_alone : (n : ℕ) → n ≡ 0 → 1 + n ≡ 1
@@ -300,12 +300,12 @@ alone_are_lowest p (id ∷ ids) =
 
 -- ---- no number is above the highest
 
-low_there : (m : Measure) (n : ℕ) (layer : List Bound) (place : ℕ) → AreLow n layer → number_at m layer place ≤ n
+low_there : (m : Measure) (n : ℕ) (layer : List Bound) (place : ℕ) → AreBoundsAtMost n layer → measure_at_place m layer place ≤ n
 low_there m n [] zero low = omega arith
 low_there m n [] (suc place) low = omega arith
 low_there m n (b ∷ layer) zero low = by m
   where
-    by : (k : Measure) → number k b ≤ n
+    by : (k : Measure) → measure_of_bound k b ≤ n
     by Depth = low.0.0
     by Bytes = low.0.1
 low_there m n (b ∷ layer) (suc place) low = low_there m n layer place low.1
@@ -313,10 +313,10 @@ low_there m n (b ∷ layer) (suc place) low = low_there m n layer place low.1
 max_low : (a b n : ℕ) → a ≤ n → b ≤ n → max a b ≤ n
 max_low a b n one other = omega (arith, one, other)
 
-pub low_at : (m : Measure) (n : ℕ) (layer : List Bound) (places : List ℕ) → AreLow n layer → most_at m layer places ≤ n
+pub low_at : (m : Measure) (n : ℕ) (layer : List Bound) (places : List ℕ) → AreBoundsAtMost n layer → most_at m layer places ≤ n
 low_at m n layer [] low = omega arith
 low_at m n layer (place ∷ places) low =
-    max_low (number_at m layer place) (most_at m layer places) n (low_there m n layer place low)
+    max_low (measure_at_place m layer place) (most_at m layer places) n (low_there m n layer place low)
     (low_at m n layer places low)
 
 -- ---- marks
@@ -336,16 +336,16 @@ none_to_mark (Some zero) = refl
 none_to_mark (Some (suc place)) = refl
 
 mark_there : (marks : List Bool) (list : List Bound) (x : BlockId)
-    → mark marks list x ≡ mark_placed marks (place_of x list)
-mark_there [] list x = none_to_mark (place_of x list)
+    → with_block_marked marks list x ≡ mark_placed marks (place_of_bound x list)
+mark_there [] list x = none_to_mark (place_of_bound x list)
 mark_there (m ∷ marks) [] x = refl
 mark_there (m ∷ marks) (b ∷ list) x = by (is_same_id b.block x) (mark_there marks list x)
   where
-    by : (test : Bool) → mark marks list x ≡ mark_placed marks (place_of x list)
-        → (if test then true ∷ marks else m ∷ mark marks list x)
-        ≡ mark_placed (m ∷ marks) (if test then Some 0 else option_map suc (place_of x list))
+    by : (test : Bool) → with_block_marked marks list x ≡ mark_placed marks (place_of_bound x list)
+        → (if test then true ∷ marks else m ∷ with_block_marked marks list x)
+        ≡ mark_placed (m ∷ marks) (if test then Some 0 else option_map suc (place_of_bound x list))
     by true later = refl
-    by false later = ap (λ (rest : List Bool). m ∷ rest) later ∙ mark_later m marks (place_of x list)
+    by false later = ap (λ (rest : List Bool). m ∷ rest) later ∙ mark_later m marks (place_of_bound x list)
 
 mark_called_there : (marks : List Bool) (list : List Bound) (callee : Option BlockId)
     → mark_callee marks list callee ≡ mark_placed marks (place_in list callee)
@@ -361,9 +361,9 @@ ops_there : (marks : List Bool) (list : List Bound) (ops : List OpData)
     → mark_ops marks list ops ≡ mark_places marks (places_called list ops)
 ops_there marks list [] = refl
 ops_there marks list (op ∷ ops) =
-    ops_there (mark_callee marks list (callee_of op)) list ops
-    ∙ ap (λ (ms : List Bool). mark_places ms (places_called list ops)) (mark_called_there marks list (callee_of op))
-    ∙ places_then marks (place_in list (callee_of op)) (places_called list ops)
+    ops_there (mark_callee marks list (callee_of_op op)) list ops
+    ∙ ap (λ (ms : List Bool). mark_places ms (places_called list ops)) (mark_called_there marks list (callee_of_op op))
+    ∙ places_then marks (place_in list (callee_of_op op)) (places_called list ops)
 
 mark_is : (p : Program) (list : List Bound) (marks : List Bool) (m : Bool) (id : BlockId) (b : CodeBlock) (d : Bound)
     → d.block ≡ id → block_by_id id p.code_blocks ≡ Some b
@@ -375,32 +375,32 @@ mark_is p list marks true id b d is there =
     ∙ ops_there marks list b.code
 
 all_there : (p : Program) (list below : List Bound) (marks before : List Bool) (ids : List BlockId)
-    → mark_all p list marks before (bounds_above p below ids) ≡ mark_callers marks before (callers_of p list ids)
+    → with_callees_marked p list marks before (bounds_above p below ids) ≡ mark_callers marks before (callers_of p list ids)
 all_there p list below marks [] [] = refl
 all_there p list below marks (m ∷ before) [] = refl
 all_there p list below marks before (id ∷ ids) =
     by (λ now ms. all_there p list below now ms ids) (block_by_id id p.code_blocks) refl before
   where
-    by : ((now ms : List Bool) → mark_all p list now ms (bounds_above p below ids) ≡ mark_callers now ms (callers_of p list ids))
+    by : ((now ms : List Bool) → with_callees_marked p list now ms (bounds_above p below ids) ≡ mark_callers now ms (callers_of p list ids))
         → (found : Option CodeBlock) → block_by_id id p.code_blocks ≡ found → (ms : List Bool)
-        → mark_all p list marks ms (with_bound (option_map (bound_above below id) found) (bounds_above p below ids))
+        → with_callees_marked p list marks ms (with_bound (option_map (bound_above below id) found) (bounds_above p below ids))
         ≡ mark_callers marks ms (with_caller (option_map (caller_of list id) found) (callers_of p list ids))
     by later None there ms = later marks ms
     by later (Some b) there [] = refl
     by later (Some b) there (m ∷ ms) =
-        ap (λ (now : List Bool). mark_all p list now ms (bounds_above p below ids))
+        ap (λ (now : List Bool). with_callees_marked p list now ms (bounds_above p below ids))
         (mark_is p list marks m id b (bound_above below id b) refl there)
         ∙ later (mark_if m marks (caller_of list id b)) ms
 
 -- of a list of the blocks of a program
 pub marks_are : (p : Program) (below : List Bound) (k : ℕ)
-    → marks_by (program_callers p) (bounds_above p below (block_ids p)) k ≡ marks k p (bounds_above p below (block_ids p))
+    → marks_by (program_callers p) (bounds_above p below (block_ids p)) k ≡ marks_of_round k p (bounds_above p below (block_ids p))
 marks_are p below zero = refl
 marks_are p below (suc k) =
     ap (λ (before : List Bool). mark_callers (ob_marks list) before (program_callers p)) (marks_are p below k)
-    ∙ ap (λ (callers : List CallerData). mark_callers (ob_marks list) (marks k p list) callers)
-    (callers_same p (block_ids p) (layers 1 p) list (same_above p [] below (block_ids p)))
-    ∙ sym (all_there p list below (ob_marks list) (marks k p list) (block_ids p))
+    ∙ ap (λ (callers : List CallerData). mark_callers (ob_marks list) (marks_of_round k p list) callers)
+    (callers_same p (block_ids p) (layer_of_height 1 p) list (same_above p [] below (block_ids p)))
+    ∙ sym (all_there p list below (ob_marks list) (marks_of_round k p list) (block_ids p))
   where
     list : List Bound
     list = bounds_above p below (block_ids p)
@@ -433,20 +433,20 @@ one_more_place xs (Some place) rest = sym (append_assoc xs (place ∷ []) rest)
 
 -- one more op
 pub place_added : (list : List Bound) (code : List OpData) (at : ℕ) (op : OpData) (next : ℕ) (called added : List ℕ)
-    (place : Option ℕ) → op_placed 0 code at ≡ Some (op, next) → place ≡ place_in list (callee_of op)
+    (place : Option ℕ) → op_placed 0 code at ≡ Some (op, next) → place ≡ place_in list (callee_of_op op)
     → added ≡ called ++ with_place place []
-    → places_called list code ≡ called ++ places_called list (ops_behind 0 code at)
-    → places_called list code ≡ added ++ places_called list (ops_behind 0 code next)
+    → places_called list code ≡ called ++ places_called list (ops_after_offset 0 code at)
+    → places_called list code ≡ added ++ places_called list (ops_after_offset 0 code next)
 place_added list code at op next called added place there is adds so_far =
     so_far
     ∙ ap (λ (ops : List OpData). called ++ places_called list ops) (walks 0 code at op next there)
-    ∙ one_more_place called (place_in list (callee_of op)) (places_called list (ops_behind 0 code next))
-    ∙ ap (λ (o : Option ℕ). (called ++ with_place o []) ++ places_called list (ops_behind 0 code next)) (sym is)
-    ∙ ap (λ (xs : List ℕ). xs ++ places_called list (ops_behind 0 code next)) (sym adds)
+    ∙ one_more_place called (place_in list (callee_of_op op)) (places_called list (ops_after_offset 0 code next))
+    ∙ ap (λ (o : Option ℕ). (called ++ with_place o []) ++ places_called list (ops_after_offset 0 code next)) (sym is)
+    ∙ ap (λ (xs : List ℕ). xs ++ places_called list (ops_after_offset 0 code next)) (sym adds)
 
 -- none is left
 pub all_added : (list : List Bound) (code : List OpData) (at : ℕ) (called : List ℕ) → op_placed 0 code at ≡ None
-    → places_called list code ≡ called ++ places_called list (ops_behind 0 code at)
+    → places_called list code ≡ called ++ places_called list (ops_after_offset 0 code at)
     → called ≡ places_called list code
 all_added list code at called there so_far =
     sym (so_far ∙ ap (λ (ops : List OpData). called ++ places_called list ops) (walked 0 code at there) ∙ none_behind called)

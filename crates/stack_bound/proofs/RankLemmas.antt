@@ -6,9 +6,9 @@ use Rattle.plc_base.specs.declared.blocks.BlockId.{BlockId}
 use Rattle.flat_code.specs.Ops.{OpData}
 use Rattle.flat_code.specs.Programs.{CodeBlock, Program}
 use Rattle.image_file.specs.Readers.{block_by_id, data_block_id, block_ids, is_same_id}
-use Rattle.stack_bound.specs.Calls.{CallsIn, callee_of}
+use Rattle.stack_bound.specs.Calls.{CallsIn, callee_of_op}
 use Rattle.stack_bound.specs.Certificates.{bound_of}
-use Rattle.stack_bound.specs.Layers.{weight, number, number_if, number_in, most_called, bound_above, with_bound, bounds_above, layer_above, layers}
+use Rattle.stack_bound.specs.Layers.{measure_of_block, measure_of_bound, measure_if_bound, measure_in_layer, most_called, bound_above, with_bound, bounds_above, layer_above, layer_of_height}
 use Rattle.stack_bound.specs.declared.certificates.Bound.{Bound}
 use Rattle.stack_bound.specs.declared.measures.Measure.{Measure}
 use Rattle.stack_bound.specs.declared.measures.Measure.TheVariants.{Depth, Bytes}
@@ -116,27 +116,27 @@ pub layer_lacks : (p : Program) (layer : List Bound) (block : BlockId)
 layer_lacks p layer block is = bounds_lack p layer (block_ids p) block is
 
 number_above : (m : Measure) (layer : List Bound) (block : BlockId) (b : CodeBlock)
-    → number m (bound_above layer block b) ≡ weight m b + most_called m layer b.code
+    → measure_of_bound m (bound_above layer block b) ≡ measure_of_block m b + most_called m layer b.code
 number_above Depth layer block b = refl
 number_above Bytes layer block b = refl
 
 -- what a layer above another one says of a loaded block
 pub above : (m : Measure) (p : Program) (layer : List Bound) (block : BlockId) (b : CodeBlock)
     → block_by_id block p.code_blocks ≡ Some b
-    → number_in m (layer_above p layer) (Some block) ≡ weight m b + most_called m layer b.code
+    → measure_in_layer m (layer_above p layer) (Some block) ≡ measure_of_block m b + most_called m layer b.code
 above m p layer block b is =
-    ap (λ (o : Option Bound). number_if m o) (layer_has p layer block b is) ∙ number_above m layer block b
+    ap (λ (o : Option Bound). measure_if_bound m o) (layer_has p layer block b is) ∙ number_above m layer block b
 
 pub above_none : (m : Measure) (p : Program) (layer : List Bound) (block : BlockId)
-    → block_by_id block p.code_blocks ≡ None → number_in m (layer_above p layer) (Some block) ≡ 0
+    → block_by_id block p.code_blocks ≡ None → measure_in_layer m (layer_above p layer) (Some block) ≡ 0
 above_none m p layer block is =
-    ap (λ (o : Option Bound). number_if m o) (layer_lacks p layer block is)
+    ap (λ (o : Option Bound). measure_if_bound m o) (layer_lacks p layer block is)
 
 -- ---- layers rise
 
 -- no number of a layer is above that of another layer
 abbrev IsBelow : Measure → List Bound → List Bound → Type 0
-IsBelow m low high = (callee : Option BlockId) → number_in m low callee ≤ number_in m high callee
+IsBelow m low high = (callee : Option BlockId) → measure_in_layer m low callee ≤ measure_in_layer m high callee
 
 max_below : (a b c d : ℕ) → a ≤ c → b ≤ d → max a b ≤ max c d
 max_below a b c d one other = omega (arith, one, other)
@@ -145,8 +145,8 @@ most_below : (m : Measure) (low high : List Bound) (ops : List OpData) → IsBel
     → most_called m low ops ≤ most_called m high ops
 most_below m low high [] below = omega arith
 most_below m low high (op ∷ ops) below =
-    max_below (number_in m low (callee_of op)) (most_called m low ops) (number_in m high (callee_of op))
-    (most_called m high ops) (below (callee_of op)) (most_below m low high ops below)
+    max_below (measure_in_layer m low (callee_of_op op)) (most_called m low ops) (measure_in_layer m high (callee_of_op op))
+    (most_called m high ops) (below (callee_of_op op)) (most_below m low high ops below)
 
 sum_below : (w a b x y : ℕ) → x ≡ w + a → y ≡ w + b → a ≤ b → x ≤ y
 sum_below w a b x y one other below = omega (arith, one, other, below)
@@ -160,30 +160,30 @@ above_below m p low high below None = omega arith
 above_below m p low high below (Some block) = by (block_by_id block p.code_blocks) refl
   where
     by : (found : Option CodeBlock) → block_by_id block p.code_blocks ≡ found
-        → number_in m (layer_above p low) (Some block) ≤ number_in m (layer_above p high) (Some block)
+        → measure_in_layer m (layer_above p low) (Some block) ≤ measure_in_layer m (layer_above p high) (Some block)
     by None is =
-        none_below (number_in m (layer_above p low) (Some block))
-        (number_in m (layer_above p high) (Some block)) (above_none m p low block is)
+        none_below (measure_in_layer m (layer_above p low) (Some block))
+        (measure_in_layer m (layer_above p high) (Some block)) (above_none m p low block is)
     by (Some b) is =
-        sum_below (weight m b) (most_called m low b.code) (most_called m high b.code)
-        (number_in m (layer_above p low) (Some block)) (number_in m (layer_above p high) (Some block))
+        sum_below (measure_of_block m b) (most_called m low b.code) (most_called m high b.code)
+        (measure_in_layer m (layer_above p low) (Some block)) (measure_in_layer m (layer_above p high) (Some block))
         (above m p low block b is) (above m p high block b is) (most_below m low high b.code below)
 
-pub layers_rise : (m : Measure) (p : Program) (k : ℕ) → IsBelow m (layers k p) (layers (suc k) p)
+pub layers_rise : (m : Measure) (p : Program) (k : ℕ) → IsBelow m (layer_of_height k p) (layer_of_height (suc k) p)
 layers_rise m p zero None = omega arith
 layers_rise m p zero (Some block) = omega arith
 layers_rise m p (suc k) callee =
-    above_below m p (layers k p) (layers (suc k) p) (layers_rise m p k) callee
+    above_below m p (layer_of_height k p) (layer_of_height (suc k) p) (layers_rise m p k) callee
 
 -- a block has at most its own weight and the most of a block that it calls
 pub at_most : (m : Measure) (p : Program) (k : ℕ) (block : BlockId) (b : CodeBlock)
     → block_by_id block p.code_blocks ≡ Some b
-    → number_in m (layers (suc k) p) (Some block) ≤ weight m b + most_called m (layers (suc k) p) b.code
+    → measure_in_layer m (layer_of_height (suc k) p) (Some block) ≤ measure_of_block m b + most_called m (layer_of_height (suc k) p) b.code
 at_most m p k block b is =
-    sum_below (weight m b) (most_called m (layers k p) b.code) (most_called m (layers (suc k) p) b.code)
-    (number_in m (layers (suc k) p) (Some block)) (weight m b + most_called m (layers (suc k) p) b.code)
-    (above m p (layers k p) block b is) refl
-    (most_below m (layers k p) (layers (suc k) p) b.code (layers_rise m p k))
+    sum_below (measure_of_block m b) (most_called m (layer_of_height k p) b.code) (most_called m (layer_of_height (suc k) p) b.code)
+    (measure_in_layer m (layer_of_height (suc k) p) (Some block)) (measure_of_block m b + most_called m (layer_of_height (suc k) p) b.code)
+    (above m p (layer_of_height k p) block b is) refl
+    (most_below m (layer_of_height k p) (layer_of_height (suc k) p) b.code (layers_rise m p k))
 
 -- ---- chains that end
 
@@ -191,20 +191,20 @@ at_most m p k block b is =
 abbrev SayTheSame : Measure → List Bound → List Bound → List OpData → Type 0
 SayTheSame m low high [] = Unit {0}
 SayTheSame m low high (op ∷ ops) =
-    (number_in m high (callee_of op) ≡ number_in m low (callee_of op)) × SayTheSame m low high ops
+    (measure_in_layer m high (callee_of_op op) ≡ measure_in_layer m low (callee_of_op op)) × SayTheSame m low high ops
 
 same_most : (m : Measure) (low high : List Bound) (ops : List OpData) → SayTheSame m low high ops
     → most_called m high ops ≡ most_called m low ops
 same_most m low high [] same = refl
 same_most m low high (op ∷ ops) same =
     ap (λ (n : ℕ). max n (most_called m high ops)) same.0
-    ∙ ap (λ (n : ℕ). max (number_in m low (callee_of op)) n) (same_most m low high ops same.1)
+    ∙ ap (λ (n : ℕ). max (measure_in_layer m low (callee_of_op op)) n) (same_most m low high ops same.1)
 
 -- in the layer of a number a block from which no longer chain goes out stays as it is
 abbrev Stays : Program → ℕ → Type 0
 Stays p k =
-    (m : Measure) (callee : Option BlockId) → number_in Depth (layers k p) callee < k
-    → number_in m (layers (suc k) p) callee ≡ number_in m (layers k p) callee
+    (m : Measure) (callee : Option BlockId) → measure_in_layer Depth (layer_of_height k p) callee < k
+    → measure_in_layer m (layer_of_height (suc k) p) callee ≡ measure_in_layer m (layer_of_height k p) callee
 
 first_less : (a b k : ℕ) → max a b < k → a < k
 first_less a b k less = omega (arith, less)
@@ -213,13 +213,13 @@ rest_less : (a b k : ℕ) → max a b < k → b < k
 rest_less a b k less = omega (arith, less)
 
 all_stay : (p : Program) (k : ℕ) (m : Measure) (ops : List OpData) → Stays p k
-    → most_called Depth (layers k p) ops < k → SayTheSame m (layers k p) (layers (suc k) p) ops
+    → most_called Depth (layer_of_height k p) ops < k → SayTheSame m (layer_of_height k p) (layer_of_height (suc k) p) ops
 all_stay p k m [] stays less = tt
 all_stay p k m (op ∷ ops) stays less = (
-  stays m (callee_of op)
-      (first_less (number_in Depth (layers k p) (callee_of op)) (most_called Depth (layers k p) ops) k less),
+  stays m (callee_of_op op)
+      (first_less (measure_in_layer Depth (layer_of_height k p) (callee_of_op op)) (most_called Depth (layer_of_height k p) ops) k less),
   all_stay p k m ops stays
-      (rest_less (number_in Depth (layers k p) (callee_of op)) (most_called Depth (layers k p) ops) k less),
+      (rest_less (measure_in_layer Depth (layer_of_height k p) (callee_of_op op)) (most_called Depth (layer_of_height k p) ops) k less),
 )
 
 one_less : (x a k : ℕ) → x ≡ 1 + a → x < suc k → a < k
@@ -231,24 +231,24 @@ stays p (suc k) m None less = refl
 stays p (suc k) m (Some block) less = by (block_by_id block p.code_blocks) refl (stays p k)
   where
     by : (found : Option CodeBlock) → block_by_id block p.code_blocks ≡ found → Stays p k
-        → number_in m (layers (suc (suc k)) p) (Some block) ≡ number_in m (layers (suc k) p) (Some block)
+        → measure_in_layer m (layer_of_height (suc (suc k)) p) (Some block) ≡ measure_in_layer m (layer_of_height (suc k) p) (Some block)
     by None is before =
-        above_none m p (layers (suc k) p) block is ∙ sym (above_none m p (layers k p) block is)
+        above_none m p (layer_of_height (suc k) p) block is ∙ sym (above_none m p (layer_of_height k p) block is)
     by (Some b) is before =
-        above m p (layers (suc k) p) block b is
-        ∙ ap (λ (n : ℕ). weight m b + n)
-        (same_most m (layers k p) (layers (suc k) p) b.code
+        above m p (layer_of_height (suc k) p) block b is
+        ∙ ap (λ (n : ℕ). measure_of_block m b + n)
+        (same_most m (layer_of_height k p) (layer_of_height (suc k) p) b.code
         (all_stay p k m b.code before
-        (one_less (number_in Depth (layers (suc k) p) (Some block)) (most_called Depth (layers k p) b.code) k
-        (above Depth p (layers k p) block b is) less)))
-        ∙ sym (above m p (layers k p) block b is)
+        (one_less (measure_in_layer Depth (layer_of_height (suc k) p) (Some block)) (most_called Depth (layer_of_height k p) b.code) k
+        (above Depth p (layer_of_height k p) block b is) less)))
+        ∙ sym (above m p (layer_of_height k p) block b is)
 
 -- so a layer counts each block as itself and what it calls, where its depth is below the layer's number
 pub settled : (m : Measure) (p : Program) (k : ℕ) (block : BlockId) (b : CodeBlock)
-    → block_by_id block p.code_blocks ≡ Some b → number_in Depth (layers k p) (Some block) < k
-    → number_in m (layers k p) (Some block) ≡ weight m b + most_called m (layers k p) b.code
+    → block_by_id block p.code_blocks ≡ Some b → measure_in_layer Depth (layer_of_height k p) (Some block) < k
+    → measure_in_layer m (layer_of_height k p) (Some block) ≡ measure_of_block m b + most_called m (layer_of_height k p) b.code
 settled m p k block b is less =
-    sym (stays p k m (Some block) less) ∙ above m p (layers k p) block b is
+    sym (stays p k m (Some block) less) ∙ above m p (layer_of_height k p) block b is
 
 -- ---- what is called
 
@@ -260,13 +260,13 @@ max_more x a b less = omega (arith, less)
 
 -- a called block has at most the most
 pub called_most : (m : Measure) (layer : List Bound) (ops : List OpData) (called : BlockId)
-    → CallsIn ops called → number_in m layer (Some called) ≤ most_called m layer ops
+    → CallsIn ops called → measure_in_layer m layer (Some called) ≤ most_called m layer ops
 called_most m layer [] called calls = absurd calls
 called_most m layer (op ∷ ops) called (inl here) =
-    subst (λ (o : Option BlockId). number_in m layer o ≤ max (number_in m layer (callee_of op)) (most_called m layer ops))
-    here (max_has (number_in m layer (callee_of op)) (most_called m layer ops))
+    subst (λ (o : Option BlockId). measure_in_layer m layer o ≤ max (measure_in_layer m layer (callee_of_op op)) (most_called m layer ops))
+    here (max_has (measure_in_layer m layer (callee_of_op op)) (most_called m layer ops))
 called_most m layer (op ∷ ops) called (inr later) =
-    max_more (number_in m layer (Some called)) (number_in m layer (callee_of op)) (most_called m layer ops)
+    max_more (measure_in_layer m layer (Some called)) (measure_in_layer m layer (callee_of_op op)) (most_called m layer ops)
     (called_most m layer ops called later)
 
 max_within : (w a b n : ℕ) → w + a ≤ n → w + b ≤ n → w + max a b ≤ n
@@ -277,13 +277,13 @@ no_more w n is = omega (arith, is)
 
 -- and the most is within a number where each called block is
 pub most_within : (m : Measure) (layer : List Bound) (ops : List OpData) (w n : ℕ) → w ≤ n
-    → ((called : BlockId) → CallsIn ops called → w + number_in m layer (Some called) ≤ n)
+    → ((called : BlockId) → CallsIn ops called → w + measure_in_layer m layer (Some called) ≤ n)
     → w + most_called m layer ops ≤ n
 most_within m layer [] w n own each = no_more w n own
 most_within m layer (op ∷ ops) w n own each =
-    max_within w (number_in m layer (callee_of op)) (most_called m layer ops) n (by (callee_of op) refl)
+    max_within w (measure_in_layer m layer (callee_of_op op)) (most_called m layer ops) n (by (callee_of_op op) refl)
     (most_within m layer ops w n own (λ called calls. each called (inr calls)))
   where
-    by : (callee : Option BlockId) → callee_of op ≡ callee → w + number_in m layer callee ≤ n
+    by : (callee : Option BlockId) → callee_of_op op ≡ callee → w + measure_in_layer m layer callee ≤ n
     by None is = no_more w n own
     by (Some called) is = each called (inl is)

@@ -23,23 +23,23 @@ use Rattle.flat_code.specs.declared.programs.Param.{Param}
 use Rattle.flat_code.specs.Programs.{Program}
 use Rattle.machine.specs.Bindings.{param_bindings}
 use Rattle.machine.specs.Code.{Code, Fetched, BlockHead}
-use Rattle.machine.specs.Effect.{effect_with}
-use Rattle.machine.specs.Entering.{Call, Fails, Stops, Enters, CalledBlock, instance_supplied, entered_if, called_with, call, fresh, caller_at, going_on}
+use Rattle.machine.specs.Effect.{statement_effect}
+use Rattle.machine.specs.Entering.{Call, Fails, Stops, Enters, CalledBlock, instance_supplied, entry_or_stop, call_with_bindings, block_call, called_frame, caller_at, activation_continued_at}
 use Rattle.machine.specs.Fitting.{FramesFit, FitsBlock, bytes_together}
 use Rattle.machine.specs.Flat.{code_of}
 use Rattle.machine.specs.Jumps.{rlo_tested}
 use Rattle.machine.specs.Lasting.{FitsProgram}
 use Rattle.machine.specs.OpenBrackets.{open_codes}
 use Rattle.machine.specs.ExecState.{ExecState, local_of, exec_state_of}
-use Rattle.machine.specs.Returning.{left, given_back, block_return}
-use Rattle.machine.specs.Statement.{World, Step, Went, Ended, SyncError, SysCall, Stop, Stuck, continue_with, call_step, called_block, block_called, after_system_call, system_call_made, call_made, is_call_made, not_called, after_return, return_made, is_ended, step_of, step_found, statement}
-use Rattle.machine.specs.SystemCalls.{Given, system_function, system_call}
+use Rattle.machine.specs.Returning.{return_to_caller, outputs_copied_back, block_return}
+use Rattle.machine.specs.Statement.{GlobalStore, StatementStep, Went, Ended, SyncError, SysCall, Stop, Stuck, continue_with, call_step, called_block, block_called, after_system_call, system_call_made, call_made, is_call_made, regs_after_call_not_made, after_return, return_made, is_return_made, instruction_step, step_found, statement_step}
+use Rattle.machine.specs.SystemCalls.{SystemCallArguments, system_function, system_call}
 use Rattle.stack_bound.specs.Certificates.{bound_of, CountsItself, CountsCalled}
 use Rattle.stack_bound.proofs.Stacks.{Roomy, counted_frame, stack_of, bytes_below, RoomFor, HasRoom, Certifies}
 use Rattle.stack_bound.specs.declared.certificates.Bound.{Bound}
 
 -- what comes of a statement has room, and is no stop
-abbrev pub StepHasRoom : Profile → List Bound → Step → Type 0
+abbrev pub StepHasRoom : Profile → List Bound → StatementStep → Type 0
 StepHasRoom z c (Went a w) = Roomy z c a
 StepHasRoom z c (Ended regs w) = Unit {0}
 StepHasRoom z c (SyncError code a) = Roomy z c a
@@ -118,7 +118,7 @@ own_len p m a fits h is =
 
 -- ---- what a statement leaves
 
-if_room : (z : Profile) (test : Bool) (c : List Bound) (s t : Step) → StepHasRoom z c s → StepHasRoom z c t
+if_room : (z : Profile) (test : Bool) (c : List Bound) (s t : StatementStep) → StepHasRoom z c s → StepHasRoom z c t
     → StepHasRoom z c (if test then s else t)
 if_room z true c s t one other = one
 if_room z false c s t one other = other
@@ -136,7 +136,7 @@ supplied_room z c (Some instance) params b m a room = room
 
 -- the frame of the called block stands above those that stood
 entered_stack : (to : CalledBlock) (bindings : List Binding) (next : ℕ) (a : Activation) → a.left ≡ false
-    → stack_of (block_entered (fresh to bindings a.running.frame) (caller_at next a))
+    → stack_of (block_entered (called_frame to bindings a.running.frame) (caller_at next a))
     ≡ (to.block, to.local_len) ∷ stack_of a
 entered_stack to bindings next a is =
     ap (λ (frames : List (BlockId × ℕ)). (to.block, to.local_len) ∷ frames)
@@ -145,10 +145,10 @@ entered_stack to bindings next a is =
 entered_room : (z : Profile) (c : List Bound) (fault : Option FrameFault) (to : CalledBlock) (bindings : List Binding)
     (next : ℕ) (a : Activation) (m : Areas) → a.left ≡ false → fault ≡ None
     → RoomFor z (bound_of to.block c) (stack_of a) → Roomy z c a
-    → CallHasRoom z c a (entered_if fault to bindings next a m)
+    → CallHasRoom z c a (entry_or_stop fault to bindings next a m)
 entered_room z c (Some fault) to bindings next a m stands none more room = absurd cc
 entered_room z c None to bindings next a m stands none more room =
-    supplied_room z c to.instance to.params (block_entered (fresh to bindings a.running.frame) (caller_at next a))
+    supplied_room z c to.instance to.params (block_entered (called_frame to bindings a.running.frame) (caller_at next a))
     m a (
       room.0,
       subst (λ (stack : List (BlockId × ℕ)). HasRoom z c stack)
@@ -158,7 +158,7 @@ entered_room z c None to bindings next a m stands none more room =
 call_by : (z : Profile) (c : List Bound) (r : Result (List Binding) ℕ) (to : CalledBlock) (next : ℕ) (a : Activation)
     (m : Areas) → a.left ≡ false → entry_fault to.local_len a ≡ None
     → RoomFor z (bound_of to.block c) (stack_of a) → Roomy z c a
-    → CallHasRoom z c a (called_with r to next a m)
+    → CallHasRoom z c a (call_with_bindings r to next a m)
 call_by z c (Err code) to next a m stands none more room = tt
 call_by z c (Ok bindings) to next a m stands none more room =
     entered_room z c (entry_fault to.local_len a) to bindings next a m stands none more room
@@ -166,12 +166,12 @@ call_by z c (Ok bindings) to next a m stands none more room =
 call_room : (z : Profile) (c : List Bound) (to : CalledBlock) (passings : List Passing) (next : ℕ) (a : Activation)
     (m : Areas) → a.left ≡ false → entry_fault to.local_len a ≡ None
     → RoomFor z (bound_of to.block c) (stack_of a) → Roomy z c a
-    → CallHasRoom z c a (call to passings next a m)
-unfolding call
+    → CallHasRoom z c a (block_call to passings next a m)
+unfolding block_call
 call_room z c to passings next a m stands none more room =
     call_by z c (param_bindings to.params passings (local_of a.running) m) to next a m stands none more room
 
-after_call_room : (z : Profile) (c : List Bound) (k : Call) (next : ℕ) (a : Activation) (w : World)
+after_call_room : (z : Profile) (c : List Bound) (k : Call) (next : ℕ) (a : Activation) (w : GlobalStore)
     → Roomy z c a → CallHasRoom z c a k → StepHasRoom z c (call_step k next a w)
 after_call_room z c (Fails code) next a w room called = room
 after_call_room z c (Stops fault) next a w room called = called
@@ -185,14 +185,14 @@ CallCounts code c a block =
     → CountsCalled h.local_len (bound_of a.running.frame.block c) (bound_of block c)
 
 block_room : (z : Profile) (p : Program) (c : List Bound) (found : Option BlockHead) (block : BlockId)
-    (instance : Option ℕ) (passings : List Passing) (next : ℕ) (a : Activation) (w : World)
+    (instance : Option ℕ) (passings : List Passing) (next : ℕ) (a : Activation) (w : GlobalStore)
     → Certifies z (code_of p) c → FitsProgram p w.memory a → Roomy z c a
     → (code_of p).head block ≡ found → is_system_function block.kind ≡ false
     → CallCounts (code_of p) c a block
     → StepHasRoom z c (block_called found block instance passings next a w)
 block_room z p c None block instance passings next a w holds fits room is user counts = tt
 block_room z p c (Some d) block instance passings next a w holds fits room is user counts =
-    after_call_room z c (call (called_block block instance d) passings next a w.memory) next a w room
+    after_call_room z c (block_call (called_block block instance d) passings next a w.memory) next a w room
     (call_room z c (called_block block instance d) passings next a w.memory stands
     (not_refused z (bound_of block c) d.local_len (stack_of a) a room.0 more (holds.own block d is) depth bytes)
     more room)
@@ -228,20 +228,20 @@ block_room z p c (Some d) block instance passings next a w holds fits room is us
         fits.fits.locals.len ∙ sym (bytes_same (frames_of a))
         ∙ ap (λ (stack : List (BlockId × ℕ)). bytes_below stack) (stack_is a stands)
 
-after_system_room : (z : Profile) (c : List Bound) (r : Result Given ℕ) (number next : ℕ) (a : Activation)
+after_system_room : (z : Profile) (c : List Bound) (r : Result SystemCallArguments ℕ) (number next : ℕ) (a : Activation)
     → Roomy z c a → StepHasRoom z c (after_system_call r number next a)
 after_system_room z c (Err code) number next a room = room
 after_system_room z c (Ok given) number next a room = room
 
 system_room : (z : Profile) (c : List Bound) (params : Option (List Param)) (number : ℕ) (passings : List Passing)
-    (next : ℕ) (a : Activation) (w : World) → Roomy z c a
+    (next : ℕ) (a : Activation) (w : GlobalStore) → Roomy z c a
     → StepHasRoom z c (system_call_made params number passings next a w)
 system_room z c None number passings next a w room = tt
 system_room z c (Some params) number passings next a w room =
     after_system_room z c (system_call params passings (local_of a.running) w.memory) number next a room
 
 calls_room : (z : Profile) (p : Program) (c : List Bound) (block : BlockId) (instance : Option ℕ)
-    (passings : List Passing) (next : ℕ) (a : Activation) (w : World)
+    (passings : List Passing) (next : ℕ) (a : Activation) (w : GlobalStore)
     → Certifies z (code_of p) c → FitsProgram p w.memory a → Roomy z c a
     → CallCounts (code_of p) c a block
     → StepHasRoom z c (call_made (code_of p) block instance passings next a w)
@@ -257,42 +257,42 @@ calls_room z p c block instance passings next a w holds fits room counts =
         is counts
 
 left_room : (z : Profile) (c : List Bound) (below : List Frame) (instance : Option ℕ) (params : List Param)
-    (a : Activation) (m : Areas) (w : World) → a.profile ≡ z → HasRoom z c (map counted_frame below)
-    → StepHasRoom z c (after_return (left below (given_back instance params a m)) w)
+    (a : Activation) (m : Areas) (w : GlobalStore) → a.profile ≡ z → HasRoom z c (map counted_frame below)
+    → StepHasRoom z c (after_return (return_to_caller below (outputs_copied_back instance params a m)) w)
 left_room z c [] instance params a m w same room = tt
 left_room z c (f ∷ rest) None params a m w same room = (same, room)
 left_room z c (f ∷ rest) (Some instance) params a m w same room = (same, room)
 
-returned_room : (z : Profile) (c : List Bound) (h : Option BlockHead) (a : Activation) (w : World)
+returned_room : (z : Profile) (c : List Bound) (h : Option BlockHead) (a : Activation) (w : GlobalStore)
     → Roomy z c a → StepHasRoom z c (return_made h a w)
 unfolding block_return
 returned_room z c None a w room = tt
 returned_room z c (Some h) a w room =
     left_room z c a.below a.running.frame.instance h.params a w.memory w room.0 room.1.1
 
-performed_room : (z : Profile) (p : Program) (c : List Bound) (i : Instr) (next : ℕ) (a : Activation) (w : World)
+performed_room : (z : Profile) (p : Program) (c : List Bound) (i : Instr) (next : ℕ) (a : Activation) (w : GlobalStore)
     → Certifies z (code_of p) c → FitsProgram p w.memory a → Roomy z c a
     → ((how : CallOperation) (block : BlockId) (instance : Option ℕ) (passings : List Passing)
     → i ≡ Calls how block instance passings → CallCounts (code_of p) c a block)
-    → StepHasRoom z c (step_of (code_of p) i next a w)
+    → StepHasRoom z c (instruction_step (code_of p) i next a w)
 performed_room z p c (Does use_db word operand) next a w holds fits room counts =
-    went_room z c (effect_with use_db word operand (exec_state_of a.running w.memory w.timers w.counters)) next
+    went_room z c (statement_effect use_db word operand (exec_state_of a.running w.memory w.timers w.counters)) next
     a room
 performed_room z p c (Jumps word target) next a w holds fits room counts = room
 performed_room z p c (JumpsByList targets otherwise) next a w holds fits room counts = room
 performed_room z p c (Calls how block instance passings) next a w holds fits room counts =
     if_room z (is_call_made how a.running.regs.status.rlo) c
     (call_made (code_of p) block instance passings next a w)
-    (Went (going_on next (not_called a.running.regs) a) w)
+    (Went (activation_continued_at next (regs_after_call_not_made a.running.regs) a) w)
     (calls_room z p c block instance passings next a w holds fits room
     (counts how block instance passings refl)) room
 performed_room z p c (Returns how) next a w holds fits room counts =
-    if_room z (is_ended how a.running.regs.status.rlo) c
+    if_room z (is_return_made how a.running.regs.status.rlo) c
     (return_made ((code_of p).head a.running.frame.block) a w)
-    (Went (going_on next (rlo_tested a.running.regs) a) w)
+    (Went (activation_continued_at next (rlo_tested a.running.regs) a) w)
     (returned_room z c ((code_of p).head a.running.frame.block) a w room) room
 
-fetched_room : (z : Profile) (p : Program) (c : List Bound) (f : Option Fetched) (a : Activation) (w : World)
+fetched_room : (z : Profile) (p : Program) (c : List Bound) (f : Option Fetched) (a : Activation) (w : GlobalStore)
     → Certifies z (code_of p) c → FitsProgram p w.memory a → Roomy z c a
     → (code_of p).fetch a.running.frame.block a.running.frame.at ≡ f
     → StepHasRoom z c (step_found (code_of p) f a w)
@@ -303,10 +303,10 @@ fetched_room z p c (Some f) a w holds fits room is =
     holds.calls a.running.frame.block a.running.frame.at f how block instance passings h d is same user
     own there)
 
-pub statement_room : (z : Profile) (p : Program) (c : List Bound) (a : Activation) (w : World)
+pub statement_room : (z : Profile) (p : Program) (c : List Bound) (a : Activation) (w : GlobalStore)
     → Certifies z (code_of p) c → FitsProgram p w.memory a → Roomy z c a
-    → StepHasRoom z c (statement (code_of p) a w)
-unfolding statement
+    → StepHasRoom z c (statement_step (code_of p) a w)
+unfolding statement_step
 statement_room z p c a w holds fits room =
     fetched_room z p c ((code_of p).fetch a.running.frame.block a.running.frame.at) a w holds fits room
     refl

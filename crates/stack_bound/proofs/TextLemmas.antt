@@ -5,7 +5,7 @@ use Rattle.plc_base.specs.declared.blocks.BlockId.{BlockId}
 use Rattle.plc_base.specs.declared.refusals.Refusal.{Refusal}
 use Rattle.flat_code.specs.Programs.{Program}
 use Rattle.var_access.specs.Readings.{Reading}
-use Rattle.stack_bound.specs.CertificateText.{IsFault, IsLineFault, IsTaken, IsTakenIf, bound_line, certificate_of, in_front, is_skipped, line_first, lines_read}
+use Rattle.stack_bound.specs.CertificateText.{IsCertificateTextFault, IsCertificateLineFault, TakesBoundLine, TakesBoundUnlessSkipped, bound_line, certificate_of, bounds_in_front, is_line_skipped, bound_of_line_first, bounds_of_lines}
 use Rattle.stack_bound.specs.declared.certificates.Bound.{Bound}
 use Rattle.stack_bound.specs.declared.texts.CertificateFault.{CertificateFault}
 use Rattle.stack_bound.specs.declared.texts.CertificateFault.TheVariants.{BadLine, NoMemory}
@@ -14,71 +14,71 @@ use Rattle.stack_bound.specs.declared.texts.CertificateFault.TheVariants.{BadLin
 pub record GoesOn
     (p : Program) (text : List ℕ) (done : List Bound) (line : ℕ) (before : Option BlockId) (rest : List ℕ)
     : Type 0 where
-  pub all : certificate_of p text ≡ in_front done (lines_read p line before (lines rest))
+  pub all : certificate_of p text ≡ bounds_in_front done (bounds_of_lines p line before (lines rest))
 
-nothing : (r : Result (List Bound) Refusal) → r ≡ in_front [] r
+nothing : (r : Result (List Bound) Refusal) → r ≡ bounds_in_front [] r
 nothing (Ok list) = refl
 nothing (Err refusal) = refl
 
 -- before the first line
 pub goes_first : (p : Program) (text : List ℕ) → GoesOn p text [] 1 None text
 unfolding certificate_of
-goes_first p text = record { all = nothing (lines_read p 1 None (lines text)) }
+goes_first p text = record { all = nothing (bounds_of_lines p 1 None (lines text)) }
 
 twice : (done : List Bound) (b : Bound) (r : Result (List Bound) Refusal)
-    → in_front done (in_front (b ∷ []) r) ≡ in_front (done ++ b ∷ []) r
+    → bounds_in_front done (bounds_in_front (b ∷ []) r) ≡ bounds_in_front (done ++ b ∷ []) r
 twice done b (Ok more) = ap Ok (sym (append_assoc done (b ∷ []) more))
 twice done b (Err refusal) = refl
 
 -- behind a right line
 line_by : (p : Program) (line : ℕ) (before after : Option BlockId) (here : List ℕ) (more : List (List ℕ))
     (done now : List Bound) (skipped : Bool) (reading : Reading Bound)
-    → IsTakenIf skipped reading before after done now
-    → in_front done (if skipped then lines_read p (line + 1) before more
-    else line_first line reading (λ b. lines_read p (line + 1) (Some b.block) more))
-    ≡ in_front now (lines_read p (line + 1) after more)
+    → TakesBoundUnlessSkipped skipped reading before after done now
+    → bounds_in_front done (if skipped then bounds_of_lines p (line + 1) before more
+    else bound_of_line_first line reading (λ b. bounds_of_lines p (line + 1) (Some b.block) more))
+    ≡ bounds_in_front now (bounds_of_lines p (line + 1) after more)
 line_by p line before after here more done now true reading taken =
-    ap (λ (list : List Bound). in_front list (lines_read p (line + 1) before more)) (sym taken.1)
-    ∙ ap (λ (o : Option BlockId). in_front now (lines_read p (line + 1) o more)) (sym taken.0)
+    ap (λ (list : List Bound). bounds_in_front list (bounds_of_lines p (line + 1) before more)) (sym taken.1)
+    ∙ ap (λ (o : Option BlockId). bounds_in_front now (bounds_of_lines p (line + 1) o more)) (sym taken.0)
 line_by p line before after here more done now false (Err rule) taken = absurd taken
 line_by p line before after here more done now false (Ok b) taken =
-    twice done b (lines_read p (line + 1) (Some b.block) more)
-    ∙ ap (λ (list : List Bound). in_front list (lines_read p (line + 1) (Some b.block) more)) (sym taken.1)
-    ∙ ap (λ (o : Option BlockId). in_front now (lines_read p (line + 1) o more)) (sym taken.0)
+    twice done b (bounds_of_lines p (line + 1) (Some b.block) more)
+    ∙ ap (λ (list : List Bound). bounds_in_front list (bounds_of_lines p (line + 1) (Some b.block) more)) (sym taken.1)
+    ∙ ap (λ (o : Option BlockId). bounds_in_front now (bounds_of_lines p (line + 1) o more)) (sym taken.0)
 
 first : (p : Program) (line : ℕ) (before : Option BlockId) (here : List ℕ) (more : List (List ℕ))
-    → lines_read p line before (here ∷ more)
-    ≡ (if is_skipped here then lines_read p (line + 1) before more
-    else line_first line (bound_line p before here) (λ b. lines_read p (line + 1) (Some b.block) more))
-unfolding lines_read
+    → bounds_of_lines p line before (here ∷ more)
+    ≡ (if is_line_skipped here then bounds_of_lines p (line + 1) before more
+    else bound_of_line_first line (bound_line p before here) (λ b. bounds_of_lines p (line + 1) (Some b.block) more))
+unfolding bounds_of_lines
 first p line before here more = refl
 
 pub goes_line : (p : Program) (text : List ℕ) (done now : List Bound) (line : ℕ) (before after : Option BlockId)
     (rest here behind : List ℕ) → GoesOn p text done line before rest → lines rest ≡ here ∷ lines behind
-    → IsTaken p before after here done now → GoesOn p text now (line + 1) after behind
+    → TakesBoundLine p before after here done now → GoesOn p text now (line + 1) after behind
 goes_line p text done now line before after rest here behind so_far at taken = record {
   all =
-      so_far.all ∙ ap (λ ls. in_front done (lines_read p line before ls)) at
-      ∙ ap (λ (r : Result (List Bound) Refusal). in_front done r) (first p line before here (lines behind))
-      ∙ line_by p line before after here (lines behind) done now (is_skipped here) (bound_line p before here) taken;
+      so_far.all ∙ ap (λ ls. bounds_in_front done (bounds_of_lines p line before ls)) at
+      ∙ ap (λ (r : Result (List Bound) Refusal). bounds_in_front done r) (first p line before here (lines behind))
+      ∙ line_by p line before after here (lines behind) done now (is_line_skipped here) (bound_line p before here) taken;
 }
 
 bad_by : (p : Program) (line : ℕ) (before : Option BlockId) (more : List (List ℕ)) (done : List Bound)
     (skipped : Bool) (reading : Reading Bound) (rule : ℕ) → skipped ≡ false → reading ≡ Err rule
-    → in_front done (if skipped then lines_read p (line + 1) before more
-    else line_first line reading (λ b. lines_read p (line + 1) (Some b.block) more))
+    → bounds_in_front done (if skipped then bounds_of_lines p (line + 1) before more
+    else bound_of_line_first line reading (λ b. bounds_of_lines p (line + 1) (Some b.block) more))
     ≡ Err (record { line = line; rule = rule })
 bad_by p line before more done skipped reading rule not_skipped is = rw not_skipped (rw is refl)
 
 -- the fault of a bad line is that of the text
 pub goes_bad : (p : Program) (text : List ℕ) (done : List Bound) (line : ℕ) (before : Option BlockId)
     (rest here behind : List ℕ) (fault : CertificateFault) → GoesOn p text done line before rest
-    → lines rest ≡ here ∷ lines behind → IsLineFault line p before here fault
-    → IsFault (certificate_of p text) fault
+    → lines rest ≡ here ∷ lines behind → IsCertificateLineFault line p before here fault
+    → IsCertificateTextFault (certificate_of p text) fault
 goes_bad p text done line before rest here behind (BadLine number rule) so_far at fault =
-    so_far.all ∙ ap (λ ls. in_front done (lines_read p line before ls)) at
-    ∙ ap (λ (r : Result (List Bound) Refusal). in_front done r) (first p line before here (lines behind))
-    ∙ bad_by p line before (lines behind) done (is_skipped here) (bound_line p before here) rule fault.1 fault.2
+    so_far.all ∙ ap (λ ls. bounds_in_front done (bounds_of_lines p line before ls)) at
+    ∙ ap (λ (r : Result (List Bound) Refusal). bounds_in_front done r) (first p line before here (lines behind))
+    ∙ bad_by p line before (lines behind) done (is_line_skipped here) (bound_line p before here) rule fault.1 fault.2
     ∙ ap (λ (n : ℕ). Err (record { line = n; rule = rule })) (sym fault.0)
 goes_bad p text done line before rest here behind NoMemory so_far at fault = tt
 
@@ -86,6 +86,6 @@ goes_bad p text done line before rest here behind NoMemory so_far at fault = tt
 pub goes_end : (p : Program) (text : List ℕ) (done : List Bound) (line : ℕ) (before : Option BlockId)
     (rest : List ℕ) → GoesOn p text done line before rest → length rest ≡ 0
     → certificate_of p text ≡ Ok done
-unfolding lines_read
+unfolding bounds_of_lines
 goes_end p text done line before [] so_far none = so_far.all ∙ ap Ok (append-nil done)
 goes_end p text done line before (b ∷ rest) so_far none = absurd (omega (arith, none))

@@ -24,13 +24,13 @@ callee_in (operation.Call how) (operand.Called kind number instance) =
 callee_in _ _ = None
 
 -- the block that an op calls
-abbrev pub callee_of : OpData → Option BlockId
-callee_of op = callee_in (operation_of op.code) op.operand
+abbrev pub callee_of_op : OpData → Option BlockId
+callee_of_op op = callee_in (operation_of op.code) op.operand
 
 -- the code has CALL, UC or CC of this block
 abbrev pub CallsIn : List OpData → BlockId → Type 0
 CallsIn [] called = ⊥
-CallsIn (op ∷ ops) called = (callee_of op ≡ Some called) ⊎ CallsIn ops called
+CallsIn (op ∷ ops) called = (callee_of_op op ≡ Some called) ⊎ CallsIn ops called
 
 -- a loaded block calls a loaded block, which may be itself, where its code has CALL, UC or CC of it. A
 -- system function is none: no program has code of it

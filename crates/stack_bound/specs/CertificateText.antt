@@ -9,7 +9,7 @@ use Rattle.plc_base.specs.declared.refusals.Refusal.{Refusal}
 use Rattle.flat_code.specs.Programs.{Program}
 use Rattle.image_file.specs.Readers.{block_by_id}
 use Rattle.monitor.specs.LineText.{kind_text}
-use Rattle.var_access.specs.Readings.{Reading, address_number, both, no_line, reading_map, words_of}
+use Rattle.var_access.specs.Readings.{Reading, address_number, both_readings, no_line, reading_map, words_of}
 use Rattle.stack_bound.specs.Order.{is_before}
 use Rattle.stack_bound.specs.declared.certificates.Bound.{Bound}
 use Rattle.stack_bound.specs.declared.texts.CertificateFault.{CertificateFault}
@@ -30,8 +30,8 @@ certificate_text list = flat_map bound_text list
 -- ---- read
 
 -- the kind of a code block; another word isn't in the grammar
-abbrev pub kind_of_word : List ℕ → Reading BlockKind
-kind_of_word word =
+abbrev pub block_kind_of_word : List ℕ → Reading BlockKind
+block_kind_of_word word =
     if bytes_eq word (codes "OB") then Ok Ob
     else if bytes_eq word (codes "FC") then Ok Fc
     else if bytes_eq word (codes "FB") then Ok Fb
@@ -48,7 +48,7 @@ bound_of_parts p = record {
 -- a block, and its two numbers; each number is one of 0 to 65,535, else rule 2
 abbrev pub parts_read : (kind number depth bytes : List ℕ) → Reading ((BlockKind × ℕ) × (ℕ × ℕ))
 parts_read kind number depth bytes =
-    both (both (kind_of_word kind) (address_number number)) (both (address_number depth) (address_number bytes))
+    both_readings (both_readings (block_kind_of_word kind) (address_number number)) (both_readings (address_number depth) (address_number bytes))
 
 -- the bound of the four words that aren't fixed
 abbrev pub bound_read : (kind number depth bytes : List ℕ) → Reading Bound
@@ -68,67 +68,67 @@ comes_behind None block = true
 comes_behind (Some before) block = is_before before block
 
 -- rule 3: the block isn't loaded, or doesn't come behind the one before
-abbrev pub in_order : Program → Option BlockId → Reading Bound → Reading Bound
-in_order p before (Err rule) = Err rule
-in_order p before (Ok b) =
+abbrev pub bound_in_order : Program → Option BlockId → Reading Bound → Reading Bound
+bound_in_order p before (Err rule) = Err rule
+bound_in_order p before (Ok b) =
     if is_some (block_by_id b.block p.code_blocks) && comes_behind before b.block then Ok b else Err 3
 
 -- the bound of a line behind one of a block
 abbrev pub bound_line : Program → Option BlockId → (line : List ℕ) → Reading Bound
-bound_line p before line = in_order p before (bound_words (words_of line))
+bound_line p before line = bound_in_order p before (bound_words (words_of line))
 
 -- empty lines and lines that begin with `//` are skipped
-abbrev pub is_skipped : (line : List ℕ) → Bool
-is_skipped line = length line == 0 || starts_with nat_eq line (codes "//")
+abbrev pub is_line_skipped : (line : List ℕ) → Bool
+is_line_skipped line = length line == 0 || starts_with nat_eq line (codes "//")
 
 -- bounds in front of those that follow, or the refusal of these
-abbrev pub in_front : List Bound → Result (List Bound) Refusal → Result (List Bound) Refusal
-in_front list (Ok more) = Ok (list ++ more)
-in_front list (Err refusal) = Err refusal
+abbrev pub bounds_in_front : List Bound → Result (List Bound) Refusal → Result (List Bound) Refusal
+bounds_in_front list (Ok more) = Ok (list ++ more)
+bounds_in_front list (Err refusal) = Err refusal
 
 -- a line's bound in front of those that follow, or the line's refusal
-abbrev pub line_first : (line : ℕ) → Reading Bound → (Bound → Result (List Bound) Refusal) → Result (List Bound) Refusal
-line_first line (Err rule) more = Err (record { line = line; rule = rule })
-line_first line (Ok b) more = in_front (b ∷ []) (more b)
+abbrev pub bound_of_line_first : (line : ℕ) → Reading Bound → (Bound → Result (List Bound) Refusal) → Result (List Bound) Refusal
+bound_of_line_first line (Err rule) more = Err (record { line = line; rule = rule })
+bound_of_line_first line (Ok b) more = bounds_in_front (b ∷ []) (more b)
 
 -- lines from one with this number on, behind one of a block
-unfoldable pub lines_read : Program → (line : ℕ) → Option BlockId → List (List ℕ) → Result (List Bound) Refusal
-lines_read p line before [] = Ok []
-lines_read p line before (text ∷ more) =
-    if is_skipped text then lines_read p (line + 1) before more
-    else line_first line (bound_line p before text) (λ b. lines_read p (line + 1) (Some b.block) more)
+unfoldable pub bounds_of_lines : Program → (line : ℕ) → Option BlockId → List (List ℕ) → Result (List Bound) Refusal
+bounds_of_lines p line before [] = Ok []
+bounds_of_lines p line before (text ∷ more) =
+    if is_line_skipped text then bounds_of_lines p (line + 1) before more
+    else bound_of_line_first line (bound_line p before text) (λ b. bounds_of_lines p (line + 1) (Some b.block) more)
 
 -- a whole text, whose lines are counted from 1
 unfoldable pub certificate_of : Program → List ℕ → Result (List Bound) Refusal
-certificate_of p text = lines_read p 1 None (lines text)
+certificate_of p text = bounds_of_lines p 1 None (lines text)
 
 -- a text spells bounds
-abbrev pub Spells : Program → List ℕ → List Bound → Type 0
-Spells p text list = certificate_of p text ≡ Ok list
+abbrev pub SpellsCertificate : Program → List ℕ → List Bound → Type 0
+SpellsCertificate p text list = certificate_of p text ≡ Ok list
 
 -- the first bad line with the least rule that it breaks; want of memory says nothing of the text
-abbrev pub IsFault : Result (List Bound) Refusal → CertificateFault → Type 0
-IsFault reading (BadLine line rule) = reading ≡ Err (record { line = line; rule = rule })
-IsFault reading NoMemory = Unit {0}
+abbrev pub IsCertificateTextFault : Result (List Bound) Refusal → CertificateFault → Type 0
+IsCertificateTextFault reading (BadLine line rule) = reading ≡ Err (record { line = line; rule = rule })
+IsCertificateTextFault reading NoMemory = Unit {0}
 
 -- what a right line leaves: the block and the bounds as they were, or its own block and its bound behind
 -- them
-abbrev pub IsTakenBy : Reading Bound → (after : Option BlockId) → (old new : List Bound) → Type 0
-IsTakenBy (Err rule) after old new = ⊥
-IsTakenBy (Ok b) after old new = (after ≡ Some b.block) × (new ≡ old ++ b ∷ [])
+abbrev pub TakesBound : Reading Bound → (after : Option BlockId) → (old new : List Bound) → Type 0
+TakesBound (Err rule) after old new = ⊥
+TakesBound (Ok b) after old new = (after ≡ Some b.block) × (new ≡ old ++ b ∷ [])
 
 -- by whether the line is skipped
-abbrev pub IsTakenIf : (skipped : Bool) → Reading Bound → (before after : Option BlockId) → (old new : List Bound) → Type 0
-IsTakenIf true reading before after old new = (after ≡ before) × (new ≡ old)
-IsTakenIf false reading before after old new = IsTakenBy reading after old new
+abbrev pub TakesBoundUnlessSkipped : (skipped : Bool) → Reading Bound → (before after : Option BlockId) → (old new : List Bound) → Type 0
+TakesBoundUnlessSkipped true reading before after old new = (after ≡ before) × (new ≡ old)
+TakesBoundUnlessSkipped false reading before after old new = TakesBound reading after old new
 
 -- the same of a line of a program's certificate
-abbrev pub IsTaken : Program → (before after : Option BlockId) → (line : List ℕ) → (old new : List Bound) → Type 0
-IsTaken p before after line old new =
-    IsTakenIf (is_skipped line) (bound_line p before line) before after old new
+abbrev pub TakesBoundLine : Program → (before after : Option BlockId) → (line : List ℕ) → (old new : List Bound) → Type 0
+TakesBoundLine p before after line old new =
+    TakesBoundUnlessSkipped (is_line_skipped line) (bound_line p before line) before after old new
 
 -- a line with this number that breaks the rule, and no lesser one
-abbrev pub IsLineFault : (number : ℕ) → Program → (before : Option BlockId) → (line : List ℕ) → CertificateFault → Type 0
-IsLineFault number p before line (BadLine at rule) =
-    (at ≡ number) × (is_skipped line ≡ false) × (bound_line p before line ≡ Err rule)
-IsLineFault number p before line NoMemory = Unit {0}
+abbrev pub IsCertificateLineFault : (number : ℕ) → Program → (before : Option BlockId) → (line : List ℕ) → CertificateFault → Type 0
+IsCertificateLineFault number p before line (BadLine at rule) =
+    (at ≡ number) × (is_line_skipped line ≡ false) × (bound_line p before line ≡ Err rule)
+IsCertificateLineFault number p before line NoMemory = Unit {0}

@@ -16,19 +16,19 @@ bound_of block [] = None
 bound_of block (b ∷ rest) = if is_same_id b.block block then Some b else bound_of block rest
 
 -- no block stands in the list twice
-abbrev pub AreOnce : List Bound → Type 0
-AreOnce [] = Unit {0}
-AreOnce (b ∷ rest) = (bound_of b.block rest ≡ None) × AreOnce rest
+abbrev pub HasEachBlockOnce : List Bound → Type 0
+HasEachBlockOnce [] = Unit {0}
+HasEachBlockOnce (b ∷ rest) = (bound_of b.block rest ≡ None) × HasEachBlockOnce rest
 
 -- each block of the list is a code block of the program
-abbrev pub AreLoaded : Program → List Bound → Type 0
-AreLoaded p [] = Unit {0}
-AreLoaded p (b ∷ rest) = IsSome (block_by_id b.block p.code_blocks) × AreLoaded p rest
+abbrev pub HasLoadedBlocksOnly : Program → List Bound → Type 0
+HasLoadedBlocksOnly p [] = Unit {0}
+HasLoadedBlocksOnly p (b ∷ rest) = IsSome (block_by_id b.block p.code_blocks) × HasLoadedBlocksOnly p rest
 
 -- a bound that is there, and within the limits of an activation
-abbrev pub IsWithin : Profile → Option Bound → Type 0
-IsWithin profile None = ⊥
-IsWithin profile (Some b) = (b.depth ≤ most_frames profile) × (b.bytes ≤ most_local_bytes)
+abbrev pub IsBoundWithinLimits : Profile → Option Bound → Type 0
+IsBoundWithinLimits profile None = ⊥
+IsBoundWithinLimits profile (Some b) = (b.depth ≤ most_frames profile) × (b.bytes ≤ most_local_bytes)
 
 -- a bound counts its block, and the local bytes of it
 abbrev pub CountsItself : (local_len : ℕ) → Option Bound → Type 0
@@ -46,11 +46,11 @@ CountsCalled local_len (Some b) (Some d) =
 -- A CERTIFICATE HOLDS of a program: each block stands in it once and is loaded; it has every loaded
 -- organization block, within the limits, and with a block each loaded block that its code calls; depth
 -- and bytes count the block itself and what it calls
-pub record Holds (profile : Profile) (p : Program) (c : List Bound) : Type 0 where
-  pub once : AreOnce c
-  pub loaded : AreLoaded p c
+pub record IsCertificateOf (profile : Profile) (p : Program) (c : List Bound) : Type 0 where
+  pub once : HasEachBlockOnce c
+  pub loaded : HasLoadedBlocksOnly p c
   pub obs : (b : CodeBlock) → block_by_id b.id p.code_blocks ≡ Some b → b.id.kind ≡ Ob
-      → IsWithin profile (bound_of b.id c)
+      → IsBoundWithinLimits profile (bound_of b.id c)
   pub own : (block : BlockId) (b : CodeBlock) → block_by_id block p.code_blocks ≡ Some b
       → CountsItself b.local_len (bound_of block c)
   pub calls : (block called : BlockId) (b d : CodeBlock)

@@ -18,9 +18,9 @@ CallEachOther p caller [] = Unit {0}
 CallEachOther p caller (called ∷ rest) = Calls p caller called × CallEachOther p called rest
 
 -- a chain begins with a loaded organization block, and each block calls the next
-abbrev pub IsChain : Program → List BlockId → Type 0
-IsChain p [] = ⊥
-IsChain p (ob ∷ rest) =
+abbrev pub IsCallChain : Program → List BlockId → Type 0
+IsCallChain p [] = ⊥
+IsCallChain p (ob ∷ rest) =
     (ob.kind ≡ Ob) × IsSome (block_by_id ob p.code_blocks) × CallEachOther p ob rest
 
 -- the local bytes of a block; none of one that isn't loaded

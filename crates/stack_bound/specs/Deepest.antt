@@ -9,10 +9,10 @@ use Rattle.plc_base.specs.declared.blocks.BlockKind.TheVariants.{Ob}
 use Rattle.flat_code.specs.Ops.{OpData}
 use Rattle.flat_code.specs.Programs.{Program}
 use Rattle.image_file.specs.Readers.{block_by_id}
-use Rattle.stack_bound.specs.Calls.{CallsIn, callee_of}
+use Rattle.stack_bound.specs.Calls.{CallsIn, callee_of_op}
 use Rattle.stack_bound.specs.Certificates.{bound_of}
-use Rattle.stack_bound.specs.Chains.{IsChain, bytes_of_chain, most_local_bytes}
-use Rattle.stack_bound.specs.Layers.{limit, most_called, number_in}
+use Rattle.stack_bound.specs.Chains.{IsCallChain, bytes_of_chain, most_local_bytes}
+use Rattle.stack_bound.specs.Layers.{limit_of_measure, most_called, measure_in_layer}
 use Rattle.stack_bound.specs.declared.certificates.Bound.{Bound}
 use Rattle.stack_bound.specs.declared.deepest.Best.{Best}
 use Rattle.stack_bound.specs.declared.deepest.Over.{Over}
@@ -22,22 +22,22 @@ use Rattle.stack_bound.specs.declared.measures.Measure.TheVariants.{Depth, Bytes
 -- ---- the called block of which a layer says most
 
 -- that of an op, where the layer says more of it
-abbrev pub better : Measure → List Bound → Best → OpData → Best
-better m layer best op =
-    if nat_lt best.most (number_in m layer (callee_of op))
-    then record { block = callee_of op; most = number_in m layer (callee_of op) }
+abbrev pub better_callee : Measure → List Bound → Best → OpData → Best
+better_callee m layer best op =
+    if nat_lt best.most (measure_in_layer m layer (callee_of_op op))
+    then record { block = callee_of_op op; most = measure_in_layer m layer (callee_of_op op) }
     else best
 
 -- the best of ops, or one from before
-abbrev pub best_from : Measure → List Bound → Best → List OpData → Best
-best_from m layer best [] = best
-best_from m layer best (op ∷ ops) = best_from m layer (better m layer best op) ops
+abbrev pub best_callee_from : Measure → List Bound → Best → List OpData → Best
+best_callee_from m layer best [] = best
+best_callee_from m layer best (op ∷ ops) = best_callee_from m layer (better_callee m layer best op) ops
 
 -- a called block of which a layer says most; none where it says nothing of any
 abbrev pub IsMostCalled : Measure → List Bound → List OpData → Option BlockId → Type 0
 IsMostCalled m layer ops None = most_called m layer ops ≡ 0
 IsMostCalled m layer ops (Some called) =
-    CallsIn ops called × (number_in m layer (Some called) ≡ most_called m layer ops)
+    CallsIn ops called × (measure_in_layer m layer (Some called) ≡ most_called m layer ops)
     × (0 < most_called m layer ops)
 
 -- ---- organization blocks
@@ -46,8 +46,8 @@ IsMostCalled m layer ops (Some called) =
 abbrev pub measure_over : Profile → Option Bound → Option Measure
 measure_over profile None = None
 measure_over profile (Some b) =
-    if nat_lt (limit profile Depth) b.depth then Some Depth
-    else if nat_lt (limit profile Bytes) b.bytes then Some Bytes
+    if nat_lt (limit_of_measure profile Depth) b.depth then Some Depth
+    else if nat_lt (limit_of_measure profile Bytes) b.bytes then Some Bytes
     else None
 
 -- the same of a block that is an organization block
@@ -67,21 +67,21 @@ first_over profile layer (id ∷ ids) =
     over_or id (ob_over profile layer id) (first_over profile layer ids)
 
 -- it is one that is loaded, and above the limits
-pub record IsOver (profile : Profile) (p : Program) (layer : List Bound) (over : Over) : Type 0 where
+pub record IsLoadedObOver (profile : Profile) (p : Program) (layer : List Bound) (over : Over) : Type 0 where
   pub organization : over.block.kind ≡ Ob
   pub loaded : IsSome (block_by_id over.block p.code_blocks)
-  pub is_over : limit profile over.measure < number_in over.measure layer (Some over.block)
+  pub is_over : limit_of_measure profile over.measure < measure_in_layer over.measure layer (Some over.block)
 
 -- ---- the chain
 
 -- a chain of so many blocks and local bytes is too deep
-abbrev pub is_too_deep : Profile → (blocks bytes : ℕ) → Bool
-is_too_deep profile blocks bytes = nat_lt (most_frames profile) blocks || nat_lt most_local_bytes bytes
+abbrev pub is_chain_too_deep : Profile → (blocks bytes : ℕ) → Bool
+is_chain_too_deep profile blocks bytes = nat_lt (most_frames profile) blocks || nat_lt most_local_bytes bytes
 
 -- what a chain has
-abbrev pub total : Measure → Program → List BlockId → ℕ
-total Depth p chain = length chain
-total Bytes p chain = bytes_of_chain p chain
+abbrev pub measure_of_chain : Measure → Program → List BlockId → ℕ
+measure_of_chain Depth p chain = length chain
+measure_of_chain Bytes p chain = bytes_of_chain p chain
 
 -- blocks before a loaded block make a chain with it, and have room; but with what the layer says of the block
 -- they would have more than an activation has
@@ -89,9 +89,9 @@ pub record LeadsOver
     (profile : Profile) (p : Program) (m : Measure) (layer : List Bound) (chain : List BlockId)
     (block : BlockId) (bytes : ℕ)
     : Type 0 where
-  pub is_chain : IsChain p (chain ++ block ∷ [])
+  pub is_chain : IsCallChain p (chain ++ block ∷ [])
   pub loaded : IsSome (block_by_id block p.code_blocks)
   pub total_is : bytes ≡ bytes_of_chain p chain
   pub few : length chain ≤ most_frames profile
   pub within : bytes ≤ most_local_bytes
-  pub over : limit profile m < total m p chain + number_in m layer (Some block)
+  pub over : limit_of_measure profile m < measure_of_chain m p chain + measure_in_layer m layer (Some block)

@@ -5,23 +5,23 @@ use Rattle.plc_base.specs.declared.Profile.{Profile}
 use Rattle.plc_base.specs.declared.blocks.BlockId.{BlockId}
 use Rattle.flat_code.specs.Programs.{Program}
 use Rattle.image_file.specs.Readers.{block_ids}
-use Rattle.stack_bound.specs.Certificates.{bound_of, Holds}
-use Rattle.stack_bound.specs.Chains.{IsChain, IsTooDeep}
+use Rattle.stack_bound.specs.Certificates.{bound_of, IsCertificateOf}
+use Rattle.stack_bound.specs.Chains.{IsCallChain, IsTooDeep}
 use Rattle.stack_bound.specs.declared.certificates.Bound.{Bound}
 use Rattle.stack_bound.specs.declared.finding.Found.{Found}
 use Rattle.stack_bound.specs.declared.finding.Found.TheVariants.{Fits, Deep}
 
 -- the last of some blocks
-abbrev pub last_of : BlockId → List BlockId → BlockId
-last_of block [] = block
-last_of block (next ∷ rest) = last_of next rest
+abbrev pub last_block_of : BlockId → List BlockId → BlockId
+last_block_of block [] = block
+last_block_of block (next ∷ rest) = last_block_of next rest
 
 -- a chain ends with the block
 pub record IsOnChain (p : Program) (block : BlockId) : Type 0 where
   pub ob : BlockId
   pub rest : List BlockId
-  pub is_chain : IsChain p (ob ∷ rest)
-  pub ends : last_of ob rest ≡ block
+  pub is_chain : IsCallChain p (ob ∷ rest)
+  pub ends : last_block_of ob rest ≡ block
 
 -- blocks among others and in their order
 abbrev pub AreAmong : List BlockId → List BlockId → Type 0
@@ -37,20 +37,20 @@ IsAtMost b (Some d) = (b.depth ≤ d.depth) × (b.bytes ≤ d.bytes)
 -- THE LEAST CERTIFICATE: no chain is too deep; it holds, has only blocks that stand on chains, in the order
 -- of the image, and says of each at most what any certificate says that holds
 pub record IsLeastCertificate (profile : Profile) (p : Program) (c : List Bound) : Type 0 where
-  pub fits : (chain : List BlockId) → IsChain p chain → IsTooDeep profile p chain → ⊥
-  pub holds : Holds profile p c
+  pub fits : (chain : List BlockId) → IsCallChain p chain → IsTooDeep profile p chain → ⊥
+  pub holds : IsCertificateOf profile p c
   pub on_chains : AllByRecursion (λ (b : Bound). IsOnChain p b.block) c
   pub order : AreAmong (map (λ (b : Bound). b.block) c) (block_ids p)
-  pub least : (d : List Bound) → Holds profile p d
+  pub least : (d : List Bound) → IsCertificateOf profile p d
       → AllByRecursion (λ (b : Bound). IsAtMost b (bound_of b.block d)) c
 
 -- A CHAIN THAT IS TOO DEEP, and no shorter front of it is
 pub record IsDeepChain (profile : Profile) (p : Program) (chain : List BlockId) : Type 0 where
-  pub is_chain : IsChain p chain
+  pub is_chain : IsCallChain p chain
   pub deep : IsTooDeep profile p chain
   pub front : (n : ℕ) → n < length chain → IsTooDeep profile p (take n chain) → ⊥
 
 -- which of the two is found
-abbrev pub Finds : Profile → Program → Found → Type 0
-Finds profile p (Fits list) = IsLeastCertificate profile p list.items
-Finds profile p (Deep chain) = IsDeepChain profile p chain.items
+abbrev pub IsFindingFor : Profile → Program → Found → Type 0
+IsFindingFor profile p (Fits list) = IsLeastCertificate profile p list.items
+IsFindingFor profile p (Deep chain) = IsDeepChain profile p chain.items

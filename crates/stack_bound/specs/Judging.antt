@@ -7,15 +7,15 @@ use Rattle.plc_base.specs.declared.blocks.BlockId.{BlockId}
 use Rattle.flat_code.specs.Ops.{OpData}
 use Rattle.flat_code.specs.Programs.{CodeBlock, Program}
 use Rattle.image_file.specs.Readers.{block_by_id, block_ids}
-use Rattle.stack_bound.specs.Calls.{callee_of}
+use Rattle.stack_bound.specs.Calls.{callee_of_op}
 use Rattle.stack_bound.specs.Certificates.{bound_of}
 use Rattle.stack_bound.specs.Chains.{most_local_bytes}
 use Rattle.stack_bound.specs.declared.certificates.Bound.{Bound}
 
 -- no block stands in the list twice
-abbrev pub are_once : List Bound → Bool
-are_once [] = true
-are_once (b ∷ rest) = is_none (bound_of b.block rest) && are_once rest
+abbrev pub has_each_block_once : List Bound → Bool
+has_each_block_once [] = true
+has_each_block_once (b ∷ rest) = is_none (bound_of b.block rest) && has_each_block_once rest
 
 -- a bound counts a called block's, which stands in the list, and its own local bytes
 abbrev pub counts_called : (local_len : ℕ) → Bound → Option Bound → Bool
@@ -33,7 +33,7 @@ counts_callee p c local_len b (Some called) =
 abbrev pub counts_ops : Program → List Bound → (local_len : ℕ) → Bound → List OpData → Bool
 counts_ops p c local_len b [] = true
 counts_ops p c local_len b (op ∷ ops) =
-    counts_callee p c local_len b (callee_of op) && counts_ops p c local_len b ops
+    counts_callee p c local_len b (callee_of_op op) && counts_ops p c local_len b ops
 
 -- the bound of a loaded block counts the block itself and what it calls
 abbrev pub counts_block : Program → List Bound → Bound → Option CodeBlock → Bool
@@ -52,18 +52,18 @@ each_counts p c (b ∷ rest) =
     counts_its_block p c b && each_counts p c rest
 
 -- a bound that is there, and within the limits of an activation
-abbrev pub is_within : Profile → Option Bound → Bool
-is_within profile None = false
-is_within profile (Some b) = nat_le b.depth (most_frames profile) && nat_le b.bytes most_local_bytes
+abbrev pub is_bound_within_limits : Profile → Option Bound → Bool
+is_bound_within_limits profile None = false
+is_bound_within_limits profile (Some b) = nat_le b.depth (most_frames profile) && nat_le b.bytes most_local_bytes
 
 -- the organization blocks among blocks have such bounds
 abbrev pub obs_within : Profile → List Bound → List BlockId → Bool
 obs_within profile c [] = true
 obs_within profile c (id ∷ ids) =
-    (not (is_organization_block id.kind) || is_within profile (bound_of id c))
+    (not (is_organization_block id.kind) || is_bound_within_limits profile (bound_of id c))
     && obs_within profile c ids
 
 -- the list is a certificate that holds
 abbrev pub is_certificate : Profile → Program → List Bound → Bool
 is_certificate profile p c =
-    are_once c && each_counts p c c && obs_within profile c (block_ids p)
+    has_each_block_once c && each_counts p c c && obs_within profile c (block_ids p)

@@ -9,7 +9,7 @@ use Rattle.plc_base.specs.declared.blocks.BlockId.{BlockId}
 use Rattle.flat_code.specs.Ops.{OpData}
 use Rattle.flat_code.specs.Programs.{CodeBlock, Program}
 use Rattle.image_file.specs.Readers.{block_by_id, block_ids}
-use Rattle.stack_bound.specs.Calls.{callee_of}
+use Rattle.stack_bound.specs.Calls.{callee_of_op}
 use Rattle.stack_bound.specs.Certificates.{bound_of}
 use Rattle.stack_bound.specs.Chains.{most_local_bytes}
 use Rattle.stack_bound.specs.declared.certificates.Bound.{Bound}
@@ -17,42 +17,42 @@ use Rattle.stack_bound.specs.declared.measures.Measure.{Measure}
 use Rattle.stack_bound.specs.declared.measures.Measure.TheVariants.{Depth, Bytes}
 
 -- what a block adds to a chain
-abbrev pub weight : Measure → CodeBlock → ℕ
-weight Depth b = 1
-weight Bytes b = b.local_len
+abbrev pub measure_of_block : Measure → CodeBlock → ℕ
+measure_of_block Depth b = 1
+measure_of_block Bytes b = b.local_len
 
 -- what an activation has at most
-abbrev pub limit : Profile → Measure → ℕ
-limit profile Depth = most_frames profile
-limit profile Bytes = most_local_bytes
+abbrev pub limit_of_measure : Profile → Measure → ℕ
+limit_of_measure profile Depth = most_frames profile
+limit_of_measure profile Bytes = most_local_bytes
 
 -- what a bound says
-abbrev pub number : Measure → Bound → ℕ
-number Depth b = b.depth
-number Bytes b = b.bytes
+abbrev pub measure_of_bound : Measure → Bound → ℕ
+measure_of_bound Depth b = b.depth
+measure_of_bound Bytes b = b.bytes
 
 -- nothing where no bound is there
-abbrev pub number_if : Measure → Option Bound → ℕ
-number_if m None = 0
-number_if m (Some b) = number m b
+abbrev pub measure_if_bound : Measure → Option Bound → ℕ
+measure_if_bound m None = 0
+measure_if_bound m (Some b) = measure_of_bound m b
 
 -- what a layer says of a block that may be called
-abbrev pub number_in : Measure → List Bound → Option BlockId → ℕ
-number_in m layer None = 0
-number_in m layer (Some block) = number_if m (bound_of block layer)
+abbrev pub measure_in_layer : Measure → List Bound → Option BlockId → ℕ
+measure_in_layer m layer None = 0
+measure_in_layer m layer (Some block) = measure_if_bound m (bound_of block layer)
 
 -- the most that it says of a block that ops call
 abbrev pub most_called : Measure → List Bound → List OpData → ℕ
 most_called m layer [] = 0
 most_called m layer (op ∷ ops) =
-    max (number_in m layer (callee_of op)) (most_called m layer ops)
+    max (measure_in_layer m layer (callee_of_op op)) (most_called m layer ops)
 
 -- a block by itself, and above the called block of which a layer says most
 abbrev pub bound_above : List Bound → BlockId → CodeBlock → Bound
 bound_above layer block b = record {
   block = block;
-  depth = weight Depth b + most_called Depth layer b.code;
-  bytes = weight Bytes b + most_called Bytes layer b.code;
+  depth = measure_of_block Depth b + most_called Depth layer b.code;
+  bytes = measure_of_block Bytes b + most_called Bytes layer b.code;
 }
 
 -- so for a block of a program, if it is a code block
@@ -75,14 +75,14 @@ abbrev pub layer_above : Program → List Bound → List Bound
 layer_above p layer = bounds_above p layer (block_ids p)
 
 -- the layers, the lowest of which is empty
-abbrev pub layers : ℕ → Program → List Bound
-layers zero p = []
-layers (suc k) p = layer_above p (layers k p)
+abbrev pub layer_of_height : ℕ → Program → List Bound
+layer_of_height zero p = []
+layer_of_height (suc k) p = layer_above p (layer_of_height k p)
 
 -- no number of a bound is above another one
-abbrev pub IsLow : ℕ → Bound → Type 0
-IsLow n b = (b.depth ≤ n) × (b.bytes ≤ n)
+abbrev pub IsBoundAtMost : ℕ → Bound → Type 0
+IsBoundAtMost n b = (b.depth ≤ n) × (b.bytes ≤ n)
 
 -- none of a layer is
-abbrev pub AreLow : ℕ → List Bound → Type 0
-AreLow n layer = AllByRecursion (IsLow n) layer
+abbrev pub AreBoundsAtMost : ℕ → List Bound → Type 0
+AreBoundsAtMost n layer = AllByRecursion (IsBoundAtMost n) layer

@@ -5,26 +5,26 @@ use Rattle.plc_base.specs.declared.blocks.BlockId.{BlockId}
 use Rattle.flat_code.specs.Ops.{OpData}
 use Rattle.flat_code.specs.Programs.{CodeBlock, Program}
 use Rattle.image_file.specs.Readers.{block_by_id, is_same_id}
-use Rattle.stack_bound.specs.Calls.{callee_of}
+use Rattle.stack_bound.specs.Calls.{callee_of_op}
 use Rattle.stack_bound.specs.Certificates.{bound_of}
 use Rattle.stack_bound.specs.declared.certificates.Bound.{Bound}
 
 -- a block is marked, where it stands first in the list
-abbrev pub mark : List Bool → List Bound → BlockId → List Bool
-mark [] list block = []
-mark (m ∷ marks) [] block = m ∷ marks
-mark (m ∷ marks) (b ∷ list) block =
-    if is_same_id b.block block then true ∷ marks else m ∷ mark marks list block
+abbrev pub with_block_marked : List Bool → List Bound → BlockId → List Bool
+with_block_marked [] list block = []
+with_block_marked (m ∷ marks) [] block = m ∷ marks
+with_block_marked (m ∷ marks) (b ∷ list) block =
+    if is_same_id b.block block then true ∷ marks else m ∷ with_block_marked marks list block
 
 -- what an op calls, if it calls a block
 abbrev pub mark_callee : List Bool → List Bound → Option BlockId → List Bool
 mark_callee marks list None = marks
-mark_callee marks list (Some block) = mark marks list block
+mark_callee marks list (Some block) = with_block_marked marks list block
 
 -- what ops call
 abbrev pub mark_ops : List Bool → List Bound → List OpData → List Bool
 mark_ops marks list [] = marks
-mark_ops marks list (op ∷ ops) = mark_ops (mark_callee marks list (callee_of op)) list ops
+mark_ops marks list (op ∷ ops) = mark_ops (mark_callee marks list (callee_of_op op)) list ops
 
 -- what a block calls, if it is loaded
 abbrev pub mark_called : List Bool → List Bound → Option CodeBlock → List Bool
@@ -36,11 +36,11 @@ abbrev pub mark_called_by : Program → List Bool → List Bound → Bound → L
 mark_called_by p marks list b = mark_called marks list (block_by_id b.block p.code_blocks)
 
 -- what the blocks call that had a mark before
-abbrev pub mark_all : Program → List Bound → List Bool → (before : List Bool) → (left : List Bound) → List Bool
-mark_all p list marks [] left = marks
-mark_all p list marks (m ∷ before) [] = marks
-mark_all p list marks (m ∷ before) (b ∷ left) =
-    mark_all p list (if m then mark_called_by p marks list b else marks) before left
+abbrev pub with_callees_marked : Program → List Bound → List Bool → (before : List Bool) → (left : List Bound) → List Bool
+with_callees_marked p list marks [] left = marks
+with_callees_marked p list marks (m ∷ before) [] = marks
+with_callees_marked p list marks (m ∷ before) (b ∷ left) =
+    with_callees_marked p list (if m then mark_called_by p marks list b else marks) before left
 
 -- the organization blocks of a list
 abbrev pub ob_marks : List Bound → List Bool
@@ -48,9 +48,9 @@ ob_marks [] = []
 ob_marks (b ∷ list) = is_organization_block b.block.kind ∷ ob_marks list
 
 -- the marks of a round: organization blocks, and then what the marked blocks of the round before call
-abbrev pub marks : ℕ → Program → List Bound → List Bool
-marks zero p list = ob_marks list
-marks (suc k) p list = mark_all p list (ob_marks list) (marks k p list) list
+abbrev pub marks_of_round : ℕ → Program → List Bound → List Bool
+marks_of_round zero p list = ob_marks list
+marks_of_round (suc k) p list = with_callees_marked p list (ob_marks list) (marks_of_round k p list) list
 
 -- the bounds that are marked, each block once: behind those that were seen
 abbrev pub marked_behind : (seen : List Bound) → List Bool → List Bound → List Bound

@@ -14,14 +14,14 @@ is_before a b =
     || kind_order a.kind == kind_order b.kind && nat_lt a.number b.number
 
 -- a bound's block stands before that of the first of others
-abbrev pub comes_before : Bound → List Bound → Bool
-comes_before b [] = true
-comes_before b (d ∷ rest) = is_before b.block d.block
+abbrev pub stands_before_bounds : Bound → List Bound → Bool
+stands_before_bounds b [] = true
+stands_before_bounds b (d ∷ rest) = is_before b.block d.block
 
 -- each block of a list stands before the next one
-abbrev pub rise : List Bound → Bool
-rise [] = true
-rise (b ∷ rest) = comes_before b rest && rise rest
+abbrev pub are_blocks_rising : List Bound → Bool
+are_blocks_rising [] = true
+are_blocks_rising (b ∷ rest) = stands_before_bounds b rest && are_blocks_rising rest
 
 -- the bound of a block, if it is the one of a bound that may be there
 abbrev pub bound_if_of : BlockId → Option Bound → Option Bound

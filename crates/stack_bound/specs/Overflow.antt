@@ -10,23 +10,23 @@ use Rattle.machine.specs.Flat.{code_of}
 use Rattle.var_access.specs.declared.What.{What}
 use Rattle.controller.specs.Fitting.{AreInRange}
 use Rattle.controller.specs.Replay.{replay}
-use Rattle.stack_bound.specs.Certificates.{Holds}
+use Rattle.stack_bound.specs.Certificates.{IsCertificateOf}
 use Rattle.stack_bound.specs.declared.certificates.Bound.{Bound}
 
 -- STOP by a frame too many, or by too many local bytes
-abbrev pub overflows : Mode → Bool
-overflows Run = false
-overflows Startup = false
-overflows (Stop cause at) = cause == causes.block_depth || cause == causes.local_data
+abbrev pub is_stack_overflow : Mode → Bool
+is_stack_overflow Run = false
+is_stack_overflow Startup = false
+is_stack_overflow (Stop cause at) = cause == causes.block_depth || cause == causes.local_data
 
 -- no valid history of a program leads to such a STOP
 abbrev pub NeverOverflows : Profile → Program → Type 0
 NeverOverflows profile p =
     (history : List What) → AreInRange history
-    → overflows (replay profile (code_of p) history).mode ≡ false
+    → is_stack_overflow (replay profile (code_of p) history).mode ≡ false
 
 -- where a certificate holds of a program that verifies none does
 abbrev pub CertificatesKeepStacks : Type 0
 CertificatesKeepStacks =
-    (profile : Profile) (p : Program) (c : List Bound) → Verifies p → Holds profile p c
+    (profile : Profile) (p : Program) (c : List Bound) → Verifies p → IsCertificateOf profile p c
     → NeverOverflows profile p

@@ -6,8 +6,8 @@ use Rattle.plc_base.specs.declared.blocks.BlockId.{BlockId}
 use Rattle.flat_code.specs.Ops.{OpData}
 use Rattle.flat_code.specs.Programs.{CodeBlock, Program}
 use Rattle.image_file.specs.Readers.{block_by_id, is_same_id}
-use Rattle.stack_bound.specs.Calls.{callee_of}
-use Rattle.stack_bound.specs.Layers.{number_if, with_bound}
+use Rattle.stack_bound.specs.Calls.{callee_of_op}
+use Rattle.stack_bound.specs.Layers.{measure_if_bound, with_bound}
 use Rattle.stack_bound.specs.Marks.{ob_marks}
 use Rattle.stack_bound.specs.declared.certificates.Bound.{Bound}
 use Rattle.stack_bound.specs.declared.measures.Measure.{Measure}
@@ -16,15 +16,15 @@ use Rattle.stack_bound.specs.declared.measures.Measure.TheVariants.{Depth, Bytes
 -- ---- places
 
 -- the place where a block stands first among bounds
-abbrev pub place_of : BlockId → List Bound → Option ℕ
-place_of block [] = None
-place_of block (b ∷ rest) =
-    if is_same_id b.block block then Some 0 else option_map suc (place_of block rest)
+abbrev pub place_of_bound : BlockId → List Bound → Option ℕ
+place_of_bound block [] = None
+place_of_bound block (b ∷ rest) =
+    if is_same_id b.block block then Some 0 else option_map suc (place_of_bound block rest)
 
 -- that of a block that may be called
 abbrev pub place_in : List Bound → Option BlockId → Option ℕ
 place_in list None = None
-place_in list (Some block) = place_of block list
+place_in list (Some block) = place_of_bound block list
 
 -- a place that may be there, in front of others
 abbrev pub with_place : Option ℕ → List ℕ → List ℕ
@@ -34,7 +34,7 @@ with_place (Some place) rest = place ∷ rest
 -- the places of the blocks that ops call
 abbrev pub places_called : List Bound → List OpData → List ℕ
 places_called list [] = []
-places_called list (op ∷ ops) = with_place (place_in list (callee_of op)) (places_called list ops)
+places_called list (op ∷ ops) = with_place (place_in list (callee_of_op op)) (places_called list ops)
 
 -- a block, with its local bytes and the places of the blocks that it calls
 pub record CallerData : Type 0 where
@@ -63,13 +63,13 @@ callers_of p list (id ∷ ids) = with_caller (caller_in p list id) (callers_of p
 -- ---- layers
 
 -- what a layer says in a place
-abbrev pub number_at : Measure → List Bound → (place : ℕ) → ℕ
-number_at m layer place = number_if m (slice_get layer place)
+abbrev pub measure_at_place : Measure → List Bound → (place : ℕ) → ℕ
+measure_at_place m layer place = measure_if_bound m (slice_get layer place)
 
 -- the most that it says in some places
 abbrev pub most_at : Measure → List Bound → List ℕ → ℕ
 most_at m layer [] = 0
-most_at m layer (place ∷ places) = max (number_at m layer place) (most_at m layer places)
+most_at m layer (place ∷ places) = max (measure_at_place m layer place) (most_at m layer places)
 
 -- the bound of a caller above a layer
 abbrev pub bound_by : List Bound → CallerData → Bound

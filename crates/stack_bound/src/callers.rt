@@ -2,7 +2,7 @@
 ghost use Rattle.std.specs.Prelude.{◌≡◌, ◌++◌, [], ◌∷◌, IfOk, OnOk};
 ghost use Rattle.std.specs.Option.{option_map};
 ghost use Rattle.image_file.specs.Readers.{block_ids};
-ghost use Rattle.stack_bound.specs.Calls.{callee_of};
+ghost use Rattle.stack_bound.specs.Calls.{callee_of_op};
 ghost use Rattle.stack_bound.specs.Places.{caller_in, callers_of, place_in, places_called, with_place};
 
 use crate::calls::callee_of;
@@ -46,7 +46,7 @@ impl Caller {
 
 /// The place of the block that an op calls.
 fn place_called(blocks: &Bounds<'_>, op: &Op) -> Option<usize>
-    ensures { result ≡ place_in blocks.now (callee_of op.now) }
+    ensures { result ≡ place_in blocks.now (callee_of_op op.now) }
 {
     blocks.place_of(callee_of(op)?)
 }

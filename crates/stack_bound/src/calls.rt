@@ -1,13 +1,13 @@
 //! The calls of a block.
 ghost use Rattle.std.specs.Prelude.{◌≡◌};
-ghost use Rattle.stack_bound.specs.Calls.{callee_of};
+ghost use Rattle.stack_bound.specs.Calls.{callee_of_op};
 
 use flat_code::{Op, Operand, Operation, kind_of_code};
 use plc_base::BlockId;
 
 /// The block that an op calls.
 pub(crate) fn callee_of(op: &Op) -> Option<BlockId>
-    ensures { result ≡ callee_of op.now }
+    ensures { result ≡ callee_of_op op.now }
 {
     let Operation::Call(_) = op.operation() else {
         return None;

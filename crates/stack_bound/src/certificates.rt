@@ -3,9 +3,9 @@ ghost use Rattle.std.specs.Prelude.{◌≡◌, true};
 ghost use Rattle.std.specs.List.{position_from};
 ghost use Rattle.image_file.specs.Readers.{is_same_id};
 ghost use Rattle.stack_bound.specs.Certificates.{bound_of};
-ghost use Rattle.stack_bound.specs.Judging.{are_once};
-ghost use Rattle.stack_bound.specs.Order.{IsHalved, bound_at, comes_before, is_before, rise};
-ghost use Rattle.stack_bound.specs.Places.{place_of};
+ghost use Rattle.stack_bound.specs.Judging.{has_each_block_once};
+ghost use Rattle.stack_bound.specs.Order.{IsHalved, bound_at, stands_before_bounds, is_before, are_blocks_rising};
+ghost use Rattle.stack_bound.specs.Places.{place_of_bound};
 
 use plc_base::BlockId;
 use std::marker::Model;
@@ -34,7 +34,7 @@ pub(crate) fn is_before(a: BlockId, b: BlockId) -> bool
 }
 
 fn comes_before(b: &Bound, rest: &[Bound]) -> bool
-    ensures { result ≡ comes_before b.now rest.now }
+    ensures { result ≡ stands_before_bounds b.now rest.now }
 {
     match rest {
         [] => true,
@@ -44,7 +44,7 @@ fn comes_before(b: &Bound, rest: &[Bound]) -> bool
 
 /// Whether each block of a list stands before the next one.
 fn rise(list: &[Bound]) -> bool
-    ensures { result ≡ rise list.now }
+    ensures { result ≡ are_blocks_rising list.now }
 {
     let mut left = list;
     while let [b, rest @ ..] = left {
@@ -84,7 +84,7 @@ fn bound_at(list: &[Bound], place: usize, block: BlockId) -> Option<Bound>
 
 /// The place of a block in a list whose blocks rise, by halving it.
 fn place_in(list: &[Bound], block: BlockId) -> usize
-    requires { rise list.now ≡ true }
+    requires { are_blocks_rising list.now ≡ true }
     ensures { IsHalved list.now block result }
 {
     list.partition_point(|b| is_before(b.block, block))
@@ -93,7 +93,7 @@ fn place_in(list: &[Bound], block: BlockId) -> usize
 /// What a list whose blocks rise says of a block, by halving it.
 #[tactic(auto, using(crate::proofs::OrderLemmas::halved))]
 fn searched(list: &[Bound], block: BlockId) -> Option<Bound>
-    requires { rise list.now ≡ true }
+    requires { are_blocks_rising list.now ≡ true }
     ensures { result ≡ bound_of block list.now }
 {
     bound_at(list, place_in(list, block), block)
@@ -102,8 +102,8 @@ fn searched(list: &[Bound], block: BlockId) -> Option<Bound>
 /// The place of a block in a list whose blocks rise, by halving it.
 #[tactic(auto, using(crate::proofs::PlaceLemmas::found_here, crate::proofs::PlaceLemmas::found_nowhere))]
 fn place_searched(list: &[Bound], block: BlockId) -> Option<usize>
-    requires { rise list.now ≡ true }
-    ensures { result ≡ place_of block list.now }
+    requires { are_blocks_rising list.now ≡ true }
+    ensures { result ≡ place_of_bound block list.now }
 {
     let place = place_in(list, block);
     if bound_at(list, place, block).is_some() {
@@ -129,7 +129,7 @@ pub(crate) struct Bounds<'a> {
 
 impl<'a> Model for Bounds<'a> {
     ghost use Rattle.std.specs.Prelude.{◌≡◌, List};
-    ghost use Rattle.stack_bound.specs.Order.{rise as rise_of};
+    ghost use Rattle.stack_bound.specs.Order.{are_blocks_rising as rise_of};
     ghost use Rattle.stack_bound.specs.declared.certificates.Bound.{Bound};
 
     ghost Value = { List Bound };
@@ -141,9 +141,9 @@ impl<'a> Model for Bounds<'a> {
 
 impl<'a> Bounds<'a> {
     ghost use Rattle.std.specs.Prelude.{◌≡◌};
-    ghost use Rattle.stack_bound.specs.Places.{place_of};
+    ghost use Rattle.stack_bound.specs.Places.{place_of_bound};
     ghost use Rattle.stack_bound.specs.Certificates.{bound_of};
-    ghost use Rattle.stack_bound.specs.Judging.{are_once};
+    ghost use Rattle.stack_bound.specs.Judging.{has_each_block_once};
 
     /// The bounds of a list.
     pub(crate) fn new(list: &'a [Bound]) -> Self
@@ -169,7 +169,7 @@ impl<'a> Bounds<'a> {
     /// The place where a block stands first among them.
     #[tactic(auto, using(crate::proofs::PlaceLemmas::walked_to))]
     pub(crate) fn place_of(&self, block: BlockId) -> Option<usize>
-        ensures { result ≡ place_of block self.now }
+        ensures { result ≡ place_of_bound block self.now }
     {
         if self.rise {
             place_searched(self.list, block)
@@ -181,14 +181,14 @@ impl<'a> Bounds<'a> {
     /// Whether no block stands among them twice.
     #[tactic(auto, using(crate::proofs::OrderLemmas::risen_once))]
     pub(crate) fn are_once(&self) -> bool
-        ensures { result ≡ are_once self.now }
+        ensures { result ≡ has_each_block_once self.now }
     {
         self.rise || are_once(self.list)
     }
 }
 
 fn are_once(list: &[Bound]) -> bool
-    ensures { result ≡ are_once list.now }
+    ensures { result ≡ has_each_block_once list.now }
 {
     let mut left = list;
     while let [b, rest @ ..] = left {

@@ -3,9 +3,9 @@ ghost use Rattle.std.specs.Prelude.{◌≡◌, suc, IfOk};
 ghost use Rattle.plc_base.specs.Profiles.{most_frames};
 ghost use Rattle.plc_base.specs.declared.blocks.BlockKind.TheVariants.{Ob};
 ghost use Rattle.image_file.specs.Readers.{block_ids};
-ghost use Rattle.stack_bound.specs.Deepest.{IsMostCalled, IsOver, better, first_over, is_too_deep, measure_over, ob_over};
+ghost use Rattle.stack_bound.specs.Deepest.{IsMostCalled, IsLoadedObOver, better_callee, first_over, is_chain_too_deep, measure_over, ob_over};
 ghost use Rattle.stack_bound.specs.Finding.{IsDeepChain};
-ghost use Rattle.stack_bound.specs.Layers.{layers, limit, number_in};
+ghost use Rattle.stack_bound.specs.Layers.{layer_of_height, limit_of_measure, measure_in_layer};
 
 use crate::calls::callee_of;
 use crate::certificates::{Bound, Bounds};
@@ -32,7 +32,7 @@ pub(crate) struct Over {
 
 /// What an op calls, where a layer says more of it.
 fn better(measure: Measure, layer: &Bounds<'_>, best: &Best, op: &Op) -> Best
-    ensures { result ≡ better measure layer.now best.now op.now }
+    ensures { result ≡ better_callee measure layer.now best.now op.now }
 {
     let block = callee_of(op);
     let most = number_in(measure, layer, block);
@@ -104,7 +104,7 @@ pub(crate) fn first_over(l: &Loaded, layer: &Bounds<'_>) -> Option<Over>
 
 /// Whether a chain of so many blocks and local bytes is too deep.
 fn is_too_deep(profile: Profile, blocks: usize, bytes: u32) -> bool
-    ensures { result ≡ is_too_deep profile blocks bytes }
+    ensures { result ≡ is_chain_too_deep profile blocks bytes }
 {
     blocks > profile.most_frames() || bytes > MOST_LOCAL_BYTES
 }
@@ -117,8 +117,8 @@ pub(crate) fn chain_from(
     layer: &Bounds<'_>,
     over: Over,
 ) -> Result<Vec<BlockId>, NoMemory>
-    requires layer { layer.now ≡ layers (suc (most_frames l.now.profile)) l.now.program }
-    requires over { IsOver l.now.profile l.now.program layer.now over }
+    requires layer { layer.now ≡ layer_of_height (suc (most_frames l.now.profile)) l.now.program }
+    requires over { IsLoadedObOver l.now.profile l.now.program layer.now over }
     ensures { IfOk result (λ v. IsDeepChain l.now.profile l.now.program v.items) }
 {
     let profile = l.profile();

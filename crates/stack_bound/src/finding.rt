@@ -1,6 +1,6 @@
 //! The least certificate of a program, or a chain that is too deep.
 ghost use Rattle.std.specs.Prelude.{IfOk};
-ghost use Rattle.stack_bound.specs.Finding.{Finds};
+ghost use Rattle.stack_bound.specs.Finding.{IsFindingFor};
 
 use crate::callers::callers;
 use crate::certificates::{Bound, Bounds};
@@ -24,7 +24,7 @@ pub enum Found {
 /// deep for its profile: one of them exactly.
 #[tactic(auto, using(crate::proofs::CertificateLemmas::least, crate::proofs::OnChainLemmas::first_is_over))]
 pub fn find(alloc: Global, l: &Loaded) -> Result<Found, NoMemory>
-    ensures { IfOk result (λ found. Finds l.now.profile l.now.program found) }
+    ensures { IfOk result (λ found. IsFindingFor l.now.profile l.now.program found) }
 {
     let most = l.profile().most_frames() as u32;
     let first = first_layer(alloc, l)?;

@@ -1,8 +1,8 @@
 //! Whether a certificate holds.
 ghost use Rattle.std.specs.Prelude.{◌≡◌, ◌↔◌, IsTrue};
 ghost use Rattle.image_file.specs.Readers.{block_ids};
-ghost use Rattle.stack_bound.specs.Certificates.{Holds};
-ghost use Rattle.stack_bound.specs.Judging.{counts_called, counts_callee, counts_ops, counts_its_block, each_counts, is_within, obs_within, is_certificate};
+ghost use Rattle.stack_bound.specs.Certificates.{IsCertificateOf};
+ghost use Rattle.stack_bound.specs.Judging.{counts_called, counts_callee, counts_ops, counts_its_block, each_counts, is_bound_within_limits, obs_within, is_certificate};
 ghost use Rattle.stack_bound.specs.Overflow.{NeverOverflows};
 ghost use Rattle.plc_base.specs.Kinds.{is_organization_block};
 
@@ -83,7 +83,7 @@ fn each_counts(l: &Loaded, c: &Bounds<'_>, list: &[Bound]) -> bool
 
 /// Whether a bound is there, and within the limits of an activation.
 fn is_within(profile: Profile, b: Option<Bound>) -> bool
-    ensures { result ≡ is_within profile b }
+    ensures { result ≡ is_bound_within_limits profile b }
 {
     match b {
         Some(b) => b.depth as usize <= profile.most_frames() && b.bytes <= MOST_LOCAL_BYTES,
@@ -122,7 +122,7 @@ fn is_certificate(l: &Loaded, list: &[Bound]) -> bool
 /// block that it calls; its depths and bytes count each block and what it calls. Where it does, no valid
 /// history of the program leads to a STOP by block depth or local data. It takes no memory.
 pub fn holds(l: &Loaded, c: &[Bound]) -> bool
-    ensures value { IsTrue result ↔ Holds l.now.profile l.now.program c.now }
+    ensures value { IsTrue result ↔ IsCertificateOf l.now.profile l.now.program c.now }
     ensures never { IsTrue result → NeverOverflows l.now.profile l.now.program }
 {
     controller::laws::what_runs_goes_on();

@@ -1,7 +1,7 @@
 //! The least bounds, layer by layer.
 ghost use Rattle.std.specs.Prelude.{◌≡◌, ◌≤◌, ◌*◌, ◌+◌, map, max, IfOk, IfSome};
 ghost use Rattle.image_file.specs.Readers.{block_ids};
-ghost use Rattle.stack_bound.specs.Layers.{AreLow, IsLow, number_if, number_in};
+ghost use Rattle.stack_bound.specs.Layers.{AreBoundsAtMost, IsBoundAtMost, measure_if_bound, measure_in_layer};
 ghost use Rattle.stack_bound.specs.Places.{bound_alone_in, bound_by, bounds_alone, layers_by, most_at};
 ghost use Rattle.stack_bound.specs.declared.measures.Measure.TheVariants.{Depth, Bytes};
 
@@ -14,7 +14,7 @@ use std::alloc::Global;
 
 /// What a layer says of a block that may be called.
 pub(crate) fn number_in(measure: Measure, layer: &Bounds<'_>, callee: Option<BlockId>) -> u32
-    ensures { result ≡ number_in measure layer.now callee }
+    ensures { result ≡ measure_in_layer measure layer.now callee }
 {
     let Some(block) = callee else {
         return 0;
@@ -28,7 +28,7 @@ pub(crate) fn number_in(measure: Measure, layer: &Bounds<'_>, callee: Option<Blo
 /// The bound of a block that calls none.
 fn bound_alone(l: &Loaded, block: BlockId) -> Option<Bound>
     ensures bound { result ≡ bound_alone_in l.now.program block }
-    ensures low { IfSome result (IsLow 65536) }
+    ensures low { IfSome result (IsBoundAtMost 65536) }
 {
     let code = l.block(block)?;
     Some(Bound {
@@ -42,7 +42,7 @@ fn bound_alone(l: &Loaded, block: BlockId) -> Option<Bound>
 pub(crate) fn first_layer(alloc: Global, l: &Loaded) -> Result<Vec<Bound>, NoMemory>
     ensures layer { IfOk result
         (λ v. v.items ≡ bounds_alone l.now.program (block_ids l.now.program)) }
-    ensures low { IfOk result (λ v. AreLow 65536 v.items) }
+    ensures low { IfOk result (λ v. AreBoundsAtMost 65536 v.items) }
 {
     let mut layer = Vec::new(alloc);
     let mut left = l.blocks();
@@ -64,8 +64,8 @@ struct Most {
 
 /// The greatest numbers so far, and of a bound that may be there.
 fn most_with(most: &Most, b: Option<Bound>) -> Most
-    ensures depth { result.depth ≡ max most.now.depth (number_if Depth b) }
-    ensures bytes { result.bytes ≡ max most.now.bytes (number_if Bytes b) }
+    ensures depth { result.depth ≡ max most.now.depth (measure_if_bound Depth b) }
+    ensures bytes { result.bytes ≡ max most.now.bytes (measure_if_bound Bytes b) }
 {
     match b {
         Some(b) => Most {
@@ -92,10 +92,10 @@ fn most_at(layer: &[Bound], places: &[usize]) -> Most
 
 /// The bound of a caller above a layer, none of whose numbers is above another one.
 fn bound_above(layer: &[Bound], caller: &Caller, highest: u32) -> Bound
-    requires low { AreLow highest layer.now }
+    requires low { AreBoundsAtMost highest layer.now }
     requires room { highest + 65536 ≤ 0xFFFFFFFF }
     ensures bound { result ≡ bound_by layer.now caller.now }
-    ensures low { IsLow (highest + 65536) result }
+    ensures low { IsBoundAtMost (highest + 65536) result }
 {
     let most = most_at(layer, caller.called.as_slice());
     Bound {
@@ -112,10 +112,10 @@ fn layer_above(
     below: &[Bound],
     highest: u32,
 ) -> Result<Vec<Bound>, NoMemory>
-    requires low { AreLow highest below.now }
+    requires low { AreBoundsAtMost highest below.now }
     requires room { highest + 65536 ≤ 0xFFFFFFFF }
     ensures layer { IfOk result (λ v. v.items ≡ map (bound_by below.now) callers.now) }
-    ensures low { IfOk result (λ v. AreLow (highest + 65536) v.items) }
+    ensures low { IfOk result (λ v. AreBoundsAtMost (highest + 65536) v.items) }
 {
     let mut layer = Vec::with_capacity(alloc, callers.len())?;
     let mut left = callers;
@@ -133,7 +133,7 @@ pub(crate) fn highest_layer(
     first: Vec<Bound>,
     most: u32,
 ) -> Result<Vec<Bound>, NoMemory>
-    requires low { AreLow 65536 first.items }
+    requires low { AreBoundsAtMost 65536 first.items }
     requires few { most ≤ 24 }
     ensures { IfOk result (λ v. v.items ≡ layers_by callers.now first.items most) }
 {

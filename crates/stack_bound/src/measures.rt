@@ -1,6 +1,6 @@
 //! What chains of calls are measured by.
 ghost use Rattle.std.specs.Prelude.{◌≡◌};
-ghost use Rattle.stack_bound.specs.Layers.{limit, number};
+ghost use Rattle.stack_bound.specs.Layers.{limit_of_measure, measure_of_bound};
 
 use crate::certificates::Bound;
 use plc_base::Profile;
@@ -18,7 +18,7 @@ pub(crate) enum Measure {
 impl Measure {
     /// What an activation has at most.
     pub(crate) fn limit(self, profile: Profile) -> u32
-        ensures { result ≡ limit profile self }
+        ensures { result ≡ limit_of_measure profile self }
     {
         match self {
             Measure::Depth => profile.most_frames() as u32,
@@ -28,7 +28,7 @@ impl Measure {
 
     /// What a bound says.
     pub(crate) fn number(self, b: &Bound) -> u32
-        ensures { result ≡ number self b.now }
+        ensures { result ≡ measure_of_bound self b.now }
     {
         match self {
             Measure::Depth => b.depth,

@@ -1,7 +1,7 @@
 //! The text of a certificate, both ways.
 ghost use Rattle.std.specs.Prelude.{◌≡◌, ◌≤◌, ◌++◌, length, IfErr, IfOk, OnOk};
 ghost use Rattle.var_access.specs.Readings.{words_of};
-ghost use Rattle.stack_bound.specs.CertificateText.{IsFault, IsLineFault, IsTaken, Spells, bound_line, bound_read, bound_text, bound_words, certificate_of, certificate_text, comes_behind as comes_behind_of, is_skipped as is_skipped_line, kind_of_word};
+ghost use Rattle.stack_bound.specs.CertificateText.{IsCertificateTextFault, IsCertificateLineFault, TakesBoundLine, SpellsCertificate, bound_line, bound_read, bound_text, bound_words, certificate_of, certificate_text, comes_behind as comes_behind_of, is_line_skipped as is_skipped_line, block_kind_of_word};
 
 use crate::certificates::{Bound, is_before};
 use image_file::Loaded;
@@ -65,7 +65,7 @@ pub fn write_certificate(list: &[Bound], out: &mut Vec<u8>) -> Result<(), NoMemo
 }
 
 fn kind_of_word(word: &[u8]) -> Result<BlockKind, u16>
-    ensures { result ≡ kind_of_word word.now }
+    ensures { result ≡ block_kind_of_word word.now }
 {
     if word == b"OB".as_slice() {
         return Ok(BlockKind::Ob);
@@ -160,8 +160,8 @@ fn take_line(
     list: &mut Vec<Bound>,
 ) -> Result<(), CertificateFault>
     ensures taken { OnOk result
-        (IsTaken l.now.program before.old before.new line.now list.old.items list.new.items) }
-    ensures bad { IfErr result (IsLineFault number l.now.program before.old line.now) }
+        (TakesBoundLine l.now.program before.old before.new line.now list.old.items list.new.items) }
+    ensures bad { IfErr result (IsCertificateLineFault number l.now.program before.old line.now) }
 {
     if is_skipped(line) {
         return Ok(());
@@ -189,8 +189,8 @@ pub fn read_certificate(
     bytes: &[u8],
 ) -> Result<Vec<Bound>, CertificateFault>
     requires { length bytes.now ≤ 4194304 }
-    ensures spelled { IfOk result (λ list. Spells l.now.program bytes.now list.items) }
-    ensures refused { IfErr result (IsFault (certificate_of l.now.program bytes.now)) }
+    ensures spelled { IfOk result (λ list. SpellsCertificate l.now.program bytes.now list.items) }
+    ensures refused { IfErr result (IsCertificateTextFault (certificate_of l.now.program bytes.now)) }
 {
     let mut list = Vec::new(alloc);
     let mut before = None;

@@ -48,7 +48,7 @@ use Rattle.machine.specs.Values as values
 use Rattle.machine.specs.declared.places.Access.TheVariants.{Writing}
 use Rattle.machine.specs.declared.places.Location.{Location}
 use Rattle.statement_laws.specs.Effects as own
-use Rattle.statement_laws.specs.Named.{Named, Number, OpenBlock, Spot}
+use Rattle.statement_laws.specs.Named.{NamedItem, Number, OpenBlock, Spot}
 use Rattle.statement_laws.specs.Named as named
 use Rattle.statement_laws.specs.Reading as reading
 use Rattle.statement_laws.proofs.FlatLemmas.{bcd_same, flat_number, flat_of, flat_spot, is_read, loaded_same, number_same, numbered_same, place_same, tested_same}
@@ -74,9 +74,9 @@ own_if p false after = refl
 
 -- ---- bit logic
 
-pub checks_same : (with : Check) (x : Named) (p : ExecState) → is_read x ≡ true
-    → does.effect (operation.Check with) (flat_of x) p ≡ own.checks with x p
-unfolding does.effect bit_logic.checking
+pub checks_same : (with : Check) (x : NamedItem) (p : ExecState) → is_read x ≡ true
+    → does.operation_effect (operation.Check with) (flat_of x) p ≡ own.checks_bit with x p
+unfolding does.operation_effect bit_logic.regs_after_bit_check
 checks_same with x p e =
     regs_then p (values.checked_bit (flat_of x) p.local p.memory p.timers p.counters)
     (λ b. after_check with b p.local.regs)
@@ -84,27 +84,27 @@ checks_same with x p e =
     (tested_same x p e)
 
 -- O by whether it has an operand
-abbrev pub or_operation : Named → Operation
+abbrev pub or_operation : NamedItem → Operation
 or_operation named.Nothing = operation.OrBare
 or_operation _ = operation.Check check.O
 
-pub or_same : (x : Named) (p : ExecState) → is_read x ≡ true
-    → does.effect (or_operation x) (flat_of x) p ≡ own.checks_or x p
-unfolding does.effect
+pub or_same : (x : NamedItem) (p : ExecState) → is_read x ≡ true
+    → does.operation_effect (or_operation x) (flat_of x) p ≡ own.checks_or x p
+unfolding does.operation_effect
 or_same named.Nothing p e = refl
 or_same x p e = checks_same check.O x p e
 
 pub nest_same : (with : Check) (o : Operand) (p : ExecState)
-    → does.effect (operation.Nest with) o p ≡ own.opens_bracket with p
-unfolding does.effect nesting.nesting
+    → does.operation_effect (operation.Nest with) o p ≡ own.opens_bracket with p
+unfolding does.operation_effect nesting.nesting_opened
 nest_same with o p =
     own_if p (length p.local.inner.brackets == 7)
     (nesting.with_open_brackets (entry_of with p.local.regs ∷ p.local.inner.brackets)
     (record p.local { regs = bracket_begun p.local.regs }))
 
 pub unnest_same : (o : Operand) (p : ExecState)
-    → does.effect operation.Unnest o p ≡ own.closes_bracket p
-unfolding does.effect nesting.unnesting
+    → does.operation_effect operation.Unnest o p ≡ own.closes_bracket p
+unfolding does.operation_effect nesting.nesting_closed
 unnest_same o p = by p.local.inner.brackets
   where
     by : (brackets : List Bracket)
@@ -113,12 +113,12 @@ unnest_same o p = by p.local.inner.brackets
     by (bracket ∷ rest) = refl
 
 -- what writes a bit, or transfers
-abbrev pub is_written : Named → Bool
+abbrev pub is_written : NamedItem → Bool
 is_written (named.Place spot) = true
 is_written (named.Parameter index w) = true
 is_written _ = false
 
-written_place : (x : Named) (p : ExecState) → is_written x ≡ true
+written_place : (x : NamedItem) (p : ExecState) → is_written x ≡ true
     → places.operand_location Writing (flat_of x) p.local p.memory ≡ reading.place_of_operand Writing x p
 written_place (named.Place spot) p e = place_same Writing (named.Place spot) p refl
 written_place (named.Parameter index w) p e = place_same Writing (named.Parameter index w) p refl
@@ -128,7 +128,7 @@ put_same : (b : Location) (value : Bool) (r : Regs) (p : ExecState)
     → does.on_local_memory p (bit_logic.put_bit b value r p.local p.memory) ≡ own.writes_bit b value r p
 unfolding bit_logic.put_bit
 put_same b value r p =
-    by (values.write b (own.number_of_bit value) p.local p.memory)
+    by (values.number_written_at b (own.number_of_bit value) p.local p.memory)
     ∙ ap (λ z. then_ok z (λ q. Ok (own.with_regs r q)))
     (written_same b (own.number_of_bit value) p)
   where
@@ -139,7 +139,7 @@ put_same b value r p =
     by (Err e) = refl
 
 -- an instruction that seeks a place to write to
-seek_same : (x : Named) (p : ExecState) (f : Location → Result LocalMemory ℕ) (g : Location → Result ExecState ℕ)
+seek_same : (x : NamedItem) (p : ExecState) (f : Location → Result LocalMemory ℕ) (g : Location → Result ExecState ℕ)
     → is_written x ≡ true → ((b : Location) → does.on_local_memory p (f b) ≡ g b)
     → does.on_local_memory p (then_ok (places.operand_location Writing (flat_of x) p.local p.memory) f)
     ≡ then_ok (reading.place_of_operand Writing x p) g
@@ -160,20 +160,20 @@ before_same b p f g h =
     (λ before. does.on_local_memory p (f before)) g
     (ap (λ r. then_ok r (λ n. Ok (n == 1))) (there_same Writing b p)) h
 
-pub assign_same : (x : Named) (p : ExecState) → is_written x ≡ true
-    → does.effect operation.Assign (flat_of x) p ≡ own.assigns x p
-unfolding does.effect bit_logic.bit_assigned
+pub assign_same : (x : NamedItem) (p : ExecState) → is_written x ≡ true
+    → does.operation_effect operation.Assign (flat_of x) p ≡ own.assigns_power_flow x p
+unfolding does.operation_effect bit_logic.bit_assigned
 assign_same x p e =
     seek_same x p (λ b. bit_logic.assigned_at b p.local p.memory)
-    (λ b. own.writes_bit b (own.flow p) (after_store (own.flow p) p.local.regs) p) e
-    (λ b. put_same b (own.flow p) (after_store (own.flow p) p.local.regs) p)
+    (λ b. own.writes_bit b (own.power_flow_of p) (after_store (own.power_flow_of p) p.local.regs) p) e
+    (λ b. put_same b (own.power_flow_of p) (after_store (own.power_flow_of p) p.local.regs) p)
 
 after_same : (flow value before : Bool)
     → bit_logic.bit_after_set flow value before ≡ own.bit_after flow value before
 after_same true value before = refl
 after_same false value before = refl
 
-bit_set_same : (value : Bool) (x : Named) (p : ExecState) → is_written x ≡ true
+bit_set_same : (value : Bool) (x : NamedItem) (p : ExecState) → is_written x ≡ true
     → does.on_local_memory p (bit_logic.bit_set value (flat_of x) p.local p.memory) ≡ own.sets_bit value x p
 unfolding bit_logic.bit_set
 bit_set_same value x p e =
@@ -182,183 +182,183 @@ bit_set_same value x p e =
     seek_same x p
     (λ b. then_ok (bit_logic.bit_before b p.local p.memory)
     (λ before. bit_logic.bit_set_at value b before p.local p.memory))
-    (λ b. then_ok (own.bit_there b p) (λ before. writes b (own.bit_after (own.flow p) value before)))
+    (λ b. then_ok (own.bit_there b p) (λ before. writes b (own.bit_after (own.power_flow_of p) value before)))
     e
     (λ b. before_same b p (λ before. bit_logic.bit_set_at value b before p.local p.memory)
-    (λ before. writes b (own.bit_after (own.flow p) value before))
-    (λ before. put_same b (bit_logic.bit_after_set (own.flow p) value before)
-    (after_store (bit_logic.bit_after_set (own.flow p) value before) p.local.regs) p
-    ∙ ap (writes b) (after_same (own.flow p) value before)))
+    (λ before. writes b (own.bit_after (own.power_flow_of p) value before))
+    (λ before. put_same b (bit_logic.bit_after_set (own.power_flow_of p) value before)
+    (after_store (bit_logic.bit_after_set (own.power_flow_of p) value before) p.local.regs) p
+    ∙ ap (writes b) (after_same (own.power_flow_of p) value before)))
 
-pub edge_same : (rising : Bool) (x : Named) (p : ExecState) → is_written x ≡ true
-    → does.effect (operation.Edge rising) (flat_of x) p ≡ own.tells_edge rising x p
-unfolding does.effect bit_logic.edge
+pub edge_same : (rising : Bool) (x : NamedItem) (p : ExecState) → is_written x ≡ true
+    → does.operation_effect (operation.Edge rising) (flat_of x) p ≡ own.tells_edge rising x p
+unfolding does.operation_effect bit_logic.local_memory_after_edge
 edge_same rising x p e =
     seek_same x p
     (λ b. then_ok (bit_logic.bit_before b p.local p.memory)
-    (λ before. bit_logic.edge_at rising b before p.local p.memory))
+    (λ before. bit_logic.local_memory_after_edge_at rising b before p.local p.memory))
     (λ b. then_ok (own.bit_there b p)
-    (λ before. own.writes_bit b (own.rlo p) (after_edge rising before p.local.regs) p)) e
-    (λ b. before_same b p (λ before. bit_logic.edge_at rising b before p.local p.memory)
-    (λ before. own.writes_bit b (own.rlo p) (after_edge rising before p.local.regs) p)
-    (λ before. put_same b (own.rlo p) (after_edge rising before p.local.regs) p))
+    (λ before. own.writes_bit b (own.rlo_of p) (after_edge rising before p.local.regs) p)) e
+    (λ b. before_same b p (λ before. bit_logic.local_memory_after_edge_at rising b before p.local p.memory)
+    (λ before. own.writes_bit b (own.rlo_of p) (after_edge rising before p.local.regs) p)
+    (λ before. put_same b (own.rlo_of p) (after_edge rising before p.local.regs) p))
 
 -- ---- timers and counters
 
 error_same : {A : Type 0} (code : ℕ) (r : Result A TimerFault)
-    → values.faulty code r ≡ own.or_error code r
+    → values.with_timer_error code r ≡ own.or_error code r
 error_same code (Ok x) = refl
 error_same code (Err NoNumber) = refl
 error_same code (Err BadBcd) = refl
 
 timer_same : (f : Timer → Option Timer) (n : Number) (p : ExecState)
     → does.on_timers p (then_ok (values.number_named (flat_number 1 n) p.local p.memory)
-    (λ which. values.faulty 0x26 (change_at_number f p.timers which)))
+    (λ which. values.with_timer_error 0x26 (change_at_number f p.timers which)))
     ≡ own.on_timer f n p
 timer_same f n p =
-    ap (λ z. does.on_timers p (then_ok z (λ which. values.faulty 0x26 (change_at_number f p.timers which))))
+    ap (λ z. does.on_timers p (then_ok z (λ which. values.with_timer_error 0x26 (change_at_number f p.timers which))))
     (numbered_same 1 n p)
     ∙ by (reading.number_of_item n p)
   where
     changed : (r : Result (List Timer) TimerFault)
-        → does.on_timers p (values.faulty 0x26 r)
-        ≡ then_ok (own.or_error 0x26 r) (λ all. own.on_regs own.string_ended (record p { timers = all }))
+        → does.on_timers p (values.with_timer_error 0x26 r)
+        ≡ then_ok (own.or_error 0x26 r) (λ all. own.on_regs own.with_logic_string_ended (record p { timers = all }))
     changed (Ok all) = refl
     changed (Err NoNumber) = refl
     changed (Err BadBcd) = refl
 
     by : (z : Result ℕ ℕ)
-        → does.on_timers p (then_ok z (λ which. values.faulty 0x26 (change_at_number f p.timers which)))
+        → does.on_timers p (then_ok z (λ which. values.with_timer_error 0x26 (change_at_number f p.timers which)))
         ≡ then_ok z (λ which. then_ok (own.or_error 0x26 (change_at_number f p.timers which))
-        (λ all. own.on_regs own.string_ended (record p { timers = all })))
+        (λ all. own.on_regs own.with_logic_string_ended (record p { timers = all })))
     by (Ok which) = changed (change_at_number f p.timers which)
     by (Err e) = refl
 
 counter_same : (f : Counter → Option Counter) (n : Number) (p : ExecState)
     → does.on_counters p (then_ok (values.number_named (flat_number 2 n) p.local p.memory)
-    (λ which. values.faulty 0x27 (change_at_number f p.counters which)))
+    (λ which. values.with_timer_error 0x27 (change_at_number f p.counters which)))
     ≡ own.on_counter f n p
 counter_same f n p =
-    ap (λ z. does.on_counters p (then_ok z (λ which. values.faulty 0x27 (change_at_number f p.counters which))))
+    ap (λ z. does.on_counters p (then_ok z (λ which. values.with_timer_error 0x27 (change_at_number f p.counters which))))
     (numbered_same 2 n p)
     ∙ by (reading.number_of_item n p)
   where
     changed : (r : Result (List Counter) TimerFault)
-        → does.on_counters p (values.faulty 0x27 r)
-        ≡ then_ok (own.or_error 0x27 r) (λ all. own.on_regs own.string_ended (record p { counters = all }))
+        → does.on_counters p (values.with_timer_error 0x27 r)
+        ≡ then_ok (own.or_error 0x27 r) (λ all. own.on_regs own.with_logic_string_ended (record p { counters = all }))
     changed (Ok all) = refl
     changed (Err NoNumber) = refl
     changed (Err BadBcd) = refl
 
     by : (z : Result ℕ ℕ)
-        → does.on_counters p (then_ok z (λ which. values.faulty 0x27 (change_at_number f p.counters which)))
+        → does.on_counters p (then_ok z (λ which. values.with_timer_error 0x27 (change_at_number f p.counters which)))
         ≡ then_ok z (λ which. then_ok (own.or_error 0x27 (change_at_number f p.counters which))
-        (λ all. own.on_regs own.string_ended (record p { counters = all })))
+        (λ all. own.on_regs own.with_logic_string_ended (record p { counters = all })))
     by (Ok which) = changed (change_at_number f p.counters which)
     by (Err e) = refl
 
 -- by the kind in the operand
-spot_kind : (spot : Spot) → does.kind_named (flat_spot spot) ≡ None
+spot_kind : (spot : Spot) → does.kind_of_numbered_operand (flat_spot spot) ≡ None
 spot_kind (named.Fixed a w byte bit) = refl
 spot_kind (named.ByMemory a w from byte) = refl
 spot_kind (named.ByRegister a w register count) = refl
 
-number_kind : (kind : ℕ) (n : Number) → does.kind_named (flat_number kind n) ≡ Some kind
+number_kind : (kind : ℕ) (n : Number) → does.kind_of_numbered_operand (flat_number kind n) ≡ Some kind
 number_kind kind (named.Written n) = refl
 number_kind kind (named.InWord from byte) = refl
 
 -- what S, R, FR, start instructions and CU and CD take
-abbrev pub is_set : Named → Bool
+abbrev pub is_set : NamedItem → Bool
 is_set (named.Counter n) = true
 is_set x = is_written x
 
-abbrev pub is_reset : Named → Bool
+abbrev pub is_reset : NamedItem → Bool
 is_reset (named.Timer n) = true
 is_reset x = is_set x
 
-abbrev pub is_timer : Named → Bool
+abbrev pub is_timer : NamedItem → Bool
 is_timer (named.Timer n) = true
 is_timer _ = false
 
-abbrev pub is_counter : Named → Bool
+abbrev pub is_counter : NamedItem → Bool
 is_counter (named.Counter n) = true
 is_counter _ = false
 
-abbrev pub is_freed : Named → Bool
+abbrev pub is_freed : NamedItem → Bool
 is_freed (named.Timer n) = true
 is_freed x = is_counter x
 
-pub set_same : (x : Named) (p : ExecState) → is_set x ≡ true
-    → does.effect operation.Set (flat_of x) p ≡ own.sets x p
-unfolding does.effect timing.counter_set
+pub set_same : (x : NamedItem) (p : ExecState) → is_set x ≡ true
+    → does.operation_effect operation.Set (flat_of x) p ≡ own.sets_operand x p
+unfolding does.operation_effect timing.counter_set
 set_same (named.Counter n) p e =
-    ap (λ k. does.set_of k (flat_number 2 n) p) (number_kind 2 n)
-    ∙ counter_same (counters.set_counter (own.rlo p) (own.low_word p)) n p
+    ap (λ k. does.set_effect k (flat_number 2 n) p) (number_kind 2 n)
+    ∙ counter_same (counters.set_counter (own.rlo_of p) (own.low_word p)) n p
 set_same (named.Place spot) p e =
-    ap (λ k. does.set_of k (flat_spot spot) p) (spot_kind spot)
+    ap (λ k. does.set_effect k (flat_spot spot) p) (spot_kind spot)
     ∙ bit_set_same true (named.Place spot) p refl
 set_same (named.Parameter index w) p e = bit_set_same true (named.Parameter index w) p refl
 set_same _ p e = absurd (false≢true e)
 
-pub reset_same : (x : Named) (p : ExecState) → is_reset x ≡ true
-    → does.effect operation.Reset (flat_of x) p ≡ own.resets x p
-unfolding does.effect timing.counter_reset timing.timer_reset
+pub reset_same : (x : NamedItem) (p : ExecState) → is_reset x ≡ true
+    → does.operation_effect operation.Reset (flat_of x) p ≡ own.resets_operand x p
+unfolding does.operation_effect timing.counter_reset timing.timer_reset
 reset_same (named.Timer n) p e =
-    ap (λ k. does.reset_of k (flat_number 1 n) p) (number_kind 1 n)
-    ∙ timer_same (λ t. Some (timers.reset_timer (own.rlo p) t)) n p
+    ap (λ k. does.reset_effect k (flat_number 1 n) p) (number_kind 1 n)
+    ∙ timer_same (λ t. Some (timers.reset_timer (own.rlo_of p) t)) n p
 reset_same (named.Counter n) p e =
-    ap (λ k. does.reset_of k (flat_number 2 n) p) (number_kind 2 n)
-    ∙ counter_same (λ k. Some (counters.reset_counter (own.rlo p) k)) n p
+    ap (λ k. does.reset_effect k (flat_number 2 n) p) (number_kind 2 n)
+    ∙ counter_same (λ k. Some (counters.reset_counter (own.rlo_of p) k)) n p
 reset_same (named.Place spot) p e =
-    ap (λ k. does.reset_of k (flat_spot spot) p) (spot_kind spot)
+    ap (λ k. does.reset_effect k (flat_spot spot) p) (spot_kind spot)
     ∙ bit_set_same false (named.Place spot) p refl
 reset_same (named.Parameter index w) p e = bit_set_same false (named.Parameter index w) p refl
 reset_same _ p e = absurd (false≢true e)
 
-pub free_same : (x : Named) (p : ExecState) → is_freed x ≡ true
-    → does.effect operation.Free (flat_of x) p ≡ own.frees x p
-unfolding does.effect timing.counter_freed timing.timer_freed
+pub free_same : (x : NamedItem) (p : ExecState) → is_freed x ≡ true
+    → does.operation_effect operation.Free (flat_of x) p ≡ own.frees_operand x p
+unfolding does.operation_effect timing.counter_freed timing.timer_freed
 free_same (named.Timer n) p e =
-    ap (λ k. does.free_of k (flat_number 1 n) p) (number_kind 1 n)
-    ∙ timer_same (λ t. Some (timers.free_timer (own.rlo p) t)) n p
+    ap (λ k. does.enable_effect k (flat_number 1 n) p) (number_kind 1 n)
+    ∙ timer_same (λ t. Some (timers.free_timer (own.rlo_of p) t)) n p
 free_same (named.Counter n) p e =
-    ap (λ k. does.free_of k (flat_number 2 n) p) (number_kind 2 n)
-    ∙ counter_same (λ k. Some (counters.free_counter (own.rlo p) k)) n p
+    ap (λ k. does.enable_effect k (flat_number 2 n) p) (number_kind 2 n)
+    ∙ counter_same (λ k. Some (counters.free_counter (own.rlo_of p) k)) n p
 free_same _ p e = absurd (false≢true e)
 
-pub start_same : (how : TimerKind) (x : Named) (p : ExecState) → is_timer x ≡ true
-    → does.effect (operation.Start how) (flat_of x) p ≡ own.starts how x p
-unfolding does.effect timing.timer_start
+pub start_same : (how : TimerKind) (x : NamedItem) (p : ExecState) → is_timer x ≡ true
+    → does.operation_effect (operation.Start how) (flat_of x) p ≡ own.starts_timer how x p
+unfolding does.operation_effect timing.timer_start
 start_same how (named.Timer n) p e =
-    timer_same (timers.start_timer how (own.rlo p) (own.low_word p)) n p
+    timer_same (timers.start_timer how (own.rlo_of p) (own.low_word p)) n p
 start_same how _ p e = absurd (false≢true e)
 
-pub up_same : (x : Named) (p : ExecState) → is_counter x ≡ true
-    → does.effect operation.CountUp (flat_of x) p ≡ own.counts counters.count_up x p
-unfolding does.effect timing.counting_up
+pub up_same : (x : NamedItem) (p : ExecState) → is_counter x ≡ true
+    → does.operation_effect operation.CountUp (flat_of x) p ≡ own.counts_counter counters.count_up x p
+unfolding does.operation_effect timing.counting_up
 up_same (named.Counter n) p e =
-    counter_same (λ k. Some (counters.count_up (own.rlo p) k)) n p
+    counter_same (λ k. Some (counters.count_up (own.rlo_of p) k)) n p
 up_same _ p e = absurd (false≢true e)
 
-pub down_same : (x : Named) (p : ExecState) → is_counter x ≡ true
-    → does.effect operation.CountDown (flat_of x) p ≡ own.counts counters.count_down x p
-unfolding does.effect timing.counting_down
+pub down_same : (x : NamedItem) (p : ExecState) → is_counter x ≡ true
+    → does.operation_effect operation.CountDown (flat_of x) p ≡ own.counts_counter counters.count_down x p
+unfolding does.operation_effect timing.counting_down
 down_same (named.Counter n) p e =
-    counter_same (λ k. Some (counters.count_down (own.rlo p) k)) n p
+    counter_same (λ k. Some (counters.count_down (own.rlo_of p) k)) n p
 down_same _ p e = absurd (false≢true e)
 
 -- ---- the master control relay
 
 pub open_zone_same : (o : Operand) (p : ExecState)
-    → does.effect (operation.Relay relay.Open) o p ≡ own.opens_zone p
-unfolding does.effect zones.opening_zone
+    → does.operation_effect (operation.Relay relay.Open) o p ≡ own.opens_relay_zone p
+unfolding does.operation_effect zones.opening_zone
 open_zone_same o p =
     own_if p (length p.local.inner.relay.zones == 8)
     (zones.with_relay_zones (zone_opened p.local.regs.status.rlo p.local.inner.relay) p.local)
 
 pub end_zone_same : (o : Operand) (p : ExecState)
-    → does.effect (operation.Relay relay.Close) o p ≡ own.ends_zone p
-unfolding does.effect zones.ending_zone
+    → does.operation_effect (operation.Relay relay.Close) o p ≡ own.ends_relay_zone p
+unfolding does.operation_effect zones.ending_zone
 end_zone_same o p = by p.local.inner.relay.zones
   where
     by : (open_zones : List Bool)
@@ -371,13 +371,13 @@ end_zone_same o p = by p.local.inner.relay.zones
 -- ---- loading and transferring
 
 -- the operation of L
-abbrev pub load_operation : Named → Operation
+abbrev pub load_operation : NamedItem → Operation
 load_operation named.StatusWord = operation.LoadStatus
 load_operation (named.Opened what) = operation.LoadOpenBlock
 load_operation named.SecondRegister = operation.LoadOpenBlock
 load_operation _ = operation.Load
 
-length_same : (o : Option (List ℕ)) → data_blocks.len_of o ≡ own.length_of o
+length_same : (o : Option (List ℕ)) → data_blocks.len_of o ≡ own.length_of_data_block o
 length_same None = refl
 length_same (Some bytes) = refl
 
@@ -385,10 +385,10 @@ open_length_same : (o : Option ℕ) (m : Areas) → data_blocks.len_opened o m �
 open_length_same None m = refl
 open_length_same (Some n) m = length_same (map.get m.data_blocks n)
 
-plain_load : (x : Named) (p : ExecState) → is_read x ≡ true
-    → does.effect operation.Load (flat_of x) p
+plain_load : (x : NamedItem) (p : ExecState) → is_read x ≡ true
+    → does.operation_effect operation.Load (flat_of x) p
     ≡ then_ok (reading.number_to_load x p) (λ n. own.on_regs (own.with_loaded n) p)
-unfolding does.effect loads.loading
+unfolding does.operation_effect loads.regs_after_load
 plain_load x p e =
     regs_then p (values.load_value (flat_of x) p.local p.memory p.timers p.counters)
     (λ n. own.with_loaded n p.local.regs)
@@ -396,13 +396,13 @@ plain_load x p e =
     (loaded_same x p e)
 
 -- what L takes
-abbrev pub is_loaded : Named → Bool
+abbrev pub is_loaded : NamedItem → Bool
 is_loaded (named.Opened what) = true
 is_loaded x = is_read x
 
-pub load_same : (x : Named) (p : ExecState) → is_loaded x ≡ true
-    → does.effect (load_operation x) (flat_of x) p ≡ own.loads x p
-unfolding does.effect loads.status_loaded data_blocks.loading_open_block data_blocks.open_block_fact
+pub load_same : (x : NamedItem) (p : ExecState) → is_loaded x ≡ true
+    → does.operation_effect (load_operation x) (flat_of x) p ≡ own.loads_operand x p
+unfolding does.operation_effect loads.status_loaded data_blocks.loading_open_block data_blocks.open_block_fact
     reading.number_to_load reading.number_of_operand
 load_same named.StatusWord p e = refl
 load_same (named.Opened named.DbLength) p e =
@@ -416,37 +416,37 @@ load_same (named.Opened named.DiNumber) p e = refl
 load_same named.SecondRegister p e = refl
 load_same x p e = plain_load x p e
 
-pub load_bcd_same : (x : Named) (p : ExecState)
-    → does.effect operation.LoadBcd (flat_of x) p ≡ own.loads_bcd x p
-unfolding does.effect loads.loading_bcd
+pub load_bcd_same : (x : NamedItem) (p : ExecState)
+    → does.operation_effect operation.LoadBcd (flat_of x) p ≡ own.loads_bcd x p
+unfolding does.operation_effect loads.regs_after_bcd_load
 load_bcd_same x p =
     regs_then p (values.bcd_loaded (flat_of x) p.local p.memory p.timers p.counters)
     (λ n. own.with_loaded n p.local.regs)
     ∙ ap (λ r. then_ok r (λ n. Ok (own.with_regs (own.with_loaded n p.local.regs) p)))
     (bcd_same x p)
 
-puts_same : (n : ℕ) (x : Named) (p : ExecState) → is_written x ≡ true
-    → does.on_local_memory p (loads.number_transferred n (flat_of x) p.local p.memory) ≡ own.puts n x p
+puts_same : (n : ℕ) (x : NamedItem) (p : ExecState) → is_written x ≡ true
+    → does.on_local_memory p (loads.number_transferred n (flat_of x) p.local p.memory) ≡ own.puts_number n x p
 unfolding loads.number_transferred
 puts_same n x p e =
-    seek_same x p (λ b. values.write b (n % 2 ^ bit_count b.width) p.local p.memory)
+    seek_same x p (λ b. values.number_written_at b (n % 2 ^ bit_count b.width) p.local p.memory)
     (λ b. reading.with_number_at b (n % 2 ^ bit_count b.width) p) e
     (λ b. written_same b (n % 2 ^ bit_count b.width) p)
 
 -- the operation of T, and what it takes
-abbrev pub transfer_operation : Named → Operation
+abbrev pub transfer_operation : NamedItem → Operation
 transfer_operation named.StatusWord = operation.TransferStatus
 transfer_operation (named.Opened what) = operation.TransferStatus
 transfer_operation named.SecondRegister = operation.TransferStatus
 transfer_operation _ = operation.Transfer
 
-abbrev pub is_transferred : Named → Bool
+abbrev pub is_transferred : NamedItem → Bool
 is_transferred named.StatusWord = true
 is_transferred x = is_written x
 
-pub transfer_same : (x : Named) (p : ExecState) → is_transferred x ≡ true
-    → does.effect (transfer_operation x) (flat_of x) p ≡ own.transfers x p
-unfolding does.effect loads.status_transferred
+pub transfer_same : (x : NamedItem) (p : ExecState) → is_transferred x ≡ true
+    → does.operation_effect (transfer_operation x) (flat_of x) p ≡ own.transfers_accumulator x p
+unfolding does.operation_effect loads.status_transferred
 transfer_same named.StatusWord p e = refl
 transfer_same (named.Place spot) p e =
     puts_same (if own.is_relay_closed p then 0 else p.local.regs.a1) (named.Place spot) p refl
@@ -457,13 +457,13 @@ transfer_same _ p e = absurd (false≢true e)
 -- ---- address registers
 
 -- an address is loaded from accumulator 1, a pointer constant or a place
-abbrev pub is_address : Named → Bool
+abbrev pub is_address : NamedItem → Bool
 is_address named.Nothing = true
 is_address (named.Pointer value) = true
 is_address (named.Place spot) = true
 is_address _ = false
 
-address_same : (x : Named) (p : ExecState) → is_address x ≡ true
+address_same : (x : NamedItem) (p : ExecState) → is_address x ≡ true
     → pointer.address_loaded (flat_of x) p.local p.memory ≡ own.address_to_load x p
 address_same named.Nothing p e = refl
 address_same (named.Pointer value) p e = number_same (named.Pointer value) p refl
@@ -476,7 +476,7 @@ address_same (named.Place (named.ByRegister a w register count)) p e =
 address_same _ p e = absurd (false≢true e)
 
 -- with another address in AR1, in AR2
-address_to : (f : ℕ → Regs) (x : Named) (p : ExecState) → is_address x ≡ true
+address_to : (f : ℕ → Regs) (x : NamedItem) (p : ExecState) → is_address x ≡ true
     → does.on_local_memory p (then_ok (pointer.address_loaded (flat_of x) p.local p.memory)
     (λ n. Ok (pointer.regs_set (f n) p.local p.memory)))
     ≡ then_ok (own.address_to_load x p) (λ n. Ok (own.with_regs (f n) p))
@@ -485,19 +485,19 @@ address_to f x p e =
     (λ n. Ok (pointer.regs_set (f n) p.local p.memory))
     ∙ ap (λ r. then_ok r (λ n. Ok (own.with_regs (f n) p))) (address_same x p e)
 
-abbrev pub load_address_operation : Named → Operation
+abbrev pub load_address_operation : NamedItem → Operation
 load_address_operation named.StatusWord = operation.Pointer pointers.Lar1Ar2
 load_address_operation (named.Opened what) = operation.Pointer pointers.Lar1Ar2
 load_address_operation named.SecondRegister = operation.Pointer pointers.Lar1Ar2
 load_address_operation _ = operation.Pointer pointers.Lar1
 
-abbrev pub is_first_address : Named → Bool
+abbrev pub is_first_address : NamedItem → Bool
 is_first_address named.SecondRegister = true
 is_first_address x = is_address x
 
-pub lar1_same : (x : Named) (p : ExecState) → is_first_address x ≡ true
-    → does.effect (load_address_operation x) (flat_of x) p ≡ own.loads_ar1 x p
-unfolding does.effect pointer.pointer_effect
+pub lar1_same : (x : NamedItem) (p : ExecState) → is_first_address x ≡ true
+    → does.operation_effect (load_address_operation x) (flat_of x) p ≡ own.loads_ar1 x p
+unfolding does.operation_effect pointer.pointer_effect
 lar1_same named.SecondRegister p e = refl
 lar1_same named.Nothing p e = address_to (λ n. record p.local.regs { ar1 = n }) named.Nothing p e
 lar1_same (named.Pointer value) p e =
@@ -506,18 +506,18 @@ lar1_same (named.Place spot) p e =
     address_to (λ n. record p.local.regs { ar1 = n }) (named.Place spot) p e
 lar1_same _ p e = absurd (false≢true e)
 
-pub lar2_same : (x : Named) (p : ExecState) → is_address x ≡ true
-    → does.effect (operation.Pointer pointers.Lar2) (flat_of x) p ≡ own.loads_ar2 x p
-unfolding does.effect pointer.pointer_effect
+pub lar2_same : (x : NamedItem) (p : ExecState) → is_address x ≡ true
+    → does.operation_effect (operation.Pointer pointers.Lar2) (flat_of x) p ≡ own.loads_ar2 x p
+unfolding does.operation_effect pointer.pointer_effect
 lar2_same x p e = address_to (λ n. record p.local.regs { ar2 = n }) x p e
 
 -- TAR1 and TAR2
-abbrev pub is_address_place : Named → Bool
+abbrev pub is_address_place : NamedItem → Bool
 is_address_place named.Nothing = true
 is_address_place (named.Place spot) = true
 is_address_place _ = false
 
-puts_address_same : (n : ℕ) (x : Named) (p : ExecState) → is_address_place x ≡ true
+puts_address_same : (n : ℕ) (x : NamedItem) (p : ExecState) → is_address_place x ≡ true
     → does.on_local_memory p (pointer.address_transferred n (flat_of x) p.local p.memory)
     ≡ own.puts_address n x p
 puts_address_same n named.Nothing p e = refl
@@ -529,60 +529,60 @@ puts_address_same n (named.Place (named.ByRegister a w register count)) p e =
     puts_same n (named.Place (named.ByRegister a w register count)) p refl
 puts_address_same n _ p e = absurd (false≢true e)
 
-abbrev pub store_address_operation : Named → Operation
+abbrev pub store_address_operation : NamedItem → Operation
 store_address_operation named.StatusWord = operation.Pointer pointers.Tar1Ar2
 store_address_operation (named.Opened what) = operation.Pointer pointers.Tar1Ar2
 store_address_operation named.SecondRegister = operation.Pointer pointers.Tar1Ar2
 store_address_operation _ = operation.Pointer pointers.Tar1
 
-abbrev pub is_first_address_place : Named → Bool
+abbrev pub is_first_address_place : NamedItem → Bool
 is_first_address_place named.SecondRegister = true
 is_first_address_place x = is_address_place x
 
-pub tar1_same : (x : Named) (p : ExecState) → is_first_address_place x ≡ true
-    → does.effect (store_address_operation x) (flat_of x) p ≡ own.stores_ar1 x p
-unfolding does.effect pointer.pointer_effect
+pub tar1_same : (x : NamedItem) (p : ExecState) → is_first_address_place x ≡ true
+    → does.operation_effect (store_address_operation x) (flat_of x) p ≡ own.stores_ar1 x p
+unfolding does.operation_effect pointer.pointer_effect
 tar1_same named.SecondRegister p e = refl
 tar1_same named.Nothing p e = puts_address_same p.local.regs.ar1 named.Nothing p e
 tar1_same (named.Place spot) p e = puts_address_same p.local.regs.ar1 (named.Place spot) p e
 tar1_same _ p e = absurd (false≢true e)
 
-pub tar2_same : (x : Named) (p : ExecState) → is_address_place x ≡ true
-    → does.effect (operation.Pointer pointers.Tar2) (flat_of x) p
+pub tar2_same : (x : NamedItem) (p : ExecState) → is_address_place x ≡ true
+    → does.operation_effect (operation.Pointer pointers.Tar2) (flat_of x) p
     ≡ own.puts_address p.local.regs.ar2 x p
-unfolding does.effect pointer.pointer_effect
+unfolding does.operation_effect pointer.pointer_effect
 tar2_same x p e = puts_address_same p.local.regs.ar2 x p e
 
-abbrev pub is_added_address : Named → Bool
+abbrev pub is_added_address : NamedItem → Bool
 is_added_address named.Nothing = true
 is_added_address (named.Pointer value) = true
 is_added_address _ = false
 
-pub add_ar1_same : (x : Named) (p : ExecState) → is_added_address x ≡ true
-    → does.effect (operation.Pointer pointers.AddAr1) (flat_of x) p
+pub add_ar1_same : (x : NamedItem) (p : ExecState) → is_added_address x ≡ true
+    → does.operation_effect (operation.Pointer pointers.AddAr1) (flat_of x) p
     ≡ Ok (own.with_ar1 (own.address_after p.local.regs.ar1 (own.added_bits x p)) p)
-unfolding does.effect pointer.pointer_effect pointer.address_added
+unfolding does.operation_effect pointer.pointer_effect pointer.address_added
 add_ar1_same named.Nothing p e = refl
 add_ar1_same (named.Pointer value) p e = refl
 add_ar1_same _ p e = absurd (false≢true e)
 
-pub add_ar2_same : (x : Named) (p : ExecState) → is_added_address x ≡ true
-    → does.effect (operation.Pointer pointers.AddAr2) (flat_of x) p
+pub add_ar2_same : (x : NamedItem) (p : ExecState) → is_added_address x ≡ true
+    → does.operation_effect (operation.Pointer pointers.AddAr2) (flat_of x) p
     ≡ Ok (own.with_ar2 (own.address_after p.local.regs.ar2 (own.added_bits x p)) p)
-unfolding does.effect pointer.pointer_effect pointer.address_added
+unfolding does.operation_effect pointer.pointer_effect pointer.address_added
 add_ar2_same named.Nothing p e = refl
 add_ar2_same (named.Pointer value) p e = refl
 add_ar2_same _ p e = absurd (false≢true e)
 
 -- ---- data blocks
 
-abbrev pub is_data_block : Named → Bool
+abbrev pub is_data_block : NamedItem → Bool
 is_data_block (named.DataBlock di n) = true
 is_data_block _ = false
 
 opened_same : (di : Bool) (n : ℕ) (p : ExecState)
     → does.on_local p (data_blocks.opened_if (data_blocks.is_block_loaded n p.memory) (if di then 2 else 1) n p.local)
-    ≡ own.opens_number di n p
+    ≡ own.opens_block_number di n p
 opened_same true n p = by (data_blocks.is_block_loaded n p.memory)
   where
     by : (b : Bool) → does.on_local p (data_blocks.opened_if b 2 n p.local)
@@ -601,9 +601,9 @@ own_then : {A : Type 0} (p : ExecState) (r : Result A ℕ) (f : A → Result Loc
 own_then p (Ok x) f = refl
 own_then p (Err e) f = refl
 
-pub open_same : (x : Named) (p : ExecState) → is_data_block x ≡ true
-    → does.effect operation.OpenBlock (flat_of x) p ≡ own.opens x p
-unfolding does.effect data_blocks.block_opened_by reading.number_of_item
+pub open_same : (x : NamedItem) (p : ExecState) → is_data_block x ≡ true
+    → does.operation_effect operation.OpenBlock (flat_of x) p ≡ own.opens_data_block x p
+unfolding does.operation_effect data_blocks.block_opened_by reading.number_of_item
 open_same (named.DataBlock di (named.Written n)) p e = opened_same di n p
 open_same (named.DataBlock di (named.InWord from byte)) p e =
     own_then p (places.pointer_number from byte widths.Word p.local p.memory)
@@ -611,7 +611,7 @@ open_same (named.DataBlock di (named.InWord from byte)) p e =
     ∙ then_same (places.pointer_number from byte widths.Word p.local p.memory)
     (reading.stored_number from byte widths.Word p)
     (λ n. does.on_local p (data_blocks.opened_if (data_blocks.is_block_loaded n p.memory) (if di then 2 else 1) n p.local))
-    (λ n. own.opens_number di n p)
+    (λ n. own.opens_block_number di n p)
     (standing_same from byte widths.Word p) (λ n. opened_same di n p)
 open_same _ p e = absurd (false≢true e)
 
@@ -626,62 +626,62 @@ bcd_number_same f p = by (ok_or (f p.local.regs) 0x21)
     by (Err e) = refl
 
 -- INC, DEC and + take a constant, word logic and shifts one or nothing
-abbrev pub is_constant : Named → Bool
+abbrev pub is_constant : NamedItem → Bool
 is_constant (named.Constant value) = true
 is_constant _ = false
 
-abbrev pub is_count : Named → Bool
+abbrev pub is_count : NamedItem → Bool
 is_count named.Nothing = true
 is_count x = is_constant x
 
 -- + by its constant
-abbrev pub add_operation : Named → Operation
+abbrev pub add_operation : NamedItem → Operation
 add_operation (named.Constant (literal.Long value)) = operation.Add adding.Dword
 add_operation _ = operation.Add adding.Word
 
-pub inc_same : (x : Named) (p : ExecState) → is_constant x ≡ true
-    → does.effect (operation.Add adding.Inc) (flat_of x) p
-    ≡ own.on_regs (accumulators.increased 8 (own.count 8 x)) p
-unfolding does.effect numbers.with_constant
+pub inc_same : (x : NamedItem) (p : ExecState) → is_constant x ≡ true
+    → does.operation_effect (operation.Add adding.Inc) (flat_of x) p
+    ≡ own.on_regs (accumulators.accumulator_increased 8 (own.constant_bits_or_zero 8 x)) p
+unfolding does.operation_effect numbers.with_constant
 inc_same (named.Constant value) p e = refl
 inc_same _ p e = absurd (false≢true e)
 
-pub dec_same : (x : Named) (p : ExecState) → is_constant x ≡ true
-    → does.effect (operation.Add adding.Dec) (flat_of x) p
-    ≡ own.on_regs (accumulators.decreased 8 (own.count 8 x)) p
-unfolding does.effect numbers.with_constant
+pub dec_same : (x : NamedItem) (p : ExecState) → is_constant x ≡ true
+    → does.operation_effect (operation.Add adding.Dec) (flat_of x) p
+    ≡ own.on_regs (accumulators.accumulator_decreased 8 (own.constant_bits_or_zero 8 x)) p
+unfolding does.operation_effect numbers.with_constant
 dec_same (named.Constant value) p e = refl
 dec_same _ p e = absurd (false≢true e)
 
-pub add_same : (x : Named) (p : ExecState) → is_constant x ≡ true
-    → does.effect (add_operation x) (flat_of x) p ≡ own.on_regs (own.adds_by x) p
-unfolding does.effect numbers.with_constant
+pub add_same : (x : NamedItem) (p : ExecState) → is_constant x ≡ true
+    → does.operation_effect (add_operation x) (flat_of x) p ≡ own.on_regs (own.adds_by x) p
+unfolding does.operation_effect numbers.with_constant
 add_same (named.Constant (literal.Long value)) p e = refl
 add_same (named.Constant _) p e = refl
 add_same _ p e = absurd (false≢true e)
 
 -- word logic and shifts by the constant that is there
-constant_same : (w : ℕ) (x : Named) → is_count x ≡ true
-    → numbers.constant_in w (flat_of x) ≡ own.constant w x
+constant_same : (w : ℕ) (x : NamedItem) → is_count x ≡ true
+    → numbers.constant_in w (flat_of x) ≡ own.constant_of_width w x
 constant_same w named.Nothing e = refl
 constant_same w (named.Constant value) e = refl
 constant_same w _ e = absurd (false≢true e)
 
-pub logic_same : (what : Logic) (w : ℕ) (f : Option ℕ → Regs → Regs) (x : Named) (p : ExecState)
+pub logic_same : (what : Logic) (w : ℕ) (f : Option ℕ → Regs → Regs) (x : NamedItem) (p : ExecState)
     → is_count x ≡ true
     → ((o : Operand) → numbers.word_logic_effect what o p.local.regs ≡ f (numbers.constant_in w o) p.local.regs)
-    → does.effect (operation.Logic what) (flat_of x) p ≡ own.on_regs (f (own.constant w x)) p
-unfolding does.effect
+    → does.operation_effect (operation.Logic what) (flat_of x) p ≡ own.on_regs (f (own.constant_of_width w x)) p
+unfolding does.operation_effect
 logic_same what w f x p e h =
     ap (λ r. Ok (own.with_regs r p))
     (h (flat_of x) ∙ ap (λ k. f k p.local.regs) (constant_same w x e))
 
-pub shift_same : (what : Shift) (f : ℕ → Regs → Regs) (x : Named) (p : ExecState)
+pub shift_same : (what : Shift) (f : ℕ → Regs → Regs) (x : NamedItem) (p : ExecState)
     → is_count x ≡ true
     → ((o : Operand) → numbers.shift_effect what o p.local.regs
     ≡ f (unwrap_or (numbers.constant_in 8 o) (p.local.regs.a2 % 2 ^ 8)) p.local.regs)
-    → does.effect (operation.Shift what) (flat_of x) p ≡ own.on_regs (f (own.places x p)) p
-unfolding does.effect
+    → does.operation_effect (operation.Shift what) (flat_of x) p ≡ own.on_regs (f (own.shift_count x p)) p
+unfolding does.operation_effect
 shift_same what f x p e h =
     ap (λ r. Ok (own.with_regs r p))
     (h (flat_of x)

@@ -41,14 +41,14 @@ use Rattle.block_layout.specs.declared.cells.Cell.{Cell}
 use Rattle.block_layout.specs.declared.cells.Element.{Element}
 use Rattle.block_layout.specs.declared.cells.Element.TheVariants as element
 use Rattle.stl_types.specs.Context.{Context}
-use Rattle.stl_types.specs.Parameters.{Callee, callee_at, callee_by, callee_of, formal_here, dtime, formal_of, formals_of, is_sound_formal, mode, ob_nr, returns, sign, source_callee, system_callee, system_formals}
-use Rattle.stl_types.specs.Resolution.{seen}
+use Rattle.stl_types.specs.Parameters.{Callee, callee_at, callee_by, callee_of, formal_here, dtime_formal, formal_of, formals_of, is_sound_formal, mode_formal, ob_nr_formal, return_value_formal, sign_formal, source_callee, system_callee, system_formals}
+use Rattle.stl_types.specs.Resolution.{resolution_of}
 use Rattle.stl_types.specs.declared.parameters.Formal.{Formal}
 use Rattle.stl_types.specs.declared.views.Register.TheVariants as register
 use Rattle.stl_types.specs.declared.views.ResolvedOperand.{ResolvedOperand}
 use Rattle.stl_types.specs.declared.views.ResolvedOperand.TheVariants as view
-use Rattle.stl_codegen.specs.Instruction.{block_at, call_instr, in_order, instr_by, instruction, passings_to, resolved_instr, return_last, view_instr}
-use Rattle.stl_codegen.specs.Operations.{call_of, jump_of}
+use Rattle.stl_codegen.specs.Instruction.{source_block_at, call_instr, in_parameter_order, instr_by, instruction, passings_to, resolved_instr, return_last, view_instr}
+use Rattle.stl_codegen.specs.Operations.{call_operation_of, jump_operation_of}
 use Rattle.stl_codegen.specs.Passed.{passed_actual, passed_place, passed_seen, passed_view, passings_from, with_index}
 use Rattle.machine.specs.Bindings as bindings
 use Rattle.machine.specs.Code.{Code, BlockHead}
@@ -57,16 +57,16 @@ use Rattle.machine.specs.Entering as entering
 use Rattle.machine.specs.ExecState.{ExecState, local_of, exec_state_of, then_ok}
 use Rattle.machine.specs.Places as places
 use Rattle.machine.specs.Statement as machine
-use Rattle.machine.specs.Statement.{Step, Went, World, step_of}
+use Rattle.machine.specs.Statement.{StatementStep, Went, GlobalStore, instruction_step}
 use Rattle.machine.specs.SystemCalls as system
 use Rattle.machine.specs.declared.places.Access.{Access}
 use Rattle.machine.specs.declared.places.Location.{Location}
 use Rattle.statement_laws.specs.Calls as own
-use Rattle.statement_laws.specs.Jumps.{rlo_set, standing_at}
-use Rattle.statement_laws.specs.Laws.{CallsAct, IsNamedActual, is_call}
-use Rattle.statement_laws.specs.Named.{Named}
+use Rattle.statement_laws.specs.Jumps.{with_rlo_1, standing_at}
+use Rattle.statement_laws.specs.Laws.{CallsAct, IsNamedActual, is_call_instruction}
+use Rattle.statement_laws.specs.Named.{NamedItem}
 use Rattle.statement_laws.specs.Named as named
-use Rattle.statement_laws.specs.Operands.{block_named, block_number, fixed_place, has_result, named_by, place_by, with_instance}
+use Rattle.statement_laws.specs.Operands.{block_id_of_name, block_number, named_fixed_place, has_result, named_by, place_by, with_instance}
 use Rattle.statement_laws.specs.Reading as reading
 use Rattle.statement_laws.proofs.PlaceLemmas.{absent_same, fixed_same, of_area, then_same}
 use Rattle.statement_laws.proofs.SeenLemmas.{about, bits_same, block_same, resolved_parts, view_named}
@@ -86,13 +86,13 @@ bound_at_same access b p =
     ap (bindings.bound_if access b) (of_area b.place.area b p)
     ∙ if_bound_same access b (reading.number_at_bound b.place.area b p)
 
-passed_on_same : (o : Option Binding) → bindings.passed_on o ≡ own.binding_passed_on o
+passed_on_same : (o : Option Binding) → bindings.binding_of_caller o ≡ own.binding_passed_on o
 passed_on_same None = refl
 passed_on_same (Some b) = refl
 
 -- what is passed, in the code
-abbrev flat_passed : Named → Option Passed
-flat_passed (named.Constant value) = Some (passed.Literal (reading.bits value))
+abbrev flat_passed : NamedItem → Option Passed
+flat_passed (named.Constant value) = Some (passed.Literal (reading.bits_of_literal value))
 flat_passed (named.Place (named.Fixed a w byte bit)) = Some (passed.Direct a w byte bit)
 flat_passed (named.PlaceIn n w byte bit) = Some (passed.InBlock n area.Db w byte bit)
 flat_passed (named.Parameter index w) = Some (passed.Parameter index w)
@@ -117,37 +117,37 @@ in_block_bound : (access : Access) (n : ℕ) (w : Width) (byte bit : ℕ) (p : E
 unfolding bindings.bound_actual own.binding_of
 in_block_bound access n w byte bit p =
     ap (λ r. if data_blocks.is_block_loaded n p.memory then r else Err 0x3A)
-    (bound_at_same access (reading.at area.Db n byte bit w 0) p)
+    (bound_at_same access (reading.location_of_parts area.Db n byte bit w 0) p)
 
 access_same : (param : Param) → bindings.param_access param ≡ own.access_of param
 access_same param = refl
 
 -- for a parameter by its index
-for_same : (o : Option Param) (actual : Passed) (x : Named) (p : ExecState)
+for_same : (o : Option Param) (actual : Passed) (x : NamedItem) (p : ExecState)
     → ((access : Access) → bindings.bound_actual access actual p.local p.memory ≡ own.binding_of access x p)
     → bindings.bound_for o actual p.local p.memory ≡ own.binding_for o x p
 for_same None actual x p h = refl
 for_same (Some param) actual x p h = h (own.access_of param)
 
 -- one passing, and those behind it
-step_same : (params : List Param) (index : ℕ) (actual : Passed) (x : Named) (rest : List Passing)
+step_same : (params : List Param) (index : ℕ) (actual : Passed) (x : NamedItem) (rest : List Passing)
     (before : List Binding) (p : ExecState)
     → ((access : Access) → bindings.bound_actual access actual p.local p.memory ≡ own.binding_of access x p)
     → bindings.bound_params params (record { index = index; actual = actual } ∷ rest) before p.local p.memory
-    ≡ own.binds (Some x) (slice_get params index) index before p
+    ≡ own.binds_parameter (Some x) (slice_get params index) index before p
     (λ more. bindings.bound_params params rest more p.local p.memory)
 step_same params index actual x rest before p h =
     ap (λ r. then_ok r (λ b. bindings.bound_params params rest (binding_set before index b) p.local p.memory))
     (for_same (slice_get params index) actual x p h)
 
-passing_same : (params : List Param) (index : ℕ) (x : Named) (rest : List Passing)
+passing_same : (params : List Param) (index : ℕ) (x : NamedItem) (rest : List Passing)
     (before : List Binding) (p : ExecState)
     → bindings.bound_params params (with_index index (flat_passed x) ++ rest) before p.local p.memory
-    ≡ own.binds (own.if_passable x) (slice_get params index) index before p
+    ≡ own.binds_parameter (own.if_passable x) (slice_get params index) index before p
     (λ more. bindings.bound_params params rest more p.local p.memory)
 unfolding bindings.bound_actual own.binding_of
 passing_same params index (named.Constant value) rest before p =
-    step_same params index (passed.Literal (reading.bits value)) (named.Constant value) rest before p
+    step_same params index (passed.Literal (reading.bits_of_literal value)) (named.Constant value) rest before p
     (λ access. refl)
 passing_same params index (named.Place (named.Fixed a w byte bit)) rest before p =
     step_same params index (passed.Direct a w byte bit) (named.Place (named.Fixed a w byte bit)) rest
@@ -164,7 +164,7 @@ passing_same params index _ rest before p = refl
 
 db_passed : (b : Bool) (n : ℕ) (w : Width) (byte bit : ℕ)
     → (if not b then Some (passed.InBlock n area.Db w byte bit) else Some (passed.Direct area.Db w byte bit))
-    ≡ flat_passed (if b then fixed_place area.Db w byte bit else named.PlaceIn n w byte bit)
+    ≡ flat_passed (if b then named_fixed_place area.Db w byte bit else named.PlaceIn n w byte bit)
 db_passed true n w byte bit = refl
 db_passed false n w byte bit = refl
 
@@ -185,7 +185,7 @@ place_passed area.P n w byte bit = refl
 place_passed area.Di n w byte bit = refl
 place_passed area.L n w byte bit = refl
 
-abbrev passed_or : Option Passed → Option Named → Option Passed
+abbrev passed_or : Option Passed → Option NamedItem → Option Passed
 passed_or other None = other
 passed_or other (Some x) = flat_passed x
 
@@ -218,7 +218,7 @@ view_passed o v = plain_passed o v
 
 -- an actual parameter that resolves and is named
 actual_passed : (c : Context) (a : Actual) → (h : IsNamedActual c a)
-    → passed_seen a.value (seen c a.value) ≡ flat_passed h.named
+    → passed_seen a.value (resolution_of c a.value) ≡ flat_passed h.named
 actual_passed c a h =
     ap (passed_seen a.value) h.seen ∙ view_passed a.value h.view
     ∙ ap (passed_or (passed_view a.value h.view)) (view_same c a.value h.view h.named h.seen h.names)
@@ -231,37 +231,37 @@ Known c (Some a) = IsNamedActual c a
 
 found_same : (c : Context) (name : List ℕ) (actuals : List Actual)
     → AllByRecursion (IsNamedActual c) actuals
-    → (find (λ (a : Actual). bytes_eq (upper_case_name a.name) name) actuals ≡ own.actual_for name actuals)
-    × Known c (own.actual_for name actuals)
+    → (find (λ (a : Actual). bytes_eq (upper_case_name a.name) name) actuals ≡ own.actual_named name actuals)
+    × Known c (own.actual_named name actuals)
 found_same c name [] h = (refl, tt)
 found_same c name (a ∷ actuals) h =
     by (bytes_eq (upper_case_name a.name) name) (found_same c name actuals h.1)
   where
     by : (b : Bool)
-        → (find (λ (a : Actual). bytes_eq (upper_case_name a.name) name) actuals ≡ own.actual_for name actuals)
-        × Known c (own.actual_for name actuals)
+        → (find (λ (a : Actual). bytes_eq (upper_case_name a.name) name) actuals ≡ own.actual_named name actuals)
+        × Known c (own.actual_named name actuals)
         → ((if b then Some a else find (λ (a : Actual). bytes_eq (upper_case_name a.name) name) actuals)
-        ≡ (if b then Some a else own.actual_for name actuals))
-        × Known c (if b then Some a else own.actual_for name actuals)
+        ≡ (if b then Some a else own.actual_named name actuals))
+        × Known c (if b then Some a else own.actual_named name actuals)
     by true more = (refl, h.0)
     by false more = more
 
 one_same : (c : Context) (params : List Param) (index : ℕ) (o : Option Actual) (rest : List Passing)
     (before : List Binding) (p : ExecState) → Known c o
     → bindings.bound_params params (passed_actual c index o ++ rest) before p.local p.memory
-    ≡ own.binds (own.named_in_call c o) (slice_get params index) index before p
+    ≡ own.binds_parameter (own.named_in_call c o) (slice_get params index) index before p
     (λ more. bindings.bound_params params rest more p.local p.memory)
 one_same c params index None rest before p known = refl
 one_same c params index (Some a) rest before p known =
     ap (λ z. bindings.bound_params params (with_index index z ++ rest) before p.local p.memory)
     (actual_passed c a known)
     ∙ passing_same params index known.named rest before p
-    ∙ ap (λ z. own.binds (option_and_then own.if_passable z) (slice_get params index) index before p
+    ∙ ap (λ z. own.binds_parameter (option_and_then own.if_passable z) (slice_get params index) index before p
     (λ more. bindings.bound_params params rest more p.local p.memory)) (sym known.names)
 
-binds_same : (o : Option Named) (param : Option Param) (index : ℕ) (before : List Binding) (p : ExecState)
+binds_same : (o : Option NamedItem) (param : Option Param) (index : ℕ) (before : List Binding) (p : ExecState)
     (f g : List Binding → Result (List Binding) ℕ) → ((more : List Binding) → f more ≡ g more)
-    → own.binds o param index before p f ≡ own.binds o param index before p g
+    → own.binds_parameter o param index before p f ≡ own.binds_parameter o param index before p g
 binds_same None param index before p f g h = h before
 binds_same (Some x) param index before p f g h =
     then_same (own.binding_for param x p) (own.binding_for param x p)
@@ -278,9 +278,9 @@ all_same c actuals params index (f ∷ fs) before p h =
     let found = found_same c f.name actuals h in
     ap (λ o. bindings.bound_params params
     (passed_actual c index o ++ passings_from c actuals (suc index) fs) before p.local p.memory) found.0
-    ∙ one_same c params index (own.actual_for f.name actuals) (passings_from c actuals (suc index) fs)
+    ∙ one_same c params index (own.actual_named f.name actuals) (passings_from c actuals (suc index) fs)
     before p found.1
-    ∙ binds_same (own.named_in_call c (own.actual_for f.name actuals)) (slice_get params index) index before p
+    ∙ binds_same (own.named_in_call c (own.actual_named f.name actuals)) (slice_get params index) index before p
     (λ more. bindings.bound_params params (passings_from c actuals (suc index) fs) more p.local p.memory)
     (λ more. own.bindings_from params c actuals (suc index) (map (λ f. f.name) fs) more p)
     (λ more. all_same c actuals params (suc index) fs more p h)
@@ -301,7 +301,7 @@ plain_name : (cell : Cell) (of : Element) → names (formal_of cell of) ≡ own.
 plain_name cell (element.Plain kind) = refl
 plain_name cell _ = refl
 
-cell_name : (cell : Cell) → names (formal_here cell) ≡ own.parameter_name cell
+cell_name : (cell : Cell) → names (formal_here cell) ≡ own.name_of_parameter cell
 cell_name cell =
     by (is_parameter cell.section)
     ∙ ap (λ b. if b then own.name_if_plain cell.of cell.name else []) (section_same cell.section)
@@ -311,7 +311,7 @@ cell_name cell =
     by true = plain_name cell cell.of
     by false = refl
 
-cell_names : (cells : List Cell) → names (formals_of cells) ≡ flat_map own.parameter_name cells
+cell_names : (cells : List Cell) → names (formals_of cells) ≡ flat_map own.name_of_parameter cells
 cell_names [] = refl
 cell_names (cell ∷ cells) =
     map-append (λ (f : Formal). f.name) (formal_here cell) (formals_of cells)
@@ -324,18 +324,18 @@ result_last (Some kind) [] = refl
 result_last (Some kind) (f ∷ fs) = map-append (λ (f : Formal). f.name) fs (f ∷ [])
 
 order_same : (b : Option Block) (formals : List Formal)
-    → names (in_order b formals) ≡ own.in_call_order (has_result b) (names formals)
+    → names (in_parameter_order b formals) ≡ own.in_call_order (has_result b) (names formals)
 order_same None formals = refl
 order_same (Some b) formals = result_last b.result formals
 
 system_same : (b32 b33 b39 b40 b41 b42 b43 b46 b64 : Bool) (formals : List Formal)
-    → (if b32 then Some (ob_nr ∷ dtime ∷ sign ∷ returns simple.Int ∷ [])
-    else if b33 then Some (ob_nr ∷ returns simple.Int ∷ [])
+    → (if b32 then Some (ob_nr_formal ∷ dtime_formal ∷ sign_formal ∷ return_value_formal simple.Int ∷ [])
+    else if b33 then Some (ob_nr_formal ∷ return_value_formal simple.Int ∷ [])
     else if (if b39 then true else if b40 then true else false)
-    then Some (mode ∷ ob_nr ∷ returns simple.Int ∷ [])
-    else if (if b41 then true else if b42 then true else false) then Some (returns simple.Int ∷ [])
+    then Some (mode_formal ∷ ob_nr_formal ∷ return_value_formal simple.Int ∷ [])
+    else if (if b41 then true else if b42 then true else false) then Some (return_value_formal simple.Int ∷ [])
     else if (if b43 then true else if b46 then true else false) then Some []
-    else if b64 then Some (returns simple.Time ∷ [])
+    else if b64 then Some (return_value_formal simple.Time ∷ [])
     else None) ≡ Some formals
     → names formals
     ≡ (if b32 then codes "OB_NR" ∷ codes "DTIME" ∷ codes "SIGN" ∷ codes "RET_VAL" ∷ []
@@ -361,7 +361,7 @@ system_same false false false false false false false false false formals e = ab
 
 -- what is called in the order of its call
 abbrev called_names : Context → Callee → List (List ℕ)
-called_names c callee = names (in_order (block_at c.blocks callee.place) callee.formals)
+called_names c callee = names (in_parameter_order (source_block_at c.blocks callee.place) callee.formals)
 
 system_called : (c : Context) (id : BlockId) (o : Option (List Formal)) (callee : Callee)
     → system_formals id.number ≡ o
@@ -416,14 +416,14 @@ block_is : (c : Context) (name : BlockName) (db : Option BlockName) (id : BlockI
     → named_by c (operand.Called name db) ≡ Some (named.Called id instance)
     → named_block c.symbols name ≡ Some id
 unfolding named_by
-block_is c name None id instance e = block_same c name ∙ by (block_named c name) e
+block_is c name None id instance e = block_same c name ∙ by (block_id_of_name c name) e
   where
     by : (o : Option BlockId) → option_map (λ id. named.Called id None) o ≡ Some (named.Called id instance)
         → o ≡ Some id
     by None h = absurd cc
     by (Some other) h = cc
 block_is c name (Some db) id instance e =
-    block_same c name ∙ by (block_named c name) (block_number c db) e
+    block_same c name ∙ by (block_id_of_name c name) (block_number c db) e
   where
     by : (o : Option BlockId) (number : Option ℕ)
         → with_instance o number ≡ Some (named.Called id instance) → o ≡ Some id
@@ -444,12 +444,12 @@ names_same c name db id instance callee names known =
 
 -- ---- the called block
 
-abbrev is_called_name : Named → Bool
+abbrev is_called_name : NamedItem → Bool
 is_called_name (named.Called id instance) = true
 is_called_name _ = false
 
 db_not_called : (b : Bool) (n : ℕ) (w : Width) (byte bit : ℕ)
-    → is_called_name (if b then fixed_place area.Db w byte bit else named.PlaceIn n w byte bit) ≡ false
+    → is_called_name (if b then named_fixed_place area.Db w byte bit else named.PlaceIn n w byte bit) ≡ false
 db_not_called true n w byte bit = refl
 db_not_called false n w byte bit = refl
 
@@ -463,7 +463,7 @@ place_not_called area.P n w byte bit = refl
 place_not_called area.Di n w byte bit = refl
 place_not_called area.L n w byte bit = refl
 
-abbrev called_or : Option Named → Bool
+abbrev called_or : Option NamedItem → Bool
 called_or None = false
 called_or (Some x) = is_called_name x
 
@@ -488,47 +488,47 @@ called_view _ id instance e = absurd cc
 -- ---- the call
 
 record SameCall (m : Mnemonic) (how : CallOperation) : Type 0 where
-  no_jump : jump_of m ≡ None
-  is : call_of m ≡ Some how
-  made : (rlo : Bool) → machine.is_call_made how rlo ≡ own.is_made m rlo
+  no_jump : jump_operation_of m ≡ None
+  is : call_operation_of m ≡ Some how
+  made : (rlo : Bool) → machine.is_call_made how rlo ≡ own.makes_call m rlo
 
-call_same : (m : Mnemonic) → is_call m ≡ true → (how : CallOperation) × SameCall m how
+call_same : (m : Mnemonic) → is_call_instruction m ≡ true → (how : CallOperation) × SameCall m how
 call_same code.Call e = (how_called.Call, record { no_jump = refl; is = refl; made = λ rlo. refl })
 call_same code.Uc e = (how_called.Uc, record { no_jump = refl; is = refl; made = λ rlo. refl })
 call_same code.Cc e = (how_called.Cc, record { no_jump = refl; is = refl; made = λ rlo. refl })
 call_same _ e = absurd (false≢true e)
 
 -- what passings bind is what is bound
-abbrev Binds : List Passing → (List Param → ExecState → Result (List Binding) ℕ) → Activation → World → Type 0
+abbrev Binds : List Passing → (List Param → ExecState → Result (List Binding) ℕ) → Activation → GlobalStore → Type 0
 Binds passings bind a w =
     (params : List Param)
     → bindings.param_bindings params passings (local_of a.running) w.memory
     ≡ bind params (exec_state_of a.running w.memory w.timers w.counters)
 
 block_entered : (h : Option BlockHead) (id : BlockId) (instance : Option ℕ) (passings : List Passing)
-    (bind : List Param → ExecState → Result (List Binding) ℕ) (next : ℕ) (a : Activation) (w : World)
+    (bind : List Param → ExecState → Result (List Binding) ℕ) (next : ℕ) (a : Activation) (w : GlobalStore)
     → Binds passings bind a w
     → machine.block_called h id instance passings next a w ≡ own.enters_block h id instance bind next a w
-unfolding entering.call
+unfolding entering.block_call
 block_entered None id instance passings bind next a w same = refl
 block_entered (Some h) id instance passings bind next a w same =
     ap (λ r. machine.call_step
-    (entering.called_with r (machine.called_block id instance h) next a w.memory) next a w)
+    (entering.call_with_bindings r (machine.called_block id instance h) next a w.memory) next a w)
     (same h.params)
 
 system_entered : (o : Option (List Param)) (n : ℕ) (passings : List Passing)
-    (bind : List Param → ExecState → Result (List Binding) ℕ) (next : ℕ) (a : Activation) (w : World)
+    (bind : List Param → ExecState → Result (List Binding) ℕ) (next : ℕ) (a : Activation) (w : GlobalStore)
     → Binds passings bind a w
     → machine.system_call_made o n passings next a w ≡ own.enters_system o n bind next a w
 unfolding system.system_call
 system_entered None n passings bind next a w same = refl
 system_entered (Some params) n passings bind next a w same =
     ap (λ r. machine.after_system_call
-    (then_ok r (λ bound. Ok (system.given_now params bound a w.memory))) n next a)
+    (then_ok r (λ bound. Ok (system.arguments_of_activation params bound a w.memory))) n next a)
     (same params)
 
 called_same : (program : Code) (id : BlockId) (instance : Option ℕ) (passings : List Passing)
-    (bind : List Param → ExecState → Result (List Binding) ℕ) (next : ℕ) (a : Activation) (w : World)
+    (bind : List Param → ExecState → Result (List Binding) ℕ) (next : ℕ) (a : Activation) (w : GlobalStore)
     → Binds passings bind a w
     → machine.call_made program id instance passings next a w
     ≡ (if is_system_function id.kind
@@ -551,16 +551,16 @@ all_bound c actuals formals these params p h e =
 pub calls_act : CallsAct
 unfolding instruction
 calls_act c body n s v name db id instance callee is o e names known actuals program next a w =
-    ap (λ i. step_of program i next a w)
+    ap (λ i. instruction_step program i next a w)
     (ap (instr_by c body n s) same.no_jump ∙ ap (resolved_instr c s) e
     ∙ ap (view_instr c s v) same.is ∙ ap (call_instr c s how) viewed
     ∙ ap (λ z. Calls how id instance (passings_to c s z)) (ap (callee_of c) o ∙ known))
-    ∙ ap₂ (λ (made : Bool) (called : Step). if made then called
-    else Went (standing_at next (rlo_set (own.at_call a.running.regs)) a) w)
+    ∙ ap₂ (λ (made : Bool) (called : StatementStep). if made then called
+    else Went (standing_at next (with_rlo_1 (own.registers_at_call a.running.regs)) a) w)
     (same.made a.running.regs.status.rlo)
     (called_same program id instance (passings_to c s (Some callee))
     (own.bindings_of c s.actuals (own.parameter_names c id)) next a w
-    (λ params. all_bound c s.actuals (in_order (block_at c.blocks callee.place) callee.formals)
+    (λ params. all_bound c s.actuals (in_parameter_order (source_block_at c.blocks callee.place) callee.formals)
     (own.parameter_names c id) params (exec_state_of a.running w.memory w.timers w.counters) actuals
     (names_same c name db id instance callee names known)))
   where
@@ -574,4 +574,4 @@ calls_act c body n s v name db id instance callee is o e names known actuals pro
     viewed =
         called_view v id instance
         (view_same c (operand.Called name db) v (named.Called id instance)
-        (sym (ap (seen c) o) ∙ (resolved_parts c s v e).1) names)
+        (sym (ap (resolution_of c) o) ∙ (resolved_parts c s v e).1) names)

@@ -11,18 +11,18 @@ use Rattle.stl_symbols.specs.Symbol.{Symbol, symbol_named}
 use Rattle.stl_symbols.specs.declared.targets.Target.{Target}
 use Rattle.stl_symbols.specs.declared.targets.Target.TheVariants as target
 use Rattle.plc_base.specs.declared.places.Width.{Width}
-use Rattle.stl_types.specs.Addresses.{address_in}
+use Rattle.stl_types.specs.Addresses.{address_in_block}
 use Rattle.stl_types.specs.Context.{Context, data_number}
 use Rattle.stl_types.specs.Forms.{form_of}
-use Rattle.stl_types.specs.Operands.{rule_of, takes}
-use Rattle.stl_types.specs.Resolution.{opened_seen, seen, symbol_seen, target_view}
+use Rattle.stl_types.specs.Operands.{rule_of_resolved_operand, takes_operand}
+use Rattle.stl_types.specs.Resolution.{opened_seen, resolution_of, symbol_seen, target_view}
 use Rattle.stl_types.specs.declared.forms.OperandRule.{OperandRule}
 use Rattle.stl_types.specs.declared.forms.OperandRule.TheVariants as form
 use Rattle.stl_types.specs.declared.views.Resolution.TheVariants.{Resolved}
 use Rattle.stl_types.specs.declared.views.ResolvedOperand.{ResolvedOperand}
 use Rattle.stl_types.specs.declared.views.ResolvedOperand.TheVariants as view
 use Rattle.statement_laws.specs.Laws.{OperandsAreNamed, has_fixed_name}
-use Rattle.statement_laws.specs.Named.{Named}
+use Rattle.statement_laws.specs.Named.{NamedItem}
 use Rattle.statement_laws.specs.Named as named
 use Rattle.statement_laws.specs.Operands.{block_number, named_by, place_by, register_named, target_named}
 use Rattle.statement_laws.specs.Operands as own
@@ -30,16 +30,16 @@ use Rattle.statement_laws.proofs.RuleLemmas.{refused}
 use Rattle.statement_laws.proofs.SeenLemmas.{about, number_known, resolved_parts, resolved_same, rule_by}
 
 -- something is there
-abbrev There : Option Named → Type 0
-There o = (x : Named) × (o ≡ Some x)
+abbrev There : Option NamedItem → Type 0
+There o = (x : NamedItem) × (o ≡ Some x)
 
-there : (o : Option Named) → is_some o ≡ true → There o
+there : (o : Option NamedItem) → is_some o ≡ true → There o
 there None e = absurd cc
 there (Some x) e = (x, refl)
 
 -- no instruction acts on the symbol of a block
-block_refused : (f : OperandRule) → rule_of f view.Block ≡ Some 25
-unfolding rule_of takes
+block_refused : (f : OperandRule) → rule_of_resolved_operand f view.Block ≡ Some 25
+unfolding rule_of_resolved_operand takes_operand
 block_refused form.Bare = refl
 block_refused form.ReadsBit = refl
 block_refused form.ReadsBitOrBare = refl
@@ -65,17 +65,17 @@ block_refused form.StepsCounter = refl
 block_refused form.Calls = refl
 block_refused form.Opens = refl
 
-target_there : (f : OperandRule) (t : Target) (v : ResolvedOperand) → rule_of f v ≡ None
+target_there : (f : OperandRule) (t : Target) (v : ResolvedOperand) → rule_of_resolved_operand f v ≡ None
     → Resolved (target_view t) ≡ Resolved v → There (target_named t)
-target_there f (target.Variable place width) v r e = (own.place_at place width, refl)
+target_there f (target.Variable place width) v r e = (own.named_place place width, refl)
 target_there f (target.Timer number) v r e = (named.Timer (named.Written number), refl)
 target_there f (target.Counter number) v r e = (named.Counter (named.Written number), refl)
 target_there f (target.Block id) v r e = absurd (refused (sym (block_refused f) ∙ no_rule))
   where
-    no_rule : rule_of f view.Block ≡ None
-    no_rule = ap (rule_of f) (resolved_same view.Block v e) ∙ r
+    no_rule : rule_of_resolved_operand f view.Block ≡ None
+    no_rule = ap (rule_of_resolved_operand f) (resolved_same view.Block v e) ∙ r
 
-symbol_there : (f : OperandRule) (o : Option Symbol) (v : ResolvedOperand) → rule_of f v ≡ None
+symbol_there : (f : OperandRule) (o : Option Symbol) (v : ResolvedOperand) → rule_of_resolved_operand f v ≡ None
     → symbol_seen o ≡ Resolved v
     → There (option_and_then target_named (option_map (λ s. s.target) o))
 symbol_there f None v r e = absurd cc
@@ -83,12 +83,12 @@ symbol_there f (Some s) v r e = target_there f s.target v r e
 
 in_block_there : (c : Context) (name : BlockName) (a : Letters) (w : Width) (byte bit : ℕ)
     (v : ResolvedOperand) (o : Option ℕ) → data_number c name ≡ o
-    → address_in o a w byte bit ≡ Resolved v
-    → There (option_map (λ number. place_by (own.area_of a) number w byte bit) (block_number c name))
+    → address_in_block o a w byte bit ≡ Resolved v
+    → There (option_map (λ number. place_by (own.area_by_letters a) number w byte bit) (block_number c name))
 in_block_there c name a w byte bit v None d e = absurd cc
 in_block_there c name a w byte bit v (Some number) d e = (
-  place_by (own.area_of a) number w byte bit,
-  ap (option_map (λ number. place_by (own.area_of a) number w byte bit)) (number_known c name number d),
+  place_by (own.area_by_letters a) number w byte bit,
+  ap (option_map (λ number. place_by (own.area_by_letters a) number w byte bit)) (number_known c name number d),
 )
 
 opened_there : (c : Context) (di : Bool) (name : BlockName) (v : ResolvedOperand) (o : Option ℕ)
@@ -101,9 +101,9 @@ opened_there c di name v (Some number) d e = (
 )
 
 named_there : (c : Context) (f : OperandRule) (o : Operand) (v : ResolvedOperand)
-    → has_fixed_name o ≡ true → rule_by f (about o) v ≡ None → seen c o ≡ Resolved v
+    → has_fixed_name o ≡ true → rule_by f (about o) v ≡ None → resolution_of c o ≡ Resolved v
     → There (named_by c o)
-unfolding seen named_by
+unfolding resolution_of named_by
 named_there c f operand.Nothing v h r e = there _ refl
 named_there c f (operand.Direct None a w byte bit) v h r e = there _ refl
 named_there c f (operand.Direct (Some name) a w byte bit) v h r e =

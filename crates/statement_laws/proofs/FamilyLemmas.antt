@@ -18,23 +18,23 @@ use Rattle.stl_ast.specs.declared.operands.Operand.{Operand}
 use Rattle.stl_ast.specs.declared.statements.Statement.{Statement}
 use Rattle.stl_types.specs.Context.{Context}
 use Rattle.stl_types.specs.Forms.{form_of}
-use Rattle.stl_types.specs.Resolved.{resolved}
+use Rattle.stl_types.specs.Resolved.{resolved_operand}
 use Rattle.stl_types.specs.declared.views.ResolvedOperand.{ResolvedOperand}
 use Rattle.stl_codegen.specs.Instruction.{end_instr, instr_by, instruction, resolved_instr, view_instr}
 use Rattle.stl_codegen.specs.Operands as codegen
-use Rattle.stl_codegen.specs.Operations.{call_of, end_of, jump_of, operation_for}
+use Rattle.stl_codegen.specs.Operations.{call_operation_of, end_operation_of, jump_operation_of, operation_for}
 use Rattle.machine.specs.DataBlocks as data_blocks
 use Rattle.machine.specs.Effect as does
 use Rattle.machine.specs.Numbers as numbers
 use Rattle.machine.specs.Pointers as pointer
 use Rattle.machine.specs.ExecState.{ExecState, exec_state_of, then_ok}
-use Rattle.machine.specs.Statement.{step_of, continue_with}
-use Rattle.statement_laws.specs.Effects.{action, effect}
+use Rattle.machine.specs.Statement.{instruction_step, continue_with}
+use Rattle.statement_laws.specs.Effects.{action, effect_of_statement}
 use Rattle.statement_laws.specs.Effects as own
-use Rattle.statement_laws.specs.Laws.{Acts, BitLogicActs, ComparisonsAct, DataBlocksAct, IdleActs, LoadsAct, NumbersAct, RelayActs, ShiftsAct, TimingActs, is_bit_logic, is_comparison, is_data_block, is_idle, is_load_or_transfer, is_number_instruction, is_relay, is_shift, is_timing}
-use Rattle.statement_laws.specs.Named.{Named}
+use Rattle.statement_laws.specs.Laws.{Acts, BitLogicActs, ComparisonsAct, DataBlocksAct, IdleActs, LoadsAct, NumbersAct, RelayActs, ShiftsAct, TimingActs, is_bit_logic, is_comparison, is_data_block_instruction, is_idle, is_load_or_transfer, is_number_instruction, is_relay, is_shift, is_timing}
+use Rattle.statement_laws.specs.Named.{NamedItem}
 use Rattle.statement_laws.specs.Named as named
-use Rattle.statement_laws.specs.Operands.{fixed_place, named_by}
+use Rattle.statement_laws.specs.Operands.{named_fixed_place, named_by}
 use Rattle.statement_laws.proofs.ActionLemmas as action_lemmas
 use Rattle.statement_laws.proofs.FlatLemmas.{flat_of}
 use Rattle.statement_laws.proofs.FlatLemmas as flat_lemmas
@@ -45,51 +45,51 @@ use Rattle.statement_laws.proofs.VariableLemmas.{view_same}
 
 -- ---- from operations to statements
 
-db_first : (m : Mnemonic) (op : Operation) (n : ℕ) (x : Named) (p : ExecState)
-    → ((q : ExecState) → does.effect op (flat_of x) q ≡ action m x q)
-    → (if data_blocks.is_block_loaded n p.memory then does.effect op (flat_of x) (does.with_db n p) else Err 0x3A)
-    ≡ then_ok (own.opens_number false n p) (λ q. action m x q)
+db_first : (m : Mnemonic) (op : Operation) (n : ℕ) (x : NamedItem) (p : ExecState)
+    → ((q : ExecState) → does.operation_effect op (flat_of x) q ≡ action m x q)
+    → (if data_blocks.is_block_loaded n p.memory then does.operation_effect op (flat_of x) (does.with_db_opened n p) else Err 0x3A)
+    ≡ then_ok (own.opens_block_number false n p) (λ q. action m x q)
 db_first m op n x p h = by (data_blocks.is_block_loaded n p.memory)
   where
     by : (b : Bool)
-        → (if b then does.effect op (flat_of x) (does.with_db n p) else Err 0x3A)
+        → (if b then does.operation_effect op (flat_of x) (does.with_db_opened n p) else Err 0x3A)
         ≡ then_ok (if b then Ok (own.with_open false n p) else Err 0x3A) (λ q. action m x q)
     by true = h (own.with_open false n p)
     by false = refl
 
 -- a data block that the statement opens first is open then
-first_opened : (m : Mnemonic) (op : Operation) (x : Named) (p : ExecState)
-    → ((q : ExecState) → does.effect op (flat_of (as_open x)) q ≡ action m (as_open x) q)
-    → does.effect_with (opens_first x) op (flat_of x) p ≡ effect m x p
-unfolding does.effect_with effect
-first_opened m op (named.PlaceIn n w byte bit) p h = db_first m op n (fixed_place area.Db w byte bit) p h
+first_opened : (m : Mnemonic) (op : Operation) (x : NamedItem) (p : ExecState)
+    → ((q : ExecState) → does.operation_effect op (flat_of (as_open x)) q ≡ action m (as_open x) q)
+    → does.statement_effect (opens_first x) op (flat_of x) p ≡ effect_of_statement m x p
+unfolding does.statement_effect effect_of_statement
+first_opened m op (named.PlaceIn n w byte bit) p h = db_first m op n (named_fixed_place area.Db w byte bit) p h
 first_opened m op _ p h = h p
 
 -- what an instruction that goes on does, whose operand names this
-pub record Acted (m : Mnemonic) (o : Operand) (v : ResolvedOperand) (x : Named) : Type 0 where
-  pub no_jump : jump_of m ≡ None
-  pub no_call : call_of m ≡ None
-  pub no_end : end_of m ≡ None
-  pub same : (q : ExecState) → does.effect (operation_for m o v) (flat_of (as_open x)) q ≡ action m (as_open x) q
+pub record Acted (m : Mnemonic) (o : Operand) (v : ResolvedOperand) (x : NamedItem) : Type 0 where
+  pub no_jump : jump_operation_of m ≡ None
+  pub no_call : call_operation_of m ≡ None
+  pub no_end : end_operation_of m ≡ None
+  pub same : (q : ExecState) → does.operation_effect (operation_for m o v) (flat_of (as_open x)) q ≡ action m (as_open x) q
 
 -- what is known of it
-pub record Given (m : Mnemonic) (o : Operand) (v : ResolvedOperand) (x : Named) : Type 0 where
+pub record Given (m : Mnemonic) (o : Operand) (v : ResolvedOperand) (x : NamedItem) : Type 0 where
   pub rule : rule_by (form_of m) (about o) v ≡ None
   pub there : view_named (about o) v ≡ Some x
 
-pub acts : (c : Context) (body : List Statement) (n : ℕ) (s : Statement) (v : ResolvedOperand) (x : Named)
-    → resolved c s ≡ Some v → named_by c s.operand ≡ Some x
+pub acts : (c : Context) (body : List Statement) (n : ℕ) (s : Statement) (v : ResolvedOperand) (x : NamedItem)
+    → resolved_operand c s ≡ Some v → named_by c s.operand ≡ Some x
     → (Given s.code s.operand v x → Acted s.code s.operand v x)
-    → Acts (instruction c body n s) (effect s.code x)
+    → Acts (instruction c body n s) (effect_of_statement s.code x)
 unfolding instruction
 acts c body n s v x e is h program next a w =
-    ap (λ i. step_of program i next a w)
+    ap (λ i. instruction_step program i next a w)
     (ap (instr_by c body n s) acted.no_jump ∙ ap (resolved_instr c s) e
     ∙ ap (view_instr c s v) acted.no_call ∙ ap (end_instr s v) acted.no_end)
     ∙ ap (λ r. continue_with r next a)
-    (ap (λ k. does.effect_with k (operation_for s.code s.operand v) (codegen.operand_of s.operand v) p)
+    (ap (λ k. does.statement_effect k (operation_for s.code s.operand v) (codegen.flat_operand_of s.operand v) p)
     (opened_first (about s.operand) v x there)
-    ∙ ap (λ o. does.effect_with (opens_first x) (operation_for s.code s.operand v) o p)
+    ∙ ap (λ o. does.statement_effect (opens_first x) (operation_for s.code s.operand v) o p)
     (operand_flat s.operand v x there)
     ∙ first_opened s.code (operation_for s.code s.operand v) x p acted.same)
   where
@@ -103,15 +103,15 @@ acts c body n s v x e is h program next a w =
     acted = h (record { rule = (resolved_parts c s v e).0; there = there })
 
 -- an operation that is the same whatever its operand
-acted : (m : Mnemonic) (o : Operand) (v : ResolvedOperand) (x : Named)
-    → jump_of m ≡ None → call_of m ≡ None → end_of m ≡ None
-    → ((q : ExecState) → does.effect (operation_for m o v) (flat_of (as_open x)) q ≡ action m (as_open x) q)
+acted : (m : Mnemonic) (o : Operand) (v : ResolvedOperand) (x : NamedItem)
+    → jump_operation_of m ≡ None → call_operation_of m ≡ None → end_operation_of m ≡ None
+    → ((q : ExecState) → does.operation_effect (operation_for m o v) (flat_of (as_open x)) q ≡ action m (as_open x) q)
     → Acted m o v x
 acted m o v x j c e h = record { no_jump = j; no_call = c; no_end = e; same = h }
 
-bit_logic : (m : Mnemonic) (o : Operand) (v : ResolvedOperand) (x : Named) → is_bit_logic m ≡ true
+bit_logic : (m : Mnemonic) (o : Operand) (v : ResolvedOperand) (x : NamedItem) → is_bit_logic m ≡ true
     → Given m o v x → Acted m o v x
-unfolding operation_for action form_of does.effect
+unfolding operation_for action form_of does.operation_effect
 bit_logic code.A o v x is g =
     acted code.A o v x refl refl refl
     (λ q. action_lemmas.checks_same check.A (as_open x) q
@@ -122,7 +122,7 @@ bit_logic code.An o v x is g =
     (holds flat_lemmas.is_read (about o) v x (rules.reads_bit (about o) v g.rule) g.there))
 bit_logic code.O o v x is g =
     acted code.O o v x refl refl refl
-    (λ q. ap (λ op. does.effect op (flat_of (as_open x)) q) (rules.or_named (about o) v x g.there)
+    (λ q. ap (λ op. does.operation_effect op (flat_of (as_open x)) q) (rules.or_named (about o) v x g.there)
     ∙ action_lemmas.or_same (as_open x) q (holds flat_lemmas.is_read (about o) v x (rules.reads_bit_or_bare (about o) v g.rule) g.there))
 bit_logic code.On o v x is g =
     acted code.On o v x refl refl refl
@@ -195,23 +195,23 @@ pub bit_logic_acts : BitLogicActs
 bit_logic_acts c body n s v x is e names =
     acts c body n s v x e names (λ g. bit_logic s.code s.operand v x is g)
 
-load_or_transfer : (m : Mnemonic) (o : Operand) (v : ResolvedOperand) (x : Named) → is_load_or_transfer m ≡ true
+load_or_transfer : (m : Mnemonic) (o : Operand) (v : ResolvedOperand) (x : NamedItem) → is_load_or_transfer m ≡ true
     → Given m o v x → Acted m o v x
-unfolding operation_for action form_of does.effect pointer.pointer_effect
+unfolding operation_for action form_of does.operation_effect pointer.pointer_effect
 load_or_transfer code.L o v x is g =
     acted code.L o v x refl refl refl
-    (λ q. ap (λ op. does.effect op (flat_of (as_open x)) q) (rules.load_named (about o) v x g.there)
+    (λ q. ap (λ op. does.operation_effect op (flat_of (as_open x)) q) (rules.load_named (about o) v x g.there)
     ∙ action_lemmas.load_same (as_open x) q (loads_all x))
 load_or_transfer code.T o v x is g =
     acted code.T o v x refl refl refl
-    (λ q. ap (λ op. does.effect op (flat_of (as_open x)) q) (rules.transfer_named (about o) v x g.there)
+    (λ q. ap (λ op. does.operation_effect op (flat_of (as_open x)) q) (rules.transfer_named (about o) v x g.there)
     ∙ action_lemmas.transfer_same (as_open x) q (holds action_lemmas.is_transferred (about o) v x (rules.transfers (about o) v g.rule) g.there))
 load_or_transfer code.Lc o v x is g =
     acted code.Lc o v x refl refl refl
     (λ q. action_lemmas.load_bcd_same (as_open x) q)
 load_or_transfer code.Lar1 o v x is g =
     acted code.Lar1 o v x refl refl refl
-    (λ q. ap (λ op. does.effect op (flat_of (as_open x)) q) (rules.load_address_named (about o) v x g.there)
+    (λ q. ap (λ op. does.operation_effect op (flat_of (as_open x)) q) (rules.load_address_named (about o) v x g.there)
     ∙ action_lemmas.lar1_same (as_open x) q (holds action_lemmas.is_first_address (about o) v x (rules.loads_ar1 (about o) v g.rule) g.there))
 load_or_transfer code.Lar2 o v x is g =
     acted code.Lar2 o v x refl refl refl
@@ -219,7 +219,7 @@ load_or_transfer code.Lar2 o v x is g =
     (holds action_lemmas.is_address (about o) v x (rules.loads_ar2 (about o) v g.rule) g.there))
 load_or_transfer code.Tar1 o v x is g =
     acted code.Tar1 o v x refl refl refl
-    (λ q. ap (λ op. does.effect op (flat_of (as_open x)) q) (rules.store_address_named (about o) v x g.there)
+    (λ q. ap (λ op. does.operation_effect op (flat_of (as_open x)) q) (rules.store_address_named (about o) v x g.there)
     ∙ action_lemmas.tar1_same (as_open x) q (holds action_lemmas.is_first_address_place (about o) v x (rules.stores_ar1 (about o) v g.rule) g.there))
 load_or_transfer code.Tar2 o v x is g =
     acted code.Tar2 o v x refl refl refl
@@ -242,9 +242,9 @@ pub load_or_transfer_acts : LoadsAct
 load_or_transfer_acts c body n s v x is e names =
     acts c body n s v x e names (λ g. load_or_transfer s.code s.operand v x is g)
 
-number_instruction : (m : Mnemonic) (o : Operand) (v : ResolvedOperand) (x : Named) → is_number_instruction m ≡ true
+number_instruction : (m : Mnemonic) (o : Operand) (v : ResolvedOperand) (x : NamedItem) → is_number_instruction m ≡ true
     → Given m o v x → Acted m o v x
-unfolding operation_for action form_of does.effect numbers.number_effect numbers.word_logic_effect
+unfolding operation_for action form_of does.operation_effect numbers.number_effect numbers.word_logic_effect
 number_instruction code.Tak o v x is g =
     acted code.Tak o v x refl refl refl
     (λ q. refl)
@@ -270,7 +270,7 @@ number_instruction code.Dec o v x is g =
     (holds action_lemmas.is_constant (about o) v x (rules.counts 255 (about o) v g.rule) g.there))
 number_instruction code.Add o v x is g =
     acted code.Add o v x refl refl refl
-    (λ q. ap (λ op. does.effect op (flat_of (as_open x)) q) (rules.add_named o v x g.there)
+    (λ q. ap (λ op. does.operation_effect op (flat_of (as_open x)) q) (rules.add_named o v x g.there)
     ∙ action_lemmas.add_same (as_open x) q
     (holds action_lemmas.is_constant (about o) v x (rules.adds (about o) v g.rule) g.there))
 number_instruction code.AddI o v x is g =
@@ -329,32 +329,32 @@ number_instruction code.Negd o v x is g =
     (λ q. refl)
 number_instruction code.Aw o v x is g =
     acted code.Aw o v x refl refl refl
-    (λ q. action_lemmas.logic_same logic.Aw 16 (word_logic.anded 16) (as_open x) q
+    (λ q. action_lemmas.logic_same logic.Aw 16 (word_logic.accumulator_anded 16) (as_open x) q
     (holds action_lemmas.is_count (about o) v x (rules.combines simple.Word (about o) v g.rule) g.there)
     (λ k. refl))
 number_instruction code.Ow o v x is g =
     acted code.Ow o v x refl refl refl
-    (λ q. action_lemmas.logic_same logic.Ow 16 (word_logic.ored 16) (as_open x) q
+    (λ q. action_lemmas.logic_same logic.Ow 16 (word_logic.accumulator_ored 16) (as_open x) q
     (holds action_lemmas.is_count (about o) v x (rules.combines simple.Word (about o) v g.rule) g.there)
     (λ k. refl))
 number_instruction code.Xow o v x is g =
     acted code.Xow o v x refl refl refl
-    (λ q. action_lemmas.logic_same logic.Xow 16 (word_logic.xored 16) (as_open x) q
+    (λ q. action_lemmas.logic_same logic.Xow 16 (word_logic.accumulator_xored 16) (as_open x) q
     (holds action_lemmas.is_count (about o) v x (rules.combines simple.Word (about o) v g.rule) g.there)
     (λ k. refl))
 number_instruction code.Ad o v x is g =
     acted code.Ad o v x refl refl refl
-    (λ q. action_lemmas.logic_same logic.Ad 32 (word_logic.anded 32) (as_open x) q
+    (λ q. action_lemmas.logic_same logic.Ad 32 (word_logic.accumulator_anded 32) (as_open x) q
     (holds action_lemmas.is_count (about o) v x (rules.combines simple.Dword (about o) v g.rule) g.there)
     (λ k. refl))
 number_instruction code.Od o v x is g =
     acted code.Od o v x refl refl refl
-    (λ q. action_lemmas.logic_same logic.Od 32 (word_logic.ored 32) (as_open x) q
+    (λ q. action_lemmas.logic_same logic.Od 32 (word_logic.accumulator_ored 32) (as_open x) q
     (holds action_lemmas.is_count (about o) v x (rules.combines simple.Dword (about o) v g.rule) g.there)
     (λ k. refl))
 number_instruction code.Xod o v x is g =
     acted code.Xod o v x refl refl refl
-    (λ q. action_lemmas.logic_same logic.Xod 32 (word_logic.xored 32) (as_open x) q
+    (λ q. action_lemmas.logic_same logic.Xod 32 (word_logic.accumulator_xored 32) (as_open x) q
     (holds action_lemmas.is_count (about o) v x (rules.combines simple.Dword (about o) v g.rule) g.there)
     (λ k. refl))
 number_instruction _ o v x is g = absurd (false≢true is)
@@ -363,9 +363,9 @@ pub number_instruction_acts : NumbersAct
 number_instruction_acts c body n s v x is e names =
     acts c body n s v x e names (λ g. number_instruction s.code s.operand v x is g)
 
-comparison : (m : Mnemonic) (o : Operand) (v : ResolvedOperand) (x : Named) → is_comparison m ≡ true
+comparison : (m : Mnemonic) (o : Operand) (v : ResolvedOperand) (x : NamedItem) → is_comparison m ≡ true
     → Given m o v x → Acted m o v x
-unfolding operation_for action form_of does.effect
+unfolding operation_for action form_of does.operation_effect
 comparison code.EqI o v x is g =
     acted code.EqI o v x refl refl refl
     (λ q. refl)
@@ -408,9 +408,9 @@ pub comparison_acts : ComparisonsAct
 comparison_acts c body n s v x is e names =
     acts c body n s v x e names (λ g. comparison s.code s.operand v x is g)
 
-shift : (m : Mnemonic) (o : Operand) (v : ResolvedOperand) (x : Named) → is_shift m ≡ true
+shift : (m : Mnemonic) (o : Operand) (v : ResolvedOperand) (x : NamedItem) → is_shift m ≡ true
     → Given m o v x → Acted m o v x
-unfolding operation_for action form_of does.effect numbers.number_effect numbers.shift_effect
+unfolding operation_for action form_of does.operation_effect numbers.number_effect numbers.shift_effect
 shift code.Ssi o v x is g =
     acted code.Ssi o v x refl refl refl
     (λ q. action_lemmas.shift_same shift_word.Ssi (shifts.shifted_signed 16) (as_open x) q
@@ -463,7 +463,7 @@ pub shift_acts : ShiftsAct
 shift_acts c body n s v x is e names =
     acts c body n s v x e names (λ g. shift s.code s.operand v x is g)
 
-timing : (m : Mnemonic) (o : Operand) (v : ResolvedOperand) (x : Named) → is_timing m ≡ true
+timing : (m : Mnemonic) (o : Operand) (v : ResolvedOperand) (x : NamedItem) → is_timing m ≡ true
     → Given m o v x → Acted m o v x
 unfolding operation_for action form_of
 timing code.Sp o v x is g =
@@ -504,9 +504,9 @@ pub timing_acts : TimingActs
 timing_acts c body n s v x is e names =
     acts c body n s v x e names (λ g. timing s.code s.operand v x is g)
 
-relay : (m : Mnemonic) (o : Operand) (v : ResolvedOperand) (x : Named) → is_relay m ≡ true
+relay : (m : Mnemonic) (o : Operand) (v : ResolvedOperand) (x : NamedItem) → is_relay m ≡ true
     → Given m o v x → Acted m o v x
-unfolding operation_for action form_of does.effect
+unfolding operation_for action form_of does.operation_effect
 relay code.Mcra o v x is g =
     acted code.Mcra o v x refl refl refl
     (λ q. refl)
@@ -525,9 +525,9 @@ pub relay_acts : RelayActs
 relay_acts c body n s v x is e names =
     acts c body n s v x e names (λ g. relay s.code s.operand v x is g)
 
-data_block : (m : Mnemonic) (o : Operand) (v : ResolvedOperand) (x : Named) → is_data_block m ≡ true
+data_block : (m : Mnemonic) (o : Operand) (v : ResolvedOperand) (x : NamedItem) → is_data_block_instruction m ≡ true
     → Given m o v x → Acted m o v x
-unfolding operation_for action form_of does.effect data_blocks.registers_exchanged
+unfolding operation_for action form_of does.operation_effect data_blocks.registers_exchanged
 data_block code.Opn o v x is g =
     acted code.Opn o v x refl refl refl
     (λ q. action_lemmas.open_same (as_open x) q
@@ -541,9 +541,9 @@ pub data_block_acts : DataBlocksAct
 data_block_acts c body n s v x is e names =
     acts c body n s v x e names (λ g. data_block s.code s.operand v x is g)
 
-idle : (m : Mnemonic) (o : Operand) (v : ResolvedOperand) (x : Named) → is_idle m ≡ true
+idle : (m : Mnemonic) (o : Operand) (v : ResolvedOperand) (x : NamedItem) → is_idle m ≡ true
     → Given m o v x → Acted m o v x
-unfolding operation_for action form_of does.effect
+unfolding operation_for action form_of does.operation_effect
 idle code.Nop o v x is g =
     acted code.Nop o v x refl refl refl
     (λ q. refl)

@@ -21,7 +21,7 @@ use Rattle.machine.specs.Places as places
 use Rattle.machine.specs.Values as values
 use Rattle.machine.specs.declared.places.Access.{Access}
 use Rattle.machine.specs.declared.places.Access.TheVariants.{Reading}
-use Rattle.statement_laws.specs.Named.{Named, Number, OpenBlock, Spot}
+use Rattle.statement_laws.specs.Named.{NamedItem, Number, OpenBlock, Spot}
 use Rattle.statement_laws.specs.Named as named
 use Rattle.statement_laws.specs.Reading as own
 use Rattle.statement_laws.proofs.PlaceLemmas.{crossing_same, fixed_same, pointed_same, read_same, standing_same, then_same}
@@ -49,11 +49,11 @@ flat_fact named.DiLength = flat.Literal 2
 flat_fact named.DiNumber = flat.Literal 3
 
 -- the operand of the code for what is named
-abbrev pub flat_of : Named → Operand
+abbrev pub flat_of : NamedItem → Operand
 flat_of (named.Place spot) = flat_spot spot
 flat_of (named.PlaceIn block w byte bit) = flat.Direct area.Db w byte bit
 flat_of (named.Parameter index w) = flat.Parameter index w
-flat_of (named.Constant value) = flat.Literal (own.bits value)
+flat_of (named.Constant value) = flat.Literal (own.bits_of_literal value)
 flat_of (named.Pointer value) = flat.Literal value
 flat_of (named.Condition f) = flat.OfStatus (condition_number f)
 flat_of (named.Timer n) = flat_number 1 n
@@ -71,7 +71,7 @@ found_same access (named.Fixed a w byte bit) p = fixed_same access a w byte bit 
 found_same access (named.ByMemory a w from byte) p =
     then_same (places.pointer_number from byte widths.Dword p.local p.memory)
     (own.stored_number from byte widths.Dword p)
-    (λ n. places.by_pointer access a w n p.local) (λ n. own.place_of_pointer access a w n p)
+    (λ n. places.pointer_location access a w n p.local) (λ n. own.place_of_pointer access a w n p)
     (standing_same from byte widths.Dword p) (λ n. pointed_same access a w n p)
 found_same access (named.ByRegister None w register count) p =
     crossing_same access w (places.register_address register p.local)
@@ -79,17 +79,17 @@ found_same access (named.ByRegister None w register count) p =
 found_same access (named.ByRegister (Some a) w register count) p =
     pointed_same access a w (places.address_moved_by (places.register_address register p.local) count) p
 
-bound_same : (o : Option Binding) → places.of_binding o ≡ own.place_of_binding o
+bound_same : (o : Option Binding) → places.binding_location o ≡ own.place_of_binding o
 bound_same None = refl
 bound_same (Some (binding.Bound place w frame)) = refl
 bound_same (Some _) = refl
 
 -- what is named isn't in a data block that the statement opens first
-abbrev pub is_open : Named → Bool
+abbrev pub is_open : NamedItem → Bool
 is_open (named.PlaceIn block w byte bit) = false
 is_open _ = true
 
-pub place_same : (access : Access) (x : Named) (p : ExecState) → is_open x ≡ true
+pub place_same : (access : Access) (x : NamedItem) (p : ExecState) → is_open x ≡ true
     → places.operand_location access (flat_of x) p.local p.memory ≡ own.place_of_operand access x p
 unfolding places.operand_location own.place_of_operand
 place_same access (named.Place spot) p e = found_same access spot p
@@ -110,7 +110,7 @@ place_same access _ p e = refl
 -- ---- numbers
 
 bound_number_same : (o : Option Binding) (p : ExecState)
-    → values.number_of_binding o p.local p.memory ≡ own.number_of_binding o p
+    → values.number_of_binding o p.local p.memory ≡ own.number_of_parameter o p
 bound_number_same None p = refl
 bound_number_same (Some (binding.Bound place w frame)) p =
     read_same (record { place = place; width = w; frame = frame }) p
@@ -118,30 +118,30 @@ bound_number_same (Some (binding.Constant value)) p = refl
 bound_number_same (Some _) p = refl
 
 -- what is named can be read as a number or a bit, or not at all
-abbrev pub is_read : Named → Bool
+abbrev pub is_read : NamedItem → Bool
 is_read (named.PlaceIn block w byte bit) = false
 is_read (named.Opened what) = false
 is_read _ = true
 
 spot_read : (spot : Spot) (p : ExecState)
     → then_ok (places.operand_location Reading (flat_spot spot) p.local p.memory)
-    (λ b. places.read b p.local p.memory)
+    (λ b. places.number_read_at b p.local p.memory)
     ≡ then_ok (own.place_of_spot Reading spot p) (λ b. own.number_or_error Reading b p)
 spot_read spot p =
     then_same (places.operand_location Reading (flat_spot spot) p.local p.memory) (own.place_of_spot Reading spot p)
-    (λ b. places.read b p.local p.memory) (λ b. own.number_or_error Reading b p)
+    (λ b. places.number_read_at b p.local p.memory) (λ b. own.number_or_error Reading b p)
     (found_same Reading spot p) (λ b. read_same b p)
 
 spot_number : (spot : Spot) (p : ExecState)
     → values.operand_number (flat_spot spot) p.local p.memory
     ≡ then_ok (places.operand_location Reading (flat_spot spot) p.local p.memory)
-    (λ b. places.read b p.local p.memory)
+    (λ b. places.number_read_at b p.local p.memory)
 unfolding values.operand_number
 spot_number (named.Fixed a w byte bit) p = refl
 spot_number (named.ByMemory a w from byte) p = refl
 spot_number (named.ByRegister a w register count) p = refl
 
-pub number_same : (x : Named) (p : ExecState) → is_read x ≡ true
+pub number_same : (x : NamedItem) (p : ExecState) → is_read x ≡ true
     → values.operand_number (flat_of x) p.local p.memory ≡ own.number_of_operand x p
 unfolding values.operand_number own.number_of_operand places.operand_location
 number_same (named.Place spot) p e = spot_number spot p ∙ spot_read spot p
@@ -166,11 +166,11 @@ numbered_same kind (named.Written n) p = refl
 numbered_same kind (named.InWord from byte) p = standing_same from byte widths.Word p
 
 faulty_same : {A B : Type 0} (code : ℕ) (read : A → B) (all : List A) (n : ℕ)
-    → values.faulty code (read_at_number read all n) ≡ ok_or (option_map read (slice_get all n)) code
+    → values.with_timer_error code (read_at_number read all n) ≡ ok_or (option_map read (slice_get all n)) code
 faulty_same {A = A} code read all n = by (slice_get all n)
   where
     by : (o : Option A)
-        → values.faulty code (ok_or (option_map read o) NoNumber) ≡ ok_or (option_map read o) code
+        → values.with_timer_error code (ok_or (option_map read o) NoNumber) ≡ ok_or (option_map read o) code
     by None = refl
     by (Some x) = refl
 
@@ -188,37 +188,37 @@ flag_same flag.GeZero = refl
 flag_same flag.LeZero = refl
 flag_same flag.Uo = refl
 
-one_same : (r : Result ℕ ℕ) → values.is_one r ≡ then_ok r (λ n. Ok (n == 1))
+one_same : (r : Result ℕ ℕ) → values.bit_of_number r ≡ then_ok r (λ n. Ok (n == 1))
 one_same (Ok n) = refl
 one_same (Err code) = refl
 
 -- of a timer or a counter by its number in a word
 in_word : {A B : Type 0} (code : ℕ) (read : A → B) (all : List A) (from : Area) (byte : ℕ) (p : ExecState)
     → then_ok (places.pointer_number from byte widths.Word p.local p.memory)
-    (λ n. values.faulty code (read_at_number read all n))
+    (λ n. values.with_timer_error code (read_at_number read all n))
     ≡ then_ok (own.stored_number from byte widths.Word p)
     (λ n. ok_or (option_map read (slice_get all n)) code)
 in_word code read all from byte p =
     then_same (places.pointer_number from byte widths.Word p.local p.memory)
     (own.stored_number from byte widths.Word p)
-    (λ n. values.faulty code (read_at_number read all n))
+    (λ n. values.with_timer_error code (read_at_number read all n))
     (λ n. ok_or (option_map read (slice_get all n)) code)
     (standing_same from byte widths.Word p) (λ n. faulty_same code read all n)
 
 spot_tested : (spot : Spot) (p : ExecState)
     → values.checked_bit (flat_spot spot) p.local p.memory p.timers p.counters
-    ≡ values.is_one (values.operand_number (flat_spot spot) p.local p.memory)
+    ≡ values.bit_of_number (values.operand_number (flat_spot spot) p.local p.memory)
 unfolding values.checked_bit
 spot_tested (named.Fixed a w byte bit) p = refl
 spot_tested (named.ByMemory a w from byte) p = refl
 spot_tested (named.ByRegister a w register count) p = refl
 
-pub tested_same : (x : Named) (p : ExecState) → is_read x ≡ true
+pub tested_same : (x : NamedItem) (p : ExecState) → is_read x ≡ true
     → values.checked_bit (flat_of x) p.local p.memory p.timers p.counters ≡ own.bit_of_operand x p
 unfolding values.checked_bit values.bit_of_numbered own.bit_of_operand own.number_of_item
 tested_same (named.Place spot) p e =
     spot_tested spot p
-    ∙ ap values.is_one (number_same (named.Place spot) p e)
+    ∙ ap values.bit_of_number (number_same (named.Place spot) p e)
     ∙ one_same (own.number_of_operand (named.Place spot) p)
 tested_same (named.PlaceIn block w byte bit) p e = absurd (false≢true e)
 tested_same (named.Opened what) p e = absurd (false≢true e)
@@ -230,12 +230,12 @@ tested_same (named.Counter (named.Written n)) p e = faulty_same 0x27 is_counting
 tested_same (named.Counter (named.InWord from byte)) p e = in_word 0x27 is_counting p.counters from byte p
 tested_same (named.Condition f) p e = ap (λ g. Ok (flag_value g p.local.regs.status)) (flag_same f)
 tested_same (named.DataBlock di (named.Written n)) p e =
-    ap values.is_one (number_same (named.DataBlock di (named.Written n)) p e)
+    ap values.bit_of_number (number_same (named.DataBlock di (named.Written n)) p e)
     ∙ one_same (own.number_of_operand (named.DataBlock di (named.Written n)) p)
 tested_same (named.DataBlock di (named.InWord from byte)) p e =
-    ap values.is_one (number_same (named.DataBlock di (named.InWord from byte)) p e)
+    ap values.bit_of_number (number_same (named.DataBlock di (named.InWord from byte)) p e)
     ∙ one_same (own.number_of_operand (named.DataBlock di (named.InWord from byte)) p)
-tested_same x p e = ap values.is_one (number_same x p e) ∙ one_same (own.number_of_operand x p)
+tested_same x p e = ap values.bit_of_number (number_same x p e) ∙ one_same (own.number_of_operand x p)
 
 spot_loaded : (spot : Spot) (p : ExecState)
     → values.load_value (flat_spot spot) p.local p.memory p.timers p.counters
@@ -245,7 +245,7 @@ spot_loaded (named.Fixed a w byte bit) p = refl
 spot_loaded (named.ByMemory a w from byte) p = refl
 spot_loaded (named.ByRegister a w register count) p = refl
 
-pub loaded_same : (x : Named) (p : ExecState) → is_read x ≡ true
+pub loaded_same : (x : NamedItem) (p : ExecState) → is_read x ≡ true
     → values.load_value (flat_of x) p.local p.memory p.timers p.counters ≡ own.number_to_load x p
 unfolding values.load_value values.value_of_numbered own.number_to_load own.number_of_item
 loaded_same (named.Place spot) p e = spot_loaded spot p ∙ number_same (named.Place spot) p e
@@ -264,7 +264,7 @@ loaded_same (named.DataBlock di (named.InWord from byte)) p e =
     number_same (named.DataBlock di (named.InWord from byte)) p e
 loaded_same x p e = number_same x p e
 
-pub bcd_same : (x : Named) (p : ExecState)
+pub bcd_same : (x : NamedItem) (p : ExecState)
     → values.bcd_loaded (flat_of x) p.local p.memory p.timers p.counters ≡ own.bcd_to_load x p
 unfolding values.bcd_loaded values.bcd_of_numbered own.bcd_to_load own.number_of_item
 bcd_same (named.Timer (named.Written n)) p = faulty_same 0x26 time_left p.timers n

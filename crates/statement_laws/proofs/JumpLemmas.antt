@@ -14,16 +14,16 @@ use Rattle.stl_ast.specs.declared.operands.Operand.{Operand}
 use Rattle.stl_ast.specs.declared.operands.Operand.TheVariants as operand
 use Rattle.stl_ast.specs.declared.statements.Statement.{Statement}
 use Rattle.stl_types.specs.Lists.{has_label}
-use Rattle.stl_codegen.specs.Instruction.{counted, end_instr, instr_by, instruction, jump_instr, numbers_from, resolved_instr, target_in, target_of, view_instr}
-use Rattle.stl_codegen.specs.Operations.{call_of, end_of, jump_of}
+use Rattle.stl_codegen.specs.Instruction.{count_of_statement, end_instr, instr_by, instruction, jump_instr, numbers_from, resolved_instr, target_in, target_of, view_instr}
+use Rattle.stl_codegen.specs.Operations.{call_operation_of, end_operation_of, jump_operation_of}
 use Rattle.machine.specs.Jumps as machine
-use Rattle.machine.specs.Statement.{Went, is_ended, step_of, return_made}
+use Rattle.machine.specs.Statement.{Went, is_return_made, instruction_step, return_made}
 use Rattle.statement_laws.specs.Jumps as own
 use Rattle.statement_laws.specs.Laws.{EndsAct, JumpListsAct, PlainJumpsAct, is_end, is_plain_jump}
 
 -- ---- labels
 
-spelled_same : (name : List ℕ) (label : Option (List ℕ)) → has_label name label ≡ own.is_spelled name label
+spelled_same : (name : List ℕ) (label : Option (List ℕ)) → has_label name label ≡ own.is_label_spelled name label
 spelled_same name None = refl
 spelled_same name (Some label) = refl
 
@@ -31,14 +31,14 @@ label_same : (name : List ℕ) (body : List Statement) → target_in name body �
 unfolding target_in
 label_same name [] = refl
 label_same name (s ∷ ss) =
-    ap (λ b. if b then 0 else counted s + target_in name ss) (spelled_same name s.label)
-    ∙ by (own.is_spelled name s.label) (label_same name ss)
+    ap (λ b. if b then 0 else count_of_statement s + target_in name ss) (spelled_same name s.label)
+    ∙ by (own.is_label_spelled name s.label) (label_same name ss)
   where
     by : (b : Bool) → target_in name ss ≡ own.number_of_label name ss
-        → (if b then 0 else counted s + target_in name ss)
-        ≡ own.count_of (if b then [] else s ∷ own.before_label name ss)
+        → (if b then 0 else count_of_statement s + target_in name ss)
+        ≡ own.numbered_statement_count (if b then [] else s ∷ own.before_label name ss)
     by true e = refl
-    by false e = ap (λ k. counted s + k) e
+    by false e = ap (λ k. count_of_statement s + k) e
 
 target_same : (body : List Statement) (o : Operand) (name : List ℕ) → o ≡ operand.Label name
     → target_of body o ≡ own.number_of_label name body
@@ -48,13 +48,13 @@ target_same body o name e = ap (target_of body) e ∙ label_same name body
 
 -- a jump of the code that does what a mnemonic says
 record Same (m : Mnemonic) (how : JumpOperation) : Type 0 where
-  is : jump_of m ≡ Some how
+  is : jump_operation_of m ≡ Some how
   goes : (n target : ℕ) → jump_instr how n target ≡ Jumps how target
-  taken : (r : Regs) → machine.is_jump_taken how r ≡ own.is_taken m r
+  taken : (r : Regs) → machine.is_jump_taken how r ≡ own.takes_jump m r
   after : (r : Regs) → machine.regs_after_jump how r ≡ own.after_jump m r
 
 jump_same : (m : Mnemonic) → is_plain_jump m ≡ true → (how : JumpOperation) × Same m how
-unfolding machine.is_jump_taken machine.regs_after_jump own.is_taken own.after_jump
+unfolding machine.is_jump_taken machine.regs_after_jump own.takes_jump own.after_jump
 jump_same code.Ju e =
     (jump.Ju, record { is = refl; goes = λ n target. refl; taken = λ r. refl; after = λ r. refl })
 jump_same code.Jc e =
@@ -94,7 +94,7 @@ jump_same _ e = absurd (false≢true e)
 pub plain_jumps_act : PlainJumpsAct
 unfolding instruction
 plain_jumps_act c body n s name is o program next a w =
-    ap (λ i. step_of program i next a w)
+    ap (λ i. instruction_step program i next a w)
     (ap (instr_by c body n s) same.is
     ∙ same.goes n (target_of body s.operand)
     ∙ ap (Jumps how) (target_same body s.operand name o))
@@ -137,8 +137,8 @@ numbers_same m (suc count) (suc k) otherwise =
 pub jump_lists_act : JumpListsAct
 unfolding instruction machine.list_goal
 jump_lists_act c body n s name is o program next a w =
-    ap (λ i. step_of program i next a w)
-    (ap (λ m. instr_by c body n s (jump_of m)) is
+    ap (λ i. instruction_step program i next a w)
+    (ap (λ m. instr_by c body n s (jump_operation_of m)) is
     ∙ ap (jump_instr jump.Jl n) (target_same body s.operand name o))
     ∙ ap (λ at. Went (own.standing_at at a.running.regs a) w)
     (numbers_same (suc n) (target - suc n) (a.running.regs.a1 % 2 ^ 8) target)
@@ -149,10 +149,10 @@ jump_lists_act c body n s name is o program next a w =
 -- ---- ends of a block
 
 record SameEnd (m : Mnemonic) (how : EndOperation) : Type 0 where
-  no_jump : jump_of m ≡ None
-  no_call : call_of m ≡ None
-  is : end_of m ≡ Some how
-  ended : (rlo : Bool) → is_ended how rlo ≡ own.ends m rlo
+  no_jump : jump_operation_of m ≡ None
+  no_call : call_operation_of m ≡ None
+  is : end_operation_of m ≡ Some how
+  ended : (rlo : Bool) → is_return_made how rlo ≡ own.is_return_taken m rlo
 
 end_same : (m : Mnemonic) → is_end m ≡ true → (how : EndOperation) × SameEnd m how
 end_same code.Be e =
@@ -166,11 +166,11 @@ end_same _ e = absurd (false≢true e)
 pub ends_act : EndsAct
 unfolding instruction
 ends_act c body n s v is e program next a w =
-    ap (λ i. step_of program i next a w)
+    ap (λ i. instruction_step program i next a w)
     (ap (instr_by c body n s) same.no_jump ∙ ap (resolved_instr c s) e
     ∙ ap (view_instr c s v) same.no_call ∙ ap (end_instr s v) same.is)
     ∙ ap (λ (b : Bool). if b then return_made (program.head a.running.frame.block) a w
-    else Went (own.standing_at next (own.rlo_set a.running.regs) a) w)
+    else Went (own.standing_at next (own.with_rlo_1 a.running.regs) a) w)
     (same.ended a.running.regs.status.rlo)
   where
     how : EndOperation

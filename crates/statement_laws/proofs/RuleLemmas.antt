@@ -12,32 +12,32 @@ use Rattle.stl_ast.specs.declared.operands.Numbered.TheVariants as numbered
 use Rattle.stl_ast.specs.declared.operands.Operand.{Operand}
 use Rattle.stl_ast.specs.declared.operands.Operand.TheVariants as operand
 use Rattle.stl_types.specs.Constants.{takes_constant}
-use Rattle.stl_types.specs.Operands.{rule_of, takes}
+use Rattle.stl_types.specs.Operands.{rule_of_resolved_operand, takes_operand}
 use Rattle.stl_types.specs.declared.forms.OperandRule.TheVariants as form
 use Rattle.stl_types.specs.declared.views.Register.TheVariants as register
 use Rattle.stl_types.specs.declared.views.ResolvedOperand.{ResolvedOperand}
 use Rattle.stl_types.specs.declared.views.ResolvedOperand.TheVariants as view
 use Rattle.stl_codegen.specs.Operations as codegen
-use Rattle.statement_laws.specs.Named.{Named}
+use Rattle.statement_laws.specs.Named.{NamedItem}
 use Rattle.statement_laws.specs.Named as named
-use Rattle.statement_laws.specs.Operands.{fixed_place, place_by}
+use Rattle.statement_laws.specs.Operands.{named_fixed_place, place_by}
 use Rattle.statement_laws.proofs.ActionLemmas.{add_operation, is_added_address, is_address, is_address_place, is_constant, is_count, is_counter, is_data_block, is_first_address, is_first_address_place, is_freed, is_loaded, is_reset, is_set, is_timer, is_transferred, is_written, load_address_operation, load_operation, or_operation, store_address_operation, transfer_operation}
 use Rattle.statement_laws.proofs.FlatLemmas.{is_read}
 use Rattle.statement_laws.proofs.SeenLemmas.{about, on_named, rule_by, view_named}
 
 -- the place in the DB register, once its data block is open
-abbrev pub as_open : Named → Named
-as_open (named.PlaceIn n w byte bit) = fixed_place area.Db w byte bit
+abbrev pub as_open : NamedItem → NamedItem
+as_open (named.PlaceIn n w byte bit) = named_fixed_place area.Db w byte bit
 as_open x = x
 
 db_open : (b : Bool) (n : ℕ) (w : Width) (byte bit : ℕ)
-    → as_open (if b then fixed_place area.Db w byte bit else named.PlaceIn n w byte bit)
-    ≡ fixed_place area.Db w byte bit
+    → as_open (if b then named_fixed_place area.Db w byte bit else named.PlaceIn n w byte bit)
+    ≡ named_fixed_place area.Db w byte bit
 db_open true n w byte bit = refl
 db_open false n w byte bit = refl
 
 place_open : (a : Area) (n : ℕ) (w : Width) (byte bit : ℕ)
-    → as_open (place_by a n w byte bit) ≡ fixed_place a w byte bit
+    → as_open (place_by a n w byte bit) ≡ named_fixed_place a w byte bit
 place_open area.Db n w byte bit = db_open (nat_eq n 0) n w byte bit
 place_open area.I n w byte bit = refl
 place_open area.Q n w byte bit = refl
@@ -50,16 +50,16 @@ pub refused : {n : ℕ} → Some n ≡ None → ⊥
 refused e = cc
 
 -- what holds of what is named, if anything is
-abbrev pub Holds : (Named → Bool) → Option Literal → ResolvedOperand → Type 0
+abbrev pub Holds : (NamedItem → Bool) → Option Literal → ResolvedOperand → Type 0
 Holds f k v = on_named true (λ x. f (as_open x)) (view_named k v) ≡ true
 
-pub holds : (f : Named → Bool) (k : Option Literal) (v : ResolvedOperand) (x : Named)
+pub holds : (f : NamedItem → Bool) (k : Option Literal) (v : ResolvedOperand) (x : NamedItem)
     → Holds f k v → view_named k v ≡ Some x → f (as_open x) ≡ true
 holds f k v x h e = sym (ap (on_named true (λ x. f (as_open x))) e) ∙ h
 
 pub reads_bit : (k : Option Literal) (v : ResolvedOperand)
     → rule_by form.ReadsBit k v ≡ None → Holds is_read k v
-unfolding rule_of takes takes_constant
+unfolding rule_of_resolved_operand takes_operand takes_constant
 reads_bit None (view.Direct place width side declared) e =
     ap is_read (place_open place.area place.number width place.byte place.bit)
 reads_bit None (view.Parameter index section declared) e = refl
@@ -80,7 +80,7 @@ reads_bit None _ e = absurd (refused e)
 
 pub reads_bit_or_bare : (k : Option Literal) (v : ResolvedOperand)
     → rule_by form.ReadsBitOrBare k v ≡ None → Holds is_read k v
-unfolding rule_of takes takes_constant
+unfolding rule_of_resolved_operand takes_operand takes_constant
 reads_bit_or_bare None view.Nothing e = refl
 reads_bit_or_bare None (view.Direct place width side declared) e =
     ap is_read (place_open place.area place.number width place.byte place.bit)
@@ -102,7 +102,7 @@ reads_bit_or_bare None _ e = absurd (refused e)
 
 pub writes_bit : (k : Option Literal) (v : ResolvedOperand)
     → rule_by form.WritesBit k v ≡ None → Holds is_written k v
-unfolding rule_of takes takes_constant
+unfolding rule_of_resolved_operand takes_operand takes_constant
 writes_bit None (view.Direct place width side declared) e =
     ap is_written (place_open place.area place.number width place.byte place.bit)
 writes_bit None (view.Parameter index section declared) e = refl
@@ -118,7 +118,7 @@ writes_bit None _ e = absurd (refused e)
 
 pub sets : (k : Option Literal) (v : ResolvedOperand)
     → rule_by form.Sets k v ≡ None → Holds is_set k v
-unfolding rule_of takes takes_constant
+unfolding rule_of_resolved_operand takes_operand takes_constant
 sets None (view.Direct place width side declared) e =
     ap is_set (place_open place.area place.number width place.byte place.bit)
 sets None (view.Parameter index section declared) e = refl
@@ -136,7 +136,7 @@ sets None _ e = absurd (refused e)
 
 pub resets : (k : Option Literal) (v : ResolvedOperand)
     → rule_by form.Resets k v ≡ None → Holds is_reset k v
-unfolding rule_of takes takes_constant
+unfolding rule_of_resolved_operand takes_operand takes_constant
 resets None (view.Direct place width side declared) e =
     ap is_reset (place_open place.area place.number width place.byte place.bit)
 resets None (view.Parameter index section declared) e = refl
@@ -156,7 +156,7 @@ resets None _ e = absurd (refused e)
 
 pub transfers : (k : Option Literal) (v : ResolvedOperand)
     → rule_by form.Transfers k v ≡ None → Holds is_transferred k v
-unfolding rule_of takes takes_constant
+unfolding rule_of_resolved_operand takes_operand takes_constant
 transfers None (view.Direct place width side declared) e =
     ap is_transferred (place_open place.area place.number width place.byte place.bit)
 transfers None (view.Parameter index section declared) e = refl
@@ -173,7 +173,7 @@ transfers None _ e = absurd (refused e)
 
 pub loads_ar1 : (k : Option Literal) (v : ResolvedOperand)
     → rule_by form.LoadsAr1 k v ≡ None → Holds is_first_address k v
-unfolding rule_of takes takes_constant
+unfolding rule_of_resolved_operand takes_operand takes_constant
 loads_ar1 None view.Nothing e = refl
 loads_ar1 None (view.Direct place width side declared) e =
     ap is_first_address (place_open place.area place.number width place.byte place.bit)
@@ -189,7 +189,7 @@ loads_ar1 None _ e = absurd (refused e)
 
 pub loads_ar2 : (k : Option Literal) (v : ResolvedOperand)
     → rule_by form.LoadsAr2 k v ≡ None → Holds is_address k v
-unfolding rule_of takes takes_constant
+unfolding rule_of_resolved_operand takes_operand takes_constant
 loads_ar2 None view.Nothing e = refl
 loads_ar2 None (view.Direct place width side declared) e =
     ap is_address (place_open place.area place.number width place.byte place.bit)
@@ -204,7 +204,7 @@ loads_ar2 None _ e = absurd (refused e)
 
 pub stores_ar1 : (k : Option Literal) (v : ResolvedOperand)
     → rule_by form.StoresAr1 k v ≡ None → Holds is_first_address_place k v
-unfolding rule_of takes takes_constant
+unfolding rule_of_resolved_operand takes_operand takes_constant
 stores_ar1 None view.Nothing e = refl
 stores_ar1 None (view.Direct place width side declared) e =
     ap is_first_address_place (place_open place.area place.number width place.byte place.bit)
@@ -219,7 +219,7 @@ stores_ar1 None _ e = absurd (refused e)
 
 pub stores_ar2 : (k : Option Literal) (v : ResolvedOperand)
     → rule_by form.StoresAr2 k v ≡ None → Holds is_address_place k v
-unfolding rule_of takes takes_constant
+unfolding rule_of_resolved_operand takes_operand takes_constant
 stores_ar2 None view.Nothing e = refl
 stores_ar2 None (view.Direct place width side declared) e =
     ap is_address_place (place_open place.area place.number width place.byte place.bit)
@@ -233,7 +233,7 @@ stores_ar2 None _ e = absurd (refused e)
 
 pub adds_to_ar : (k : Option Literal) (v : ResolvedOperand)
     → rule_by form.AddsToAr k v ≡ None → Holds is_added_address k v
-unfolding rule_of takes takes_constant
+unfolding rule_of_resolved_operand takes_operand takes_constant
 adds_to_ar None view.Nothing e = refl
 adds_to_ar None (view.Pointer a byte bit) e = refl
 adds_to_ar None view.Composite e = refl
@@ -246,7 +246,7 @@ adds_to_ar None _ e = absurd (refused e)
 
 pub counts : (most : ℕ) (k : Option Literal) (v : ResolvedOperand)
     → rule_by (form.Counts most) k v ≡ None → Holds is_constant k v
-unfolding rule_of takes takes_constant
+unfolding rule_of_resolved_operand takes_operand takes_constant
 counts most None view.Composite e = refl
 counts most None view.Date e = refl
 counts most None view.Constant e = refl
@@ -257,7 +257,7 @@ counts most None _ e = absurd (refused e)
 
 pub shifts : (most : ℕ) (k : Option Literal) (v : ResolvedOperand)
     → rule_by (form.Shifts most) k v ≡ None → Holds is_count k v
-unfolding rule_of takes takes_constant
+unfolding rule_of_resolved_operand takes_operand takes_constant
 shifts most None view.Nothing e = refl
 shifts most None view.Composite e = refl
 shifts most None view.Date e = refl
@@ -269,7 +269,7 @@ shifts most None _ e = absurd (refused e)
 
 pub adds : (k : Option Literal) (v : ResolvedOperand)
     → rule_by form.Adds k v ≡ None → Holds is_constant k v
-unfolding rule_of takes takes_constant
+unfolding rule_of_resolved_operand takes_operand takes_constant
 adds None view.Composite e = refl
 adds None view.Date e = refl
 adds None view.Constant e = refl
@@ -280,7 +280,7 @@ adds None _ e = absurd (refused e)
 
 pub combines : (kind : Simple) (k : Option Literal) (v : ResolvedOperand)
     → rule_by (form.Combines kind) k v ≡ None → Holds is_count k v
-unfolding rule_of takes takes_constant
+unfolding rule_of_resolved_operand takes_operand takes_constant
 combines kind None view.Nothing e = refl
 combines kind None view.Composite e = refl
 combines kind None view.Date e = refl
@@ -292,7 +292,7 @@ combines kind None _ e = absurd (refused e)
 
 pub starts_timer : (k : Option Literal) (v : ResolvedOperand)
     → rule_by form.StartsTimer k v ≡ None → Holds is_timer k v
-unfolding rule_of takes takes_constant
+unfolding rule_of_resolved_operand takes_operand takes_constant
 starts_timer None (view.Timer number) e = refl
 starts_timer None (view.NumberBy numbered.Timer from byte) e = refl
 starts_timer None view.Composite e = refl
@@ -305,7 +305,7 @@ starts_timer None _ e = absurd (refused e)
 
 pub enables : (k : Option Literal) (v : ResolvedOperand)
     → rule_by form.Enables k v ≡ None → Holds is_freed k v
-unfolding rule_of takes takes_constant
+unfolding rule_of_resolved_operand takes_operand takes_constant
 enables None (view.Timer number) e = refl
 enables None (view.Counter number) e = refl
 enables None (view.NumberBy numbered.Timer from byte) e = refl
@@ -320,7 +320,7 @@ enables None _ e = absurd (refused e)
 
 pub steps_counter : (k : Option Literal) (v : ResolvedOperand)
     → rule_by form.StepsCounter k v ≡ None → Holds is_counter k v
-unfolding rule_of takes takes_constant
+unfolding rule_of_resolved_operand takes_operand takes_constant
 steps_counter None (view.Counter number) e = refl
 steps_counter None (view.NumberBy numbered.Counter from byte) e = refl
 steps_counter None view.Composite e = refl
@@ -333,7 +333,7 @@ steps_counter None _ e = absurd (refused e)
 
 pub opens : (k : Option Literal) (v : ResolvedOperand)
     → rule_by form.Opens k v ≡ None → Holds is_data_block k v
-unfolding rule_of takes takes_constant
+unfolding rule_of_resolved_operand takes_operand takes_constant
 opens None (view.NumberBy numbered.Db from byte) e = refl
 opens None (view.NumberBy numbered.Di from byte) e = refl
 opens None (view.OpenBlock di number) e = refl
@@ -362,7 +362,7 @@ or_seen None (view.Register register.Ar2) = refl
 or_seen (Some value) view.Constant = refl
 or_seen _ _ = refl
 
-pub or_named : (k : Option Literal) (v : ResolvedOperand) (x : Named) → view_named k v ≡ Some x
+pub or_named : (k : Option Literal) (v : ResolvedOperand) (x : NamedItem) → view_named k v ≡ Some x
     → codegen.or_operation v ≡ or_operation (as_open x)
 or_named k v x e =
     or_seen k v ∙ ap (on_named (codegen.or_operation v) (λ x. or_operation (as_open x))) e
@@ -384,7 +384,7 @@ load_seen None (view.Register register.Ar2) = refl
 load_seen (Some value) view.Constant = refl
 load_seen _ _ = refl
 
-pub load_named : (k : Option Literal) (v : ResolvedOperand) (x : Named) → view_named k v ≡ Some x
+pub load_named : (k : Option Literal) (v : ResolvedOperand) (x : NamedItem) → view_named k v ≡ Some x
     → codegen.load_operation v ≡ load_operation (as_open x)
 load_named k v x e =
     load_seen k v ∙ ap (on_named (codegen.load_operation v) (λ x. load_operation (as_open x))) e
@@ -406,7 +406,7 @@ transfer_seen None (view.Register register.Ar2) = refl
 transfer_seen (Some value) view.Constant = refl
 transfer_seen _ _ = refl
 
-pub transfer_named : (k : Option Literal) (v : ResolvedOperand) (x : Named) → view_named k v ≡ Some x
+pub transfer_named : (k : Option Literal) (v : ResolvedOperand) (x : NamedItem) → view_named k v ≡ Some x
     → codegen.transfer_operation v ≡ transfer_operation (as_open x)
 transfer_named k v x e =
     transfer_seen k v ∙ ap (on_named (codegen.transfer_operation v) (λ x. transfer_operation (as_open x))) e
@@ -428,7 +428,7 @@ load_address_seen None (view.Register register.Ar2) = refl
 load_address_seen (Some value) view.Constant = refl
 load_address_seen _ _ = refl
 
-pub load_address_named : (k : Option Literal) (v : ResolvedOperand) (x : Named) → view_named k v ≡ Some x
+pub load_address_named : (k : Option Literal) (v : ResolvedOperand) (x : NamedItem) → view_named k v ≡ Some x
     → codegen.load_pointer_operation v ≡ load_address_operation (as_open x)
 load_address_named k v x e =
     load_address_seen k v ∙ ap (on_named (codegen.load_pointer_operation v) (λ x. load_address_operation (as_open x))) e
@@ -450,7 +450,7 @@ store_address_seen None (view.Register register.Ar2) = refl
 store_address_seen (Some value) view.Constant = refl
 store_address_seen _ _ = refl
 
-pub store_address_named : (k : Option Literal) (v : ResolvedOperand) (x : Named) → view_named k v ≡ Some x
+pub store_address_named : (k : Option Literal) (v : ResolvedOperand) (x : NamedItem) → view_named k v ≡ Some x
     → codegen.store_pointer_operation v ≡ store_address_operation (as_open x)
 store_address_named k v x e =
     store_address_seen k v ∙ ap (on_named (codegen.store_pointer_operation v) (λ x. store_address_operation (as_open x))) e
@@ -481,12 +481,12 @@ add_seen (operand.Constant _) view.Constant = refl
 add_seen (operand.Constant _) _ = refl
 add_seen _ v = plain_add v
 
-pub add_named : (o : Operand) (v : ResolvedOperand) (x : Named) → view_named (about o) v ≡ Some x
+pub add_named : (o : Operand) (v : ResolvedOperand) (x : NamedItem) → view_named (about o) v ≡ Some x
     → codegen.add_operation o ≡ add_operation (as_open x)
 add_named o v x e =
     add_seen o v ∙ ap (on_named (codegen.add_operation o) (λ x. add_operation (as_open x))) e
 
 -- all but a place in a data block that is to be opened can be loaded
-pub loads_all : (x : Named) → is_loaded (as_open x) ≡ true
+pub loads_all : (x : NamedItem) → is_loaded (as_open x) ≡ true
 loads_all (named.PlaceIn n w byte bit) = refl
 loads_all _ = refl

@@ -24,18 +24,18 @@ use Rattle.stl_ast.specs.declared.statements.Statement.{Statement}
 use Rattle.stl_symbols.specs.Symbol.{Symbol}
 use Rattle.stl_symbols.specs.declared.targets.Target.{Target}
 use Rattle.stl_symbols.specs.declared.targets.Target.TheVariants as target
-use Rattle.block_layout.specs.Blocks.{block_of, block_place, is_block_number, is_id, known_block, named_block, of_kind}
+use Rattle.block_layout.specs.Blocks.{block_of, place_of_block, is_block_number, is_id, known_block, named_block, of_kind}
 use Rattle.block_layout.specs.Paths.{whole_at}
 use Rattle.block_layout.specs.declared.blocks.BlockLayout.{BlockLayout}
-use Rattle.block_layout.specs.Fits.{bits_of, number_from, or_0, twos}
+use Rattle.block_layout.specs.Fits.{bits_of, number_from, or_0, twos_complement_bits}
 use Rattle.block_layout.specs.Offsets.{width_of}
-use Rattle.stl_types.specs.Addresses.{address, address_in, area_left, area_of}
+use Rattle.stl_types.specs.Addresses.{resolved_address, address_in_block, area_left, area_for_letters}
 use Rattle.stl_types.specs.Constants.{takes_constant}
-use Rattle.stl_types.specs.Context.{Context, data_number, number_of}
+use Rattle.stl_types.specs.Context.{Context, data_number, number_of_block}
 use Rattle.stl_types.specs.Forms.{form_of}
-use Rattle.stl_types.specs.Operands.{operand_rule, rule_of, rule_seen, statement_rule}
-use Rattle.stl_types.specs.Resolution.{opened_seen, seen, symbol_seen, target_view}
-use Rattle.stl_types.specs.Resolved.{resolved, seen_view}
+use Rattle.stl_types.specs.Operands.{operand_rule, rule_of_resolved_operand, rule_seen, statement_rule}
+use Rattle.stl_types.specs.Resolution.{opened_seen, resolution_of, symbol_seen, target_view}
+use Rattle.stl_types.specs.Resolved.{resolved_operand, seen_view}
 use Rattle.stl_types.specs.declared.forms.OperandRule.{OperandRule}
 use Rattle.stl_types.specs.declared.views.Register.{Register}
 use Rattle.stl_types.specs.declared.views.Register.TheVariants as register
@@ -45,11 +45,11 @@ use Rattle.stl_types.specs.declared.views.Side.TheVariants as side
 use Rattle.stl_types.specs.declared.views.ResolvedOperand.{ResolvedOperand}
 use Rattle.stl_types.specs.declared.views.ResolvedOperand.TheVariants as view
 use Rattle.stl_codegen.specs.Operands as codegen
-use Rattle.statement_laws.specs.Named.{Named, Number, OpenBlock, Spot}
+use Rattle.statement_laws.specs.Named.{NamedItem, Number, OpenBlock, Spot}
 use Rattle.statement_laws.specs.Named as named
-use Rattle.statement_laws.specs.Operands.{block_number, fixed_place, named_by, number_in, place_at, place_by, place_in_db, pointer_bits, register_named, symbol_target, target_named}
+use Rattle.statement_laws.specs.Operands.{block_number, named_fixed_place, named_by, numbered_item, named_place, place_by, place_in_db, pointer_constant_bits, register_named, symbol_target, target_named}
 use Rattle.statement_laws.specs.Operands as own
-use Rattle.statement_laws.specs.Reading.{bits, number_behind, twos_complement, or_zero}
+use Rattle.statement_laws.specs.Reading.{bits_of_literal, number_behind, twos_complement, number_or_zero}
 use Rattle.statement_laws.proofs.FlatLemmas.{flat_of}
 
 -- ---- what a view names
@@ -59,7 +59,7 @@ abbrev pub about : Operand → Option Literal
 about (operand.Constant value) = Some value
 about _ = None
 
-abbrev pub fact_of : Register → Named
+abbrev pub fact_of : Register → NamedItem
 fact_of register.Stw = named.StatusWord
 fact_of register.Dblg = named.Opened named.DbLength
 fact_of register.Dbno = named.Opened named.DbNumber
@@ -67,11 +67,11 @@ fact_of register.Dilg = named.Opened named.DiLength
 fact_of register.Dino = named.Opened named.DiNumber
 fact_of register.Ar2 = named.SecondRegister
 
-abbrev pub view_named : Option Literal → ResolvedOperand → Option Named
+abbrev pub view_named : Option Literal → ResolvedOperand → Option NamedItem
 view_named (Some value) view.Constant = Some (named.Constant value)
 view_named (Some value) _ = None
 view_named None view.Nothing = Some named.Nothing
-view_named None (view.Direct place width side declared) = Some (place_at place width)
+view_named None (view.Direct place width side declared) = Some (named_place place width)
 view_named None (view.Parameter index section declared) =
     Some (named.Parameter index (width_of declared))
 view_named None (view.ByMemory a width from byte) =
@@ -80,7 +80,7 @@ view_named None (view.ByRegister a width r count) =
     Some (named.Place (named.ByRegister a width r count))
 view_named None (view.Timer number) = Some (named.Timer (named.Written number))
 view_named None (view.Counter number) = Some (named.Counter (named.Written number))
-view_named None (view.NumberBy what from byte) = Some (number_in what (named.InWord from byte))
+view_named None (view.NumberBy what from byte) = Some (numbered_item what (named.InWord from byte))
 view_named None (view.Pointer a byte bit) = Some (named.Pointer (codegen.pointer_bits a byte bit))
 view_named None view.Label = Some named.Label
 view_named None (view.OfStatus flag) = Some (named.Condition flag)
@@ -91,7 +91,7 @@ view_named None _ = None
 
 -- ---- its operand in the code
 
-twos_same : (w : ℕ) (z : ℤ) → twos w z ≡ twos_complement w z
+twos_same : (w : ℕ) (z : ℤ) → twos_complement_bits w z ≡ twos_complement w z
 twos_same w (pos n) = refl
 twos_same w (negsuc n) = refl
 
@@ -99,12 +99,12 @@ bytes_same : (n : ℕ) (bytes : List ℕ) → number_from n bytes ≡ number_beh
 bytes_same n [] = refl
 bytes_same n (b ∷ bs) = bytes_same (256 * n + b) bs
 
-none_same : (o : Option ℕ) → or_0 o ≡ or_zero o
+none_same : (o : Option ℕ) → or_0 o ≡ number_or_zero o
 none_same None = refl
 none_same (Some n) = refl
 
-pub bits_same : (value : Literal) → bits_of value ≡ bits value
-unfolding bits_of bits
+pub bits_same : (value : Literal) → bits_of value ≡ bits_of_literal value
+unfolding bits_of bits_of_literal
 bits_same (literal.Truth value) = refl
 bits_same (literal.Number value) = twos_same 16 value
 bits_same (literal.Binary value) = refl
@@ -120,7 +120,7 @@ bits_same (literal.Bytes bytes) = bytes_same 0 bytes
 
 -- a place in DB, by whether it has a number
 db_flat : (b : Bool) (n : ℕ) (w : Width) (byte bit : ℕ)
-    → flat_of (if b then fixed_place area.Db w byte bit else named.PlaceIn n w byte bit)
+    → flat_of (if b then named_fixed_place area.Db w byte bit else named.PlaceIn n w byte bit)
     ≡ flat.Direct area.Db w byte bit
 db_flat true n w byte bit = refl
 db_flat false n w byte bit = refl
@@ -136,12 +136,12 @@ place_flat area.Di n w byte bit = refl
 place_flat area.L n w byte bit = refl
 
 -- the data block that a statement opens first
-abbrev pub opens_first : Named → Option ℕ
+abbrev pub opens_first : NamedItem → Option ℕ
 opens_first (named.PlaceIn n w byte bit) = Some n
 opens_first _ = None
 
 db_opens : (b : Bool) (n : ℕ) (w : Width) (byte bit : ℕ)
-    → opens_first (if b then fixed_place area.Db w byte bit else named.PlaceIn n w byte bit)
+    → opens_first (if b then named_fixed_place area.Db w byte bit else named.PlaceIn n w byte bit)
     ≡ (if not b then Some n else None)
 db_opens true n w byte bit = refl
 db_opens false n w byte bit = refl
@@ -158,13 +158,13 @@ place_opens area.Di n w byte bit = refl
 place_opens area.L n w byte bit = refl
 
 -- what is said of what is named, where something is
-abbrev pub on_named : {A : Type 0} → A → (Named → A) → Option Named → A
+abbrev pub on_named : {A : Type 0} → A → (NamedItem → A) → Option NamedItem → A
 on_named other f None = other
 on_named other f (Some x) = f x
 
 plain_flat : (o : Operand) (v : ResolvedOperand)
-    → codegen.operand_of o v ≡ on_named (codegen.operand_of o v) flat_of (view_named None v)
-unfolding codegen.operand_of
+    → codegen.flat_operand_of o v ≡ on_named (codegen.flat_operand_of o v) flat_of (view_named None v)
+unfolding codegen.flat_operand_of
 plain_flat o (view.Direct place width side declared) =
     sym (place_flat place.area place.number width place.byte place.bit)
 plain_flat o (view.NumberBy numbered.Timer from byte) = refl
@@ -180,23 +180,23 @@ plain_flat o (view.Register register.Ar2) = refl
 plain_flat o _ = refl
 
 constant_flat : (value : Literal) (v : ResolvedOperand)
-    → codegen.operand_of (operand.Constant value) v
-    ≡ on_named (codegen.operand_of (operand.Constant value) v) flat_of (view_named (Some value) v)
-unfolding codegen.operand_of
+    → codegen.flat_operand_of (operand.Constant value) v
+    ≡ on_named (codegen.flat_operand_of (operand.Constant value) v) flat_of (view_named (Some value) v)
+unfolding codegen.flat_operand_of
 constant_flat value view.Constant = ap flat.Literal (bits_same value)
 constant_flat value _ = refl
 
 flat_same : (o : Operand) (v : ResolvedOperand)
-    → codegen.operand_of o v ≡ on_named (codegen.operand_of o v) flat_of (view_named (about o) v)
+    → codegen.flat_operand_of o v ≡ on_named (codegen.flat_operand_of o v) flat_of (view_named (about o) v)
 flat_same (operand.Constant value) v = constant_flat value v
 flat_same o v = plain_flat o v
 
-pub operand_flat : (o : Operand) (v : ResolvedOperand) (x : Named) → view_named (about o) v ≡ Some x
-    → codegen.operand_of o v ≡ flat_of x
-operand_flat o v x e = flat_same o v ∙ ap (on_named (codegen.operand_of o v) flat_of) e
+pub operand_flat : (o : Operand) (v : ResolvedOperand) (x : NamedItem) → view_named (about o) v ≡ Some x
+    → codegen.flat_operand_of o v ≡ flat_of x
+operand_flat o v x e = flat_same o v ∙ ap (on_named (codegen.flat_operand_of o v) flat_of) e
 
 opens_same : (k : Option Literal) (v : ResolvedOperand)
-    → codegen.opened_by v ≡ on_named (codegen.opened_by v) opens_first (view_named k v)
+    → codegen.block_opened_by_operand v ≡ on_named (codegen.block_opened_by_operand v) opens_first (view_named k v)
 opens_same None (view.Direct place width side declared) =
     sym (place_opens place.area place.number width place.byte place.bit)
 opens_same None (view.NumberBy numbered.Timer from byte) = refl
@@ -212,19 +212,19 @@ opens_same None (view.Register register.Ar2) = refl
 opens_same (Some value) view.Constant = refl
 opens_same _ _ = refl
 
-pub opened_first : (k : Option Literal) (v : ResolvedOperand) (x : Named) → view_named k v ≡ Some x
-    → codegen.opened_by v ≡ opens_first x
-opened_first k v x e = opens_same k v ∙ ap (on_named (codegen.opened_by v) opens_first) e
+pub opened_first : (k : Option Literal) (v : ResolvedOperand) (x : NamedItem) → view_named k v ≡ Some x
+    → codegen.block_opened_by_operand v ≡ opens_first x
+opened_first k v x e = opens_same k v ∙ ap (on_named (codegen.block_opened_by_operand v) opens_first) e
 
 -- ---- what the rules leave
 
 -- the rule that a view breaks with a form, where the operand is this constant or none
 abbrev pub rule_by : OperandRule → Option Literal → ResolvedOperand → Option ℕ
 rule_by f (Some value) v = if takes_constant f value then None else Some 25
-rule_by f None v = rule_of f v
+rule_by f None v = rule_of_resolved_operand f v
 
 rule_same : (c : Context) (f : OperandRule) (o : Operand) (v : ResolvedOperand)
-    → seen c o ≡ Resolved v → operand_rule c f o ≡ rule_by f (about o) v
+    → resolution_of c o ≡ Resolved v → operand_rule c f o ≡ rule_by f (about o) v
 rule_same c f (operand.Constant value) v e = refl
 rule_same c f o v e = ap (rule_seen f) e
 
@@ -238,11 +238,11 @@ resolution_same None Unknown v e = absurd cc
 resolution_same None Unjudged v e = absurd cc
 resolution_same (Some rule) n v e = absurd cc
 
-pub resolved_parts : (c : Context) (s : Statement) (v : ResolvedOperand) → resolved c s ≡ Some v
-    → (rule_by (form_of s.code) (about s.operand) v ≡ None) × (seen c s.operand ≡ Resolved v)
-unfolding resolved
+pub resolved_parts : (c : Context) (s : Statement) (v : ResolvedOperand) → resolved_operand c s ≡ Some v
+    → (rule_by (form_of s.code) (about s.operand) v ≡ None) × (resolution_of c s.operand ≡ Resolved v)
+unfolding resolved_operand
 resolved_parts c s v e =
-    let parts = resolution_same (statement_rule c s) (seen c s.operand) v e in
+    let parts = resolution_same (statement_rule c s) (resolution_of c s.operand) v e in
     (sym (rule_same c (form_of s.code) s.operand v parts.1) ∙ parts.0, parts.1)
 
 -- ---- operands
@@ -252,12 +252,12 @@ pub resolved_same : (v w : ResolvedOperand) → Resolved v ≡ Resolved w → v 
 resolved_same v w e = cc
 
 -- a view that is known, and what it names
-pub carry : (k : Option Literal) (known v : ResolvedOperand) (there x : Named)
+pub carry : (k : Option Literal) (known v : ResolvedOperand) (there x : NamedItem)
     → view_named k known ≡ Some there → Resolved known ≡ Resolved v → Some there ≡ Some x
     → view_named k v ≡ Some x
 carry k known v there x h e n = ap (view_named k) (sym (resolved_same known v e)) ∙ h ∙ n
 
-pub letters_same : (a : Letters) → area_of a ≡ own.area_of a
+pub letters_same : (a : Letters) → area_for_letters a ≡ own.area_by_letters a
 letters_same letters.I = refl
 letters_same letters.Q = refl
 letters_same letters.M = refl
@@ -267,12 +267,12 @@ letters_same letters.L = refl
 letters_same letters.Pi = refl
 letters_same letters.Pq = refl
 
-pub left_same : (a : Option Letters) → area_left a ≡ option_map own.area_of a
+pub left_same : (a : Option Letters) → area_left a ≡ option_map own.area_by_letters a
 left_same None = refl
 left_same (Some a) = ap Some (letters_same a)
 
 pub direct_named : (a : Letters) (w : Width) (byte bit : ℕ)
-    → view_named None (address 0 a w byte bit) ≡ Some (fixed_place (own.area_of a) w byte bit)
+    → view_named None (resolved_address 0 a w byte bit) ≡ Some (named_fixed_place (own.area_by_letters a) w byte bit)
 direct_named letters.I w byte bit = refl
 direct_named letters.Q w byte bit = refl
 direct_named letters.M w byte bit = refl
@@ -283,7 +283,7 @@ direct_named letters.Pi w byte bit = refl
 direct_named letters.Pq w byte bit = refl
 
 pub pointer_same : (a : Option Letters) (byte bit : ℕ)
-    → codegen.pointer_bits (area_left a) byte bit ≡ pointer_bits a byte bit
+    → codegen.pointer_bits (area_left a) byte bit ≡ pointer_constant_bits a byte bit
 pointer_same None byte bit = refl
 pointer_same (Some letters.I) byte bit = refl
 pointer_same (Some letters.Q) byte bit = refl
@@ -299,7 +299,7 @@ pointer_same (Some letters.Pq) byte bit = refl
 -- the number of the block at a place, where it breaks no rule itself
 abbrev number_at : List BlockLayout → Option ℕ → Option ℕ
 number_at ls place =
-    option_and_then (λ b. number_of b.id) (option_and_then (whole_at ls) place)
+    option_and_then (λ b. number_of_block b.id) (option_and_then (whole_at ls) place)
 
 shifted : (l : BlockLayout) (ls : List BlockLayout) (place : Option ℕ)
     → number_at (l ∷ ls) (option_map (λ k. suc k) place) ≡ number_at ls place
@@ -307,7 +307,7 @@ shifted l ls None = refl
 shifted l ls (Some k) = refl
 
 same_number : (id : BlockId) (o : Option BlockId) (n : ℕ) → is_id id o ≡ true
-    → number_of o ≡ Some n → id.number ≡ n
+    → number_of_block o ≡ Some n → id.number ≡ n
 same_number id None n is e = absurd cc
 same_number id (Some other) n is e =
     by (is_same_kind id.kind other.kind) is ∙ same_Some other.number n e
@@ -317,34 +317,34 @@ same_number id (Some other) n is e =
     by false h = absurd cc
 
 placed_number : (id : BlockId) (ls : List BlockLayout) (n : ℕ)
-    → number_at ls (block_place id (map (λ b. b.id) ls)) ≡ Some n → id.number ≡ n
+    → number_at ls (place_of_block id (map (λ b. b.id) ls)) ≡ Some n → id.number ≡ n
 placed_number id [] n e = absurd cc
 placed_number id (l ∷ ls) n e = by (is_id id l.id) refl e (placed_number id ls n)
   where
     here : (broken : Bool)
-        → option_and_then (λ (b : BlockLayout). number_of b.id)
+        → option_and_then (λ (b : BlockLayout). number_of_block b.id)
         (if broken then None else Some l) ≡ Some n
-        → number_of l.id ≡ Some n
+        → number_of_block l.id ≡ Some n
     here true h = absurd cc
     here false h = h
 
     by : (first : Bool) → is_id id l.id ≡ first
         → number_at (l ∷ ls) (if first then Some 0
-        else option_map (λ k. suc k) (block_place id (map (λ (b : BlockLayout). b.id) ls))) ≡ Some n
-        → (number_at ls (block_place id (map (λ (b : BlockLayout). b.id) ls)) ≡ Some n
+        else option_map (λ k. suc k) (place_of_block id (map (λ (b : BlockLayout). b.id) ls))) ≡ Some n
+        → (number_at ls (place_of_block id (map (λ (b : BlockLayout). b.id) ls)) ≡ Some n
         → id.number ≡ n)
         → id.number ≡ n
     by true is h more = same_number id l.id n is (here l.broken h)
     by false is h more =
         more
-        (sym (shifted l ls (block_place id (map (λ (b : BlockLayout). b.id) ls))) ∙ h)
+        (sym (shifted l ls (place_of_block id (map (λ (b : BlockLayout). b.id) ls))) ∙ h)
 
 known_number : (id : BlockId) (ls : List BlockLayout) (n : ℕ)
     → number_at ls (known_block id (map (λ b. b.id) ls)) ≡ Some n → id.number ≡ n
 known_number id ls n e = by (is_block_number id.kind id.number) e
   where
     by : (right : Bool)
-        → number_at ls (if right then block_place id (map (λ (b : BlockLayout). b.id) ls) else None)
+        → number_at ls (if right then place_of_block id (map (λ (b : BlockLayout). b.id) ls) else None)
         ≡ Some n
         → id.number ≡ n
     by true h = placed_number id ls n h
@@ -370,7 +370,7 @@ target_block None = refl
 target_block (Some (target.Block id)) = refl
 target_block (Some _) = refl
 
-pub block_same : (c : Context) (name : BlockName) → named_block c.symbols name ≡ own.block_named c name
+pub block_same : (c : Context) (name : BlockName) → named_block c.symbols name ≡ own.block_id_of_name c name
 block_same c (block.Number id) = refl
 block_same c (block.Quoted name) = target_block (symbol_target c name)
 
@@ -383,7 +383,7 @@ number_known c name n e =
 -- ---- what an operand names
 
 in_block_named : (a : Letters) (n : ℕ) (w : Width) (byte bit : ℕ)
-    → view_named None (address n a w byte bit) ≡ Some (place_by (own.area_of a) n w byte bit)
+    → view_named None (resolved_address n a w byte bit) ≡ Some (place_by (own.area_by_letters a) n w byte bit)
 in_block_named letters.I n w byte bit = refl
 in_block_named letters.Q n w byte bit = refl
 in_block_named letters.M n w byte bit = refl
@@ -394,12 +394,12 @@ in_block_named letters.Pi n w byte bit = refl
 in_block_named letters.Pq n w byte bit = refl
 
 pub number_in_same : (what : Numbered) (from : Letters) (byte : ℕ)
-    → number_in what (named.InWord (area_of from) byte)
-    ≡ number_in what (named.InWord (own.area_of from) byte)
-number_in_same what from byte = ap (λ a. number_in what (named.InWord a byte)) (letters_same from)
+    → numbered_item what (named.InWord (area_for_letters from) byte)
+    ≡ numbered_item what (named.InWord (own.area_by_letters from) byte)
+number_in_same what from byte = ap (λ a. numbered_item what (named.InWord a byte)) (letters_same from)
 
 -- a word that is one of the registers
-pub register_same : (stw dblg dbno dilg dino ar2 : Bool) (x : Named)
+pub register_same : (stw dblg dbno dilg dino ar2 : Bool) (x : NamedItem)
     → (if stw then Some named.StatusWord
     else if dblg then Some (named.Opened named.DbLength)
     else if dbno then Some (named.Opened named.DbNumber)
@@ -421,17 +421,17 @@ register_same false false false false true ar2 x e = e
 register_same false false false false false true x e = e
 register_same false false false false false false x e = absurd cc
 
-target_same : (t : Target) (v : ResolvedOperand) (x : Named)
+target_same : (t : Target) (v : ResolvedOperand) (x : NamedItem)
     → Resolved (target_view t) ≡ Resolved v → target_named t ≡ Some x → view_named None v ≡ Some x
 target_same (target.Variable place width) v x e n =
-    carry None (view.Direct place width side.Both None) v (place_at place width) x refl e n
+    carry None (view.Direct place width side.Both None) v (named_place place width) x refl e n
 target_same (target.Timer number) v x e n =
     carry None (view.Timer number) v (named.Timer (named.Written number)) x refl e n
 target_same (target.Counter number) v x e n =
     carry None (view.Counter number) v (named.Counter (named.Written number)) x refl e n
 target_same (target.Block id) v x e n = absurd cc
 
-pub symbol_same : (o : Option Symbol) (v : ResolvedOperand) (x : Named)
+pub symbol_same : (o : Option Symbol) (v : ResolvedOperand) (x : NamedItem)
     → symbol_seen o ≡ Resolved v
     → option_and_then target_named (option_map (λ s. s.target) o) ≡ Some x
     → view_named None v ≡ Some x
@@ -439,18 +439,18 @@ symbol_same None v x e n = absurd cc
 symbol_same (Some s) v x e n = target_same s.target v x e n
 
 pub in_block_same : (c : Context) (name : BlockName) (a : Letters) (w : Width) (byte bit : ℕ)
-    (v : ResolvedOperand) (x : Named) (o : Option ℕ) → data_number c name ≡ o
-    → address_in o a w byte bit ≡ Resolved v
-    → option_map (λ number. place_by (own.area_of a) number w byte bit) (block_number c name) ≡ Some x
+    (v : ResolvedOperand) (x : NamedItem) (o : Option ℕ) → data_number c name ≡ o
+    → address_in_block o a w byte bit ≡ Resolved v
+    → option_map (λ number. place_by (own.area_by_letters a) number w byte bit) (block_number c name) ≡ Some x
     → view_named None v ≡ Some x
 in_block_same c name a w byte bit v x None d e n = absurd cc
 in_block_same c name a w byte bit v x (Some number) d e n =
-    carry None (address number a w byte bit) v (place_by (own.area_of a) number w byte bit) x
+    carry None (resolved_address number a w byte bit) v (place_by (own.area_by_letters a) number w byte bit) x
     (in_block_named a number w byte bit) e
-    (ap (option_map (λ number. place_by (own.area_of a) number w byte bit))
+    (ap (option_map (λ number. place_by (own.area_by_letters a) number w byte bit))
     (sym (number_known c name number d)) ∙ n)
 
-pub opened_named : (c : Context) (di : Bool) (name : BlockName) (v : ResolvedOperand) (x : Named)
+pub opened_named : (c : Context) (di : Bool) (name : BlockName) (v : ResolvedOperand) (x : NamedItem)
     (o : Option ℕ) → data_number c name ≡ o → opened_seen di o ≡ Resolved v
     → option_map (λ number. named.DataBlock di (named.Written number)) (block_number c name) ≡ Some x
     → view_named None v ≡ Some x

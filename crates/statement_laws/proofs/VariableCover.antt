@@ -20,11 +20,11 @@ use Rattle.stl_ast.specs.declared.operands.Operand.{Operand}
 use Rattle.stl_ast.specs.declared.operands.Operand.TheVariants as operand
 use Rattle.stl_ast.specs.declared.operands.PathHead.TheVariants as head
 use Rattle.block_layout.specs.Blocks.{known_block, named_block, of_kind}
-use Rattle.block_layout.specs.Members.{component}
+use Rattle.block_layout.specs.Members.{component_of_name}
 use Rattle.block_layout.specs.Offsets as offsets
-use Rattle.block_layout.specs.Offsets.{offset_of, placed, reached, variable, width_of}
+use Rattle.block_layout.specs.Offsets.{place_of_path, elementary_place, place_at_path_end, variable_place, width_of}
 use Rattle.block_layout.specs.Paths as paths
-use Rattle.block_layout.specs.Paths.{cells_at, elementary_at, folded_path, if_whole, indexed, is_judged, kind_of, leaves, leaves_from, leaves_judged, leaves_local, named, outermost, plain_kind, step_of, structure_of, walked, walked_data, walked_from, walked_local, whole_at}
+use Rattle.block_layout.specs.Paths.{cells_at, elementary_at, folded_path, if_whole, path_end_by_index, is_judged, kind_of, leaves_array, leaves_from, leaves_judged, leaves_local, path_end_by_name, outermost_path_end, plain_kind, path_end_by_step, structure_of, path_end_behind, path_end_in_data_block, path_end_in_block, walked_local, whole_at}
 use Rattle.block_layout.specs.declared.blocks.BlockLayout.{BlockLayout}
 use Rattle.block_layout.specs.declared.blocks.Section.TheVariants as section
 use Rattle.block_layout.specs.declared.cells.Cell.{Cell}
@@ -34,77 +34,77 @@ use Rattle.block_layout.specs.declared.members.Member.{Member}
 use Rattle.block_layout.specs.declared.walks.ComponentAt.{ComponentAt}
 use Rattle.block_layout.specs.declared.walks.PathEnd.{PathEnd}
 use Rattle.block_layout.specs.declared.walks.PathEnd.TheVariants as walk
-use Rattle.stl_types.specs.Context.{Context, data_number, data_place, in_function, number_of}
+use Rattle.stl_types.specs.Context.{Context, data_number, data_place, in_function, number_of_block}
 use Rattle.stl_types.specs.Forms.{form_of}
-use Rattle.stl_types.specs.Operands.{rule_of}
-use Rattle.stl_types.specs.Resolution.{seen}
-use Rattle.stl_types.specs.Variables.{data_at, data_path, data_variable, data_walked, in_area, own_at, own_variable, own_walked, parameter_at}
+use Rattle.stl_types.specs.Operands.{rule_of_resolved_operand}
+use Rattle.stl_types.specs.Resolution.{resolution_of}
+use Rattle.stl_types.specs.Variables.{data_at, data_path, data_variable, data_walked, variable_in_area, own_at, own_variable, own_walked, parameter_at}
 use Rattle.stl_types.specs.Variables as variables
 use Rattle.stl_types.specs.declared.forms.OperandRule.{OperandRule}
 use Rattle.stl_types.specs.declared.views.Resolution.TheVariants.{Resolved, Unknown}
 use Rattle.stl_types.specs.declared.views.ResolvedOperand.{ResolvedOperand}
 use Rattle.stl_types.specs.declared.views.ResolvedOperand.TheVariants as view
-use Rattle.statement_laws.specs.Laws.{HasElementaryParameters, VariablesAreNamed, is_elementary, is_variable, stays_inside}
-use Rattle.statement_laws.specs.Named.{Named}
+use Rattle.statement_laws.specs.Laws.{HasElementaryParameters, VariablesAreNamed, is_elementary_component, is_variable, stays_inside}
+use Rattle.statement_laws.specs.Named.{NamedItem}
 use Rattle.statement_laws.specs.Named as named_as
-use Rattle.statement_laws.specs.Operands.{block_named, cell_width, component_named, components_of_block, has_result, is_fc, named_by, parameter_named, place_at, place_in_layout, variable_by, variable_named}
+use Rattle.statement_laws.specs.Operands.{block_id_of_name, cell_width, component_named, components_of_block, has_result, is_fc, named_by, parameter_named, named_place, place_in_layout, variable_by, variable_named}
 use Rattle.statement_laws.specs.Operands as own
 use Rattle.statement_laws.proofs.RuleLemmas.{refused}
 use Rattle.statement_laws.proofs.SeenLemmas.{about, block_same, number_known, resolved_parts, resolved_same, rule_by}
 use Rattle.statement_laws.proofs.VariableLemmas.{function_same, judged}
 
-abbrev There : Option Named → Type 0
-There o = (x : Named) × (o ≡ Some x)
+abbrev There : Option NamedItem → Type 0
+There o = (x : NamedItem) × (o ≡ Some x)
 
 -- ---- what isn't elementary is refused
 
-composite_refused : (f : OperandRule) (v : ResolvedOperand) (o : Option Cell) → rule_of f v ≡ None
-    → Resolved (variables.composite o) ≡ Resolved v → ⊥
-unfolding rule_of
+composite_refused : (f : OperandRule) (v : ResolvedOperand) (o : Option Cell) → rule_of_resolved_operand f v ≡ None
+    → Resolved (variables.composite_operand o) ≡ Resolved v → ⊥
+unfolding rule_of_resolved_operand
 composite_refused f v None r e =
-    refused (ap (rule_of f) (resolved_same view.Composite v e) ∙ r)
+    refused (ap (rule_of_resolved_operand f) (resolved_same view.Composite v e) ∙ r)
 composite_refused f v (Some cell) r e = by cell.of e
   where
     by : (of : Element) → Resolved (variables.date_or_composite of) ≡ Resolved v → ⊥
-    by element.DateAndTime h = refused (ap (rule_of f) (resolved_same view.Date v h) ∙ r)
-    by _ h = refused (ap (rule_of f) (resolved_same view.Composite v h) ∙ r)
+    by element.DateAndTime h = refused (ap (rule_of_resolved_operand f) (resolved_same view.Date v h) ∙ r)
+    by _ h = refused (ap (rule_of_resolved_operand f) (resolved_same view.Composite v h) ∙ r)
 
 area_there : (kind : Simple) (o : Option (Place × Width)) (v : ResolvedOperand)
-    → in_area kind o ≡ Resolved v → There (place_in_layout o)
+    → variable_in_area kind o ≡ Resolved v → There (place_in_layout o)
 area_there kind None v e = absurd cc
-area_there kind (Some p) v e = (place_at p.0 p.1, refl)
+area_there kind (Some p) v e = (named_place p.0 p.1, refl)
 
 -- ---- variables in an area
 
 temporary_spot : (c : Context) (f : OperandRule) (spot : ComponentAt) (o : Option Simple)
-    (v : ResolvedOperand) → rule_of f v ≡ None → own_at c true spot o ≡ Resolved v
-    → There (place_in_layout (placed area.L 0 spot.offset o))
+    (v : ResolvedOperand) → rule_of_resolved_operand f v ≡ None → own_at c true spot o ≡ Resolved v
+    → There (place_in_layout (elementary_place area.L 0 spot.offset o))
 temporary_spot c f spot None v r e =
     absurd (composite_refused f v (slice_get (cells_at c.layouts spot.block spot.temporary) spot.place) r e)
 temporary_spot c f spot (Some kind) v r e =
-    area_there kind (placed area.L 0 spot.offset (Some kind)) v e
+    area_there kind (elementary_place area.L 0 spot.offset (Some kind)) v e
 
 temporary_end : (c : Context) (f : OperandRule) (end : PathEnd) (v : ResolvedOperand)
-    → rule_of f v ≡ None → own_walked c true end ≡ Resolved v
-    → There (place_in_layout (reached c.layouts area.L 0 end))
+    → rule_of_resolved_operand f v ≡ None → own_walked c true end ≡ Resolved v
+    → There (place_in_layout (place_at_path_end c.layouts area.L 0 end))
 temporary_end c f (walk.Reaches spot) v r e =
     temporary_spot c f spot (elementary_at c.layouts spot) v r e
 temporary_end c f walk.Unknown v r e = absurd cc
 temporary_end c f walk.Rests v r e = absurd cc
 
 static_spot : (c : Context) (f : OperandRule) (spot : ComponentAt) (o : Option Simple)
-    (v : ResolvedOperand) → rule_of f v ≡ None → in_function c ≡ false
-    → own_at c false spot o ≡ Resolved v → There (place_in_layout (placed area.Di 0 spot.offset o))
+    (v : ResolvedOperand) → rule_of_resolved_operand f v ≡ None → in_function c ≡ false
+    → own_at c false spot o ≡ Resolved v → There (place_in_layout (elementary_place area.Di 0 spot.offset o))
 static_spot c f spot None v r fc e =
     absurd (composite_refused f v (slice_get (cells_at c.layouts spot.block spot.temporary) spot.place) r e)
 static_spot c f spot (Some kind) v r fc e =
-    area_there kind (placed area.Di 0 spot.offset (Some kind)) v
+    area_there kind (elementary_place area.Di 0 spot.offset (Some kind)) v
     (sym (ap (λ (b : Bool). if b then parameter_at c spot kind
-    else in_area kind (placed area.Di 0 spot.offset (Some kind))) fc) ∙ e)
+    else variable_in_area kind (elementary_place area.Di 0 spot.offset (Some kind))) fc) ∙ e)
 
 static_end : (c : Context) (f : OperandRule) (end : PathEnd) (v : ResolvedOperand)
-    → rule_of f v ≡ None → in_function c ≡ false → own_walked c false end ≡ Resolved v
-    → There (place_in_layout (reached c.layouts area.Di 0 end))
+    → rule_of_resolved_operand f v ≡ None → in_function c ≡ false → own_walked c false end ≡ Resolved v
+    → There (place_in_layout (place_at_path_end c.layouts area.Di 0 end))
 static_end c f (walk.Reaches spot) v r fc e =
     static_spot c f spot (elementary_at c.layouts spot) v r fc e
 static_end c f walk.Unknown v r fc e = absurd cc
@@ -135,11 +135,11 @@ elementary_parts false k e = absurd (false≢true e)
 
 -- each cell of a list
 cell_of : (cells : List Cell) (place : ℕ) (cell : Cell)
-    → AllByRecursion (λ cell. is_elementary cell ≡ true) cells → slice_get cells place ≡ Some cell
-    → is_elementary cell ≡ true
+    → AllByRecursion (λ cell. is_elementary_component cell ≡ true) cells → slice_get cells place ≡ Some cell
+    → is_elementary_component cell ≡ true
 cell_of [] place cell h e = absurd cc
 cell_of (first ∷ cells) zero cell h e =
-    ap is_elementary (sym (same first cell e)) ∙ h.0
+    ap is_elementary_component (sym (same first cell e)) ∙ h.0
   where
     same : (a b : Cell) → Some a ≡ Some b → a ≡ b
     same a b k = cc
@@ -157,10 +157,10 @@ plain_names_none l spot name cell (element.Plain kind) e = refl
 plain_names_none l spot name cell _ e = absurd (false≢true e)
 
 step_none : (l : List BlockLayout) (spot : ComponentAt) (cell : Cell) (s : PathStep)
-    → spot.depth ≡ 0 → is_elementary cell ≡ true
+    → spot.depth ≡ 0 → is_elementary_component cell ≡ true
     → slice_get (cells_at l spot.block spot.temporary) spot.place ≡ Some cell
-    → step_of l spot s ≡ walk.Unknown
-unfolding step_of named indexed
+    → path_end_by_step l spot s ≡ walk.Unknown
+unfolding path_end_by_step path_end_by_name path_end_by_index
 step_none l spot cell (step.Named name) d e there =
     ap (paths.named_behind l spot name) there
     ∙ by (nat_eq spot.depth (length cell.bounds))
@@ -171,7 +171,7 @@ step_none l spot cell (step.Named name) d e there =
     by false = refl
 step_none l spot cell (step.Index at) d e there =
     ap (paths.indexed_behind spot (cells_at l spot.block spot.temporary) at) there
-    ∙ ap (λ o. paths.within spot cell
+    ∙ ap (λ o. paths.path_end_in_bounds spot cell
     (drop (spot.place + 1) (cells_at l spot.block spot.temporary)) at o)
     (ap (slice_get cell.bounds) d ∙ no_bounds cell.bounds ((elementary_parts _ _ e).0))
 
@@ -182,15 +182,15 @@ parameter_width true None e = absurd (false≢true e)
 parameter_width false kind e = absurd (false≢true e)
 
 cell_named : (c : Context) (place : ℕ) (cell : Cell)
-    → slice_get (components_of_block c) place ≡ Some cell → is_elementary cell ≡ true
+    → slice_get (components_of_block c) place ≡ Some cell → is_elementary_component cell ≡ true
     → There (parameter_named c place [])
 cell_named c place cell there e =
     let found = parameter_width (nat_eq 0 (length cell.bounds)) (plain_kind cell.of) e in (
       named_as.Parameter
-          (own.parameter_index (has_result (slice_get c.blocks c.block))
+          (own.parameter_index_in_call (has_result (slice_get c.blocks c.block))
           (length (components_of_block c)) place) found.0,
       ap (option_map (λ width. named_as.Parameter
-          (own.parameter_index (has_result (slice_get c.blocks c.block))
+          (own.parameter_index_in_call (has_result (slice_get c.blocks c.block))
           (length (components_of_block c)) place) width))
           (ap cell_width there ∙ found.1),
     )
@@ -198,21 +198,21 @@ cell_named c place cell there e =
 -- the cell of a parameter that is reached, at the place that it has
 reached_cell : (c : Context) (m : Member) (offset : ℕ) (sound : Bool) (cell : Cell)
     (steps : List PathStep) (v : ResolvedOperand)
-    → slice_get (components_of_block c) (0 + m.place) ≡ Some cell → is_elementary cell ≡ true
-    → own_walked c false (paths.goes_on (if sound then walk.Reaches (record {
+    → slice_get (components_of_block c) (0 + m.place) ≡ Some cell → is_elementary_component cell ≡ true
+    → own_walked c false (paths.path_end_and_then (if sound then walk.Reaches (record {
       block = c.block;
       temporary = false;
       place = 0 + m.place;
       depth = 0;
       offset = offset;
-    }) else walk.Rests) (λ spot. walked c.layouts spot steps)) ≡ Resolved v
+    }) else walk.Rests) (λ spot. path_end_behind c.layouts spot steps)) ≡ Resolved v
     → There (parameter_named c m.place steps)
 reached_cell c m offset false cell steps v there plain e = absurd cc
 reached_cell c m offset true cell [] v there plain e =
     cell_named c m.place cell (ap (slice_get (components_of_block c)) (sym (zero-add m.place)) ∙ there) plain
 reached_cell c m offset true cell (s ∷ ss) v there plain e =
     absurd (unknown (sym (ap (λ end. own_walked c false
-    (paths.goes_on end (λ next. walked c.layouts next ss)))
+    (paths.path_end_and_then end (λ next. path_end_behind c.layouts next ss)))
     (step_none c.layouts (record {
       block = c.block;
       temporary = false;
@@ -225,10 +225,10 @@ reached_cell c m offset true cell (s ∷ ss) v there plain e =
     unknown h = cc
 
 reached_parameter : (c : Context) (m : Member) (offset : ℕ) (o : Option Cell) (steps : List PathStep)
-    (v : ResolvedOperand) → AllByRecursion (λ cell. is_elementary cell ≡ true) (components_of_block c)
+    (v : ResolvedOperand) → AllByRecursion (λ cell. is_elementary_component cell ≡ true) (components_of_block c)
     → slice_get (components_of_block c) (0 + m.place) ≡ o
-    → own_walked c false (paths.goes_on (paths.entered c.block false (0 + m.place) offset o)
-    (λ spot. walked c.layouts spot steps)) ≡ Resolved v
+    → own_walked c false (paths.path_end_and_then (paths.path_end_at_cell c.block false (0 + m.place) offset o)
+    (λ spot. path_end_behind c.layouts spot steps)) ≡ Resolved v
     → There (parameter_named c m.place steps)
 reached_parameter c m offset None steps v plain there e = absurd cc
 reached_parameter c m offset (Some cell) steps v plain there e =
@@ -236,89 +236,89 @@ reached_parameter c m offset (Some cell) steps v plain there e =
     (cell_of (components_of_block c) (0 + m.place) cell plain there) e
 
 parameter_there : (c : Context) (name : List ℕ) (steps : List PathStep) (m : Member)
-    (v : ResolvedOperand) → AllByRecursion (λ cell. is_elementary cell ≡ true) (components_of_block c)
-    → component 0 0 0 name (components_of_block c) ≡ Some m
-    → own_walked c false (paths.goes_on (outermost c.layouts c.block false 0 name)
-    (λ spot. walked c.layouts spot steps)) ≡ Resolved v
+    (v : ResolvedOperand) → AllByRecursion (λ cell. is_elementary_component cell ≡ true) (components_of_block c)
+    → component_of_name 0 0 0 name (components_of_block c) ≡ Some m
+    → own_walked c false (paths.path_end_and_then (outermost_path_end c.layouts c.block false 0 name)
+    (λ spot. path_end_behind c.layouts spot steps)) ≡ Resolved v
     → There (parameter_named c m.place steps)
-unfolding outermost
+unfolding outermost_path_end
 parameter_there c name steps m v plain there e =
     reached_parameter c m _ (slice_get (components_of_block c) (0 + m.place)) steps v plain refl
     (sym (ap (λ o. own_walked c false
-    (paths.goes_on (paths.found_at (components_of_block c) c.block false 0 0 o)
-    (λ spot. walked c.layouts spot steps)))
+    (paths.path_end_and_then (paths.path_end_at_member (components_of_block c) c.block false 0 0 o)
+    (λ spot. path_end_behind c.layouts spot steps)))
     there) ∙ e)
 
 -- ---- the block's own variables
 
 local_there : (c : Context) (f : OperandRule) (name : List ℕ) (steps : List PathStep)
-    (m : Option Member) (v : ResolvedOperand) → rule_of f v ≡ None → HasElementaryParameters c
-    → component 0 0 0 name (components_of_block c) ≡ m
+    (m : Option Member) (v : ResolvedOperand) → rule_of_resolved_operand f v ≡ None → HasElementaryParameters c
+    → component_of_name 0 0 0 name (components_of_block c) ≡ m
     → own_walked c (not (is_some m))
     (if is_some (whole_at c.layouts c.block)
-    then paths.goes_on
-    (if is_some m then outermost c.layouts c.block false 0 name
-    else outermost c.layouts c.block true 0 name)
-    (λ spot. walked c.layouts spot steps)
+    then paths.path_end_and_then
+    (if is_some m then outermost_path_end c.layouts c.block false 0 name
+    else outermost_path_end c.layouts c.block true 0 name)
+    (λ spot. path_end_behind c.layouts spot steps)
     else walk.Rests) ≡ Resolved v
     → not (is_judged (if is_some (whole_at c.layouts c.block)
-    then paths.goes_on
-    (if is_some m then outermost c.layouts c.block false 0 name
-    else outermost c.layouts c.block true 0 name)
-    (λ spot. walked c.layouts spot steps)
+    then paths.path_end_and_then
+    (if is_some m then outermost_path_end c.layouts c.block false 0 name
+    else outermost_path_end c.layouts c.block true 0 name)
+    (λ spot. path_end_behind c.layouts spot steps)
     else walk.Rests)
-    && paths.further
-    (if is_some m then outermost c.layouts c.block false 0 name
-    else outermost c.layouts c.block true 0 name)
-    (λ spot. leaves c.layouts spot steps)) ≡ true
+    && paths.holds_where_reached
+    (if is_some m then outermost_path_end c.layouts c.block false 0 name
+    else outermost_path_end c.layouts c.block true 0 name)
+    (λ spot. leaves_array c.layouts spot steps)) ≡ true
     → There (variable_by c name steps m)
 local_there c f name steps None v r plain there e inside =
     kept (leaves_from c.layouts c.block true (step.Named name ∷ steps))
-    (reached c.layouts area.L 0 (walked_from c.layouts c.block true (step.Named name ∷ steps)))
+    (place_at_path_end c.layouts area.L 0 (path_end_in_block c.layouts c.block true (step.Named name ∷ steps)))
     (stays _ _ (judged_end c true _ v e) inside)
-    (temporary_end c f (walked_from c.layouts c.block true (step.Named name ∷ steps)) v r
+    (temporary_end c f (path_end_in_block c.layouts c.block true (step.Named name ∷ steps)) v r
     (judged c true (is_some (whole_at c.layouts c.block))
-    (walked_from c.layouts c.block true (step.Named name ∷ steps)) v e))
+    (path_end_in_block c.layouts c.block true (step.Named name ∷ steps)) v e))
 local_there c f name steps (Some m) v r plain there e inside =
     by (is_fc (slice_get c.blocks c.block)) refl
   where
     by : (fc : Bool) → is_fc (slice_get c.blocks c.block) ≡ fc
         → There (if fc then parameter_named c m.place steps
-        else place_in_layout (variable c.layouts area.Di c.block false (step.Named name ∷ steps)))
+        else place_in_layout (variable_place c.layouts area.Di c.block false (step.Named name ∷ steps)))
     by true fc =
         parameter_there c name steps m v (plain fc) there
         (judged c false (is_some (whole_at c.layouts c.block))
-        (walked_from c.layouts c.block false (step.Named name ∷ steps)) v e)
+        (path_end_in_block c.layouts c.block false (step.Named name ∷ steps)) v e)
     by false fc =
         kept (leaves_from c.layouts c.block false (step.Named name ∷ steps))
-        (reached c.layouts area.Di 0 (walked_from c.layouts c.block false (step.Named name ∷ steps)))
+        (place_at_path_end c.layouts area.Di 0 (path_end_in_block c.layouts c.block false (step.Named name ∷ steps)))
         (stays _ _ (judged_end c false _ v e) inside)
-        (static_end c f (walked_from c.layouts c.block false (step.Named name ∷ steps)) v r
+        (static_end c f (path_end_in_block c.layouts c.block false (step.Named name ∷ steps)) v r
         (sym (function_same (slice_get c.blocks c.block)) ∙ fc)
         (judged c false (is_some (whole_at c.layouts c.block))
-        (walked_from c.layouts c.block false (step.Named name ∷ steps)) v e))
+        (path_end_in_block c.layouts c.block false (step.Named name ∷ steps)) v e))
 
 variable_there : (c : Context) (f : OperandRule) (name : List ℕ) (steps : List PathStep)
-    (v : ResolvedOperand) → rule_of f v ≡ None → HasElementaryParameters c
+    (v : ResolvedOperand) → rule_of_resolved_operand f v ≡ None → HasElementaryParameters c
     → own_variable c name steps ≡ Resolved v
     → not (leaves_local c.layouts c.block name steps) ≡ true → There (variable_named c name steps)
 unfolding walked_local
 variable_there c f name steps v r plain e inside =
-    local_there c f name steps (component 0 0 0 name (components_of_block c)) v r plain refl e inside
+    local_there c f name steps (component_of_name 0 0 0 name (components_of_block c)) v r plain refl e inside
 
 -- ---- components of data blocks
 
 data_spot_there : (c : Context) (f : OperandRule) (n : ℕ) (spot : ComponentAt) (o : Option Simple)
-    (v : ResolvedOperand) → rule_of f v ≡ None → data_at c n spot o ≡ Resolved v
-    → There (place_in_layout (placed area.Db n spot.offset o))
+    (v : ResolvedOperand) → rule_of_resolved_operand f v ≡ None → data_at c n spot o ≡ Resolved v
+    → There (place_in_layout (elementary_place area.Db n spot.offset o))
 data_spot_there c f n spot None v r e =
     absurd (composite_refused f v (slice_get (cells_at c.layouts spot.block spot.temporary) spot.place) r e)
 data_spot_there c f n spot (Some kind) v r e =
-    area_there kind (placed area.Db n spot.offset (Some kind)) v e
+    area_there kind (elementary_place area.Db n spot.offset (Some kind)) v e
 
 data_end_there : (c : Context) (f : OperandRule) (n : ℕ) (end : PathEnd) (v : ResolvedOperand)
-    → rule_of f v ≡ None → data_walked c n end ≡ Resolved v
-    → There (place_in_layout (reached c.layouts area.Db n end))
+    → rule_of_resolved_operand f v ≡ None → data_walked c n end ≡ Resolved v
+    → There (place_in_layout (place_at_path_end c.layouts area.Db n end))
 data_end_there c f n (walk.Reaches spot) v r e =
     data_spot_there c f n spot (elementary_at c.layouts spot) v r e
 data_end_there c f n walk.Unknown v r e = absurd cc
@@ -335,35 +335,35 @@ left_judged l structure steps h = by (leaves_judged l structure steps) h
 
 -- a data block whose number is known is whole
 data_whole : (c : Context) (f : OperandRule) (id : BlockId) (steps : List PathStep) (place n : ℕ)
-    (block : Option BlockLayout) (v : ResolvedOperand) → rule_of f v ≡ None
+    (block : Option BlockLayout) (v : ResolvedOperand) → rule_of_resolved_operand f v ≡ None
     → is_data_block id.kind ≡ true
-    → option_and_then (λ (b : BlockLayout). number_of b.id) block ≡ Some n
-    → data_walked c id.number (walked_data c.layouts place steps) ≡ Resolved v
+    → option_and_then (λ (b : BlockLayout). number_of_block b.id) block ≡ Some n
+    → data_walked c id.number (path_end_in_data_block c.layouts place steps) ≡ Resolved v
     → not (leaves_judged c.layouts (structure_of c.layouts place) steps) ≡ true
-    → There (place_in_layout (option_and_then (offsets.offset_in c.layouts id section.Global steps)
+    → There (place_in_layout (option_and_then (offsets.place_in_section c.layouts id section.Global steps)
     (if is_some block then Some place else None)))
 data_whole c f id steps place n None v r db d e inside = absurd cc
 data_whole c f id steps place n (Some b) v r db d e inside =
     subst (λ (k : Bool). There (place_in_layout
-    (if k then offsets.component c.layouts id.number place steps else None))) (sym db)
+    (if k then offsets.component_place c.layouts id.number place steps else None))) (sym db)
     (kept (leaves_judged c.layouts (structure_of c.layouts place) steps)
-    (reached c.layouts area.Db id.number (walked_data c.layouts place steps))
+    (place_at_path_end c.layouts area.Db id.number (path_end_in_data_block c.layouts place steps))
     (left_judged c.layouts (structure_of c.layouts place) steps inside)
-    (data_end_there c f id.number (walked_data c.layouts place steps) v r e))
+    (data_end_there c f id.number (path_end_in_data_block c.layouts place steps) v r e))
 
 data_known_there : (c : Context) (f : OperandRule) (id : BlockId) (steps : List PathStep)
-    (number place : Option ℕ) (v : ResolvedOperand) → rule_of f v ≡ None
+    (number place : Option ℕ) (v : ResolvedOperand) → rule_of_resolved_operand f v ≡ None
     → is_data_block id.kind ≡ true
     → ((n : ℕ) → number ≡ Some n → n ≡ id.number)
-    → number ≡ option_and_then (λ (b : BlockLayout). number_of b.id)
+    → number ≡ option_and_then (λ (b : BlockLayout). number_of_block b.id)
     (option_and_then (whole_at c.layouts) place)
     → data_path c steps number place ≡ Resolved v
     → not (leaves_judged c.layouts (option_and_then (structure_of c.layouts) place) steps) ≡ true
-    → There (place_in_layout (option_and_then (offsets.offset_in c.layouts id section.Global steps)
+    → There (place_in_layout (option_and_then (offsets.place_in_section c.layouts id section.Global steps)
     (option_and_then (if_whole c.layouts) place)))
 data_known_there c f id steps (Some number) (Some place) v r db is d e inside =
     data_whole c f id steps place number (whole_at c.layouts place) v r db (sym d)
-    (ap (λ k. data_walked c k (walked_data c.layouts place steps)) (sym (is number refl)) ∙ e) inside
+    (ap (λ k. data_walked c k (path_end_in_data_block c.layouts place steps)) (sym (is number refl)) ∙ e) inside
 data_known_there c f id steps (Some number) None v r db is d e inside = absurd cc
 data_known_there c f id steps None (Some place) v r db is d e inside = absurd cc
 data_known_there c f id steps None None v r db is d e inside = absurd cc
@@ -374,9 +374,9 @@ no_data_path c steps (Some k) v h = cc
 no_data_path c steps None v h = cc
 
 data_named_there : (c : Context) (f : OperandRule) (o : Option BlockId) (steps : List PathStep)
-    (number : Option ℕ) (v : ResolvedOperand) → rule_of f v ≡ None
+    (number : Option ℕ) (v : ResolvedOperand) → rule_of_resolved_operand f v ≡ None
     → ((n : ℕ) → number ≡ Some n → option_map (λ id. id.number) o ≡ Some n)
-    → number ≡ option_and_then (λ (b : BlockLayout). number_of b.id)
+    → number ≡ option_and_then (λ (b : BlockLayout). number_of_block b.id)
     (option_and_then (whole_at c.layouts)
     (option_and_then (λ id. known_block id (map (λ b. b.id) c.layouts)) (of_kind is_data_block o)))
     → data_path c steps number
@@ -385,15 +385,15 @@ data_named_there : (c : Context) (f : OperandRule) (o : Option BlockId) (steps :
     → not (leaves_judged c.layouts (option_and_then (structure_of c.layouts)
     (option_and_then (λ id. known_block id (map (λ b. b.id) c.layouts)) (of_kind is_data_block o)))
     steps) ≡ true
-    → There (place_in_layout (option_and_then (λ id. offset_of c.layouts id section.Global steps) o))
-unfolding offset_of
+    → There (place_in_layout (option_and_then (λ id. place_of_path c.layouts id section.Global steps) o))
+unfolding place_of_path
 data_named_there c f None steps (Some number) v r is d e inside = absurd cc
 data_named_there c f None steps None v r is d e inside = absurd cc
 data_named_there c f (Some id) steps number v r is d e inside =
     by (is_data_block id.kind) refl d e inside
   where
     by : (db : Bool) → is_data_block id.kind ≡ db
-        → number ≡ option_and_then (λ (b : BlockLayout). number_of b.id)
+        → number ≡ option_and_then (λ (b : BlockLayout). number_of_block b.id)
         (option_and_then (whole_at c.layouts)
         (option_and_then (λ (id : BlockId). known_block id (map (λ (b : BlockLayout). b.id) c.layouts))
         (if db then Some id else None)))
@@ -405,7 +405,7 @@ data_named_there c f (Some id) steps number v r is d e inside =
         (option_and_then (λ (id : BlockId). known_block id (map (λ (b : BlockLayout). b.id) c.layouts))
         (if db then Some id else None)))
         steps) ≡ true
-        → There (place_in_layout (option_and_then (offsets.offset_in c.layouts id section.Global steps)
+        → There (place_in_layout (option_and_then (offsets.place_in_section c.layouts id section.Global steps)
         (option_and_then (if_whole c.layouts)
         (known_block id (map (λ (b : BlockLayout). b.id) c.layouts)))))
     by true db d e inside =
@@ -414,13 +414,13 @@ data_named_there c f (Some id) steps number v r is d e inside =
     by false db d e inside = absurd (no_data_path c steps number v e)
 
 component_there : (c : Context) (f : OperandRule) (name : BlockName) (steps : List PathStep)
-    (v : ResolvedOperand) → rule_of f v ≡ None → data_variable c name steps ≡ Resolved v
+    (v : ResolvedOperand) → rule_of_resolved_operand f v ≡ None → data_variable c name steps ≡ Resolved v
     → not (leaves_judged c.layouts (option_and_then (structure_of c.layouts) (data_place c name)) steps)
     ≡ true
     → There (component_named c name steps)
 component_there c f name steps v r e inside =
     subst (λ o. There (place_in_layout
-    (option_and_then (λ id. offset_of c.layouts id section.Global steps) o)))
+    (option_and_then (λ id. place_of_path c.layouts id section.Global steps) o)))
     (block_same c name)
     (data_named_there c f (named_block c.symbols name) steps (data_number c name) v r
     (λ k there. ap (option_map (λ (id : BlockId). id.number)) (block_same c name)
@@ -431,8 +431,8 @@ component_there c f name steps v r e inside =
 
 path_there : (c : Context) (f : OperandRule) (o : Operand) (v : ResolvedOperand)
     → HasElementaryParameters c → is_variable o ≡ true → stays_inside c o ≡ true
-    → rule_by f (about o) v ≡ None → seen c o ≡ Resolved v → There (named_by c o)
-unfolding seen named_by
+    → rule_by f (about o) v ≡ None → resolution_of c o ≡ Resolved v → There (named_by c o)
+unfolding resolution_of named_by
 path_there c f (operand.Named (head.Local name) steps) v plain is inside r e =
     variable_there c f (upper_case_name name) (folded_path steps) v r plain e inside
 path_there c f (operand.Named (head.InBlock name) steps) v plain is inside r e =

@@ -20,10 +20,10 @@ use Rattle.stl_ast.specs.declared.operands.Operand.TheVariants as operand
 use Rattle.stl_ast.specs.declared.operands.PathHead.TheVariants as head
 use Rattle.stl_symbols.specs.Symbol.{symbol_named}
 use Rattle.block_layout.specs.Blocks.{known_block, named_block, of_kind}
-use Rattle.block_layout.specs.Members.{component}
+use Rattle.block_layout.specs.Members.{component_of_name}
 use Rattle.block_layout.specs.Offsets as offsets
-use Rattle.block_layout.specs.Offsets.{offset_of, placed, reached, variable, width_of}
-use Rattle.block_layout.specs.Paths.{cells_at, elementary_at, folded_path, if_whole, kind_of, leaves_from, leaves_judged, outermost, plain_kind, structure_of, walked, walked_data, walked_from, walked_local, whole_at}
+use Rattle.block_layout.specs.Offsets.{place_of_path, elementary_place, place_at_path_end, variable_place, width_of}
+use Rattle.block_layout.specs.Paths.{cells_at, elementary_at, folded_path, if_whole, kind_of, leaves_from, leaves_judged, outermost_path_end, plain_kind, structure_of, path_end_behind, path_end_in_data_block, path_end_in_block, walked_local, whole_at}
 use Rattle.block_layout.specs.declared.blocks.Section.TheVariants as section
 use Rattle.block_layout.specs.declared.cells.Cell.{Cell}
 use Rattle.block_layout.specs.declared.members.Member.{Member}
@@ -31,31 +31,31 @@ use Rattle.block_layout.specs.declared.walks.ComponentAt.{ComponentAt}
 use Rattle.block_layout.specs.declared.walks.PathEnd.{PathEnd}
 use Rattle.block_layout.specs.declared.walks.PathEnd.TheVariants as walk
 use Rattle.block_layout.specs.Paths as paths
-use Rattle.stl_types.specs.Addresses.{address, area_left, area_of}
+use Rattle.stl_types.specs.Addresses.{resolved_address, area_left, area_for_letters}
 use Rattle.stl_types.specs.Context.{Context, data_number, in_function, is_of_function, whole_place}
-use Rattle.stl_types.specs.Resolution.{called_seen, id_at, register_of, seen, whole_block}
-use Rattle.stl_types.specs.Variables.{behind_others, data_at, data_path, data_variable, data_walked, in_area, own_at, own_elementary, own_variable, own_walked, parameter_at}
+use Rattle.stl_types.specs.Resolution.{called_seen, id_at, register_for_word, resolution_of, whole_called_block}
+use Rattle.stl_types.specs.Variables.{behind_others, data_at, data_path, data_variable, data_walked, variable_in_area, own_at, own_elementary, own_variable, own_walked, parameter_at}
 use Rattle.stl_types.specs.Variables as variables
 use Rattle.stl_types.specs.declared.views.Resolution.TheVariants.{Resolved, Unjudged}
 use Rattle.stl_types.specs.declared.views.Side.TheVariants as side
 use Rattle.stl_types.specs.declared.views.ResolvedOperand.{ResolvedOperand}
 use Rattle.stl_types.specs.declared.views.ResolvedOperand.TheVariants as view
-use Rattle.statement_laws.specs.Named.{Named}
+use Rattle.statement_laws.specs.Named.{NamedItem}
 use Rattle.statement_laws.specs.Named as named
-use Rattle.statement_laws.specs.Operands.{block_named, block_number, cell_width, component_named, components_of_block, fixed_place, has_result, is_fc, place_in_layout, named_by, number_in, parameter_named, place_at, pointer_bits, variable_by, variable_named, with_instance}
+use Rattle.statement_laws.specs.Operands.{block_id_of_name, block_number, cell_width, component_named, components_of_block, named_fixed_place, has_result, is_fc, place_in_layout, named_by, numbered_item, parameter_named, named_place, pointer_constant_bits, variable_by, variable_named, with_instance}
 use Rattle.statement_laws.specs.Operands as own
 use Rattle.statement_laws.proofs.SeenLemmas.{about, block_same, carry, direct_named, in_block_same, left_same, letters_same, number_in_same, number_known, opened_named, pointer_same, register_same, resolved_same, symbol_same, view_named}
 
 -- ---- places
 
-area_same : (kind : Simple) (o : Option (Place × Width)) (v : ResolvedOperand) (x : Named)
-    → in_area kind o ≡ Resolved v → place_in_layout o ≡ Some x → view_named None v ≡ Some x
+area_same : (kind : Simple) (o : Option (Place × Width)) (v : ResolvedOperand) (x : NamedItem)
+    → variable_in_area kind o ≡ Resolved v → place_in_layout o ≡ Some x → view_named None v ≡ Some x
 area_same kind None v x e n = absurd cc
 area_same kind (Some p) v x e n =
-    carry None (view.Direct p.0 p.1 side.Both (Some kind)) v (place_at p.0 p.1) x refl e n
+    carry None (view.Direct p.0 p.1 side.Both (Some kind)) v (named_place p.0 p.1) x refl e n
 
 -- a place that lies within its arrays
-inside : (b : Bool) (o : Option (Place × Width)) (x : Named)
+inside : (b : Bool) (o : Option (Place × Width)) (x : NamedItem)
     → place_in_layout (if b then None else o) ≡ Some x → place_in_layout o ≡ Some x
 inside true o x n = absurd cc
 inside false o x n = n
@@ -69,15 +69,15 @@ judged c temporary false end v e = absurd cc
 
 -- ---- temporary variables
 
-temporary_at : (c : Context) (spot : ComponentAt) (o : Option Simple) (v : ResolvedOperand) (x : Named)
-    → own_at c true spot o ≡ Resolved v → place_in_layout (placed area.L 0 spot.offset o) ≡ Some x
+temporary_at : (c : Context) (spot : ComponentAt) (o : Option Simple) (v : ResolvedOperand) (x : NamedItem)
+    → own_at c true spot o ≡ Resolved v → place_in_layout (elementary_place area.L 0 spot.offset o) ≡ Some x
     → view_named None v ≡ Some x
 temporary_at c spot None v x e n = absurd cc
 temporary_at c spot (Some kind) v x e n =
-    area_same kind (placed area.L 0 spot.offset (Some kind)) v x e n
+    area_same kind (elementary_place area.L 0 spot.offset (Some kind)) v x e n
 
-temporary_walked : (c : Context) (end : PathEnd) (v : ResolvedOperand) (x : Named)
-    → own_walked c true end ≡ Resolved v → place_in_layout (reached c.layouts area.L 0 end) ≡ Some x
+temporary_walked : (c : Context) (end : PathEnd) (v : ResolvedOperand) (x : NamedItem)
+    → own_walked c true end ≡ Resolved v → place_in_layout (place_at_path_end c.layouts area.L 0 end) ≡ Some x
     → view_named None v ≡ Some x
 temporary_walked c (walk.Reaches spot) v x e n =
     temporary_at c spot (elementary_at c.layouts spot) v x e n
@@ -86,18 +86,18 @@ temporary_walked c walk.Rests v x e n = absurd cc
 
 -- ---- variables of a function block
 
-static_at : (c : Context) (spot : ComponentAt) (o : Option Simple) (v : ResolvedOperand) (x : Named)
+static_at : (c : Context) (spot : ComponentAt) (o : Option Simple) (v : ResolvedOperand) (x : NamedItem)
     → in_function c ≡ false → own_at c false spot o ≡ Resolved v
-    → place_in_layout (placed area.Di 0 spot.offset o) ≡ Some x → view_named None v ≡ Some x
+    → place_in_layout (elementary_place area.Di 0 spot.offset o) ≡ Some x → view_named None v ≡ Some x
 static_at c spot None v x f e n = absurd cc
 static_at c spot (Some kind) v x f e n =
-    area_same kind (placed area.Di 0 spot.offset (Some kind)) v x
+    area_same kind (elementary_place area.Di 0 spot.offset (Some kind)) v x
     (sym (ap (λ (b : Bool). if b then parameter_at c spot kind
-    else in_area kind (placed area.Di 0 spot.offset (Some kind))) f) ∙ e) n
+    else variable_in_area kind (elementary_place area.Di 0 spot.offset (Some kind))) f) ∙ e) n
 
-static_walked : (c : Context) (end : PathEnd) (v : ResolvedOperand) (x : Named)
+static_walked : (c : Context) (end : PathEnd) (v : ResolvedOperand) (x : NamedItem)
     → in_function c ≡ false → own_walked c false end ≡ Resolved v
-    → place_in_layout (reached c.layouts area.Di 0 end) ≡ Some x → view_named None v ≡ Some x
+    → place_in_layout (place_at_path_end c.layouts area.Di 0 end) ≡ Some x → view_named None v ≡ Some x
 static_walked c (walk.Reaches spot) v x f e n =
     static_at c spot (elementary_at c.layouts spot) v x f e n
 static_walked c walk.Unknown v x f e n = absurd cc
@@ -106,12 +106,12 @@ static_walked c walk.Rests v x f e n = absurd cc
 -- ---- parameters of a function
 
 index_same : (count place : ℕ) (b : Option Block)
-    → variables.parameter_index count place b ≡ own.parameter_index (has_result b) count place
+    → variables.parameter_index count place b ≡ own.parameter_index_in_call (has_result b) count place
 index_same count place None = refl
 index_same count place (Some b) = by b.result place
   where
     by : (result : Option Simple) (at : ℕ)
-        → behind_others count at result ≡ own.parameter_index (is_some result) count at
+        → behind_others count at result ≡ own.parameter_index_in_call (is_some result) count at
     by None at = refl
     by (Some kind) zero = refl
     by (Some kind) (suc k) =
@@ -120,10 +120,10 @@ index_same count place (Some b) = by b.result place
         rw other before
 
 parameter_kind : (c : Context) (at : ℕ) (cell : Cell) (kind : Option Simple) (v : ResolvedOperand)
-    (x : Named) (spot : ComponentAt) → spot.place ≡ at → in_function c ≡ true
+    (x : NamedItem) (spot : ComponentAt) → spot.place ≡ at → in_function c ≡ true
     → slice_get (components_of_block c) at ≡ Some cell → own_at c false spot kind ≡ Resolved v
     → option_map (λ width. named.Parameter
-    (own.parameter_index (has_result (slice_get c.blocks c.block)) (length (components_of_block c)) at) width)
+    (own.parameter_index_in_call (has_result (slice_get c.blocks c.block)) (length (components_of_block c)) at) width)
     (option_map width_of kind) ≡ Some x
     → view_named None v ≡ Some x
 parameter_kind c at cell None v x spot p f there e n = absurd cc
@@ -131,13 +131,13 @@ parameter_kind c at cell (Some kind) v x spot p f there e n =
     carry None (view.Parameter (variables.parameter_index (length (components_of_block c)) at (slice_get c.blocks c.block)) cell.section kind)
     v
     (named.Parameter
-    (own.parameter_index (has_result (slice_get c.blocks c.block)) (length (components_of_block c)) at)
+    (own.parameter_index_in_call (has_result (slice_get c.blocks c.block)) (length (components_of_block c)) at)
     (width_of kind)) x
     (ap (λ k. Some (named.Parameter k (width_of kind)))
     (index_same (length (components_of_block c)) at (slice_get c.blocks c.block)))
     (sym (ap (λ (b : Bool). if b then parameter_at c spot kind
-    else in_area kind (placed area.Di 0 spot.offset (Some kind))) f
-    ∙ ap₂ (λ index found. variables.parameter index kind found)
+    else variable_in_area kind (elementary_place area.Di 0 spot.offset (Some kind))) f
+    ∙ ap₂ (λ index found. variables.parameter_resolution index kind found)
     (ap (λ k. variables.parameter_index (length (components_of_block c)) k (slice_get c.blocks c.block)) p)
     (ap (slice_get (components_of_block c)) p ∙ there)) ∙ e)
     n
@@ -149,7 +149,7 @@ width_same false kind = refl
 
 -- the cell at the place of a parameter
 cell_found : (c : Context) (m : Member) (offset : ℕ) (sound : Bool) (cell : Cell) (v : ResolvedOperand)
-    (x : Named) → in_function c ≡ true → slice_get (components_of_block c) (0 + m.place) ≡ Some cell
+    (x : NamedItem) → in_function c ≡ true → slice_get (components_of_block c) (0 + m.place) ≡ Some cell
     → own_walked c false (if sound then walk.Reaches (record {
       block = c.block;
       temporary = false;
@@ -178,19 +178,19 @@ cell_found c m offset true cell v x f there e n =
     kind : Option Simple
     kind = if nat_eq 0 (length cell.bounds) then plain_kind cell.of else None
 
-    named_by_width : Option Width → Option Named
+    named_by_width : Option Width → Option NamedItem
     named_by_width o = option_map
         (λ width. named.Parameter
-        (own.parameter_index (has_result (slice_get c.blocks c.block)) (length (components_of_block c)) m.place) width)
+        (own.parameter_index_in_call (has_result (slice_get c.blocks c.block)) (length (components_of_block c)) m.place) width)
         o
 
     at_place : slice_get (components_of_block c) m.place ≡ Some cell
     at_place = ap (slice_get (components_of_block c)) (sym (zero-add m.place)) ∙ there
 
 parameter_found : (c : Context) (m : Member) (offset : ℕ) (o : Option Cell) (v : ResolvedOperand)
-    (x : Named) → in_function c ≡ true → slice_get (components_of_block c) (0 + m.place) ≡ o
+    (x : NamedItem) → in_function c ≡ true → slice_get (components_of_block c) (0 + m.place) ≡ o
     → own_walked c false
-    (paths.goes_on (paths.entered c.block false (0 + m.place) offset o) (λ spot. walk.Reaches spot))
+    (paths.path_end_and_then (paths.path_end_at_cell c.block false (0 + m.place) offset o) (λ spot. walk.Reaches spot))
     ≡ Resolved v
     → parameter_named c m.place [] ≡ Some x → view_named None v ≡ Some x
 parameter_found c m offset None v x f there e n = absurd cc
@@ -199,24 +199,24 @@ parameter_found c m offset (Some cell) v x f there e n =
     (sym (ap (own_walked c false) (by cell.sound _)) ∙ e) n
   where
     by : (sound : Bool) (spot : ComponentAt)
-        → paths.goes_on (if sound then walk.Reaches spot else walk.Rests) (λ spot. walk.Reaches spot)
+        → paths.path_end_and_then (if sound then walk.Reaches spot else walk.Rests) (λ spot. walk.Reaches spot)
         ≡ (if sound then walk.Reaches spot else walk.Rests)
     by true spot = refl
     by false spot = refl
 
 parameter_same : (c : Context) (name : List ℕ) (steps : List PathStep) (m : Member)
-    (v : ResolvedOperand) (x : Named) → in_function c ≡ true
-    → component 0 0 0 name (components_of_block c) ≡ Some m
+    (v : ResolvedOperand) (x : NamedItem) → in_function c ≡ true
+    → component_of_name 0 0 0 name (components_of_block c) ≡ Some m
     → own_walked c false
-    (paths.goes_on (outermost c.layouts c.block false 0 name) (λ spot. walked c.layouts spot steps))
+    (paths.path_end_and_then (outermost_path_end c.layouts c.block false 0 name) (λ spot. path_end_behind c.layouts spot steps))
     ≡ Resolved v
     → parameter_named c m.place steps ≡ Some x → view_named None v ≡ Some x
-unfolding outermost
+unfolding outermost_path_end
 parameter_same c name (s ∷ ss) m v x f there e n = absurd cc
 parameter_same c name [] m v x f there e n =
     parameter_found c m _ (slice_get (components_of_block c) (0 + m.place)) v x f refl
     (sym (ap (λ o. own_walked c false
-    (paths.goes_on (paths.found_at (components_of_block c) c.block false 0 0 o) (λ spot. walk.Reaches spot)))
+    (paths.path_end_and_then (paths.path_end_at_member (components_of_block c) c.block false 0 0 o) (λ spot. walk.Reaches spot)))
     there) ∙ e)
     n
 
@@ -227,65 +227,65 @@ function_same None = refl
 function_same (Some b) = refl
 
 local_found : (c : Context) (name : List ℕ) (steps : List PathStep) (m : Option Member)
-    (v : ResolvedOperand) (x : Named) → component 0 0 0 name (components_of_block c) ≡ m
+    (v : ResolvedOperand) (x : NamedItem) → component_of_name 0 0 0 name (components_of_block c) ≡ m
     → own_walked c (not (is_some m))
     (if is_some (whole_at c.layouts c.block)
-    then paths.goes_on
-    (if is_some m then outermost c.layouts c.block false 0 name
-    else outermost c.layouts c.block true 0 name)
-    (λ spot. walked c.layouts spot steps)
+    then paths.path_end_and_then
+    (if is_some m then outermost_path_end c.layouts c.block false 0 name
+    else outermost_path_end c.layouts c.block true 0 name)
+    (λ spot. path_end_behind c.layouts spot steps)
     else walk.Rests) ≡ Resolved v
     → variable_by c name steps m ≡ Some x → view_named None v ≡ Some x
 local_found c name steps None v x there e n =
     temporary_walked c
-    (walked_from c.layouts c.block true (step.Named name ∷ steps)) v x
+    (path_end_in_block c.layouts c.block true (step.Named name ∷ steps)) v x
     (judged c true (is_some (whole_at c.layouts c.block))
-    (walked_from c.layouts c.block true (step.Named name ∷ steps)) v e)
+    (path_end_in_block c.layouts c.block true (step.Named name ∷ steps)) v e)
     (inside (leaves_from c.layouts c.block true (step.Named name ∷ steps))
-    (reached c.layouts area.L 0 (walked_from c.layouts c.block true (step.Named name ∷ steps))) x n)
+    (place_at_path_end c.layouts area.L 0 (path_end_in_block c.layouts c.block true (step.Named name ∷ steps))) x n)
 local_found c name steps (Some m) v x there e n = by (is_fc (slice_get c.blocks c.block)) refl n
   where
     path : List PathStep
     path = step.Named name ∷ steps
 
-    sound : own_walked c false (walked_from c.layouts c.block false (step.Named name ∷ steps))
+    sound : own_walked c false (path_end_in_block c.layouts c.block false (step.Named name ∷ steps))
         ≡ Resolved v
     sound = judged c false (is_some (whole_at c.layouts c.block))
-        (walked_from c.layouts c.block false (step.Named name ∷ steps)) v e
+        (path_end_in_block c.layouts c.block false (step.Named name ∷ steps)) v e
 
     by : (fc : Bool) → is_fc (slice_get c.blocks c.block) ≡ fc
         → (if fc then parameter_named c m.place steps
-        else place_in_layout (variable c.layouts area.Di c.block false (step.Named name ∷ steps))) ≡ Some x
+        else place_in_layout (variable_place c.layouts area.Di c.block false (step.Named name ∷ steps))) ≡ Some x
         → view_named None v ≡ Some x
     by true f h =
         parameter_same c name steps m v x
         (sym (function_same (slice_get c.blocks c.block)) ∙ f) there sound h
     by false f h =
-        static_walked c (walked_from c.layouts c.block false (step.Named name ∷ steps)) v x
+        static_walked c (path_end_in_block c.layouts c.block false (step.Named name ∷ steps)) v x
         (sym (function_same (slice_get c.blocks c.block)) ∙ f) sound
         (inside (leaves_from c.layouts c.block false (step.Named name ∷ steps))
-        (reached c.layouts area.Di 0 (walked_from c.layouts c.block false (step.Named name ∷ steps)))
+        (place_at_path_end c.layouts area.Di 0 (path_end_in_block c.layouts c.block false (step.Named name ∷ steps)))
         x h)
 
-local_same : (c : Context) (name : List ℕ) (steps : List PathStep) (v : ResolvedOperand) (x : Named)
+local_same : (c : Context) (name : List ℕ) (steps : List PathStep) (v : ResolvedOperand) (x : NamedItem)
     → own_variable c name steps ≡ Resolved v → variable_named c name steps ≡ Some x
     → view_named None v ≡ Some x
 unfolding walked_local
 local_same c name steps v x e n =
-    local_found c name steps (component 0 0 0 name (components_of_block c)) v x refl e n
+    local_found c name steps (component_of_name 0 0 0 name (components_of_block c)) v x refl e n
 
 -- ---- components of data blocks
 
 data_spot : (c : Context) (number : ℕ) (spot : ComponentAt) (o : Option Simple) (v : ResolvedOperand)
-    (x : Named) → data_at c number spot o ≡ Resolved v
-    → place_in_layout (placed area.Db number spot.offset o) ≡ Some x → view_named None v ≡ Some x
+    (x : NamedItem) → data_at c number spot o ≡ Resolved v
+    → place_in_layout (elementary_place area.Db number spot.offset o) ≡ Some x → view_named None v ≡ Some x
 data_spot c number spot None v x e n = absurd cc
 data_spot c number spot (Some kind) v x e n =
-    area_same kind (placed area.Db number spot.offset (Some kind)) v x e n
+    area_same kind (elementary_place area.Db number spot.offset (Some kind)) v x e n
 
-data_end : (c : Context) (number : ℕ) (end : PathEnd) (v : ResolvedOperand) (x : Named)
+data_end : (c : Context) (number : ℕ) (end : PathEnd) (v : ResolvedOperand) (x : NamedItem)
     → data_walked c number end ≡ Resolved v
-    → place_in_layout (reached c.layouts area.Db number end) ≡ Some x → view_named None v ≡ Some x
+    → place_in_layout (place_at_path_end c.layouts area.Db number end) ≡ Some x → view_named None v ≡ Some x
 data_end c number (walk.Reaches spot) v x e n =
     data_spot c number spot (elementary_at c.layouts spot) v x e n
 data_end c number walk.Unknown v x e n = absurd cc
@@ -293,35 +293,35 @@ data_end c number walk.Rests v x e n = absurd cc
 
 -- the data block at a place of the source
 data_placed : (c : Context) (id : BlockId) (steps : List PathStep) (number place : ℕ)
-    (v : ResolvedOperand) (x : Named) → number ≡ id.number
-    → data_walked c number (walked_data c.layouts place steps) ≡ Resolved v
-    → place_in_layout (option_and_then (offsets.offset_in c.layouts id section.Global steps)
+    (v : ResolvedOperand) (x : NamedItem) → number ≡ id.number
+    → data_walked c number (path_end_in_data_block c.layouts place steps) ≡ Resolved v
+    → place_in_layout (option_and_then (offsets.place_in_section c.layouts id section.Global steps)
     (if_whole c.layouts place)) ≡ Some x
     → view_named None v ≡ Some x
 data_placed c id steps number place v x is e n = by (is_some (whole_at c.layouts place)) n
   where
     in_db : (db : Bool)
-        → place_in_layout (if db then offsets.component c.layouts id.number place steps else None) ≡ Some x
+        → place_in_layout (if db then offsets.component_place c.layouts id.number place steps else None) ≡ Some x
         → view_named None v ≡ Some x
     in_db true h =
-        data_end c id.number (walked_data c.layouts place steps) v x
-        (ap (λ k. data_walked c k (walked_data c.layouts place steps)) (sym is) ∙ e)
+        data_end c id.number (path_end_in_data_block c.layouts place steps) v x
+        (ap (λ k. data_walked c k (path_end_in_data_block c.layouts place steps)) (sym is) ∙ e)
         (inside (leaves_judged c.layouts (structure_of c.layouts place) steps)
-        (reached c.layouts area.Db id.number (walked_data c.layouts place steps)) x h)
+        (place_at_path_end c.layouts area.Db id.number (path_end_in_data_block c.layouts place steps)) x h)
     in_db false h = absurd cc
 
     by : (whole : Bool)
-        → place_in_layout (option_and_then (offsets.offset_in c.layouts id section.Global steps)
+        → place_in_layout (option_and_then (offsets.place_in_section c.layouts id section.Global steps)
         (if whole then Some place else None)) ≡ Some x
         → view_named None v ≡ Some x
     by true h = in_db (is_data_block id.kind) h
     by false h = absurd cc
 
 data_known : (c : Context) (id : BlockId) (steps : List PathStep) (number place : Option ℕ)
-    (v : ResolvedOperand) (x : Named)
+    (v : ResolvedOperand) (x : NamedItem)
     → ((n : ℕ) → number ≡ Some n → n ≡ id.number)
     → data_path c steps number place ≡ Resolved v
-    → place_in_layout (option_and_then (offsets.offset_in c.layouts id section.Global steps)
+    → place_in_layout (option_and_then (offsets.place_in_section c.layouts id section.Global steps)
     (option_and_then (if_whole c.layouts) place)) ≡ Some x
     → view_named None v ≡ Some x
 data_known c id steps (Some number) (Some place) v x is e n =
@@ -331,12 +331,12 @@ data_known c id steps None (Some place) v x is e n = absurd cc
 data_known c id steps None None v x is e n = absurd cc
 
 data_kind : (c : Context) (id : BlockId) (db : Bool) (steps : List PathStep) (number : Option ℕ)
-    (v : ResolvedOperand) (x : Named)
+    (v : ResolvedOperand) (x : NamedItem)
     → ((n : ℕ) → number ≡ Some n → n ≡ id.number)
     → data_path c steps number
     (option_and_then (λ id. known_block id (map (λ b. b.id) c.layouts)) (if db then Some id else None))
     ≡ Resolved v
-    → place_in_layout (option_and_then (offsets.offset_in c.layouts id section.Global steps)
+    → place_in_layout (option_and_then (offsets.place_in_section c.layouts id section.Global steps)
     (option_and_then (if_whole c.layouts) (known_block id (map (λ b. b.id) c.layouts)))) ≡ Some x
     → view_named None v ≡ Some x
 data_kind c id true steps number v x is e n =
@@ -345,35 +345,35 @@ data_kind c id false steps (Some number) v x is e n = absurd cc
 data_kind c id false steps None v x is e n = absurd cc
 
 data_named : (c : Context) (o : Option BlockId) (steps : List PathStep) (number : Option ℕ)
-    (v : ResolvedOperand) (x : Named)
+    (v : ResolvedOperand) (x : NamedItem)
     → ((n : ℕ) → number ≡ Some n → option_map (λ id. id.number) o ≡ Some n)
     → data_path c steps number
     (option_and_then (λ id. known_block id (map (λ b. b.id) c.layouts)) (of_kind is_data_block o))
     ≡ Resolved v
-    → place_in_layout (option_and_then (λ id. offset_of c.layouts id section.Global steps) o) ≡ Some x
+    → place_in_layout (option_and_then (λ id. place_of_path c.layouts id section.Global steps) o) ≡ Some x
     → view_named None v ≡ Some x
-unfolding offset_of
+unfolding place_of_path
 data_named c None steps number v x is e n = absurd cc
 data_named c (Some id) steps number v x is e n =
     data_kind c id (is_data_block id.kind) steps number v x
     (λ k there. sym (same_Some id.number k (is k there))) e n
 
 component_same : (c : Context) (name : BlockName) (steps : List PathStep) (v : ResolvedOperand)
-    (x : Named) → data_variable c name steps ≡ Resolved v → component_named c name steps ≡ Some x
+    (x : NamedItem) → data_variable c name steps ≡ Resolved v → component_named c name steps ≡ Some x
     → view_named None v ≡ Some x
 component_same c name steps v x e n =
     data_named c (named_block c.symbols name) steps (data_number c name) v x
     (λ k there. ap (option_map (λ (id : BlockId). id.number)) (block_same c name)
     ∙ number_known c name k there)
     e
-    (ap (λ o. place_in_layout (option_and_then (λ id. offset_of c.layouts id section.Global steps) o))
+    (ap (λ o. place_in_layout (option_and_then (λ id. place_of_path c.layouts id section.Global steps) o))
     (block_same c name) ∙ n)
 
 -- ---- called blocks
 
 -- a block that is called, or none where it breaks a rule
 whole_called : (c : Context) (id : BlockId) (instance : Option BlockName) (number : Option ℕ)
-    (v : ResolvedOperand) → called_seen (whole_block c (Some id)) instance number ≡ Resolved v
+    (v : ResolvedOperand) → called_seen (whole_called_block c (Some id)) instance number ≡ Resolved v
     → called_seen (Some id) instance number ≡ Resolved v
 whole_called c id instance number v e = by (is_system_function id.kind) (whole_place c id) e
   where
@@ -384,8 +384,8 @@ whole_called c id instance number v e = by (is_system_function id.kind) (whole_p
     by false (Some place) h = h
     by false None h = absurd cc
 
-plain_call : (c : Context) (o : Option BlockId) (v : ResolvedOperand) (x : Named)
-    → called_seen (whole_block c o) None None ≡ Resolved v
+plain_call : (c : Context) (o : Option BlockId) (v : ResolvedOperand) (x : NamedItem)
+    → called_seen (whole_called_block c o) None None ≡ Resolved v
     → option_map (λ id. named.Called id None) o ≡ Some x → view_named None v ≡ Some x
 plain_call c None v x e n = absurd cc
 plain_call c (Some id) v x e n =
@@ -393,8 +393,8 @@ plain_call c (Some id) v x e n =
     (whole_called c id None None v e) n
 
 instance_call : (c : Context) (o : Option BlockId) (db : BlockName) (number : Option ℕ)
-    (v : ResolvedOperand) (x : Named) → data_number c db ≡ number
-    → called_seen (whole_block c o) (Some db) number ≡ Resolved v
+    (v : ResolvedOperand) (x : NamedItem) → data_number c db ≡ number
+    → called_seen (whole_called_block c o) (Some db) number ≡ Resolved v
     → with_instance o (block_number c db) ≡ Some x → view_named None v ≡ Some x
 instance_call c None db number v x d e n = absurd cc
 instance_call c (Some id) db None v x d e n =
@@ -409,12 +409,12 @@ instance_call c (Some id) db (Some number) v x d e n =
 
 -- ---- operands
 
-pub view_same : (c : Context) (o : Operand) (v : ResolvedOperand) (x : Named)
-    → seen c o ≡ Resolved v → named_by c o ≡ Some x → view_named (about o) v ≡ Some x
-unfolding seen named_by
+pub view_same : (c : Context) (o : Operand) (v : ResolvedOperand) (x : NamedItem)
+    → resolution_of c o ≡ Resolved v → named_by c o ≡ Some x → view_named (about o) v ≡ Some x
+unfolding resolution_of named_by
 view_same c operand.Nothing v x e n = carry None view.Nothing v named.Nothing x refl e n
 view_same c (operand.Direct None a w byte bit) v x e n =
-    carry None (address 0 a w byte bit) v (fixed_place (own.area_of a) w byte bit) x
+    carry None (resolved_address 0 a w byte bit) v (named_fixed_place (own.area_by_letters a) w byte bit) x
     (direct_named a w byte bit) e n
 view_same c (operand.Direct (Some name) a w byte bit) v x e n =
     in_block_same c name a w byte bit v x (data_number c name) refl e n
@@ -429,20 +429,20 @@ view_same c (operand.Named (head.Local name) steps) v x e n =
 view_same c (operand.Named (head.InBlock name) steps) v x e n =
     component_same c name (folded_path steps) v x e n
 view_same c (operand.ByMemory a w from byte) v x e n =
-    carry None (view.ByMemory (area_of a) w (area_of from) byte) v
-    (named.Place (named.ByMemory (own.area_of a) w (own.area_of from) byte)) x
+    carry None (view.ByMemory (area_for_letters a) w (area_for_letters from) byte) v
+    (named.Place (named.ByMemory (own.area_by_letters a) w (own.area_by_letters from) byte)) x
     (ap₂ (λ a from. Some (named.Place (named.ByMemory a w from byte))) (letters_same a) (letters_same from))
     e n
 view_same c (operand.NumberBy what from byte) v x e n =
-    carry None (view.NumberBy what (area_of from) byte) v
-    (number_in what (named.InWord (own.area_of from) byte)) x
+    carry None (view.NumberBy what (area_for_letters from) byte) v
+    (numbered_item what (named.InWord (own.area_by_letters from) byte)) x
     (ap Some (number_in_same what from byte)) e n
 view_same c (operand.ByRegister a w r count) v x e n =
     carry None (view.ByRegister (area_left a) w r count) v
-    (named.Place (named.ByRegister (option_map own.area_of a) w r count)) x
+    (named.Place (named.ByRegister (option_map own.area_by_letters a) w r count)) x
     (ap (λ a. Some (named.Place (named.ByRegister a w r count))) (left_same a)) e n
 view_same c (operand.Pointer a byte bit) v x e n =
-    carry None (view.Pointer (area_left a) byte bit) v (named.Pointer (pointer_bits a byte bit)) x
+    carry None (view.Pointer (area_left a) byte bit) v (named.Pointer (pointer_constant_bits a byte bit)) x
     (ap (λ b. Some (named.Pointer b)) (pointer_same a byte bit)) e n
 view_same c (operand.Constant value) v x e n =
     carry (Some value) view.Constant v (named.Constant value) x refl e n
@@ -450,7 +450,7 @@ view_same c (operand.Label name) v x e n = carry None view.Label v named.Label x
 view_same c (operand.OfStatus flag) v x e n =
     carry None (view.OfStatus flag) v (named.Condition flag) x refl e n
 view_same c (operand.Other name) v x e n =
-    ap (view_named None) (sym (resolved_same (view.Register (register_of name)) v e))
+    ap (view_named None) (sym (resolved_same (view.Register (register_for_word name)) v e))
     ∙ register_same (is_same_name name (codes "STW")) (is_same_name name (codes "DBLG"))
     (is_same_name name (codes "DBNO")) (is_same_name name (codes "DILG"))
     (is_same_name name (codes "DINO")) (is_same_name name (codes "AR2")) x n

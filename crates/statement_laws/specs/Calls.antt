@@ -26,19 +26,19 @@ use Rattle.stl_types.specs.Context.{Context}
 use Rattle.flat_code.specs.Records.{section_out}
 use Rattle.flat_code.specs.declared.programs.Param.{Param}
 use Rattle.machine.specs.Code.{Code, BlockHead}
-use Rattle.machine.specs.Entering.{called_with}
+use Rattle.machine.specs.Entering.{call_with_bindings}
 use Rattle.machine.specs.ExecState.{ExecState, exec_state_of, then_ok}
-use Rattle.machine.specs.Statement.{Step, Stuck, Went, World, call_step, after_system_call, called_block}
-use Rattle.machine.specs.SystemCalls.{given_now, system_function}
+use Rattle.machine.specs.Statement.{StatementStep, Stuck, Went, GlobalStore, call_step, after_system_call, called_block}
+use Rattle.machine.specs.SystemCalls.{arguments_of_activation, system_function}
 use Rattle.machine.specs.declared.places.Access.{Access}
 use Rattle.machine.specs.declared.places.Access.TheVariants.{Reading, Writing}
 use Rattle.machine.specs.declared.places.Location.{Location}
-use Rattle.statement_laws.specs.Effects.{is_loaded}
-use Rattle.statement_laws.specs.Jumps.{rlo_set, standing_at}
-use Rattle.statement_laws.specs.Named.{Named}
+use Rattle.statement_laws.specs.Effects.{is_data_block_loaded}
+use Rattle.statement_laws.specs.Jumps.{with_rlo_1, standing_at}
+use Rattle.statement_laws.specs.Named.{NamedItem}
 use Rattle.statement_laws.specs.Named as named
 use Rattle.statement_laws.specs.Operands.{has_result, named_by}
-use Rattle.statement_laws.specs.Reading.{at, bits, fixed_place, no_place, number_at_bound}
+use Rattle.statement_laws.specs.Reading.{location_of_parts, bits_of_literal, fixed_place, missing_place_error, number_at_bound}
 
 -- ---- parameters by their names
 
@@ -56,8 +56,8 @@ name_if_plain (element.Plain kind) name = name ∷ []
 name_if_plain _ name = []
 
 -- the name of a parameter that a call passes, if it is declared so
-abbrev pub parameter_name : Cell → List (List ℕ)
-parameter_name cell =
+abbrev pub name_of_parameter : Cell → List (List ℕ)
+name_of_parameter cell =
     if is_passed_by_call cell.section then name_if_plain cell.of cell.name else []
 
 -- in the order of a call the return value, which is declared first, is the last
@@ -86,7 +86,7 @@ abbrev pub source_names : Context → Option ℕ → List (List ℕ)
 source_names c None = []
 source_names c (Some place) =
     in_call_order (has_result (slice_get c.blocks place))
-    (flat_map parameter_name (cells_at c.layouts place false))
+    (flat_map name_of_parameter (cells_at c.layouts place false))
 
 -- the parameters of a block in the order of a call
 abbrev pub parameter_names : Context → BlockId → List (List ℕ)
@@ -97,13 +97,13 @@ parameter_names c id =
 -- ---- what is passed
 
 -- the actual parameter of a name, whose letters may be small or large
-abbrev pub actual_for : List ℕ → List Actual → Option Actual
-actual_for name [] = None
-actual_for name (a ∷ actuals) =
-    if bytes_eq (upper_case_name a.name) name then Some a else actual_for name actuals
+abbrev pub actual_named : List ℕ → List Actual → Option Actual
+actual_named name [] = None
+actual_named name (a ∷ actuals) =
+    if bytes_eq (upper_case_name a.name) name then Some a else actual_named name actuals
 
 -- a constant, a place, a place in a data block that is named, or a parameter of the caller is passed
-abbrev pub if_passable : Named → Option Named
+abbrev pub if_passable : NamedItem → Option NamedItem
 if_passable (named.Constant value) = Some (named.Constant value)
 if_passable (named.Place (named.Fixed a w byte bit)) = Some (named.Place (named.Fixed a w byte bit))
 if_passable (named.PlaceIn block w byte bit) = Some (named.PlaceIn block w byte bit)
@@ -111,7 +111,7 @@ if_passable (named.Parameter index w) = Some (named.Parameter index w)
 if_passable _ = None
 
 -- the place or value that is passed, if it may be
-abbrev pub named_in_call : Context → Option Actual → Option Named
+abbrev pub named_in_call : Context → Option Actual → Option NamedItem
 named_in_call c None = None
 named_in_call c (Some a) = option_and_then if_passable (named_by c a.value)
 
@@ -119,7 +119,7 @@ named_in_call c (Some a) = option_and_then if_passable (named_by c a.value)
 
 -- a place is bound where it exists: 22 and 23, in the peripheral area 42 and 43
 abbrev pub binding_if : Access → Location → Option ℕ → Result Binding ℕ
-binding_if access b None = Err (no_place access b.place.area)
+binding_if access b None = Err (missing_place_error access b.place.area)
 binding_if access b (Some n) = Ok (binding.Bound b.place b.width b.frame)
 
 -- what a parameter stands for that is passed a place
@@ -133,12 +133,12 @@ binding_passed_on None = Err 0
 
 -- a constant by its value, a place as it is at the call; a place in a data block that is named opens
 -- nothing: 3A where the block isn't loaded
-unfoldable pub binding_of : Access → Named → ExecState → Result Binding ℕ
-binding_of access (named.Constant value) p = Ok (binding.Constant (bits value))
+unfoldable pub binding_of : Access → NamedItem → ExecState → Result Binding ℕ
+binding_of access (named.Constant value) p = Ok (binding.Constant (bits_of_literal value))
 binding_of access (named.Place (named.Fixed a w byte bit)) p =
     then_ok (fixed_place access a w byte bit p) (λ b. binding_at access b p)
 binding_of access (named.PlaceIn block w byte bit) p =
-    if is_loaded block p then binding_at access (at area.Db block byte bit w 0) p else Err 0x3A
+    if is_data_block_loaded block p then binding_at access (location_of_parts area.Db block byte bit w 0) p else Err 0x3A
 binding_of access (named.Parameter index w) p = binding_passed_on (slice_get p.local.inner.bindings index)
 binding_of access _ p = Err 0
 
@@ -147,16 +147,16 @@ abbrev pub access_of : Param → Access
 access_of param = if nat_eq param.section section_out then Writing else Reading
 
 -- for the parameter of an index; no block has another one
-abbrev pub binding_for : Option Param → Named → ExecState → Result Binding ℕ
+abbrev pub binding_for : Option Param → NamedItem → ExecState → Result Binding ℕ
 binding_for (Some param) x p = binding_of (access_of param) x p
 binding_for None x p = Err 0
 
 -- the parameter of an index stands for what is passed, if something is
-abbrev pub binds :
-    Option Named → Option Param → (index : ℕ) → List Binding → ExecState
+abbrev pub binds_parameter :
+    Option NamedItem → Option Param → (index : ℕ) → List Binding → ExecState
     → (List Binding → Result (List Binding) ℕ) → Result (List Binding) ℕ
-binds None param index bindings p next = next bindings
-binds (Some x) param index bindings p next =
+binds_parameter None param index bindings p next = next bindings
+binds_parameter (Some x) param index bindings p next =
     then_ok (binding_for param x p) (λ b. next (binding_set bindings index b))
 
 -- one after the other, by the order of the parameters; the first that can't be bound is the error
@@ -165,7 +165,7 @@ abbrev pub bindings_from :
     → Result (List Binding) ℕ
 bindings_from params c actuals index [] bindings p = Ok bindings
 bindings_from params c actuals index (name ∷ names) bindings p =
-    binds (named_in_call c (actual_for name actuals)) (slice_get params index) index bindings p
+    binds_parameter (named_in_call c (actual_named name actuals)) (slice_get params index) index bindings p
     (λ more. bindings_from params c actuals (suc index) names more p)
 
 -- before, none is supplied
@@ -177,44 +177,44 @@ bindings_of c actuals names params p =
 -- ---- the call
 
 -- CC calls where the RLO is 1
-abbrev pub is_made : Mnemonic → (rlo : Bool) → Bool
-is_made code.Cc rlo = rlo
-is_made _ rlo = true
+abbrev pub makes_call : Mnemonic → (rlo : Bool) → Bool
+makes_call code.Cc rlo = rlo
+makes_call _ rlo = true
 
 -- OS 0, OR 0, STA 1, /FC 0
-abbrev pub at_call : Regs → Regs
-at_call r =
+abbrev pub registers_at_call : Regs → Regs
+registers_at_call r =
     record r { status = record r.status { os = false; or = false; sta = true; fc = false } }
 
 -- a block of the program is entered, by its head
 abbrev pub enters_block :
     Option BlockHead → BlockId → Option ℕ → (List Param → ExecState → Result (List Binding) ℕ) → (next : ℕ)
-    → Activation → World → Step
+    → Activation → GlobalStore → StatementStep
 enters_block None id instance bind next a w = Stuck
 enters_block (Some h) id instance bind next a w =
     call_step
-    (called_with (bind h.params (exec_state_of a.running w.memory w.timers w.counters))
+    (call_with_bindings (bind h.params (exec_state_of a.running w.memory w.timers w.counters))
     (called_block id instance h) next a w.memory)
     next a w
 
 -- a system function is called, by its parameters
 abbrev pub enters_system :
     Option (List Param) → (number : ℕ) → (List Param → ExecState → Result (List Binding) ℕ) → (next : ℕ)
-    → Activation → World → Step
+    → Activation → GlobalStore → StatementStep
 enters_system None number bind next a w = Stuck
 enters_system (Some params) number bind next a w =
     after_system_call
     (then_ok (bind params (exec_state_of a.running w.memory w.timers w.counters))
-    (λ bindings. Ok (given_now params bindings a w.memory)))
+    (λ bindings. Ok (arguments_of_activation params bindings a w.memory)))
     number next a
 
 -- a call that is made; CC with RLO 0 sets the four bits and RLO 1, and goes on
-abbrev pub calls :
+abbrev pub calls_block :
     Mnemonic → BlockId → Option ℕ → (List Param → ExecState → Result (List Binding) ℕ) → Code → (next : ℕ)
-    → Activation → World → Step
-calls m id instance bind program next a w =
-    if is_made m a.running.regs.status.rlo
+    → Activation → GlobalStore → StatementStep
+calls_block m id instance bind program next a w =
+    if makes_call m a.running.regs.status.rlo
     then (if is_system_function id.kind
     then enters_system (system_function id.number) id.number bind next a w
     else enters_block (program.head id) id instance bind next a w)
-    else Went (standing_at next (rlo_set (at_call a.running.regs)) a) w
+    else Went (standing_at next (with_rlo_1 (registers_at_call a.running.regs)) a) w

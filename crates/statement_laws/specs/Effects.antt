@@ -43,15 +43,15 @@ use Rattle.stl_ast.specs.declared.mnemonics.Mnemonic.TheVariants as code
 use Rattle.machine.specs.ExecState.{ExecState, then_ok}
 use Rattle.machine.specs.declared.places.Access.TheVariants.{Writing}
 use Rattle.machine.specs.declared.places.Location.{Location}
-use Rattle.statement_laws.specs.Named.{Named, Number, OpenBlock}
+use Rattle.statement_laws.specs.Named.{NamedItem, Number, OpenBlock}
 use Rattle.statement_laws.specs.Named as named
-use Rattle.statement_laws.specs.Reading.{bcd_to_load, bit_of_operand, bits, number_of_item, number_of_operand, number_or_error, number_to_load, place_of_operand, with_number_at}
+use Rattle.statement_laws.specs.Reading.{bcd_to_load, bit_of_operand, bits_of_literal, number_of_item, number_of_operand, number_or_error, number_to_load, place_of_operand, with_number_at}
 
 -- ---- registers, and what the block holds
 
 -- the registers, and others in their place
-abbrev pub regs : ExecState → Regs
-regs p = p.local.regs
+abbrev pub registers_of : ExecState → Regs
+registers_of p = p.local.regs
 
 -- other registers; all else stays
 abbrev pub with_regs : Regs → ExecState → ExecState
@@ -59,53 +59,53 @@ with_regs r p = record p { local = record p.local { regs = r } }
 
 -- an instruction on the registers alone
 abbrev pub on_regs : (Regs → Regs) → ExecState → Result ExecState ℕ
-on_regs f p = Ok (with_regs (f (regs p)) p)
+on_regs f p = Ok (with_regs (f (registers_of p)) p)
 
 -- with other data blocks, brackets or another relay
 abbrev pub with_inner : FrameData → ExecState → ExecState
 with_inner i p = record p { local = record p.local { inner = i } }
 
 -- RLO, and the RLO that the relay lets through: 0 while it is closed
-abbrev pub rlo : ExecState → Bool
-rlo p = (regs p).status.rlo
+abbrev pub rlo_of : ExecState → Bool
+rlo_of p = (registers_of p).status.rlo
 
 -- the master control relay is active, and its last zone has the value 0
 abbrev pub is_relay_closed : ExecState → Bool
 is_relay_closed p = is_zone_closed p.local.inner.relay
 
 -- the power flow: RLO, but 0 while the master control relay is closed
-abbrev pub flow : ExecState → Bool
-flow p = rlo p && not (is_relay_closed p)
+abbrev pub power_flow_of : ExecState → Bool
+power_flow_of p = rlo_of p && not (is_relay_closed p)
 
 -- the low word of accumulator 1
 abbrev pub low_word : ExecState → ℕ
-low_word p = (regs p).a1 % 2 ^ 16
+low_word p = (registers_of p).a1 % 2 ^ 16
 
 -- ---- bit logic
 
 -- A AN O ON X XN: the bit is read and checked
-abbrev pub checks : Check → Named → ExecState → Result ExecState ℕ
-checks with x p = then_ok (bit_of_operand x p) (λ b. on_regs (after_check with b) p)
+abbrev pub checks_bit : Check → NamedItem → ExecState → Result ExecState ℕ
+checks_bit with x p = then_ok (bit_of_operand x p) (λ b. on_regs (after_check with b) p)
 
 -- O without operand: AND before OR
-abbrev pub checks_or : Named → ExecState → Result ExecState ℕ
+abbrev pub checks_or : NamedItem → ExecState → Result ExecState ℕ
 checks_or named.Nothing p = on_regs or_bare p
-checks_or x p = checks check.O x p
+checks_or x p = checks_bit check.O x p
 
 -- A( to XN(: at most seven are open
-abbrev pub with_brackets : List Bracket → ExecState → ExecState
-with_brackets brackets p = with_inner (record p.local.inner { brackets = brackets }) p
+abbrev pub with_bracket_list : List Bracket → ExecState → ExecState
+with_bracket_list brackets p = with_inner (record p.local.inner { brackets = brackets }) p
 
 -- A( to XN(: a bracket opens; none is an eighth
 abbrev pub opens_bracket : Check → ExecState → Result ExecState ℕ
 opens_bracket with p =
     if length p.local.inner.brackets == 7 then Err 0
-    else on_regs bracket_begun (with_brackets (entry_of with (regs p) ∷ p.local.inner.brackets) p)
+    else on_regs bracket_begun (with_bracket_list (entry_of with (registers_of p) ∷ p.local.inner.brackets) p)
 
 -- ): the last one
 abbrev pub closes_one : List Bracket → ExecState → Result ExecState ℕ
 closes_one [] p = Err 0
-closes_one (bracket ∷ rest) p = on_regs (bracket_ended bracket) (with_brackets rest p)
+closes_one (bracket ∷ rest) p = on_regs (bracket_ended bracket) (with_bracket_list rest p)
 
 -- ): the innermost bracket closes
 abbrev pub closes_bracket : ExecState → Result ExecState ℕ
@@ -125,9 +125,9 @@ abbrev pub bit_there : Location → ExecState → Result Bool ℕ
 bit_there b p = then_ok (number_or_error Writing b p) (λ n. Ok (n == 1))
 
 -- =: the RLO that the relay lets through
-abbrev pub assigns : Named → ExecState → Result ExecState ℕ
-assigns x p =
-    then_ok (place_of_operand Writing x p) (λ b. writes_bit b (flow p) (after_store (flow p) (regs p)) p)
+abbrev pub assigns_power_flow : NamedItem → ExecState → Result ExecState ℕ
+assigns_power_flow x p =
+    then_ok (place_of_operand Writing x p) (λ b. writes_bit b (power_flow_of p) (after_store (power_flow_of p) (registers_of p)) p)
 
 -- S (1) and R (0) of a bit: with RLO 1, and not while the relay is closed
 abbrev pub bit_after : (flow value before : Bool) → Bool
@@ -135,18 +135,18 @@ bit_after true value before = value
 bit_after false value before = before
 
 -- S and R: the bit takes the value, where power flows
-abbrev pub sets_bit : (value : Bool) → Named → ExecState → Result ExecState ℕ
+abbrev pub sets_bit : (value : Bool) → NamedItem → ExecState → Result ExecState ℕ
 sets_bit value x p =
     then_ok (place_of_operand Writing x p) (λ b.
     then_ok (bit_there b p) (λ before.
-    writes_bit b (bit_after (flow p) value before)
-    (after_store (bit_after (flow p) value before) (regs p)) p))
+    writes_bit b (bit_after (power_flow_of p) value before)
+    (after_store (bit_after (power_flow_of p) value before) (registers_of p)) p))
 
 -- FP and FN: the operand is the edge bit, which gets the RLO
-abbrev pub tells_edge : (rising : Bool) → Named → ExecState → Result ExecState ℕ
+abbrev pub tells_edge : (rising : Bool) → NamedItem → ExecState → Result ExecState ℕ
 tells_edge rising x p =
     then_ok (place_of_operand Writing x p) (λ b.
-    then_ok (bit_there b p) (λ before. writes_bit b (rlo p) (after_edge rising before (regs p)) p))
+    then_ok (bit_there b p) (λ before. writes_bit b (rlo_of p) (after_edge rising before (registers_of p)) p))
 
 -- ---- the master control relay
 
@@ -155,14 +155,14 @@ abbrev pub with_relay : Relay → ExecState → ExecState
 with_relay r p = with_inner (record p.local.inner { relay = r }) p
 
 -- MCRA, MCRD
-abbrev pub activates : Bool → ExecState → Result ExecState ℕ
-activates active p = Ok (with_relay (record p.local.inner.relay { active = active }) p)
+abbrev pub activates_relay : Bool → ExecState → Result ExecState ℕ
+activates_relay active p = Ok (with_relay (record p.local.inner.relay { active = active }) p)
 
 -- MCR(: at most eight zones are open
-abbrev pub opens_zone : ExecState → Result ExecState ℕ
-opens_zone p =
+abbrev pub opens_relay_zone : ExecState → Result ExecState ℕ
+opens_relay_zone p =
     if length p.local.inner.relay.zones == 8 then Err 0
-    else on_regs (after_store true) (with_relay (zone_opened (rlo p) p.local.inner.relay) p)
+    else on_regs (after_store true) (with_relay (zone_opened (rlo_of p) p.local.inner.relay) p)
 
 -- )MCR
 abbrev pub ends_zone_of : List Bool → ExecState → Result ExecState ℕ
@@ -171,8 +171,8 @@ ends_zone_of (value ∷ around) p =
     on_regs (after_store true) (with_relay (zone_ended p.local.inner.relay) p)
 
 -- )MCR: the last zone ends
-abbrev pub ends_zone : ExecState → Result ExecState ℕ
-ends_zone p = ends_zone_of p.local.inner.relay.zones p
+abbrev pub ends_relay_zone : ExecState → Result ExecState ℕ
+ends_relay_zone p = ends_zone_of p.local.inner.relay.zones p
 
 -- ---- loading and transferring
 
@@ -181,14 +181,14 @@ abbrev pub with_loaded : ℕ → Regs → Regs
 with_loaded n r = record r { a1 = n; a2 = r.a1 }
 
 -- the length of a data block in bytes, in 32 bits; 0 where none is open or it isn't loaded
-abbrev pub length_of : Option (List ℕ) → ℕ
-length_of None = 0
-length_of (Some bytes) = length bytes % 2 ^ 32
+abbrev pub length_of_data_block : Option (List ℕ) → ℕ
+length_of_data_block None = 0
+length_of_data_block (Some bytes) = length bytes % 2 ^ 32
 
 -- the length of the open data block; 0 where none is open
 abbrev pub open_length : Option ℕ → Areas → ℕ
 open_length None m = 0
-open_length (Some n) m = length_of (map.get m.data_blocks n)
+open_length (Some n) m = length_of_data_block (map.get m.data_blocks n)
 
 -- the number and the length of the open data blocks
 abbrev pub open_fact : OpenBlock → ExecState → ℕ
@@ -198,57 +198,57 @@ open_fact named.DiLength p = open_length p.local.inner.di p.memory
 open_fact named.DiNumber p = unwrap_or p.local.inner.di 0
 
 -- L
-abbrev pub loads : Named → ExecState → Result ExecState ℕ
-loads named.StatusWord p = on_regs (with_loaded (status_number (status_shown (regs p).status))) p
-loads (named.Opened what) p = on_regs (with_loaded (open_fact what p)) p
-loads x p = then_ok (number_to_load x p) (λ n. on_regs (with_loaded n) p)
+abbrev pub loads_operand : NamedItem → ExecState → Result ExecState ℕ
+loads_operand named.StatusWord p = on_regs (with_loaded (status_number (status_shown (registers_of p).status))) p
+loads_operand (named.Opened what) p = on_regs (with_loaded (open_fact what p)) p
+loads_operand x p = then_ok (number_to_load x p) (λ n. on_regs (with_loaded n) p)
 
 -- LC
-abbrev pub loads_bcd : Named → ExecState → Result ExecState ℕ
+abbrev pub loads_bcd : NamedItem → ExecState → Result ExecState ℕ
 loads_bcd x p = then_ok (bcd_to_load x p) (λ n. on_regs (with_loaded n) p)
 
 -- the lowest bits of a number go to a place, as many as it has
-abbrev pub puts : ℕ → Named → ExecState → Result ExecState ℕ
-puts n x p = then_ok (place_of_operand Writing x p) (λ b. with_number_at b (n % 2 ^ bit_count b.width) p)
+abbrev pub puts_number : ℕ → NamedItem → ExecState → Result ExecState ℕ
+puts_number n x p = then_ok (place_of_operand Writing x p) (λ b. with_number_at b (n % 2 ^ bit_count b.width) p)
 
 -- T: accumulator 1, and 0 while the relay is closed
-abbrev pub transfers : Named → ExecState → Result ExecState ℕ
-transfers named.StatusWord p = on_regs (λ r. record r { status = status_of r.a1 }) p
-transfers x p = puts (if is_relay_closed p then 0 else (regs p).a1) x p
+abbrev pub transfers_accumulator : NamedItem → ExecState → Result ExecState ℕ
+transfers_accumulator named.StatusWord p = on_regs (λ r. record r { status = status_of r.a1 }) p
+transfers_accumulator x p = puts_number (if is_relay_closed p then 0 else (registers_of p).a1) x p
 
 -- ---- address registers
 
 -- another address in address register 1
 abbrev pub with_ar1 : ℕ → ExecState → ExecState
-with_ar1 n p = with_regs (record (regs p) { ar1 = n }) p
+with_ar1 n p = with_regs (record (registers_of p) { ar1 = n }) p
 
 -- another address in address register 2
 abbrev pub with_ar2 : ℕ → ExecState → ExecState
-with_ar2 n p = with_regs (record (regs p) { ar2 = n }) p
+with_ar2 n p = with_regs (record (registers_of p) { ar2 = n }) p
 
 -- LAR1 and LAR2: accumulator 1, or the operand
-abbrev pub address_to_load : Named → ExecState → Result ℕ ℕ
-address_to_load named.Nothing p = Ok (regs p).a1
+abbrev pub address_to_load : NamedItem → ExecState → Result ℕ ℕ
+address_to_load named.Nothing p = Ok (registers_of p).a1
 address_to_load x p = number_of_operand x p
 
 -- LAR1, with address register 2 too
-abbrev pub loads_ar1 : Named → ExecState → Result ExecState ℕ
-loads_ar1 named.SecondRegister p = Ok (with_ar1 (regs p).ar2 p)
+abbrev pub loads_ar1 : NamedItem → ExecState → Result ExecState ℕ
+loads_ar1 named.SecondRegister p = Ok (with_ar1 (registers_of p).ar2 p)
 loads_ar1 x p = then_ok (address_to_load x p) (λ n. Ok (with_ar1 n p))
 
 -- LAR2
-abbrev pub loads_ar2 : Named → ExecState → Result ExecState ℕ
+abbrev pub loads_ar2 : NamedItem → ExecState → Result ExecState ℕ
 loads_ar2 x p = then_ok (address_to_load x p) (λ n. Ok (with_ar2 n p))
 
 -- TAR1 and TAR2: to accumulator 1, whose contents go to accumulator 2, or to the operand
-abbrev pub puts_address : ℕ → Named → ExecState → Result ExecState ℕ
+abbrev pub puts_address : ℕ → NamedItem → ExecState → Result ExecState ℕ
 puts_address n named.Nothing p = on_regs (with_loaded n) p
-puts_address n x p = puts n x p
+puts_address n x p = puts_number n x p
 
 -- TAR1, to address register 2 too
-abbrev pub stores_ar1 : Named → ExecState → Result ExecState ℕ
-stores_ar1 named.SecondRegister p = Ok (with_ar2 (regs p).ar1 p)
-stores_ar1 x p = puts_address (regs p).ar1 x p
+abbrev pub stores_ar1 : NamedItem → ExecState → Result ExecState ℕ
+stores_ar1 named.SecondRegister p = Ok (with_ar2 (registers_of p).ar1 p)
+stores_ar1 x p = puts_address (registers_of p).ar1 x p
 
 -- CAR
 abbrev pub exchanges_addresses : ExecState → Result ExecState ℕ
@@ -259,7 +259,7 @@ abbrev pub widened_to_24 : (word : ℕ) → ℕ
 widened_to_24 word = if nat_lt word (2 ^ 15) then word else word + (2 ^ 24 - 2 ^ 16)
 
 -- +AR1 and +AR2: the constant, or the integer in the low word of accumulator 1
-abbrev pub added_bits : Named → ExecState → ℕ
+abbrev pub added_bits : NamedItem → ExecState → ℕ
 added_bits (named.Pointer value) p = value
 added_bits x p = widened_to_24 (low_word p)
 
@@ -271,32 +271,32 @@ address_after address count = accumulators.with_low 24 address ((address + count
 
 -- an instruction that may find no BCD number: 21
 abbrev pub on_bcd : (Regs → Option Regs) → ExecState → Result ExecState ℕ
-on_bcd f p = then_ok (ok_or (f (regs p)) 0x21) (λ r. Ok (with_regs r p))
+on_bcd f p = then_ok (ok_or (f (registers_of p)) 0x21) (λ r. Ok (with_regs r p))
 
 -- the constant of an operand in so many bits, where there is one
-abbrev pub constant : (w : ℕ) → Named → Option ℕ
-constant w (named.Constant value) = Some (bits value % 2 ^ w)
-constant w x = None
+abbrev pub constant_of_width : (w : ℕ) → NamedItem → Option ℕ
+constant_of_width w (named.Constant value) = Some (bits_of_literal value % 2 ^ w)
+constant_of_width w x = None
 
 -- where there always is one
-abbrev pub count : (w : ℕ) → Named → ℕ
-count w x = unwrap_or (constant w x) 0
+abbrev pub constant_bits_or_zero : (w : ℕ) → NamedItem → ℕ
+constant_bits_or_zero w x = unwrap_or (constant_of_width w x) 0
 
 -- + adds L# to accumulator 1, another constant to its low word
-abbrev pub adds_by : Named → Regs → Regs
+abbrev pub adds_by : NamedItem → Regs → Regs
 adds_by (named.Constant (literal.Long value)) =
-    accumulators.increased 32 (bits (literal.Long value) % 2 ^ 32)
-adds_by x = accumulators.increased 16 (count 16 x)
+    accumulators.accumulator_increased 32 (bits_of_literal (literal.Long value) % 2 ^ 32)
+adds_by x = accumulators.accumulator_increased 16 (constant_bits_or_zero 16 x)
 
 -- so many places: the constant, or the lowest byte of accumulator 2
-abbrev pub places : Named → ExecState → ℕ
-places x p = unwrap_or (constant 8 x) ((regs p).a2 % 2 ^ 8)
+abbrev pub shift_count : NamedItem → ExecState → ℕ
+shift_count x p = unwrap_or (constant_of_width 8 x) ((registers_of p).a2 % 2 ^ 8)
 
 -- ---- timers and counters
 
 -- the logic string ends
-abbrev pub string_ended : Regs → Regs
-string_ended r = record r { status = record r.status { or = false; fc = false } }
+abbrev pub with_logic_string_ended : Regs → Regs
+with_logic_string_ended r = record r { status = record r.status { or = false; fc = false } }
 
 -- 21 for a digit above 9, the other code for a number that there isn't
 abbrev pub or_error : {A : Type 0} → (code : ℕ) → Result A TimerFault → Result A ℕ
@@ -309,47 +309,47 @@ abbrev pub on_timer : (timers.Timer → Option timers.Timer) → Number → Exec
 on_timer f n p =
     then_ok (number_of_item n p) (λ which.
     then_ok (or_error 0x26 (change_at_number f p.timers which)) (λ all.
-    on_regs string_ended (record p { timers = all })))
+    on_regs with_logic_string_ended (record p { timers = all })))
 
 -- an instruction on the counter of a number; 27 where there is none
 abbrev pub on_counter : (counters.Counter → Option counters.Counter) → Number → ExecState → Result ExecState ℕ
 on_counter f n p =
     then_ok (number_of_item n p) (λ which.
     then_ok (or_error 0x27 (change_at_number f p.counters which)) (λ all.
-    on_regs string_ended (record p { counters = all })))
+    on_regs with_logic_string_ended (record p { counters = all })))
 
 -- SP SE SD SS SF
-abbrev pub starts : TimerKind → Named → ExecState → Result ExecState ℕ
-starts how (named.Timer n) p = on_timer (timers.start_timer how (rlo p) (low_word p)) n p
-starts how x p = Err 0
+abbrev pub starts_timer : TimerKind → NamedItem → ExecState → Result ExecState ℕ
+starts_timer how (named.Timer n) p = on_timer (timers.start_timer how (rlo_of p) (low_word p)) n p
+starts_timer how x p = Err 0
 
 -- CU, CD
-abbrev pub counts : (Bool → counters.Counter → counters.Counter) → Named → ExecState → Result ExecState ℕ
-counts f (named.Counter n) p = on_counter (λ k. Some (f (rlo p) k)) n p
-counts f x p = Err 0
+abbrev pub counts_counter : (Bool → counters.Counter → counters.Counter) → NamedItem → ExecState → Result ExecState ℕ
+counts_counter f (named.Counter n) p = on_counter (λ k. Some (f (rlo_of p) k)) n p
+counts_counter f x p = Err 0
 
 -- S of a counter, and of a bit
-abbrev pub sets : Named → ExecState → Result ExecState ℕ
-sets (named.Counter n) p = on_counter (counters.set_counter (rlo p) (low_word p)) n p
-sets x p = sets_bit true x p
+abbrev pub sets_operand : NamedItem → ExecState → Result ExecState ℕ
+sets_operand (named.Counter n) p = on_counter (counters.set_counter (rlo_of p) (low_word p)) n p
+sets_operand x p = sets_bit true x p
 
 -- R of a timer, of a counter, and of a bit
-abbrev pub resets : Named → ExecState → Result ExecState ℕ
-resets (named.Timer n) p = on_timer (λ t. Some (timers.reset_timer (rlo p) t)) n p
-resets (named.Counter n) p = on_counter (λ k. Some (counters.reset_counter (rlo p) k)) n p
-resets x p = sets_bit false x p
+abbrev pub resets_operand : NamedItem → ExecState → Result ExecState ℕ
+resets_operand (named.Timer n) p = on_timer (λ t. Some (timers.reset_timer (rlo_of p) t)) n p
+resets_operand (named.Counter n) p = on_counter (λ k. Some (counters.reset_counter (rlo_of p) k)) n p
+resets_operand x p = sets_bit false x p
 
 -- FR of a timer and of a counter
-abbrev pub frees : Named → ExecState → Result ExecState ℕ
-frees (named.Timer n) p = on_timer (λ t. Some (timers.free_timer (rlo p) t)) n p
-frees (named.Counter n) p = on_counter (λ k. Some (counters.free_counter (rlo p) k)) n p
-frees x p = Err 0
+abbrev pub frees_operand : NamedItem → ExecState → Result ExecState ℕ
+frees_operand (named.Timer n) p = on_timer (λ t. Some (timers.free_timer (rlo_of p) t)) n p
+frees_operand (named.Counter n) p = on_counter (λ k. Some (counters.free_counter (rlo_of p) k)) n p
+frees_operand x p = Err 0
 
 -- ---- data blocks
 
 -- a data block is loaded
-abbrev pub is_loaded : ℕ → ExecState → Bool
-is_loaded n p = is_some (map.get p.memory.data_blocks n)
+abbrev pub is_data_block_loaded : ℕ → ExecState → Bool
+is_data_block_loaded n p = is_some (map.get p.memory.data_blocks n)
 
 -- it is open in the DI register, or in the DB register
 abbrev pub with_open : (di : Bool) → ℕ → ExecState → ExecState
@@ -357,13 +357,13 @@ with_open true n p = with_inner (record p.local.inner { di = Some n }) p
 with_open false n p = with_inner (record p.local.inner { db = Some n }) p
 
 -- it is opened; 3A where it isn't loaded
-abbrev pub opens_number : (di : Bool) → ℕ → ExecState → Result ExecState ℕ
-opens_number di n p = if is_loaded n p then Ok (with_open di n p) else Err 0x3A
+abbrev pub opens_block_number : (di : Bool) → ℕ → ExecState → Result ExecState ℕ
+opens_block_number di n p = if is_data_block_loaded n p then Ok (with_open di n p) else Err 0x3A
 
 -- OPN
-abbrev pub opens : Named → ExecState → Result ExecState ℕ
-opens (named.DataBlock di n) p = then_ok (number_of_item n p) (λ which. opens_number di which p)
-opens x p = Err 0
+abbrev pub opens_data_block : NamedItem → ExecState → Result ExecState ℕ
+opens_data_block (named.DataBlock di n) p = then_ok (number_of_item n p) (λ which. opens_block_number di which p)
+opens_data_block x p = Err 0
 
 -- CDB
 abbrev pub exchanges_blocks : ExecState → Result ExecState ℕ
@@ -374,15 +374,15 @@ exchanges_blocks p =
 
 -- what an instruction does with what its operand names; the empty statement, jumps, calls and the ends
 -- of a block aren't here
-unfoldable pub action : Mnemonic → Named → ExecState → Result ExecState ℕ
+unfoldable pub action : Mnemonic → NamedItem → ExecState → Result ExecState ℕ
 action code.Nop x p = Ok p
 action code.Bld x p = Ok p
-action code.A x p = checks check.A x p
-action code.An x p = checks check.An x p
+action code.A x p = checks_bit check.A x p
+action code.An x p = checks_bit check.An x p
 action code.O x p = checks_or x p
-action code.On x p = checks check.On x p
-action code.X x p = checks check.X x p
-action code.Xn x p = checks check.Xn x p
+action code.On x p = checks_bit check.On x p
+action code.X x p = checks_bit check.X x p
+action code.Xn x p = checks_bit check.Xn x p
 action code.AOpen x p = opens_bracket check.A p
 action code.AnOpen x p = opens_bracket check.An p
 action code.OOpen x p = opens_bracket check.O p
@@ -390,15 +390,15 @@ action code.OnOpen x p = opens_bracket check.On p
 action code.XOpen x p = opens_bracket check.X p
 action code.XnOpen x p = opens_bracket check.Xn p
 action code.Close x p = closes_bracket p
-action code.Mcra x p = activates true p
-action code.Mcrd x p = activates false p
-action code.McrOpen x p = opens_zone p
-action code.McrClose x p = ends_zone p
-action code.L x p = loads x p
-action code.T x p = transfers x p
-action code.Assign x p = assigns x p
-action code.S x p = sets x p
-action code.R x p = resets x p
+action code.Mcra x p = activates_relay true p
+action code.Mcrd x p = activates_relay false p
+action code.McrOpen x p = opens_relay_zone p
+action code.McrClose x p = ends_relay_zone p
+action code.L x p = loads_operand x p
+action code.T x p = transfers_accumulator x p
+action code.Assign x p = assigns_power_flow x p
+action code.S x p = sets_operand x p
+action code.R x p = resets_operand x p
 action code.Fp x p = tells_edge true x p
 action code.Fn x p = tells_edge false x p
 action code.Set x p = on_regs rlo_set_to_1 p
@@ -409,80 +409,80 @@ action code.Lc x p = loads_bcd x p
 action code.Lar1 x p = loads_ar1 x p
 action code.Lar2 x p = loads_ar2 x p
 action code.Tar1 x p = stores_ar1 x p
-action code.Tar2 x p = puts_address (regs p).ar2 x p
+action code.Tar2 x p = puts_address (registers_of p).ar2 x p
 action code.Car x p = exchanges_addresses p
-action code.AddAr1 x p = Ok (with_ar1 (address_after (regs p).ar1 (added_bits x p)) p)
-action code.AddAr2 x p = Ok (with_ar2 (address_after (regs p).ar2 (added_bits x p)) p)
-action code.Tak x p = on_regs accumulators.toggled p
-action code.Push x p = on_regs accumulators.pushed p
-action code.Pop x p = on_regs accumulators.popped p
+action code.AddAr1 x p = Ok (with_ar1 (address_after (registers_of p).ar1 (added_bits x p)) p)
+action code.AddAr2 x p = Ok (with_ar2 (address_after (registers_of p).ar2 (added_bits x p)) p)
+action code.Tak x p = on_regs accumulators.accumulators_toggled p
+action code.Push x p = on_regs accumulators.accumulator_pushed p
+action code.Pop x p = on_regs accumulators.accumulator_popped p
 action code.Caw x p = on_regs accumulators.with_word_reversed p
 action code.Cad x p = on_regs accumulators.with_bytes_reversed p
-action code.Inc x p = on_regs (accumulators.increased 8 (count 8 x)) p
-action code.Dec x p = on_regs (accumulators.decreased 8 (count 8 x)) p
+action code.Inc x p = on_regs (accumulators.accumulator_increased 8 (constant_bits_or_zero 8 x)) p
+action code.Dec x p = on_regs (accumulators.accumulator_decreased 8 (constant_bits_or_zero 8 x)) p
 action code.Add x p = on_regs (adds_by x) p
-action code.AddI x p = on_regs (sums.added 16) p
-action code.SubI x p = on_regs (sums.subtracted 16) p
-action code.MulI x p = on_regs (products.multiplied 16) p
+action code.AddI x p = on_regs (sums.accumulators_added 16) p
+action code.SubI x p = on_regs (sums.accumulators_subtracted 16) p
+action code.MulI x p = on_regs (products.accumulators_multiplied 16) p
 action code.DivI x p = on_regs division.divided_i p
-action code.AddD x p = on_regs (sums.added 32) p
-action code.SubD x p = on_regs (sums.subtracted 32) p
-action code.MulD x p = on_regs (products.multiplied 32) p
+action code.AddD x p = on_regs (sums.accumulators_added 32) p
+action code.SubD x p = on_regs (sums.accumulators_subtracted 32) p
+action code.MulD x p = on_regs (products.accumulators_multiplied 32) p
 action code.DivD x p = on_regs division.divided_d p
 action code.Mod x p = on_regs division.remainder_d p
-action code.EqI x p = on_regs (comparison.compared 16 compare.Eq) p
-action code.NeI x p = on_regs (comparison.compared 16 compare.Ne) p
-action code.GtI x p = on_regs (comparison.compared 16 compare.Gt) p
-action code.LtI x p = on_regs (comparison.compared 16 compare.Lt) p
-action code.GeI x p = on_regs (comparison.compared 16 compare.Ge) p
-action code.LeI x p = on_regs (comparison.compared 16 compare.Le) p
-action code.EqD x p = on_regs (comparison.compared 32 compare.Eq) p
-action code.NeD x p = on_regs (comparison.compared 32 compare.Ne) p
-action code.GtD x p = on_regs (comparison.compared 32 compare.Gt) p
-action code.LtD x p = on_regs (comparison.compared 32 compare.Lt) p
-action code.GeD x p = on_regs (comparison.compared 32 compare.Ge) p
-action code.LeD x p = on_regs (comparison.compared 32 compare.Le) p
+action code.EqI x p = on_regs (comparison.accumulators_compared 16 compare.Eq) p
+action code.NeI x p = on_regs (comparison.accumulators_compared 16 compare.Ne) p
+action code.GtI x p = on_regs (comparison.accumulators_compared 16 compare.Gt) p
+action code.LtI x p = on_regs (comparison.accumulators_compared 16 compare.Lt) p
+action code.GeI x p = on_regs (comparison.accumulators_compared 16 compare.Ge) p
+action code.LeI x p = on_regs (comparison.accumulators_compared 16 compare.Le) p
+action code.EqD x p = on_regs (comparison.accumulators_compared 32 compare.Eq) p
+action code.NeD x p = on_regs (comparison.accumulators_compared 32 compare.Ne) p
+action code.GtD x p = on_regs (comparison.accumulators_compared 32 compare.Gt) p
+action code.LtD x p = on_regs (comparison.accumulators_compared 32 compare.Lt) p
+action code.GeD x p = on_regs (comparison.accumulators_compared 32 compare.Ge) p
+action code.LeD x p = on_regs (comparison.accumulators_compared 32 compare.Le) p
 action code.Bti x p = on_bcd conversions.from_bcd_word p
 action code.Itb x p = on_regs conversions.to_bcd_word p
 action code.Btd x p = on_bcd conversions.from_bcd_dword p
 action code.Dtb x p = on_regs conversions.to_bcd_dword p
-action code.Itd x p = on_regs conversions.widened p
-action code.Invi x p = on_regs (conversions.inverted 16) p
-action code.Invd x p = on_regs (conversions.inverted 32) p
+action code.Itd x p = on_regs conversions.accumulator_widened p
+action code.Invi x p = on_regs (conversions.accumulator_inverted 16) p
+action code.Invd x p = on_regs (conversions.accumulator_inverted 32) p
 action code.Negi x p = on_regs (sums.accu_negated 16) p
 action code.Negd x p = on_regs (sums.accu_negated 32) p
-action code.Aw x p = on_regs (word_logic.anded 16 (constant 16 x)) p
-action code.Ow x p = on_regs (word_logic.ored 16 (constant 16 x)) p
-action code.Xow x p = on_regs (word_logic.xored 16 (constant 16 x)) p
-action code.Ad x p = on_regs (word_logic.anded 32 (constant 32 x)) p
-action code.Od x p = on_regs (word_logic.ored 32 (constant 32 x)) p
-action code.Xod x p = on_regs (word_logic.xored 32 (constant 32 x)) p
-action code.Ssi x p = on_regs (shifts.shifted_signed 16 (places x p)) p
-action code.Ssd x p = on_regs (shifts.shifted_signed 32 (places x p)) p
-action code.Slw x p = on_regs (shifts.shifted_left 16 (places x p)) p
-action code.Srw x p = on_regs (shifts.shifted_right 16 (places x p)) p
-action code.Sld x p = on_regs (shifts.shifted_left 32 (places x p)) p
-action code.Srd x p = on_regs (shifts.shifted_right 32 (places x p)) p
-action code.Rld x p = on_regs (rotations.rotated_left (places x p)) p
-action code.Rrd x p = on_regs (rotations.rotated_right (places x p)) p
+action code.Aw x p = on_regs (word_logic.accumulator_anded 16 (constant_of_width 16 x)) p
+action code.Ow x p = on_regs (word_logic.accumulator_ored 16 (constant_of_width 16 x)) p
+action code.Xow x p = on_regs (word_logic.accumulator_xored 16 (constant_of_width 16 x)) p
+action code.Ad x p = on_regs (word_logic.accumulator_anded 32 (constant_of_width 32 x)) p
+action code.Od x p = on_regs (word_logic.accumulator_ored 32 (constant_of_width 32 x)) p
+action code.Xod x p = on_regs (word_logic.accumulator_xored 32 (constant_of_width 32 x)) p
+action code.Ssi x p = on_regs (shifts.shifted_signed 16 (shift_count x p)) p
+action code.Ssd x p = on_regs (shifts.shifted_signed 32 (shift_count x p)) p
+action code.Slw x p = on_regs (shifts.shifted_left 16 (shift_count x p)) p
+action code.Srw x p = on_regs (shifts.shifted_right 16 (shift_count x p)) p
+action code.Sld x p = on_regs (shifts.shifted_left 32 (shift_count x p)) p
+action code.Srd x p = on_regs (shifts.shifted_right 32 (shift_count x p)) p
+action code.Rld x p = on_regs (rotations.rotated_left (shift_count x p)) p
+action code.Rrd x p = on_regs (rotations.rotated_right (shift_count x p)) p
 action code.Rlda x p = on_regs rotations.rotated_left_through p
 action code.Rrda x p = on_regs rotations.rotated_right_through p
-action code.Sp x p = starts timer.Sp x p
-action code.Se x p = starts timer.Se x p
-action code.Sd x p = starts timer.Sd x p
-action code.Ss x p = starts timer.Ss x p
-action code.Sf x p = starts timer.Sf x p
-action code.Fr x p = frees x p
-action code.Cu x p = counts counters.count_up x p
-action code.Cd x p = counts counters.count_down x p
-action code.Opn x p = opens x p
+action code.Sp x p = starts_timer timer.Sp x p
+action code.Se x p = starts_timer timer.Se x p
+action code.Sd x p = starts_timer timer.Sd x p
+action code.Ss x p = starts_timer timer.Ss x p
+action code.Sf x p = starts_timer timer.Sf x p
+action code.Fr x p = frees_operand x p
+action code.Cu x p = counts_counter counters.count_up x p
+action code.Cd x p = counts_counter counters.count_down x p
+action code.Opn x p = opens_data_block x p
 action code.Cdb x p = exchanges_blocks p
 action _ x p = Err 0
 
 -- a place in a data block that the statement opens first: 3A where that isn't loaded, and else the place
 -- in the DB register
-unfoldable pub effect : Mnemonic → Named → ExecState → Result ExecState ℕ
-effect m (named.PlaceIn block width byte bit) p =
-    then_ok (opens_number false block p) (λ q.
+unfoldable pub effect_of_statement : Mnemonic → NamedItem → ExecState → Result ExecState ℕ
+effect_of_statement m (named.PlaceIn block width byte bit) p =
+    then_ok (opens_block_number false block p) (λ q.
     action m (named.Place (named.Fixed area.Db width byte bit)) q)
-effect m x p = action m x p
+effect_of_statement m x p = action m x p

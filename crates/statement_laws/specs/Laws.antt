@@ -4,7 +4,7 @@ use Rattle.std.specs.List.{AllByRecursion}
 use Rattle.std.specs.Option.{option_and_then}
 use Rattle.plc_base.specs.Folding.{upper_case_name}
 use Rattle.plc_base.specs.declared.blocks.BlockId.{BlockId}
-use Rattle.stl_ast.specs.Statements.{is_empty}
+use Rattle.stl_ast.specs.Statements.{is_empty_statement}
 use Rattle.stl_ast.specs.declared.blocks.Block.{Block}
 use Rattle.stl_ast.specs.declared.mnemonics.Mnemonic.{Mnemonic}
 use Rattle.stl_ast.specs.declared.mnemonics.Mnemonic.TheVariants as code
@@ -18,9 +18,9 @@ use Rattle.block_layout.specs.Paths.{folded_path, leaves_judged, leaves_local, p
 use Rattle.block_layout.specs.declared.cells.Cell.{Cell}
 use Rattle.stl_types.specs.Context.{Context, data_place}
 use Rattle.stl_types.specs.Parameters.{Callee, callee_of}
-use Rattle.stl_types.specs.Resolution.{seen}
+use Rattle.stl_types.specs.Resolution.{resolution_of}
 use Rattle.stl_types.specs.declared.views.Resolution.TheVariants.{Resolved}
-use Rattle.stl_types.specs.Resolved.{resolved}
+use Rattle.stl_types.specs.Resolved.{resolved_operand}
 use Rattle.stl_types.specs.declared.views.ResolvedOperand.{ResolvedOperand}
 use Rattle.stl_codegen.specs.Generated.{statements_of}
 use Rattle.stl_codegen.specs.Instruction.{instruction}
@@ -29,29 +29,29 @@ use Rattle.flat_code.specs.declared.operations.EndOperation.TheVariants as end_w
 use Rattle.frames.specs.declared.Activation.{Activation}
 use Rattle.machine.specs.Code.{Code}
 use Rattle.machine.specs.ExecState.{ExecState, exec_state_of}
-use Rattle.machine.specs.Statement.{World, step_of, continue_with}
-use Rattle.statement_laws.specs.Calls.{bindings_of, calls, parameter_names}
-use Rattle.statement_laws.specs.Named.{Named}
+use Rattle.machine.specs.Statement.{GlobalStore, instruction_step, continue_with}
+use Rattle.statement_laws.specs.Calls.{bindings_of, calls_block, parameter_names}
+use Rattle.statement_laws.specs.Named.{NamedItem}
 use Rattle.statement_laws.specs.Named as named
 use Rattle.statement_laws.specs.Operands.{components_of_block, is_fc, named_by, register_named}
-use Rattle.statement_laws.specs.Effects.{effect}
-use Rattle.statement_laws.specs.Jumps.{count_of, ends_block, jumps, jumps_by_list, number_of_label}
+use Rattle.statement_laws.specs.Effects.{effect_of_statement}
+use Rattle.statement_laws.specs.Jumps.{numbered_statement_count, ends_block, jumps_to_target, jumps_by_list, number_of_label}
 
 -- in every program, activation and memory the instruction does this and goes on to the next statement;
 -- after an error it does nothing but that
 abbrev pub Acts : Instr → (ExecState → Result ExecState ℕ) → Type 0
 Acts i f =
-    (program : Code) (next : ℕ) (a : Activation) (w : World)
-    → step_of program i next a w
+    (program : Code) (next : ℕ) (a : Activation) (w : GlobalStore)
+    → instruction_step program i next a w
     ≡ continue_with (f (exec_state_of a.running w.memory w.timers w.counters)) next a
 
 -- each statement with such a mnemonic whose operand its instruction takes, and names this, does what the
 -- mnemonic says with it
 abbrev pub StatementsAct : (Mnemonic → Bool) → Type 0
 StatementsAct family =
-    (c : Context) (body : List Statement) (n : ℕ) (s : Statement) (v : ResolvedOperand) (x : Named)
-    → family s.code ≡ true → resolved c s ≡ Some v → named_by c s.operand ≡ Some x
-    → Acts (instruction c body n s) (effect s.code x)
+    (c : Context) (body : List Statement) (n : ℕ) (s : Statement) (v : ResolvedOperand) (x : NamedItem)
+    → family s.code ≡ true → resolved_operand c s ≡ Some v → named_by c s.operand ≡ Some x
+    → Acts (instruction c body n s) (effect_of_statement s.code x)
 
 -- A AN O ON X XN, the brackets, = S R FP FN, SET CLR NOT SAVE
 abbrev pub is_bit_logic : Mnemonic → Bool
@@ -208,14 +208,14 @@ abbrev pub RelayActs : Type 0
 RelayActs = StatementsAct is_relay
 
 -- OPN and CDB
-abbrev pub is_data_block : Mnemonic → Bool
-is_data_block code.Opn = true
-is_data_block code.Cdb = true
-is_data_block _ = false
+abbrev pub is_data_block_instruction : Mnemonic → Bool
+is_data_block_instruction code.Opn = true
+is_data_block_instruction code.Cdb = true
+is_data_block_instruction _ = false
 
 -- those that open and exchange data blocks
 abbrev pub DataBlocksAct : Type 0
-DataBlocksAct = StatementsAct is_data_block
+DataBlocksAct = StatementsAct is_data_block_instruction
 
 -- NOP and BLD
 abbrev pub is_idle : Mnemonic → Bool
@@ -255,17 +255,17 @@ abbrev pub PlainJumpsAct : Type 0
 PlainJumpsAct =
     (c : Context) (body : List Statement) (n : ℕ) (s : Statement) (name : List ℕ)
     → is_plain_jump s.code ≡ true → s.operand ≡ operand.Label name
-    → (program : Code) (next : ℕ) (a : Activation) (w : World)
-    → step_of program (instruction c body n s) next a w
-    ≡ jumps s.code (number_of_label name body) next a w
+    → (program : Code) (next : ℕ) (a : Activation) (w : GlobalStore)
+    → instruction_step program (instruction c body n s) next a w
+    ≡ jumps_to_target s.code (number_of_label name body) next a w
 
 -- JL, the statement of number n, goes by the jumps behind it up to its label
 abbrev pub JumpListsAct : Type 0
 JumpListsAct =
     (c : Context) (body : List Statement) (n : ℕ) (s : Statement) (name : List ℕ)
     → s.code ≡ code.Jl → s.operand ≡ operand.Label name
-    → (program : Code) (next : ℕ) (a : Activation) (w : World)
-    → step_of program (instruction c body n s) next a w
+    → (program : Code) (next : ℕ) (a : Activation) (w : GlobalStore)
+    → instruction_step program (instruction c body n s) next a w
     ≡ jumps_by_list n (number_of_label name body) a w
 
 -- ---- ends of a block
@@ -281,9 +281,9 @@ is_end _ = false
 abbrev pub EndsAct : Type 0
 EndsAct =
     (c : Context) (body : List Statement) (n : ℕ) (s : Statement) (v : ResolvedOperand)
-    → is_end s.code ≡ true → resolved c s ≡ Some v
-    → (program : Code) (next : ℕ) (a : Activation) (w : World)
-    → step_of program (instruction c body n s) next a w ≡ ends_block s.code program next a w
+    → is_end s.code ≡ true → resolved_operand c s ≡ Some v
+    → (program : Code) (next : ℕ) (a : Activation) (w : GlobalStore)
+    → instruction_step program (instruction c body n s) next a w ≡ ends_block s.code program next a w
 
 -- ---- what is named
 
@@ -299,17 +299,17 @@ has_fixed_name _ = true
 abbrev pub OperandsAreNamed : Type 0
 OperandsAreNamed =
     (c : Context) (s : Statement) (v : ResolvedOperand) → has_fixed_name s.operand ≡ true
-    → resolved c s ≡ Some v → (x : Named) × (named_by c s.operand ≡ Some x)
+    → resolved_operand c s ≡ Some v → (x : NamedItem) × (named_by c s.operand ≡ Some x)
 
 -- a component of elementary type, and no array
-abbrev pub is_elementary : Cell → Bool
-is_elementary cell = nat_eq 0 (length cell.bounds) && is_some (plain_kind cell.of)
+abbrev pub is_elementary_component : Cell → Bool
+is_elementary_component cell = nat_eq 0 (length cell.bounds) && is_some (plain_kind cell.of)
 
 -- the parameters of a function are of elementary type
 abbrev pub HasElementaryParameters : Context → Type 0
 HasElementaryParameters c =
     is_fc (slice_get c.blocks c.block) ≡ true
-    → AllByRecursion (λ cell. is_elementary cell ≡ true) (components_of_block c)
+    → AllByRecursion (λ cell. is_elementary_component cell ≡ true) (components_of_block c)
 
 -- a variable: a path from a declared name, or into a data block
 abbrev pub is_variable : Operand → Bool
@@ -330,23 +330,23 @@ stays_inside c _ = true
 abbrev pub VariablesAreNamed : Type 0
 VariablesAreNamed =
     (c : Context) (s : Statement) (v : ResolvedOperand) → HasElementaryParameters c
-    → is_variable s.operand ≡ true → stays_inside c s.operand ≡ true → resolved c s ≡ Some v
-    → (x : Named) × (named_by c s.operand ≡ Some x)
+    → is_variable s.operand ≡ true → stays_inside c s.operand ≡ true → resolved_operand c s ≡ Some v
+    → (x : NamedItem) × (named_by c s.operand ≡ Some x)
 
 -- ---- calls
 
 -- CALL, UC, CC
-abbrev pub is_call : Mnemonic → Bool
-is_call code.Call = true
-is_call code.Uc = true
-is_call code.Cc = true
-is_call _ = false
+abbrev pub is_call_instruction : Mnemonic → Bool
+is_call_instruction code.Call = true
+is_call_instruction code.Uc = true
+is_call_instruction code.Cc = true
+is_call_instruction _ = false
 
 -- what an actual parameter resolves to is named
 pub record IsNamedActual (c : Context) (a : Actual) : Type 0 where
   pub view : ResolvedOperand
-  pub seen : seen c a.value ≡ Resolved view
-  pub named : Named
+  pub seen : resolution_of c a.value ≡ Resolved view
+  pub named : NamedItem
   pub names : named_by c a.value ≡ Some named
 
 -- each call of a block whose parameters are known, where what is passed is named
@@ -354,34 +354,34 @@ abbrev pub CallsAct : Type 0
 CallsAct =
     (c : Context) (body : List Statement) (n : ℕ) (s : Statement) (v : ResolvedOperand)
     (name : BlockName) (db : Option BlockName) (id : BlockId) (instance : Option ℕ) (callee : Callee)
-    → is_call s.code ≡ true → s.operand ≡ operand.Called name db → resolved c s ≡ Some v
+    → is_call_instruction s.code ≡ true → s.operand ≡ operand.Called name db → resolved_operand c s ≡ Some v
     → named_by c (operand.Called name db) ≡ Some (named.Called id instance)
     → callee_of c (operand.Called name db) ≡ Some callee
     → AllByRecursion (IsNamedActual c) s.actuals
-    → (program : Code) (next : ℕ) (a : Activation) (w : World)
-    → step_of program (instruction c body n s) next a w
-    ≡ calls s.code id instance (bindings_of c s.actuals (parameter_names c id)) program next a w
+    → (program : Code) (next : ℕ) (a : Activation) (w : GlobalStore)
+    → instruction_step program (instruction c body n s) next a w
+    ≡ calls_block s.code id instance (bindings_of c s.actuals (parameter_names c id)) program next a w
 
 -- ---- numbers of statements
 
 -- the code of a block by its statements
-pub record IsNumbered (c : Context) (b : Block) : Type 0 where
+pub record HasNumberedStatements (c : Context) (b : Block) : Type 0 where
   -- each that isn't empty has the number that counts those before it
   pub each :
       (front : List Statement) (s : Statement) (rest : List Statement) → b.body ≡ front ++ s ∷ rest
-      → is_empty s.code ≡ false
-      → slice_get (statements_of c b) (count_of front)
-      ≡ Some (record { instr = instruction c b.body (count_of front) s; line = s.line })
+      → is_empty_statement s.code ≡ false
+      → slice_get (statements_of c b) (numbered_statement_count front)
+      ≡ Some (record { instr = instruction c b.body (numbered_statement_count front) s; line = s.line })
   -- behind them one returns, as BE does, with the line of the END clause
   pub last :
-      slice_get (statements_of c b) (count_of b.body)
+      slice_get (statements_of c b) (numbered_statement_count b.body)
       ≡ Some (record { instr = Returns end_word.Be; line = b.end_line })
   -- and there is no other
-  pub count : length (statements_of c b) ≡ count_of b.body + 1
+  pub count : length (statements_of c b) ≡ numbered_statement_count b.body + 1
 
 -- the statements of each block have their numbers
 abbrev pub StatementsAreNumbered : Type 0
-StatementsAreNumbered = (c : Context) (b : Block) → IsNumbered c b
+StatementsAreNumbered = (c : Context) (b : Block) → HasNumberedStatements c b
 
 -- ---- all statements
 
@@ -394,9 +394,9 @@ is_jump_list _ = false
 abbrev pub is_in_family : Mnemonic → Bool
 is_in_family m =
     is_bit_logic m || is_load_or_transfer m || is_number_instruction m || is_comparison m || is_shift m
-    || is_timing m || is_relay m || is_data_block m || is_idle m || is_plain_jump m || is_jump_list m
-    || is_end m || is_call m
+    || is_timing m || is_relay m || is_data_block_instruction m || is_idle m || is_plain_jump m || is_jump_list m
+    || is_end m || is_call_instruction m
 
 -- each mnemonic but that of the empty statement is in a family
 abbrev pub FamiliesAreAll : Type 0
-FamiliesAreAll = (m : Mnemonic) → is_in_family m ≡ not (is_empty m)
+FamiliesAreAll = (m : Mnemonic) → is_in_family m ≡ not (is_empty_statement m)

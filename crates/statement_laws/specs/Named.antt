@@ -31,32 +31,32 @@ pub data OpenBlock : Type 0 where
   DiNumber : OpenBlock
 
 -- what an operand names
-pub data Named : Type 0 where
+pub data NamedItem : Type 0 where
   -- no operand stands there
-  Nothing : Named
+  Nothing : NamedItem
   -- a place in memory, in the data block of the DB or DI register, or in the local bytes
-  Place : (spot : Spot) → Named
+  Place : (spot : Spot) → NamedItem
   -- a place in a data block that the statement opens first, as DB10.DBW 2
-  PlaceIn : (block : ℕ) (width : Width) (byte bit : ℕ) → Named
+  PlaceIn : (block : ℕ) (width : Width) (byte bit : ℕ) → NamedItem
   -- what the parameter of this index stands for, in a function, and the width of its type
-  Parameter : (index : ℕ) (width : Width) → Named
+  Parameter : (index : ℕ) (width : Width) → NamedItem
   -- a constant
-  Constant : (value : Literal) → Named
+  Constant : (value : Literal) → NamedItem
   -- a pointer constant by its bits, as P#M 2.0
-  Pointer : (bits : ℕ) → Named
+  Pointer : (bits : ℕ) → NamedItem
   -- a condition of the status word, as OV and ==0
-  Condition : (flag : Flag) → Named
-  Timer : (number : Number) → Named
-  Counter : (number : Number) → Named
+  Condition : (flag : Flag) → NamedItem
+  Timer : (number : Number) → NamedItem
+  Counter : (number : Number) → NamedItem
   -- a data block to be opened, in the DI register or in the DB register
-  DataBlock : (di : Bool) (number : Number) → Named
+  DataBlock : (di : Bool) (number : Number) → NamedItem
   -- STW
-  StatusWord : Named
+  StatusWord : NamedItem
   -- DBLG, DBNO, DILG, DINO
-  Opened : (what : OpenBlock) → Named
+  Opened : (what : OpenBlock) → NamedItem
   -- AR2
-  SecondRegister : Named
+  SecondRegister : NamedItem
   -- the label of a jump
-  Label : Named
+  Label : NamedItem
   -- a block that is called, with the data block that is its instance, where the call names one
-  Called : (block : BlockId) (instance : Option ℕ) → Named
+  Called : (block : BlockId) (instance : Option ℕ) → NamedItem

@@ -24,53 +24,53 @@ use Rattle.stl_ast.specs.declared.operands.PathHead.TheVariants as head
 use Rattle.stl_symbols.specs.Symbol.{symbol_named}
 use Rattle.stl_symbols.specs.declared.targets.Target.{Target}
 use Rattle.stl_symbols.specs.declared.targets.Target.TheVariants as target
-use Rattle.block_layout.specs.Members.{component}
-use Rattle.block_layout.specs.Offsets.{offset_of, variable, width_of}
+use Rattle.block_layout.specs.Members.{component_of_name}
+use Rattle.block_layout.specs.Offsets.{place_of_path, variable_place, width_of}
 use Rattle.block_layout.specs.Paths.{cells_at, folded_path, plain_kind}
 use Rattle.block_layout.specs.declared.blocks.Section.TheVariants as section
 use Rattle.block_layout.specs.declared.cells.Cell.{Cell}
 use Rattle.block_layout.specs.declared.members.Member.{Member}
 use Rattle.stl_types.specs.Context.{Context}
-use Rattle.statement_laws.specs.Named.{Named, Number, OpenBlock}
+use Rattle.statement_laws.specs.Named.{NamedItem, Number, OpenBlock}
 use Rattle.statement_laws.specs.Named as named
 
 -- ---- addresses
 
 -- the area of the letters of an address; peripheral inputs and outputs are one
-abbrev pub area_of : Letters → Area
-area_of letters.I = area.I
-area_of letters.Q = area.Q
-area_of letters.M = area.M
-area_of letters.Db = area.Db
-area_of letters.Di = area.Di
-area_of letters.L = area.L
-area_of letters.Pi = area.P
-area_of letters.Pq = area.P
+abbrev pub area_by_letters : Letters → Area
+area_by_letters letters.I = area.I
+area_by_letters letters.Q = area.Q
+area_by_letters letters.M = area.M
+area_by_letters letters.Db = area.Db
+area_by_letters letters.Di = area.Di
+area_by_letters letters.L = area.L
+area_by_letters letters.Pi = area.P
+area_by_letters letters.Pq = area.P
 
 -- a fixed place
-abbrev pub fixed_place : Area → Width → (byte bit : ℕ) → Named
-fixed_place a width byte bit = named.Place (named.Fixed a width byte bit)
+abbrev pub named_fixed_place : Area → Width → (byte bit : ℕ) → NamedItem
+named_fixed_place a width byte bit = named.Place (named.Fixed a width byte bit)
 
 -- a place in DB with the number of a data block lies in that block; no block has the number 0
-abbrev pub place_in_db : (number : ℕ) → Width → (byte bit : ℕ) → Named
+abbrev pub place_in_db : (number : ℕ) → Width → (byte bit : ℕ) → NamedItem
 place_in_db number width byte bit =
-    if nat_eq number 0 then fixed_place area.Db width byte bit
+    if nat_eq number 0 then named_fixed_place area.Db width byte bit
     else named.PlaceIn number width byte bit
 
 -- a place by its parts, of which the number counts in DB alone
-abbrev pub place_by : Area → (number : ℕ) → Width → (byte bit : ℕ) → Named
+abbrev pub place_by : Area → (number : ℕ) → Width → (byte bit : ℕ) → NamedItem
 place_by area.Db number width byte bit = place_in_db number width byte bit
-place_by a number width byte bit = fixed_place a width byte bit
+place_by a number width byte bit = named_fixed_place a width byte bit
 
 -- the same of a place as symbols and layouts have it
-abbrev pub place_at : Place → Width → Named
-place_at place width = place_by place.area place.number width place.byte place.bit
+abbrev pub named_place : Place → Width → NamedItem
+named_place place width = place_by place.area place.number width place.byte place.bit
 
 -- ---- symbols
 
 -- what a symbol names by its address; that of a block is nothing to act on
-abbrev pub target_named : Target → Option Named
-target_named (target.Variable place width) = Some (place_at place width)
+abbrev pub target_named : Target → Option NamedItem
+target_named (target.Variable place width) = Some (named_place place width)
 target_named (target.Timer number) = Some (named.Timer (named.Written number))
 target_named (target.Counter number) = Some (named.Counter (named.Written number))
 target_named (target.Block id) = None
@@ -85,31 +85,31 @@ block_of_target (target.Block id) = Some id
 block_of_target _ = None
 
 -- a block is named by kind and number, or by its symbol
-abbrev pub block_named : Context → BlockName → Option BlockId
-block_named c (block.Number id) = Some id
-block_named c (block.Quoted name) = option_and_then block_of_target (symbol_target c name)
+abbrev pub block_id_of_name : Context → BlockName → Option BlockId
+block_id_of_name c (block.Number id) = Some id
+block_id_of_name c (block.Quoted name) = option_and_then block_of_target (symbol_target c name)
 
 -- its number
 abbrev pub block_number : Context → BlockName → Option ℕ
-block_number c name = option_map (λ id. id.number) (block_named c name)
+block_number c name = option_map (λ id. id.number) (block_id_of_name c name)
 
 -- a called block with the number of its instance
-abbrev pub with_instance : Option BlockId → Option ℕ → Option Named
+abbrev pub with_instance : Option BlockId → Option ℕ → Option NamedItem
 with_instance (Some id) (Some number) = Some (named.Called id (Some number))
 with_instance _ _ = None
 
 -- ---- variables
 
 -- a place that the layout gives
-abbrev pub place_in_layout : Option (Place × Width) → Option Named
-place_in_layout found = option_map (λ p. place_at p.0 p.1) found
+abbrev pub place_in_layout : Option (Place × Width) → Option NamedItem
+place_in_layout found = option_map (λ p. named_place p.0 p.1) found
 
 -- the parameters of a function by their index in a call: as the text has them, but the return value,
 -- which is the first of the components, is the last
-abbrev pub parameter_index : (has_result : Bool) (count place : ℕ) → ℕ
-parameter_index false count place = place
-parameter_index true count zero = count - 1
-parameter_index true count (suc k) = k
+abbrev pub parameter_index_in_call : (has_result : Bool) (count place : ℕ) → ℕ
+parameter_index_in_call false count place = place
+parameter_index_in_call true count zero = count - 1
+parameter_index_in_call true count (suc k) = k
 
 -- a function with a return value; a function
 abbrev pub has_result : Option Block → Bool
@@ -132,37 +132,37 @@ abbrev pub components_of_block : Context → List Cell
 components_of_block c = cells_at c.layouts c.block false
 
 -- a parameter of a function, by its place among the components; it has no components
-abbrev pub parameter_named : Context → (place : ℕ) → List PathStep → Option Named
+abbrev pub parameter_named : Context → (place : ℕ) → List PathStep → Option NamedItem
 parameter_named c place [] =
     option_map
     (λ width. named.Parameter
-    (parameter_index (has_result (slice_get c.blocks c.block)) (length (components_of_block c)) place) width)
+    (parameter_index_in_call (has_result (slice_get c.blocks c.block)) (length (components_of_block c)) place) width)
     (cell_width (slice_get (components_of_block c) place))
 parameter_named c place (s ∷ ss) = None
 
 -- a variable of the block: what isn't temporary is a parameter in a function, and in a function block it
 -- lies in the data block of the DI register; temporary variables lie in the local bytes
-abbrev pub variable_by : Context → List ℕ → List PathStep → Option Member → Option Named
+abbrev pub variable_by : Context → List ℕ → List PathStep → Option Member → Option NamedItem
 variable_by c name steps None =
-    place_in_layout (variable c.layouts area.L c.block true (step.Named name ∷ steps))
+    place_in_layout (variable_place c.layouts area.L c.block true (step.Named name ∷ steps))
 variable_by c name steps (Some m) =
     if is_fc (slice_get c.blocks c.block) then parameter_named c m.place steps
-    else place_in_layout (variable c.layouts area.Di c.block false (step.Named name ∷ steps))
+    else place_in_layout (variable_place c.layouts area.Di c.block false (step.Named name ∷ steps))
 
 -- the variable of the block that a name means, by its steps
-abbrev pub variable_named : Context → List ℕ → List PathStep → Option Named
-variable_named c name steps = variable_by c name steps (component 0 0 0 name (components_of_block c))
+abbrev pub variable_named : Context → List ℕ → List PathStep → Option NamedItem
+variable_named c name steps = variable_by c name steps (component_of_name 0 0 0 name (components_of_block c))
 
 -- a component of a data block
-abbrev pub component_named : Context → BlockName → List PathStep → Option Named
+abbrev pub component_named : Context → BlockName → List PathStep → Option NamedItem
 component_named c name steps =
     place_in_layout
-    (option_and_then (λ id. offset_of c.layouts id section.Global steps) (block_named c name))
+    (option_and_then (λ id. place_of_path c.layouts id section.Global steps) (block_id_of_name c name))
 
 -- ---- words
 
 -- the registers that stand as operands
-abbrev pub register_named : List ℕ → Option Named
+abbrev pub register_named : List ℕ → Option NamedItem
 register_named name =
     if is_same_name name (codes "STW") then Some named.StatusWord
     else if is_same_name name (codes "DBLG") then Some (named.Opened named.DbLength)
@@ -173,47 +173,47 @@ register_named name =
     else None
 
 -- a timer, a counter or a data block whose number stands in a word
-abbrev pub number_in : Numbered → Number → Named
-number_in numbered.Timer n = named.Timer n
-number_in numbered.Counter n = named.Counter n
-number_in numbered.Db n = named.DataBlock false n
-number_in numbered.Di n = named.DataBlock true n
+abbrev pub numbered_item : Numbered → Number → NamedItem
+numbered_item numbered.Timer n = named.Timer n
+numbered_item numbered.Counter n = named.Counter n
+numbered_item numbered.Db n = named.DataBlock false n
+numbered_item numbered.Di n = named.DataBlock true n
 
 -- ---- constants
 
 -- the area of a pointer constant in bits 24 to 26, with bit 31
-abbrev pub pointer_area : Letters → ℕ
-pointer_area letters.Pi = 0x8000_0000
-pointer_area letters.Pq = 0x8000_0000
-pointer_area letters.I = 0x8100_0000
-pointer_area letters.Q = 0x8200_0000
-pointer_area letters.M = 0x8300_0000
-pointer_area letters.Db = 0x8400_0000
-pointer_area letters.Di = 0x8500_0000
-pointer_area letters.L = 0x8600_0000
+abbrev pub pointer_area_bits : Letters → ℕ
+pointer_area_bits letters.Pi = 0x8000_0000
+pointer_area_bits letters.Pq = 0x8000_0000
+pointer_area_bits letters.I = 0x8100_0000
+pointer_area_bits letters.Q = 0x8200_0000
+pointer_area_bits letters.M = 0x8300_0000
+pointer_area_bits letters.Db = 0x8400_0000
+pointer_area_bits letters.Di = 0x8500_0000
+pointer_area_bits letters.L = 0x8600_0000
 
 -- the bit in bits 0 to 2 and the byte in bits 3 to 18
-abbrev pub pointer_bits : Option Letters → (byte bit : ℕ) → ℕ
-pointer_bits None byte bit = 8 * byte + bit
-pointer_bits (Some a) byte bit = pointer_area a + 8 * byte + bit
+abbrev pub pointer_constant_bits : Option Letters → (byte bit : ℕ) → ℕ
+pointer_constant_bits None byte bit = 8 * byte + bit
+pointer_constant_bits (Some a) byte bit = pointer_area_bits a + 8 * byte + bit
 
 -- ---- operands
 
 -- what an operand names in a block; none where a name isn't there
-unfoldable pub named_by : Context → Operand → Option Named
+unfoldable pub named_by : Context → Operand → Option NamedItem
 named_by c operand.Nothing = Some named.Nothing
-named_by c (operand.Direct None a width byte bit) = Some (fixed_place (area_of a) width byte bit)
+named_by c (operand.Direct None a width byte bit) = Some (named_fixed_place (area_by_letters a) width byte bit)
 named_by c (operand.Direct (Some name) a width byte bit) =
-    option_map (λ number. place_by (area_of a) number width byte bit) (block_number c name)
+    option_map (λ number. place_by (area_by_letters a) number width byte bit) (block_number c name)
 named_by c (operand.Timer number) = Some (named.Timer (named.Written number))
 named_by c (operand.Counter number) = Some (named.Counter (named.Written number))
 named_by c (operand.ByMemory a width from byte) =
-    Some (named.Place (named.ByMemory (area_of a) width (area_of from) byte))
+    Some (named.Place (named.ByMemory (area_by_letters a) width (area_by_letters from) byte))
 named_by c (operand.NumberBy what from byte) =
-    Some (number_in what (named.InWord (area_of from) byte))
+    Some (numbered_item what (named.InWord (area_by_letters from) byte))
 named_by c (operand.ByRegister a width register bits) =
-    Some (named.Place (named.ByRegister (option_map area_of a) width register bits))
-named_by c (operand.Pointer a byte bit) = Some (named.Pointer (pointer_bits a byte bit))
+    Some (named.Place (named.ByRegister (option_map area_by_letters a) width register bits))
+named_by c (operand.Pointer a byte bit) = Some (named.Pointer (pointer_constant_bits a byte bit))
 named_by c (operand.Constant value) = Some (named.Constant value)
 named_by c (operand.Label name) = Some named.Label
 named_by c (operand.OfStatus flag) = Some (named.Condition flag)
@@ -226,6 +226,6 @@ named_by c (operand.Named (head.Local name) steps) =
     variable_named c (upper_case_name name) (folded_path steps)
 named_by c (operand.Named (head.InBlock name) steps) = component_named c name (folded_path steps)
 named_by c (operand.Called name None) =
-    option_map (λ id. named.Called id None) (block_named c name)
+    option_map (λ id. named.Called id None) (block_id_of_name c name)
 named_by c (operand.Called name (Some db)) =
-    with_instance (block_named c name) (block_number c db)
+    with_instance (block_id_of_name c name) (block_number c db)

@@ -11,7 +11,7 @@ use Rattle.plc_base.specs.declared.places.Area.TheVariants as area
 use Rattle.plc_base.specs.declared.places.Width.{Width}
 use Rattle.plc_base.specs.declared.places.Width.TheVariants as widths
 use Rattle.plc_mem.specs.Areas.{Areas}
-use Rattle.plc_mem.specs.Number.{number_at}
+use Rattle.plc_mem.specs.Number.{number_at_place}
 use Rattle.plc_mem.specs.Writing as memory
 use Rattle.status_word.specs.Flags.{flag_value}
 use Rattle.timers_counters.specs.Counter.{Counter, count_bcd, is_counting}
@@ -25,7 +25,7 @@ use Rattle.machine.specs.ExecState.{ExecState, then_ok}
 use Rattle.machine.specs.declared.places.Access.{Access}
 use Rattle.machine.specs.declared.places.Access.TheVariants.{Reading, Writing}
 use Rattle.machine.specs.declared.places.Location.{Location}
-use Rattle.statement_laws.specs.Named.{Named, Number, Spot}
+use Rattle.statement_laws.specs.Named.{NamedItem, Number, Spot}
 use Rattle.statement_laws.specs.Named as named
 
 -- ---- constants
@@ -41,30 +41,30 @@ number_behind n [] = n
 number_behind n (b ∷ bs) = number_behind (256 * n + b) bs
 
 -- a number where there is one; an S5TIME that is too long stands in no source
-abbrev pub or_zero : Option ℕ → ℕ
-or_zero None = 0
-or_zero (Some n) = n
+abbrev pub number_or_zero : Option ℕ → ℕ
+number_or_zero None = 0
+number_or_zero (Some n) = n
 
 -- the bits of a constant
-unfoldable pub bits : Literal → ℕ
-bits (literal.Truth value) = if value then 1 else 0
-bits (literal.Number value) = twos_complement 16 value
-bits (literal.Binary value) = value
-bits (literal.Byte value) = value
-bits (literal.Word value) = value
-bits (literal.Dword value) = value
-bits (literal.Long value) = twos_complement 32 value
-bits (literal.Count value) = bcd_digits 3 value
-bits (literal.Time ms) = twos_complement 32 ms
-bits (literal.S5time ms) = or_zero (s5time_of_ms ms)
-bits (literal.Characters bytes) = number_behind 0 bytes
-bits (literal.Bytes bytes) = number_behind 0 bytes
+unfoldable pub bits_of_literal : Literal → ℕ
+bits_of_literal (literal.Truth value) = if value then 1 else 0
+bits_of_literal (literal.Number value) = twos_complement 16 value
+bits_of_literal (literal.Binary value) = value
+bits_of_literal (literal.Byte value) = value
+bits_of_literal (literal.Word value) = value
+bits_of_literal (literal.Dword value) = value
+bits_of_literal (literal.Long value) = twos_complement 32 value
+bits_of_literal (literal.Count value) = bcd_digits 3 value
+bits_of_literal (literal.Time ms) = twos_complement 32 ms
+bits_of_literal (literal.S5time ms) = number_or_zero (s5time_of_ms ms)
+bits_of_literal (literal.Characters bytes) = number_behind 0 bytes
+bits_of_literal (literal.Bytes bytes) = number_behind 0 bytes
 
 -- ---- places
 
 -- a place of an area; `frame` says whose local bytes are meant, the number which data block
-abbrev pub at : Area → (number byte bit : ℕ) → Width → (frame : ℕ) → Location
-at a number byte bit width frame = record {
+abbrev pub location_of_parts : Area → (number byte bit : ℕ) → Width → (frame : ℕ) → Location
+location_of_parts a number byte bit width frame = record {
   place = record { area = a; number = number; byte = byte; bit = bit };
   width = width;
   frame = frame;
@@ -73,31 +73,31 @@ at a number byte bit width frame = record {
 -- a place in the data block that a register has open; the error of a register with none
 abbrev pub place_in_open_block : Option ℕ → (error byte bit : ℕ) → Width → Result Location ℕ
 place_in_open_block None error byte bit width = Err error
-place_in_open_block (Some number) error byte bit width = Ok (at area.Db number byte bit width 0)
+place_in_open_block (Some number) error byte bit width = Ok (location_of_parts area.Db number byte bit width 0)
 
 -- where a byte or bit of an area lies: in DB and DI in the open data block, where none is open 32 and
 -- 33; in L in the local bytes of the innermost frame; else in memory
 unfoldable pub place_in_area : Area → (byte bit : ℕ) → Width → ExecState → Result Location ℕ
 place_in_area area.Db byte bit width p = place_in_open_block p.local.inner.db 0x32 byte bit width
 place_in_area area.Di byte bit width p = place_in_open_block p.local.inner.di 0x33 byte bit width
-place_in_area area.L byte bit width p = Ok (at area.L 0 byte bit width (length p.local.locals.starts - 1))
-place_in_area a byte bit width p = Ok (at a 0 byte bit width 0)
+place_in_area area.L byte bit width p = Ok (location_of_parts area.L 0 byte bit width (length p.local.locals.starts - 1))
+place_in_area a byte bit width p = Ok (location_of_parts a 0 byte bit width 0)
 
 -- no such place: 22 where it is read, 23 where it is written; in the peripheral area 42 and 43
-abbrev pub no_place : Access → Area → ℕ
-no_place Reading area.P = 0x42
-no_place Reading _ = 0x22
-no_place Writing area.P = 0x43
-no_place Writing _ = 0x23
+abbrev pub missing_place_error : Access → Area → ℕ
+missing_place_error Reading area.P = 0x42
+missing_place_error Reading _ = 0x22
+missing_place_error Writing area.P = 0x43
+missing_place_error Writing _ = 0x23
 
 -- the number at a place, in local bytes or in memory
 abbrev pub number_at_bound : Area → Location → ExecState → Option ℕ
 number_at_bound area.L b p = local_number p.local.locals b.frame b.place.byte b.place.bit b.width
-number_at_bound _ b p = number_at p.memory b.place b.width
+number_at_bound _ b p = number_at_place p.memory b.place b.width
 
 -- the same, or the error of a place that isn't there
 abbrev pub number_or_error : Access → Location → ExecState → Result ℕ ℕ
-number_or_error access b p = ok_or (number_at_bound b.place.area b p) (no_place access b.place.area)
+number_or_error access b p = ok_or (number_at_bound b.place.area b p) (missing_place_error access b.place.area)
 
 -- ---- pointers
 
@@ -107,33 +107,33 @@ stored_number from byte width p =
     then_ok (place_in_area from byte 0 width p) (λ b. number_or_error Reading b p)
 
 -- the byte of a pointer in bits 3 to 18, its bit in bits 0 to 2
-abbrev pub byte_of : ℕ → ℕ
-byte_of pointer = pointer / 8 % 65536
+abbrev pub byte_of_pointer : ℕ → ℕ
+byte_of_pointer pointer = pointer / 8 % 65536
 
 -- the bit of a pointer: its bits 0 to 2
-abbrev pub bit_of : ℕ → ℕ
-bit_of pointer = pointer % 8
+abbrev pub bit_of_pointer : ℕ → ℕ
+bit_of_pointer pointer = pointer % 8
 
 -- a bit may lie anywhere, all else begins at bit 0 of its byte
 abbrev pub is_whole : Width → (pointer : ℕ) → Bool
 is_whole widths.Bit pointer = true
-is_whole _ pointer = bit_of pointer == 0
+is_whole _ pointer = bit_of_pointer pointer == 0
 
 -- 28 where a pointer to a byte, word or double word that is read has a bit, 29 where it is written
-abbrev pub bad_bit : Access → ℕ
-bad_bit Reading = 0x28
-bad_bit Writing = 0x29
+abbrev pub pointer_bit_error : Access → ℕ
+pointer_bit_error Reading = 0x28
+pointer_bit_error Writing = 0x29
 
 -- 24 and 25: a pointer to no area, or to a bit in the peripheral area
-abbrev pub bad_area : Access → ℕ
-bad_area Reading = 0x24
-bad_area Writing = 0x25
+abbrev pub pointer_area_error : Access → ℕ
+pointer_area_error Reading = 0x24
+pointer_area_error Writing = 0x25
 
 -- where a pointer leads in an area
 unfoldable pub place_of_pointer : Access → Area → Width → (pointer : ℕ) → ExecState → Result Location ℕ
 place_of_pointer access a width pointer p =
-    if is_whole width pointer then place_in_area a (byte_of pointer) (bit_of pointer) width p
-    else Err (bad_bit access)
+    if is_whole width pointer then place_in_area a (byte_of_pointer pointer) (bit_of_pointer pointer) width p
+    else Err (pointer_bit_error access)
 
 -- the peripheral area has no bit operands
 abbrev pub is_peripheral_bit : Area → Width → Bool
@@ -143,27 +143,27 @@ is_peripheral_bit a width = false
 -- a place of an area that the operand or a pointer names
 unfoldable pub fixed_place : Access → Area → Width → (byte bit : ℕ) → ExecState → Result Location ℕ
 fixed_place access a width byte bit p =
-    if is_peripheral_bit a width then Err (bad_area access) else place_in_area a byte bit width p
+    if is_peripheral_bit a width then Err (pointer_area_error access) else place_in_area a byte bit width p
 
 -- the area of an address; none, too, where its bit 31 is 0
-abbrev pub area_of : (address : ℕ) → Option Area
-area_of address = option_map (λ place. place.area) (place_at_pointer address)
+abbrev pub area_of_address : (address : ℕ) → Option Area
+area_of_address address = option_map (λ place. place.area) (place_at_pointer address)
 
 -- where a pointer leads in the area of an address (manual: area-crossing)
 abbrev pub in_area_of : Access → Option Area → Width → (pointer : ℕ) → ExecState → Result Location ℕ
-in_area_of access None width pointer p = Err (bad_area access)
+in_area_of access None width pointer p = Err (pointer_area_error access)
 in_area_of access (Some a) width pointer p =
-    fixed_place access a width (byte_of pointer) (bit_of pointer) p
+    fixed_place access a width (byte_of_pointer pointer) (bit_of_pointer pointer) p
 
 -- the place of an area-crossing pointer
 unfoldable pub place_of_crossing : Access → Width → (address pointer : ℕ) → ExecState → Result Location ℕ
 place_of_crossing access width address pointer p =
-    if is_whole width pointer then in_area_of access (area_of address) width pointer p
-    else Err (bad_bit access)
+    if is_whole width pointer then in_area_of access (area_of_address address) width pointer p
+    else Err (pointer_bit_error access)
 
 -- what AR1 or AR2 holds
-abbrev pub address_in : (register : ℕ) → ExecState → ℕ
-address_in register p = if register == 1 then p.local.regs.ar1 else p.local.regs.ar2
+abbrev pub address_in_register : (register : ℕ) → ExecState → ℕ
+address_in_register register p = if register == 1 then p.local.regs.ar1 else p.local.regs.ar2
 
 -- an address so many bits further on, in bits 0 to 18
 abbrev pub address_moved : (address count : ℕ) → ℕ
@@ -177,9 +177,9 @@ place_of_spot access (named.Fixed a width byte bit) p = fixed_place access a wid
 place_of_spot access (named.ByMemory a width from byte) p =
     then_ok (stored_number from byte widths.Dword p) (λ pointer. place_of_pointer access a width pointer p)
 place_of_spot access (named.ByRegister (Some a) width register count) p =
-    place_of_pointer access a width (address_moved (address_in register p) count) p
+    place_of_pointer access a width (address_moved (address_in_register register p) count) p
 place_of_spot access (named.ByRegister None width register count) p =
-    place_of_crossing access width (address_in register p) (address_moved (address_in register p) count) p
+    place_of_crossing access width (address_in_register register p) (address_moved (address_in_register register p) count) p
 
 -- the place that a parameter stands for
 abbrev pub place_of_binding : Option Binding → Result Location ℕ
@@ -188,7 +188,7 @@ place_of_binding (Some (binding.Bound place width frame)) =
 place_of_binding _ = Err 0
 
 -- the place of what an operand names
-unfoldable pub place_of_operand : Access → Named → ExecState → Result Location ℕ
+unfoldable pub place_of_operand : Access → NamedItem → ExecState → Result Location ℕ
 place_of_operand access (named.Place spot) p = place_of_spot access spot p
 place_of_operand access (named.Parameter index width) p =
     place_of_binding (slice_get p.local.inner.bindings index)
@@ -197,11 +197,11 @@ place_of_operand access _ p = Err 0
 -- ---- numbers and bits
 
 -- the number that a parameter stands for
-abbrev pub number_of_binding : Option Binding → ExecState → Result ℕ ℕ
-number_of_binding (Some (binding.Bound place width frame)) p =
+abbrev pub number_of_parameter : Option Binding → ExecState → Result ℕ ℕ
+number_of_parameter (Some (binding.Bound place width frame)) p =
     number_or_error Reading (record { place = place; width = width; frame = frame }) p
-number_of_binding (Some (binding.Constant value)) p = Ok value
-number_of_binding _ p = Err 0
+number_of_parameter (Some (binding.Constant value)) p = Ok value
+number_of_parameter _ p = Err 0
 
 -- the number of a timer, counter or data block
 unfoldable pub number_of_item : Number → ExecState → Result ℕ ℕ
@@ -219,30 +219,30 @@ of_counter read n p =
     then_ok (number_of_item n p) (λ number. ok_or (option_map read (slice_get p.counters number)) 0x27)
 
 -- the number at a place or of a constant
-unfoldable pub number_of_operand : Named → ExecState → Result ℕ ℕ
+unfoldable pub number_of_operand : NamedItem → ExecState → Result ℕ ℕ
 number_of_operand (named.Place spot) p =
     then_ok (place_of_spot Reading spot p) (λ b. number_or_error Reading b p)
 number_of_operand (named.Parameter index width) p =
-    number_of_binding (slice_get p.local.inner.bindings index) p
-number_of_operand (named.Constant value) p = Ok (bits value)
+    number_of_parameter (slice_get p.local.inner.bindings index) p
+number_of_operand (named.Constant value) p = Ok (bits_of_literal value)
 number_of_operand (named.Pointer value) p = Ok value
 number_of_operand _ p = Err 0
 
 -- what L reads: of a timer the time left in units of its base, of a counter its value
-unfoldable pub number_to_load : Named → ExecState → Result ℕ ℕ
+unfoldable pub number_to_load : NamedItem → ExecState → Result ℕ ℕ
 number_to_load (named.Timer n) p = of_timer units_left n p
 number_to_load (named.Counter n) p = of_counter (λ (counter : Counter). counter.value) n p
 number_to_load x p = number_of_operand x p
 
 -- what LC reads: the same in BCD
-unfoldable pub bcd_to_load : Named → ExecState → Result ℕ ℕ
+unfoldable pub bcd_to_load : NamedItem → ExecState → Result ℕ ℕ
 bcd_to_load (named.Timer n) p = of_timer time_left n p
 bcd_to_load (named.Counter n) p = of_counter count_bcd n p
 bcd_to_load _ p = Err 0
 
 -- the bit that a bit logic instruction reads: of a timer its output, of a counter whether its value is
 -- above 0
-unfoldable pub bit_of_operand : Named → ExecState → Result Bool ℕ
+unfoldable pub bit_of_operand : NamedItem → ExecState → Result Bool ℕ
 bit_of_operand (named.Timer n) p = of_timer (λ (timer : Timer). timer.output) n p
 bit_of_operand (named.Counter n) p = of_counter is_counting n p
 bit_of_operand (named.Condition flag) p = Ok (flag_value flag p.local.regs.status)
@@ -251,21 +251,21 @@ bit_of_operand x p = then_ok (number_of_operand x p) (λ n. Ok (n == 1))
 -- ---- writing
 
 -- with other local bytes, with another memory
-abbrev pub with_locals : LocalData → ExecState → ExecState
-with_locals l p = record p { local = record p.local { locals = l } }
+abbrev pub with_other_locals : LocalData → ExecState → ExecState
+with_other_locals l p = record p { local = record p.local { locals = l } }
 
 -- another memory; all else stays
-abbrev pub with_memory : Areas → ExecState → ExecState
-with_memory m p = record p { memory = m }
+abbrev pub with_other_memory : Areas → ExecState → ExecState
+with_other_memory m p = record p { memory = m }
 
 -- a number at a place, in local bytes or in memory; none where there is no such place
-abbrev pub written_in : Area → Location → ℕ → ExecState → Option ExecState
-written_in area.L b n p =
-    option_map (λ l. with_locals l p)
+abbrev pub with_number_written : Area → Location → ℕ → ExecState → Option ExecState
+with_number_written area.L b n p =
+    option_map (λ l. with_other_locals l p)
     (local_written p.local.locals b.frame b.place.byte b.place.bit b.width n)
-written_in _ b n p =
-    option_map (λ m. with_memory m p) (memory.number_written p.memory b.place b.width n)
+with_number_written _ b n p =
+    option_map (λ m. with_other_memory m p) (memory.number_written p.memory b.place b.width n)
 
 -- another number at a place; an error where there is no such place
 unfoldable pub with_number_at : Location → ℕ → ExecState → Result ExecState ℕ
-with_number_at b n p = ok_or (written_in b.place.area b n p) (no_place Writing b.place.area)
+with_number_at b n p = ok_or (with_number_written b.place.area b n p) (missing_place_error Writing b.place.area)

@@ -5,7 +5,7 @@ use Rattle.plc_base.specs.declared.Profile.TheVariants.{Small}
 use Rattle.machine.specs.Flat.{code_of}
 use Rattle.var_access.specs.declared.Entry.{Entry}
 use Rattle.var_access.specs.declared.Reply.{Reply}
-use Rattle.controller.specs.Replay.{happens, replay}
+use Rattle.controller.specs.Replay.{entry_result, replay}
 use Rattle.controller.specs.Replayed.{entry_events}
 use Rattle.station.specs.declared.shared.Opening.{Opening}
 use Rattle.station.specs.declared.shared.Shared.{Shared}
@@ -38,4 +38,4 @@ mode_at o before e = (replay o.profile (code_of o.program) (entry_events (o.firs
 -- the reply to an entry at its place behind these
 abbrev pub reply_at : Opening → (before : List Entry) → Entry → Reply
 reply_at o before e =
-    (happens (code_of o.program) (replay o.profile (code_of o.program) (entry_events (o.first ++ before))) e.what).reply
+    (entry_result (code_of o.program) (replay o.profile (code_of o.program) (entry_events (o.first ++ before))) e.what).reply

@@ -5,7 +5,7 @@ use Rattle.var_access.specs.declared.Entry.{Entry}
 use Rattle.var_access.specs.declared.What.{What}
 use Rattle.var_access.specs.declared.What.TheVariants.{Input, Arrive, Tick}
 use Rattle.controller.specs.Recording.{Recording}
-use Rattle.tracked_lock.specs.Passes.{Passed}
+use Rattle.tracked_lock.specs.Passes.{PassView}
 use Rattle.tracked_lock.specs.Views.{made_more}
 use Rattle.station.specs.declared.shared.Opening.{Opening}
 use Rattle.station.specs.declared.shared.StationFault.{StationFault}
@@ -34,14 +34,14 @@ pub record AddsEntry (old new : Recording) (e : Entry) : Type 0 where
 
 -- the pass made this entry: the list that it knows ends with it, behind `before`, which all that the pass had seen begins; of the
 -- entries under its own number it is the only new one, and those under its other numbers are as before
-pub record HasMade (old new : Passed Opening Entry) (before : List Entry) (e : Entry) : Type 0 where
+pub record HasMade (old new : PassView Opening Entry) (before : List Entry) (e : Entry) : Type 0 where
   pub ends : new.seen ≡ before ++ e ∷ []
   pub begins : IsPrefix old.seen before
   pub made : new.made ≡ made_more old.made (e ∷ [])
   pub room : length (the_opening old.lock.origin).first + length new.seen ≤ FULL
 
 -- the pass made no entry, and may have seen more
-pub record HasMadeNone (old new : Passed Opening Entry) (fault : StationFault) : Type 0 where
+pub record HasMadeNone (old new : PassView Opening Entry) (fault : StationFault) : Type 0 where
   pub begins : IsPrefix old.seen new.seen
   pub made : new.made ≡ old.made
   pub why : MayFail fault (length (the_opening old.lock.origin).first + length new.seen)

@@ -4,7 +4,7 @@ ghost use mathlib.Core.List.{IsPrefix};
 ghost use Rattle.var_access.specs.declared.Entry.{Entry as AnEntry};
 ghost use Rattle.var_access.specs.declared.What.TheVariants.{Step, Ask};
 ghost use Rattle.var_access.specs.Entry.{IsInRange, IsRequest};
-ghost use Rattle.tracked_lock.specs.Passes.{IsCountOut, fresh_passes, joined_pass, missing};
+ghost use Rattle.tracked_lock.specs.Passes.{IsCountOut, fresh_passes, joined_pass, missing_number_count};
 ghost use Rattle.tracked_lock.specs.Views.{IsMadeOf};
 ghost use Rattle.station.specs.Openings.{mode_at, reply_at, the_opening};
 ghost use Rattle.station.specs.Turns.{HasMade, HasMadeNone, is_stimulus};
@@ -27,10 +27,10 @@ pub struct Station {
 }
 
 impl Model for Station {
-    ghost use Rattle.tracked_lock.specs.Passes.{Locked};
+    ghost use Rattle.tracked_lock.specs.Passes.{LockView};
     ghost use Rattle.station.specs.declared.shared.Opening.{Opening};
 
-    ghost Value = { Locked Opening };
+    ghost Value = { LockView Opening };
 
     ghost view = { λ s. s.lock };
 }
@@ -163,7 +163,7 @@ impl Station {
     pub fn close(self, p: Pass<Shared>) -> Result<Controller, StationOut>
         requires station { p.lock ≡ self }
         requires free { p.out ≡ false }
-        ensures ok { IfOk result (λ c. (missing self.passes p.made ≡ 0)
+        ensures ok { IfOk result (λ c. (missing_number_count self.passes p.made ≡ 0)
             × IsGivenBack (the_opening self.origin) c p) }
         ensures err { IfErr result (λ o. IsCountOut self p o.count
             × (o.station ≡ self) × (o.pass ≡ p)) }

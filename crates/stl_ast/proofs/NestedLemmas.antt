@@ -8,31 +8,31 @@ use Rattle.stl_ast.specs.declared.declarations.Declaration.{Declaration}
 use Rattle.stl_ast.specs.declared.declarations.ElementType.{ElementType}
 use Rattle.stl_ast.specs.declared.declarations.ElementType.TheVariants.{Plain, Structure, Udt, DateAndTime}
 use Rattle.stl_ast.specs.Outline.{level_behind, IsOutline}
-use Rattle.stl_ast.specs.Nested.{Components, none, more, inner, outer, nested, flat, MayHold, AreAt, IsSpelledByNested, AreLevelsOfNesting}
+use Rattle.stl_ast.specs.Nested.{Components, none, more, inner_components, outer_components, nested_declarations, flat_declarations, MayHoldComponents, AreAtLevel, IsSpelledByNested, AreLevelsOfNesting}
 
 -- the inner ones and then the outer ones are all
 parted_one : (level : ℕ) (d : Declaration) (components behind : Components) (deeper : Bool) →
-    flat (inner level behind) ++ flat (outer level behind) ≡ flat behind →
-    flat (if deeper then more d components (inner level behind) else none)
-    ++ flat (if deeper then outer level behind else more d components behind) ≡ d ∷ (flat components ++ flat behind)
+    flat_declarations (inner_components level behind) ++ flat_declarations (outer_components level behind) ≡ flat_declarations behind →
+    flat_declarations (if deeper then more d components (inner_components level behind) else none)
+    ++ flat_declarations (if deeper then outer_components level behind else more d components behind) ≡ d ∷ (flat_declarations components ++ flat_declarations behind)
 parted_one level d components behind true rest =
     ap (λ ds. d ∷ ds)
-    (append_assoc (flat components) (flat (inner level behind)) (flat (outer level behind)) ∙ ap (λ ds. flat components ++ ds) rest)
+    (append_assoc (flat_declarations components) (flat_declarations (inner_components level behind)) (flat_declarations (outer_components level behind)) ∙ ap (λ ds. flat_declarations components ++ ds) rest)
 parted_one level d components behind false rest = refl
 
-parted : (level : ℕ) (cs : Components) → flat (inner level cs) ++ flat (outer level cs) ≡ flat cs
+parted : (level : ℕ) (cs : Components) → flat_declarations (inner_components level cs) ++ flat_declarations (outer_components level cs) ≡ flat_declarations cs
 parted level none = refl
 parted level (more d components behind) = parted_one level d components behind (nat_lt level d.level) (parted level behind)
 
 pub spelled : IsSpelledByNested
 spelled [] = refl
-spelled (d ∷ ds) = ap (λ rest. d ∷ rest) (parted d.level (nested ds) ∙ spelled ds)
+spelled (d ∷ ds) = ap (λ rest. d ∷ rest) (parted d.level (nested_declarations ds) ∙ spelled ds)
 
 -- each stands at most as deep as the one before it, and its components one level deeper
 abbrev AreFalling : ℕ → Components → Type 0
 AreFalling deepest none = Unit {0}
 AreFalling deepest (more d components behind) =
-    (d.level ≤ deepest) × MayHold d.of.of components × AreAt (d.level + 1) components × AreFalling d.level behind
+    (d.level ≤ deepest) × MayHoldComponents d.of.of components × AreAtLevel (d.level + 1) components × AreFalling d.level behind
 
 weaker : (low high : ℕ) (cs : Components) → low ≤ high → AreFalling low cs → AreFalling high cs
 weaker low high none within falling = tt
@@ -44,71 +44,71 @@ not_deeper level at test = grind (arith, nat_tests)
 -- those that stand deeper than a level stand one level deeper
 inner_one : (level : ℕ) (d : Declaration) (components behind : Components) (deeper : Bool) → nat_lt level d.level ≡ deeper →
     AreFalling (level + 1) (more d components behind) →
-    ((deepest : ℕ) → deepest ≤ level + 1 → AreFalling deepest behind → AreAt (level + 1) (inner level behind)) →
-    AreAt (level + 1) (if deeper then more d components (inner level behind) else none)
+    ((deepest : ℕ) → deepest ≤ level + 1 → AreFalling deepest behind → AreAtLevel (level + 1) (inner_components level behind)) →
+    AreAtLevel (level + 1) (if deeper then more d components (inner_components level behind) else none)
 inner_one level d components behind true test falling rest =
     let one : d.level ≡ level + 1 = omega (arith, ltb-true level d.level test, falling.0) in
-    (one, falling.1, subst (λ n. AreAt (n + 1) components) one falling.2, rest d.level falling.0 falling.3)
+    (one, falling.1, subst (λ n. AreAtLevel (n + 1) components) one falling.2, rest d.level falling.0 falling.3)
 inner_one level d components behind false test falling rest = tt
 
-inner_are : (level : ℕ) (cs : Components) → AreFalling (level + 1) cs → AreAt (level + 1) (inner level cs)
+inner_are : (level : ℕ) (cs : Components) → AreFalling (level + 1) cs → AreAtLevel (level + 1) (inner_components level cs)
 inner_are level none falling = tt
 inner_are level (more d components behind) falling =
     inner_one level d components behind (nat_lt level d.level) refl falling
     (λ deepest within rest. inner_are level behind (weaker deepest (level + 1) behind within rest))
 
 -- none stand deeper than the deepest
-inner_none : (level : ℕ) (cs : Components) → AreFalling level cs → inner level cs ≡ none
+inner_none : (level : ℕ) (cs : Components) → AreFalling level cs → inner_components level cs ≡ none
 inner_none level none falling = refl
 inner_none level (more d components behind) falling =
-    ap (λ deeper. if deeper then more d components (inner level behind) else none) (not_below level d.level falling.0)
+    ap (λ deeper. if deeper then more d components (inner_components level behind) else none) (not_below level d.level falling.0)
   where
     not_below : (level at : ℕ) → at ≤ level → nat_lt level at ≡ false
     not_below level at within = grind (arith, nat_tests)
 
 outer_one : (level deepest : ℕ) (d : Declaration) (components behind : Components) (deeper : Bool) → nat_lt level d.level ≡ deeper →
-    AreFalling deepest (more d components behind) → AreFalling level (outer level behind) →
-    AreFalling level (if deeper then outer level behind else more d components behind)
+    AreFalling deepest (more d components behind) → AreFalling level (outer_components level behind) →
+    AreFalling level (if deeper then outer_components level behind else more d components behind)
 outer_one level deepest d components behind true test falling rest = rest
 outer_one level deepest d components behind false test falling rest =
     (not_deeper level d.level test, falling.1, falling.2, falling.3)
 
-outer_fall : (level deepest : ℕ) (cs : Components) → AreFalling deepest cs → AreFalling level (outer level cs)
+outer_fall : (level deepest : ℕ) (cs : Components) → AreFalling deepest cs → AreFalling level (outer_components level cs)
 outer_fall level deepest none falling = tt
 outer_fall level deepest (more d components behind) falling =
     outer_one level deepest d components behind (nat_lt level d.level) refl falling (outer_fall level d.level behind falling.3)
 
-may_hold : (level : ℕ) (of_ : ElementType) (cs : Components) → AreFalling (level_behind level of_) cs → MayHold of_ (inner level cs)
+may_hold : (level : ℕ) (of_ : ElementType) (cs : Components) → AreFalling (level_behind level of_) cs → MayHoldComponents of_ (inner_components level cs)
 may_hold level (Plain kind) cs falling = inner_none level cs falling
 may_hold level Structure cs falling = tt
 may_hold level (Udt name) cs falling = inner_none level cs falling
 may_hold level DateAndTime cs falling = inner_none level cs falling
 
-none_there : (level : ℕ) (cs : Components) → inner level cs ≡ none → AreAt (level + 1) (inner level cs)
-none_there level cs same = subst (AreAt (level + 1)) (sym same) tt
+none_there : (level : ℕ) (cs : Components) → inner_components level cs ≡ none → AreAtLevel (level + 1) (inner_components level cs)
+none_there level cs same = subst (AreAtLevel (level + 1)) (sym same) tt
 
 components_are : (level : ℕ) (of_ : ElementType) (cs : Components) → AreFalling (level_behind level of_) cs →
-    AreAt (level + 1) (inner level cs)
+    AreAtLevel (level + 1) (inner_components level cs)
 components_are level (Plain kind) cs falling = none_there level cs (inner_none level cs falling)
 components_are level Structure cs falling = inner_are level cs falling
 components_are level (Udt name) cs falling = none_there level cs (inner_none level cs falling)
 components_are level DateAndTime cs falling = none_there level cs (inner_none level cs falling)
 
-nested_fall : (deepest : ℕ) (ds : List Declaration) → IsOutline deepest ds → AreFalling deepest (nested ds)
+nested_fall : (deepest : ℕ) (ds : List Declaration) → IsOutline deepest ds → AreFalling deepest (nested_declarations ds)
 nested_fall deepest [] outline = tt
 nested_fall deepest (d ∷ ds) outline =
     let behind = nested_fall (level_behind d.level d.of.of) ds outline.1 in (
       outline.0,
-      may_hold d.level d.of.of (nested ds) behind,
-      components_are d.level d.of.of (nested ds) behind,
-      outer_fall d.level (level_behind d.level d.of.of) (nested ds) behind,
+      may_hold d.level d.of.of (nested_declarations ds) behind,
+      components_are d.level d.of.of (nested_declarations ds) behind,
+      outer_fall d.level (level_behind d.level d.of.of) (nested_declarations ds) behind,
     )
 
-at_zero : (cs : Components) → AreFalling 0 cs → AreAt 0 cs
+at_zero : (cs : Components) → AreFalling 0 cs → AreAtLevel 0 cs
 at_zero none falling = tt
 at_zero (more d components behind) falling =
     let top : d.level ≡ 0 = omega (arith, falling.0) in
-    (top, falling.1, subst (λ n. AreAt (n + 1) components) top falling.2, at_zero behind (weaker d.level 0 behind falling.0 falling.3))
+    (top, falling.1, subst (λ n. AreAtLevel (n + 1) components) top falling.2, at_zero behind (weaker d.level 0 behind falling.0 falling.3))
 
 pub levels : AreLevelsOfNesting
-levels ds outline = at_zero (nested ds) (nested_fall 0 ds outline)
+levels ds outline = at_zero (nested_declarations ds) (nested_fall 0 ds outline)

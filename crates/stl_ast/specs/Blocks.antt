@@ -32,11 +32,11 @@ is_parameter part.InOut = true
 is_parameter _ = false
 
 -- a block of this kind has such a section: an organization block VAR_TEMP alone, a function all but VAR
-unfoldable pub may_have : BlockKind → PartKind → Bool
-may_have kinds.Ob p = nat_eq (part_rank p) 4
-may_have kinds.Fc p = not (nat_eq (part_rank p) 3)
-may_have kinds.Fb p = true
-may_have _ p = false
+unfoldable pub may_have_section : BlockKind → PartKind → Bool
+may_have_section kinds.Ob p = nat_eq (part_rank p) 4
+may_have_section kinds.Fc p = not (nat_eq (part_rank p) 3)
+may_have_section kinds.Fb p = true
+may_have_section _ p = false
 
 -- a declaration without initial values
 abbrev pub has_no_init : List Init → Bool
@@ -49,22 +49,22 @@ is_date_and_time element.DateAndTime = true
 is_date_and_time _ = false
 
 -- a type without bounds, which is no array
-abbrev pub is_single : List Bounds → Bool
-is_single [] = true
-is_single (b ∷ bs) = false
+abbrev pub has_no_bounds : List Bounds → Bool
+has_no_bounds [] = true
+has_no_bounds (b ∷ bs) = false
 
 -- initial values stand in a function block's sections but VAR_TEMP
-unfoldable pub may_init : BlockKind → PartKind → Bool
-may_init kinds.Fb part.Temp = false
-may_init kinds.Fb _ = true
-may_init _ _ = false
+unfoldable pub may_have_init : BlockKind → PartKind → Bool
+may_have_init kinds.Fb part.Temp = false
+may_have_init kinds.Fb _ = true
+may_have_init _ _ = false
 
 -- DATE_AND_TIME stands directly in VAR_TEMP, in no array and no structure
-unfoldable pub may_date : PartKind → ℕ → List Bounds → Bool
-may_date part.Temp level arrays = nat_eq level 0 && is_single arrays
-may_date _ level arrays = false
+unfoldable pub may_have_date_and_time : PartKind → ℕ → List Bounds → Bool
+may_have_date_and_time part.Temp level arrays = nat_eq level 0 && has_no_bounds arrays
+may_have_date_and_time _ level arrays = false
 
 -- a declaration may stand in this section, inside so many structures
 unfoldable pub may_declare : BlockKind → PartKind → ℕ → Declaration → Bool
 may_declare k p level d =
-    (has_no_init d.init || may_init k p) && (not (is_date_and_time d.of.of) || may_date p level d.of.arrays)
+    (has_no_init d.init || may_have_init k p) && (not (is_date_and_time d.of.of) || may_have_date_and_time p level d.of.arrays)

@@ -29,16 +29,16 @@ abbrev pub IsInit : Init → Type 0
 IsInit i = IsCount i.count × IsLiteral i.value
 
 -- no initial value, or one without a count
-abbrev pub IsSingle : List Init → Type 0
-IsSingle [] = Unit {0}
-IsSingle (i ∷ []) = i.count ≡ None
-IsSingle _ = ⊥
+abbrev pub IsSingleInit : List Init → Type 0
+IsSingleInit [] = Unit {0}
+IsSingleInit (i ∷ []) = i.count ≡ None
+IsSingleInit _ = ⊥
 
 -- a list of initial values stands at an array of elementary type alone, and none at a structure
 abbrev pub FitsType : List Bounds → ElementType → List Init → Type 0
 FitsType (b ∷ []) (element.Plain kind) init = Unit {0}
 FitsType arrays element.Structure init = init ≡ []
-FitsType arrays of_ init = IsSingle init
+FitsType arrays of_ init = IsSingleInit init
 
 -- a declaration: bounds, count and values are in their ranges, and the initial values fit the form of the type
 pub record IsDeclaration (d : Declaration) : Type 0 where
@@ -48,10 +48,10 @@ pub record IsDeclaration (d : Declaration) : Type 0 where
   pub fits : FitsType d.of.arrays d.of.of d.init
 
 -- a type that is an elementary one
-abbrev pub is_plain : List Bounds → ElementType → Bool
-is_plain [] (element.Plain kind) = true
-is_plain _ _ = false
+abbrev pub is_elementary_type : List Bounds → ElementType → Bool
+is_elementary_type [] (element.Plain kind) = true
+is_elementary_type _ _ = false
 
 -- BOOL, BYTE, CHAR, WORD, INT, S5TIME, DWORD, DINT or TIME, and no array of it
 abbrev pub is_elementary : Declaration → Bool
-is_elementary d = is_plain d.of.arrays d.of.of
+is_elementary d = is_elementary_type d.of.arrays d.of.of

@@ -12,43 +12,43 @@ pub data Components : Type 0 where
   more : Declaration → Components → Components → Components
 
 -- of these, the leading ones that stand deeper than a level
-abbrev pub inner : ℕ → Components → Components
-inner level none = none
-inner level (more d components behind) =
-    if nat_lt level d.level then more d components (inner level behind) else none
+abbrev pub inner_components : ℕ → Components → Components
+inner_components level none = none
+inner_components level (more d components behind) =
+    if nat_lt level d.level then more d components (inner_components level behind) else none
 
 -- and those from the first on that doesn't stand deeper
-abbrev pub outer : ℕ → Components → Components
-outer level none = none
-outer level (more d components behind) =
-    if nat_lt level d.level then outer level behind else more d components behind
+abbrev pub outer_components : ℕ → Components → Components
+outer_components level none = none
+outer_components level (more d components behind) =
+    if nat_lt level d.level then outer_components level behind else more d components behind
 
 -- the nested view of a list of declarations: the components of a declaration are the leading ones behind it that stand
 -- deeper
-abbrev pub nested : List Declaration → Components
-nested [] = none
-nested (d ∷ ds) = more d (inner d.level (nested ds)) (outer d.level (nested ds))
+abbrev pub nested_declarations : List Declaration → Components
+nested_declarations [] = none
+nested_declarations (d ∷ ds) = more d (inner_components d.level (nested_declarations ds)) (outer_components d.level (nested_declarations ds))
 
 -- the declarations in the order of the text
-abbrev pub flat : Components → List Declaration
-flat none = []
-flat (more d components behind) = d ∷ (flat components ++ flat behind)
+abbrev pub flat_declarations : Components → List Declaration
+flat_declarations none = []
+flat_declarations (more d components behind) = d ∷ (flat_declarations components ++ flat_declarations behind)
 
 -- only a structure has components
-abbrev pub MayHold : ElementType → Components → Type 0
-MayHold element.Structure components = Unit {0}
-MayHold _ components = components ≡ none
+abbrev pub MayHoldComponents : ElementType → Components → Type 0
+MayHoldComponents element.Structure components = Unit {0}
+MayHoldComponents _ components = components ≡ none
 
 -- these stand at a level, and the components of each one level deeper
-abbrev pub AreAt : ℕ → Components → Type 0
-AreAt level none = Unit {0}
-AreAt level (more d components behind) =
-    (d.level ≡ level) × MayHold d.of.of components × AreAt (level + 1) components × AreAt level behind
+abbrev pub AreAtLevel : ℕ → Components → Type 0
+AreAtLevel level none = Unit {0}
+AreAtLevel level (more d components behind) =
+    (d.level ≡ level) × MayHoldComponents d.of.of components × AreAtLevel (level + 1) components × AreAtLevel level behind
 
 -- the nested view spells the list
 abbrev pub IsSpelledByNested : Type 0
-IsSpelledByNested = (ds : List Declaration) → flat (nested ds) ≡ ds
+IsSpelledByNested = (ds : List Declaration) → flat_declarations (nested_declarations ds) ≡ ds
 
 -- in the nested view of an outline the components of a structure stand one level deeper, and nothing else has components
 abbrev pub AreLevelsOfNesting : Type 0
-AreLevelsOfNesting = (ds : List Declaration) → IsOutline 0 ds → AreAt 0 (nested ds)
+AreLevelsOfNesting = (ds : List Declaration) → IsOutline 0 ds → AreAtLevel 0 (nested_declarations ds)

@@ -75,10 +75,10 @@ IsInstance name None = Unit {0}
 IsInstance name (Some instance) = IsNameOf (λ k. k ≡ kind.Fb) name × IsDataBlockName instance
 
 -- the operand of OPN: a data block; that for the DI register has a number
-abbrev pub IsOpened : Bool → BlockName → Type 0
-IsOpened false name = IsDataBlockName name
-IsOpened true (block.Number id) = (id.kind ≡ kind.Db) × IsNumber id.number
-IsOpened true (block.Quoted name) = ⊥
+abbrev pub IsOpenedBlock : Bool → BlockName → Type 0
+IsOpenedBlock false name = IsDataBlockName name
+IsOpenedBlock true (block.Number id) = (id.kind ≡ kind.Db) × IsNumber id.number
+IsOpenedBlock true (block.Quoted name) = ⊥
 
 -- the numbers of an operand are in their ranges, and its names those of the right blocks
 abbrev pub IsOperand : Operand → Type 0
@@ -95,5 +95,5 @@ IsOperand (operand.Constant value) = IsLiteral value
 IsOperand (operand.Label name) = Unit {0}
 IsOperand (operand.OfStatus flag) = Unit {0}
 IsOperand (operand.Other name) = Unit {0}
-IsOperand (operand.OpenBlock di name) = IsOpened di name
+IsOperand (operand.OpenBlock di name) = IsOpenedBlock di name
 IsOperand (operand.Called name instance) = IsAnyName name × IsInstance name instance

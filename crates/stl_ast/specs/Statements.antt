@@ -45,9 +45,9 @@ has_actuals code.Call = true
 has_actuals _ = false
 
 -- the empty statement, `;` alone: it counts as none and has no code
-abbrev pub is_empty : Mnemonic → Bool
-is_empty code.Empty = true
-is_empty _ = false
+abbrev pub is_empty_statement : Mnemonic → Bool
+is_empty_statement code.Empty = true
+is_empty_statement _ = false
 
 -- no operand, as with SET; every actual parameter has one
 abbrev pub is_nothing : Operand → Bool
@@ -60,9 +60,9 @@ is_label (operand.Label name) = true
 is_label _ = false
 
 -- a block that is called, with an instance or without
-abbrev pub is_called : Operand → Bool
-is_called (operand.Called name instance) = true
-is_called _ = false
+abbrev pub names_called_block : Operand → Bool
+names_called_block (operand.Called name instance) = true
+names_called_block _ = false
 
 -- a block and its instance data block, as in `CALL FB 1, DB 5`
 abbrev pub has_instance : Operand → Bool
@@ -87,7 +87,7 @@ IsTarget _ = Unit {0}
 pub record IsActual (a : Actual) : Type 0 where
   pub value : IsOperand a.value
   pub something : is_nothing a.value ≡ false
-  pub no_block : is_called a.value ≡ false
+  pub no_block : names_called_block a.value ≡ false
   pub no_label : is_label a.value ≡ false
 
 -- the actual parameters of a statement, each right by itself; there may be none
@@ -99,13 +99,13 @@ pub record IsStatement (s : Statement) : Type 0 where
   pub label : IsLabelOf s.label
   pub value : IsOperand s.operand
   -- a block is called exactly by CALL, UC and CC, and with an instance by CALL alone
-  pub called : is_called s.operand ≡ is_call s.code
+  pub called : names_called_block s.operand ≡ is_call s.code
   pub instance : has_actuals s.code ≡ false → has_instance s.operand ≡ false
   -- a label is the target of a jump alone
   pub target : IsTarget s.operand
   pub jumps : is_label s.operand ≡ true → is_jump s.code ≡ true
   -- the empty statement has no operand and no label
-  pub empty : is_empty s.code ≡ true → s.operand ≡ operand.Nothing
-  pub unlabelled : is_empty s.code ≡ true → s.label ≡ None
+  pub empty : is_empty_statement s.code ≡ true → s.operand ≡ operand.Nothing
+  pub unlabelled : is_empty_statement s.code ≡ true → s.label ≡ None
   pub actuals : AreActuals s.actuals
   pub no_actuals : has_actuals s.code ≡ false → s.actuals ≡ []

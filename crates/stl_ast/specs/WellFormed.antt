@@ -16,7 +16,7 @@ use Rattle.stl_ast.specs.declared.declarations.Simple.{Simple}
 use Rattle.stl_ast.specs.declared.declarations.TypeTree.{TypeTree}
 use Rattle.stl_ast.specs.declared.names.BlockName.{BlockName}
 use Rattle.stl_ast.specs.declared.statements.Statement.{Statement}
-use Rattle.stl_ast.specs.Blocks.{part_rank, is_parameter, may_have, may_declare, is_date_and_time}
+use Rattle.stl_ast.specs.Blocks.{part_rank, is_parameter, may_have_section, may_declare, is_date_and_time}
 use Rattle.stl_ast.specs.Declarations.{IsDeclaration, is_elementary}
 use Rattle.stl_ast.specs.Literals.{IsLiteral}
 use Rattle.stl_ast.specs.Operands.{IsNameOf, AreSteps, BeginsByName}
@@ -48,16 +48,16 @@ AreDeclaredIn k p ds = AllByRecursion (IsDeclaredIn k p) ds
 
 -- a section that a block of this kind has; levels rise by one into a structure, and by no more
 abbrev pub IsSection : BlockKind → Part → Type 0
-IsSection k p = (may_have k p.kind ≡ true) × IsOutline 0 p.items × AreDeclaredIn k p.kind p.items
+IsSection k p = (may_have_section k p.kind ≡ true) × IsOutline 0 p.items × AreDeclaredIn k p.kind p.items
 
 -- the sections stand in their order, each kind at most once: none before the rank `least`
-abbrev pub AreInOrder : ℕ → List Part → Type 0
-AreInOrder least [] = Unit {0}
-AreInOrder least (p ∷ ps) = (least ≤ part_rank p.kind) × AreInOrder (part_rank p.kind + 1) ps
+abbrev pub AreSectionsInOrder : ℕ → List Part → Type 0
+AreSectionsInOrder least [] = Unit {0}
+AreSectionsInOrder least (p ∷ ps) = (least ≤ part_rank p.kind) × AreSectionsInOrder (part_rank p.kind + 1) ps
 
 -- the sections of a block: each at most once, from VAR_INPUT to VAR_TEMP, and right by itself
 abbrev pub AreSections : BlockKind → List Part → Type 0
-AreSections k ps = AreInOrder 0 ps × AllByRecursion (IsSection k) ps
+AreSections k ps = AreSectionsInOrder 0 ps × AllByRecursion (IsSection k) ps
 
 -- the components of a structure that is the type of a block
 abbrev pub IsComponent : Declaration → Type 0

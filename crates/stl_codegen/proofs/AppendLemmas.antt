@@ -8,17 +8,17 @@ use Rattle.plc_base.proofs.ListLemmas.{all_front, all_back}
 use Rattle.plc_base.proofs.TruthLemmas.{and_unmet, and_unmet_behind}
 use Rattle.flat_code.specs.Codes.{are_ops}
 use Rattle.flat_code.specs.Ops.{OpData, is_op}
-use Rattle.stl_codegen.specs.Compiled.{aimed_op}
-use Rattle.stl_codegen.specs.Fitting.{Added, Appended, HasNoOp}
+use Rattle.stl_codegen.specs.Compiled.{op_with_target}
+use Rattle.stl_codegen.specs.Fitting.{AreItemsAppended, AreOpsAppended, HasNoOp}
 
 and_same : (a b c : Bool) → (a && (b && c)) ≡ ((a && b) && c)
 and_same true b c = refl
 and_same false b c = refl
 
-are_both : (f : ℕ → ℕ) (xs ys : List OpData) → are_ops (map (aimed_op f) (xs ++ ys)) ≡ (are_ops (map (aimed_op f) xs) && are_ops (map (aimed_op f) ys))
+are_both : (f : ℕ → ℕ) (xs ys : List OpData) → are_ops (map (op_with_target f) (xs ++ ys)) ≡ (are_ops (map (op_with_target f) xs) && are_ops (map (op_with_target f) ys))
 are_both f [] ys = refl
 are_both f (x ∷ xs) ys =
-    let here : Bool = is_op (aimed_op f x).code (aimed_op f x).operand in
+    let here : Bool = is_op (op_with_target f x).code (op_with_target f x).operand in
     ap (λ (t : Bool). here && t) (are_both f xs ys) ∙ and_same here _ _
 
 -- one of the first is no op, or one of the others
@@ -29,22 +29,22 @@ pub back_has_none : (xs ys : List OpData) → HasNoOp ys → HasNoOp (xs ++ ys)
 back_has_none xs ys h = record { never = λ f. are_both f xs ys ∙ and_unmet_behind _ _ (h.never f) }
 
 -- ops behind others that were appended
-pub appended_then : (old now new xs ys : List OpData) (done : Option (Unit {0})) → now ≡ old ++ xs → Appended now new ys done → Appended old new (xs ++ ys) done
+pub appended_then : (old now new xs ys : List OpData) (done : Option (Unit {0})) → now ≡ old ++ xs → AreOpsAppended now new ys done → AreOpsAppended old new (xs ++ ys) done
 appended_then old now new xs ys (Some u) first h = h ∙ ap (λ (l : List OpData). l ++ ys) first ∙ append_assoc old xs ys
 appended_then old now new xs ys None first h = back_has_none xs ys h
 
 -- by what is known of the answer
-pub appended_some : (old now ops : List OpData) (done : Option (Unit {0})) (u : Unit {0}) → done ≡ Some u → Appended old now ops done → now ≡ old ++ ops
-appended_some old now ops answer u is h = subst (Appended old now ops) is h
+pub appended_some : (old now ops : List OpData) (done : Option (Unit {0})) (u : Unit {0}) → done ≡ Some u → AreOpsAppended old now ops done → now ≡ old ++ ops
+appended_some old now ops answer u is h = subst (AreOpsAppended old now ops) is h
 
-pub appended_none : (old now ops : List OpData) (done : Option (Unit {0})) → done ≡ None → Appended old now ops done → HasNoOp ops
-appended_none old now ops answer is h = subst (Appended old now ops) is h
+pub appended_none : (old now ops : List OpData) (done : Option (Unit {0})) → done ≡ None → AreOpsAppended old now ops done → HasNoOp ops
+appended_none old now ops answer is h = subst (AreOpsAppended old now ops) is h
 
-pub added_some : {A : Type 0} (P : A → Type 0) (old now items : List A) (done : Option (Unit {0})) (u : Unit {0}) → done ≡ Some u → Added P old now items done → now ≡ old ++ items
-added_some P old now items answer u is h = subst (Added P old now items) is h
+pub added_some : {A : Type 0} (P : A → Type 0) (old now items : List A) (done : Option (Unit {0})) (u : Unit {0}) → done ≡ Some u → AreItemsAppended P old now items done → now ≡ old ++ items
+added_some P old now items answer u is h = subst (AreItemsAppended P old now items) is h
 
-pub added_none : {A : Type 0} (P : A → Type 0) (old now items : List A) (done : Option (Unit {0})) → done ≡ None → Added P old now items done → AllByRecursion P items → ⊥
-added_none P old now items answer is h = subst (Added P old now items) is h
+pub added_none : {A : Type 0} (P : A → Type 0) (old now items : List A) (done : Option (Unit {0})) → done ≡ None → AreItemsAppended P old now items done → AllByRecursion P items → ⊥
+added_none P old now items answer is h = subst (AreItemsAppended P old now items) is h
 
 pub if_none : {T : Type 0} (P : Type 0) (o : Option T) → o ≡ None → IfNone o P → P
 if_none {T = T} P o is h = subst (λ (x : Option T). IfNone x P) is h

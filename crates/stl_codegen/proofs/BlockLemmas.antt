@@ -7,18 +7,18 @@ use Rattle.std.specs.List.{flat_map}
 use Rattle.flat_code.specs.Codes.{are_ops}
 use Rattle.flat_code.specs.Ops.{OpData}
 use Rattle.flat_code.specs.declared.kinds.JumpOperation.{JumpOperation}
-use Rattle.stl_ast.specs.Statements.{is_empty}
+use Rattle.stl_ast.specs.Statements.{is_empty_statement}
 use Rattle.stl_ast.specs.declared.blocks.Block.{Block}
 use Rattle.stl_ast.specs.declared.statements.Statement.{Statement}
 use Rattle.block_layout.specs.declared.blocks.BlockLayout.{BlockLayout}
 use Rattle.stl_types.specs.Context.{Context}
-use Rattle.stl_codegen.specs.Bodies.{body_lines, body_ops, count_of, line_here, ops_here}
-use Rattle.stl_codegen.specs.Compiled.{Stated, StatedBlock, aimed_op, code_in, compiled, lines_in, offset_of, ops_in, placed_ops}
+use Rattle.stl_codegen.specs.Bodies.{body_lines, body_ops, count_of_statements, line_here, ops_here}
+use Rattle.stl_codegen.specs.Compiled.{SourceInstruction, StatedBlock, op_with_target, code_in, compiled_block, lines_in, offset_of_statement, ops_in, placed_ops}
 use Rattle.stl_codegen.specs.Emitted.{ops_of}
 use Rattle.stl_codegen.specs.Fitting.{CodeFits, HasNoOp}
-use Rattle.stl_codegen.specs.Generated.{each_block, returning, stated_from, statements_of}
+use Rattle.stl_codegen.specs.Generated.{each_block, return_statement, stated_from, statements_of}
 use Rattle.stl_codegen.specs.Instruction.{instr_by, instruction, target_of}
-use Rattle.stl_codegen.specs.Operations.{jump_of}
+use Rattle.stl_codegen.specs.Operations.{jump_operation_of}
 use Rattle.stl_codegen.proofs.OpLemmas.{jump_ops}
 
 -- the number of a statement has no part in its ops
@@ -28,14 +28,14 @@ by_number c body n m s (Some how) = jump_ops how n (target_of body s.operand) �
 
 same_ops : (c : Context) (body : List Statement) (n : ℕ) (s : Statement) → ops_of (instruction c body n s) ≡ ops_of (instruction c body 0 s)
 unfolding instruction
-same_ops c body n s = by_number c body n 0 s (jump_of s.code)
+same_ops c body n s = by_number c body n 0 s (jump_operation_of s.code)
 
 ops_step : (c : Context) (body : List Statement) (n : ℕ) (s : Statement) (empty : Bool) (more next rest : List OpData) → more ≡ rest → next ≡ rest →
     cond empty more (ops_of (instruction c body n s) ++ next) ≡ cond empty [] (ops_of (instruction c body 0 s)) ++ rest
 ops_step c body n s true more next rest m k = m
 ops_step c body n s false more next rest m k = ap (λ (l : List OpData). l ++ next) (same_ops c body n s) ∙ ap (λ (l : List OpData). ops_of (instruction c body 0 s) ++ l) k
 
-if_ops : (empty : Bool) (more : List Stated) (one : Stated) (next : List Stated) → ops_in (cond empty more (one ∷ next)) ≡ cond empty (ops_in more) (ops_of one.instr ++ ops_in next)
+if_ops : (empty : Bool) (more : List SourceInstruction) (one : SourceInstruction) (next : List SourceInstruction) → ops_in (cond empty more (one ∷ next)) ≡ cond empty (ops_in more) (ops_of one.instr ++ ops_in next)
 if_ops true more one next = refl
 if_ops false more one next = refl
 
@@ -43,8 +43,8 @@ stated_ops : (c : Context) (body : List Statement) (n : ℕ) (ss : List Statemen
 unfolding ops_here
 stated_ops c body n [] = refl
 stated_ops c body n (s ∷ ss) =
-    if_ops (is_empty s.code) (stated_from c body n ss) (record { instr = instruction c body n s; line = s.line }) (stated_from c body (suc n) ss)
-    ∙ ops_step c body n s (is_empty s.code) _ _ _ (stated_ops c body n ss) (stated_ops c body (suc n) ss)
+    if_ops (is_empty_statement s.code) (stated_from c body n ss) (record { instr = instruction c body n s; line = s.line }) (stated_from c body (suc n) ss)
+    ∙ ops_step c body n s (is_empty_statement s.code) _ _ _ (stated_ops c body n ss) (stated_ops c body (suc n) ss)
 
 flat_both : {A B : Type 0} (f : A → List B) (xs ys : List A) → flat_map f (xs ++ ys) ≡ flat_map f xs ++ flat_map f ys
 flat_both f [] ys = refl
@@ -53,10 +53,10 @@ flat_both {B = B} f (x ∷ xs) ys = ap (λ (l : List B). f x ++ l) (flat_both f 
 pub body_ops_are : (c : Context) (b : Block) → ops_in (statements_of c b) ≡ body_ops c b
 unfolding statements_of ops_of
 body_ops_are c b =
-    flat_both (λ s. ops_of s.instr) (stated_from c b.body 0 b.body) (returning b ∷ [])
-    ∙ ap (λ (l : List OpData). l ++ ops_of (returning b).instr) (stated_ops c b.body 0 b.body)
+    flat_both (λ s. ops_of s.instr) (stated_from c b.body 0 b.body) (return_statement b ∷ [])
+    ∙ ap (λ (l : List OpData). l ++ ops_of (return_statement b).instr) (stated_ops c b.body 0 b.body)
 
-if_lines : (empty : Bool) (more : List Stated) (one : Stated) (next : List Stated) (rest : List ℕ) → lines_in more ≡ rest → lines_in next ≡ rest →
+if_lines : (empty : Bool) (more : List SourceInstruction) (one : SourceInstruction) (next : List SourceInstruction) (rest : List ℕ) → lines_in more ≡ rest → lines_in next ≡ rest →
     lines_in (cond empty more (one ∷ next)) ≡ cond empty [] (one.line ∷ []) ++ rest
 if_lines true more one next rest m k = m
 if_lines false more one next rest m k = ap (λ (l : List ℕ). one.line ∷ l) k
@@ -64,12 +64,12 @@ if_lines false more one next rest m k = ap (λ (l : List ℕ). one.line ∷ l) k
 stated_lines : (c : Context) (body : List Statement) (n : ℕ) (ss : List Statement) → lines_in (stated_from c body n ss) ≡ flat_map line_here ss
 stated_lines c body n [] = refl
 stated_lines c body n (s ∷ ss) =
-    if_lines (is_empty s.code) (stated_from c body n ss) (record { instr = instruction c body n s; line = s.line }) (stated_from c body (suc n) ss) _ (stated_lines c body n ss) (stated_lines c body (suc n) ss)
+    if_lines (is_empty_statement s.code) (stated_from c body n ss) (record { instr = instruction c body n s; line = s.line }) (stated_from c body (suc n) ss) _ (stated_lines c body n ss) (stated_lines c body (suc n) ss)
 
 pub body_lines_are : (c : Context) (b : Block) → lines_in (statements_of c b) ≡ body_lines b
 unfolding statements_of
 body_lines_are c b =
-    map-append (λ s. s.line) (stated_from c b.body 0 b.body) (returning b ∷ [])
+    map-append (λ s. s.line) (stated_from c b.body 0 b.body) (return_statement b ∷ [])
     ∙ ap (λ (l : List ℕ). l ++ b.end_line ∷ []) (stated_lines c b.body 0 b.body)
 
 -- as many lines as statements
@@ -77,17 +77,17 @@ if_counts : (empty : Bool) (line : ℕ) → length (cond empty [] (line ∷ []))
 if_counts true line = refl
 if_counts false line = refl
 
-counts : (ss : List Statement) → length (flat_map line_here ss) ≡ count_of ss
+counts : (ss : List Statement) → length (flat_map line_here ss) ≡ count_of_statements ss
 counts [] = refl
-counts (s ∷ ss) = length-append (line_here s) (flat_map line_here ss) ∙ ap (λ (k : ℕ). k + length (flat_map line_here ss)) (if_counts (is_empty s.code) s.line) ∙ ap (λ (k : ℕ). cond (is_empty s.code) 0 1 + k) (counts ss)
+counts (s ∷ ss) = length-append (line_here s) (flat_map line_here ss) ∙ ap (λ (k : ℕ). k + length (flat_map line_here ss)) (if_counts (is_empty_statement s.code) s.line) ∙ ap (λ (k : ℕ). cond (is_empty_statement s.code) 0 1 + k) (counts ss)
 
-pub count_lines : (b : Block) → length (body_lines b) ≡ count_of b.body + 1
+pub count_lines : (b : Block) → length (body_lines b) ≡ count_of_statements b.body + 1
 count_lines b = length-append (flat_map line_here b.body) (b.end_line ∷ []) ∙ ap (λ (k : ℕ). k + 1) (counts b.body)
 
 -- ops of which one is none don't fit, wherever they lead
 pub no_op_misfits : (ops : List OpData) (lines : List ℕ) → HasNoOp ops → CodeFits (placed_ops ops) lines → ⊥
 unfolding placed_ops
-no_op_misfits ops lines none fits = differ (are_ops (map (aimed_op (offset_of ops)) ops)) fits.ops (none.never (offset_of ops))
+no_op_misfits ops lines none fits = differ (are_ops (map (op_with_target (offset_of_statement ops)) ops)) fits.ops (none.never (offset_of_statement ops))
   where
     differ : (b : Bool) → b ≡ true → b ≡ false → ⊥
     differ b is isnt = absurd cc
@@ -129,11 +129,11 @@ each_turn {A = A} of c bs ls i b l in_bs in_ls is_b is_l =
 -- the same of code blocks as ops
 pub each_compiled_turn : (of : Context → Block → BlockLayout → List StatedBlock) (c : Context) (bs : List Block) (ls : List BlockLayout) (i : ℕ) (b : Block) (l : BlockLayout) →
     i < length bs → i < length ls → b ≡ get_or bs i b → l ≡ get_or ls i l →
-    map compiled (each_block of (record c { block = i }) (drop i bs) (drop i ls))
-    ≡ map compiled (of (record c { block = i }) b l) ++ map compiled (each_block of (record c { block = i + 1 }) (drop (i + 1) bs) (drop (i + 1) ls))
+    map compiled_block (each_block of (record c { block = i }) (drop i bs) (drop i ls))
+    ≡ map compiled_block (of (record c { block = i }) b l) ++ map compiled_block (each_block of (record c { block = i + 1 }) (drop (i + 1) bs) (drop (i + 1) ls))
 each_compiled_turn of c bs ls i b l in_bs in_ls is_b is_l =
-    ap (λ (z : List StatedBlock). map compiled z) (each_turn of c bs ls i b l in_bs in_ls is_b is_l)
-    ∙ map-append compiled (of (record c { block = i }) b l) (each_block of (record c { block = i + 1 }) (drop (i + 1) bs) (drop (i + 1) ls))
+    ap (λ (z : List StatedBlock). map compiled_block z) (each_turn of c bs ls i b l in_bs in_ls is_b is_l)
+    ∙ map-append compiled_block (of (record c { block = i }) b l) (each_block of (record c { block = i + 1 }) (drop (i + 1) bs) (drop (i + 1) ls))
 
 -- the same of what goes by the layout alone
 split : {A : Type 0} (xs : List A) (i : ℕ) → i < length xs → (y : A) × (drop i xs ≡ y ∷ drop (i + 1) xs)

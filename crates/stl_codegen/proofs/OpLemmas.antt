@@ -16,7 +16,7 @@ use Rattle.flat_code.specs.declared.operands.Passed.{Passed}
 use Rattle.flat_code.specs.declared.operands.Passed.TheVariants as passed
 use Rattle.flat_code.specs.declared.operations.Operation.{Operation}
 use Rattle.flat_code.specs.declared.operations.Operation.TheVariants as operation
-use Rattle.stl_codegen.specs.Compiled.{aimed}
+use Rattle.stl_codegen.specs.Compiled.{operand_with_target}
 use Rattle.stl_codegen.specs.Emitted.{jump_op, ops_of}
 use Rattle.stl_codegen.specs.Fitting.{HasNoOp, IsNoOperand, IsStill}
 use Rattle.stl_codegen.specs.Instruction.{jump_instr}
@@ -29,7 +29,7 @@ and_front : (a b c : Bool) → (b && c) ≡ false → ((a && b) && c) ≡ false
 and_front true b c h = h
 and_front false b c h = refl
 
-aimed_still : (f : ℕ → ℕ) (o : Operand) → IsStill o → aimed f o ≡ o
+aimed_still : (f : ℕ → ℕ) (o : Operand) → IsStill o → operand_with_target f o ≡ o
 aimed_still f (operand.Jump kind target) h = absurd h
 aimed_still f operand.Nothing h = refl
 aimed_still f (operand.Literal value) h = refl

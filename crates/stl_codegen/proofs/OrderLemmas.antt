@@ -11,8 +11,8 @@ use Rattle.std.proofs.lemmas.List.Sorted.{IsStrictWeakOrder-by_number, ranks_by,
 use Rattle.plc_base.specs.Kinds.{kind_number}
 use Rattle.flat_code.specs.Programs.{CodeBlock, NameEntry}
 use Rattle.flat_code.proofs.NameLemmas.{before_is_less}
-use Rattle.stl_codegen.specs.Compiled.{StatedBlock, compiled}
-use Rattle.stl_codegen.specs.Order.{is_block_before, is_code_before, is_data_before, is_name_before, inserted, sorted}
+use Rattle.stl_codegen.specs.Compiled.{StatedBlock, compiled_block}
+use Rattle.stl_codegen.specs.Order.{is_block_before, is_code_before, is_data_before, is_name_before, sorted_insertion, sorted_list}
 
 -- ---- in order, by recursion
 
@@ -44,12 +44,12 @@ same_as_itself lt o x = by_test (lt x x) refl
 
 -- ---- the definition is in order, and two that are alike stay as they stood
 
-none_inserted : {A : Type 0} (lt : A → A → Bool) (y x : A) (ys : List A) → lt x y ≡ false → NoneBefore lt y ys → NoneBefore lt y (inserted lt x ys)
+none_inserted : {A : Type 0} (lt : A → A → Bool) (y x : A) (ys : List A) → lt x y ≡ false → NoneBefore lt y ys → NoneBefore lt y (sorted_insertion lt x ys)
 unfolding NoneBefore
 none_inserted lt y x [] h none = (h, tt)
 none_inserted lt y x (z ∷ zs) h none = by_test (lt z x) (none_inserted lt y x zs h none.1)
   where
-    by_test : (b : Bool) → NoneBefore lt y (inserted lt x zs) → NoneBefore lt y (cond b (z ∷ inserted lt x zs) (x ∷ z ∷ zs))
+    by_test : (b : Bool) → NoneBefore lt y (sorted_insertion lt x zs) → NoneBefore lt y (cond b (z ∷ sorted_insertion lt x zs) (x ∷ z ∷ zs))
     by_test true more = (none.0, more)
     by_test false more = (h, none)
 
@@ -58,19 +58,19 @@ unfolding NoneBefore
 none_chained lt o x y [] h none = tt
 none_chained lt o x y (z ∷ zs) h none = (o.chain z y x none.0 h, none_chained lt o x y zs h none.1)
 
-rises_inserted : {A : Type 0} (lt : A → A → Bool) → IsStrictWeakOrder lt → (x : A) (ys : List A) → Rises lt ys → Rises lt (inserted lt x ys)
+rises_inserted : {A : Type 0} (lt : A → A → Bool) → IsStrictWeakOrder lt → (x : A) (ys : List A) → Rises lt ys → Rises lt (sorted_insertion lt x ys)
 unfolding Rises NoneBefore
 rises_inserted lt o x [] h = (tt, tt)
 rises_inserted lt o x (y ∷ ys) h = by_test (lt y x) refl (rises_inserted lt o x ys h.1)
   where
-    by_test : (b : Bool) → lt y x ≡ b → Rises lt (inserted lt x ys) → Rises lt (cond b (y ∷ inserted lt x ys) (x ∷ y ∷ ys))
+    by_test : (b : Bool) → lt y x ≡ b → Rises lt (sorted_insertion lt x ys) → Rises lt (cond b (y ∷ sorted_insertion lt x ys) (x ∷ y ∷ ys))
     by_test true e more = (none_inserted lt y x ys (o.one_way y x e) h.0, more)
     by_test false e more = ((e, none_chained lt o x y ys e h.0), h)
 
-rises_sorted : {A : Type 0} (lt : A → A → Bool) → IsStrictWeakOrder lt → (xs : List A) → Rises lt (sorted lt xs)
-unfolding sorted Rises
+rises_sorted : {A : Type 0} (lt : A → A → Bool) → IsStrictWeakOrder lt → (xs : List A) → Rises lt (sorted_list lt xs)
+unfolding sorted_list Rises
 rises_sorted lt o [] = tt
-rises_sorted lt o (x ∷ xs) = rises_inserted lt o x (sorted lt xs) (rises_sorted lt o xs)
+rises_sorted lt o (x ∷ xs) = rises_inserted lt o x (sorted_list lt xs) (rises_sorted lt o xs)
 
 -- two that aren't both alike with a third may change places
 exchanged : {A : Type 0} (p : A → Bool) (x y : A) (zs : List A) → (p x ≡ true → p y ≡ true → ⊥) → filter p (y ∷ x ∷ zs) ≡ filter p (x ∷ y ∷ zs)
@@ -93,21 +93,21 @@ not_both lt o z x y e p q =
     let b = tie_parts (lt z y) (lt y z) q in
     let f = o.chain y z x b.1 a.0 in cc
 
-kept_inserted : {A : Type 0} (lt : A → A → Bool) → IsStrictWeakOrder lt → (z x : A) (ys : List A) → filter (ties lt z) (inserted lt x ys) ≡ filter (ties lt z) (x ∷ ys)
+kept_inserted : {A : Type 0} (lt : A → A → Bool) → IsStrictWeakOrder lt → (z x : A) (ys : List A) → filter (ties lt z) (sorted_insertion lt x ys) ≡ filter (ties lt z) (x ∷ ys)
 kept_inserted lt o z x [] = refl
 kept_inserted {A = A} lt o z x (y ∷ ys) = by_test (lt y x) refl (kept_inserted lt o z x ys)
   where
-    by_test : (b : Bool) → lt y x ≡ b → filter (ties lt z) (inserted lt x ys) ≡ filter (ties lt z) (x ∷ ys) → filter (ties lt z) (cond b (y ∷ inserted lt x ys) (x ∷ y ∷ ys)) ≡ filter (ties lt z) (x ∷ y ∷ ys)
+    by_test : (b : Bool) → lt y x ≡ b → filter (ties lt z) (sorted_insertion lt x ys) ≡ filter (ties lt z) (x ∷ ys) → filter (ties lt z) (cond b (y ∷ sorted_insertion lt x ys) (x ∷ y ∷ ys)) ≡ filter (ties lt z) (x ∷ y ∷ ys)
     by_test true e more =
         ap (λ (r : List A). cond (ties lt z y) (y ∷ r) r) more
         ∙ exchanged (ties lt z) x y ys (not_both lt o z x y e)
     by_test false e more = refl
 
-kept_sorted : {A : Type 0} (lt : A → A → Bool) → IsStrictWeakOrder lt → (z : A) (xs : List A) → filter (ties lt z) (sorted lt xs) ≡ filter (ties lt z) xs
-unfolding sorted
+kept_sorted : {A : Type 0} (lt : A → A → Bool) → IsStrictWeakOrder lt → (z : A) (xs : List A) → filter (ties lt z) (sorted_list lt xs) ≡ filter (ties lt z) xs
+unfolding sorted_list
 kept_sorted lt o z [] = refl
 kept_sorted {A = A} lt o z (x ∷ xs) =
-    kept_inserted lt o z x (sorted lt xs)
+    kept_inserted lt o z x (sorted_list lt xs)
     ∙ ap (λ (r : List A). cond (ties lt z x) (x ∷ r) r) (kept_sorted lt o z xs)
 
 -- ---- such a list is the only one
@@ -167,9 +167,9 @@ only_one {A = A} lt o (y ∷ ys) (z ∷ zs) up up2 h =
     let more : ys ≡ zs = only_one lt o ys zs up.1 up2.1 (λ x. behind_same (ties lt x) y ys zs (h x ∙ ap (λ (v : A). filter (ties lt x) (v ∷ zs)) (sym e))) in
     cc
 
-pub is_sorted : {A : Type 0} (lt : A → A → Bool) → IsStrictWeakOrder lt → (xs ys : List A) → IsSortedBy lt ys → IsStableBy lt xs ys → ys ≡ sorted lt xs
+pub is_sorted : {A : Type 0} (lt : A → A → Bool) → IsStrictWeakOrder lt → (xs ys : List A) → IsSortedBy lt ys → IsStableBy lt xs ys → ys ≡ sorted_list lt xs
 is_sorted lt o xs ys up stable =
-    only_one lt o ys (sorted lt xs) (rises_from lt ys (sorted_far lt o ys up)) (rises_sorted lt o xs) (λ x. stable x ∙ sym (kept_sorted lt o x xs))
+    only_one lt o ys (sorted_list lt xs) (rises_from lt ys (sorted_far lt o ys up)) (rises_sorted lt o xs) (λ x. stable x ∙ sym (kept_sorted lt o x xs))
 
 -- ---- the three orders
 
@@ -204,16 +204,16 @@ names_ordered =
 
 -- ---- blocks of statements and of ops have one order
 
-compiled_inserted : (x : StatedBlock) (ys : List StatedBlock) → map compiled (inserted is_code_before x ys) ≡ inserted is_block_before (compiled x) (map compiled ys)
+compiled_inserted : (x : StatedBlock) (ys : List StatedBlock) → map compiled_block (sorted_insertion is_code_before x ys) ≡ sorted_insertion is_block_before (compiled_block x) (map compiled_block ys)
 compiled_inserted x [] = refl
 compiled_inserted x (y ∷ ys) = by_test (is_code_before y x) (compiled_inserted x ys)
   where
-    by_test : (b : Bool) → map compiled (inserted is_code_before x ys) ≡ inserted is_block_before (compiled x) (map compiled ys)
-        → map compiled (cond b (y ∷ inserted is_code_before x ys) (x ∷ y ∷ ys)) ≡ cond b (compiled y ∷ inserted is_block_before (compiled x) (map compiled ys)) (compiled x ∷ compiled y ∷ map compiled ys)
-    by_test true more = ap (λ (z : List CodeBlock). compiled y ∷ z) more
+    by_test : (b : Bool) → map compiled_block (sorted_insertion is_code_before x ys) ≡ sorted_insertion is_block_before (compiled_block x) (map compiled_block ys)
+        → map compiled_block (cond b (y ∷ sorted_insertion is_code_before x ys) (x ∷ y ∷ ys)) ≡ cond b (compiled_block y ∷ sorted_insertion is_block_before (compiled_block x) (map compiled_block ys)) (compiled_block x ∷ compiled_block y ∷ map compiled_block ys)
+    by_test true more = ap (λ (z : List CodeBlock). compiled_block y ∷ z) more
     by_test false more = refl
 
-pub compiled_sorted : (xs : List StatedBlock) → map compiled (sorted is_code_before xs) ≡ sorted is_block_before (map compiled xs)
-unfolding sorted
+pub compiled_sorted : (xs : List StatedBlock) → map compiled_block (sorted_list is_code_before xs) ≡ sorted_list is_block_before (map compiled_block xs)
+unfolding sorted_list
 compiled_sorted [] = refl
-compiled_sorted (x ∷ xs) = compiled_inserted x (sorted is_code_before xs) ∙ ap (inserted is_block_before (compiled x)) (compiled_sorted xs)
+compiled_sorted (x ∷ xs) = compiled_inserted x (sorted_list is_code_before xs) ∙ ap (sorted_insertion is_block_before (compiled_block x)) (compiled_sorted xs)

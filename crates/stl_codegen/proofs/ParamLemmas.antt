@@ -9,7 +9,7 @@ use Rattle.stl_ast.specs.declared.declarations.Simple.{Simple}
 use Rattle.block_layout.specs.declared.blocks.BlockLayout.{BlockLayout}
 use Rattle.stl_codegen.specs.Fitting.{ParamFits, ParamsFit}
 use Rattle.stl_codegen.specs.Generated.{param_here, params_of}
-use Rattle.stl_codegen.specs.Instruction.{in_order, return_last}
+use Rattle.stl_codegen.specs.Instruction.{in_parameter_order, return_last}
 
 first_back : {A : Type 0} (P : A → Type 0) (xs : List A) → AllByRecursion P (drop 1 xs ++ take 1 xs) → AllByRecursion P xs
 first_back P [] h = tt
@@ -24,10 +24,10 @@ abbrev pub declared_in : (in_instance : Bool) → BlockLayout → List Param
 declared_in in_instance l = flat_map (λ c. param_here in_instance l.components c) l.components
 
 pub params_are : (b : Block) (l : BlockLayout) (in_instance : Bool) (found params : List Param) → in_instance ≡ is_function_block b.kind →
-    found ≡ declared_in in_instance l → params ≡ in_order (Some b) found → params ≡ params_of b l
+    found ≡ declared_in in_instance l → params ≡ in_parameter_order (Some b) found → params ≡ params_of b l
 unfolding params_of
 params_are b l in_instance found params kind is made =
-    made ∙ ap (λ (ps : List Param). in_order (Some b) ps) (is ∙ ap (λ (t : Bool). declared_in t l) kind)
+    made ∙ ap (λ (ps : List Param). in_parameter_order (Some b) ps) (is ∙ ap (λ (t : Bool). declared_in t l) kind)
 
 pub far_misfits : (b : Block) (l : BlockLayout) (in_instance : Bool) → in_instance ≡ is_function_block b.kind →
     (AllByRecursion ParamFits (declared_in in_instance l) → ⊥) → ParamsFit (params_of b l) → ⊥

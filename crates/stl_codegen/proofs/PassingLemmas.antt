@@ -16,23 +16,23 @@ use Rattle.stl_ast.specs.declared.statements.Actual.{Actual}
 use Rattle.plc_base.specs.Folding.{upper_case_name}
 use Rattle.stl_types.specs.Context.{Context}
 use Rattle.stl_types.specs.declared.parameters.Formal.{Formal}
-use Rattle.stl_codegen.specs.Emitted.{passing, preparing}
-use Rattle.stl_codegen.specs.Passed.{passed_actual, passings_from, supplied}
+use Rattle.stl_codegen.specs.Emitted.{pass_ops, preparing_op}
+use Rattle.stl_codegen.specs.Passed.{passed_actual, passings_from, actual_of_formal}
 
-passing_both : (xs ys : List Passing) → passing (xs ++ ys) ≡ passing xs ++ passing ys
+passing_both : (xs ys : List Passing) → pass_ops (xs ++ ys) ≡ pass_ops xs ++ pass_ops ys
 passing_both [] ys = refl
-passing_both (x ∷ xs) ys = ap (λ (l : List OpData). preparing operation.Pass (operand.Pass x.index x.actual) ∷ l) (passing_both xs ys)
+passing_both (x ∷ xs) ys = ap (λ (l : List OpData). preparing_op operation.Pass (operand.Pass x.index x.actual) ∷ l) (passing_both xs ys)
 
 pub passings_turn : (c : Context) (actuals : List Actual) (formals : List Formal) (i : ℕ) (f : Formal) → i < length formals → f ≡ get_or formals i f →
-    passing (passings_from c actuals i (drop i formals)) ≡ passing (passed_actual c i (supplied actuals f)) ++ passing (passings_from c actuals (i + 1) (drop (i + 1) formals))
+    pass_ops (passings_from c actuals i (drop i formals)) ≡ pass_ops (passed_actual c i (actual_of_formal actuals f)) ++ pass_ops (passings_from c actuals (i + 1) (drop (i + 1) formals))
 passings_turn c actuals formals i f within is =
     let rest : List Formal = drop (i + 1) formals in
-    ap (λ (l : List Formal). passing (passings_from c actuals i l)) (drop_more formals i f within ∙ ap (λ (y : Formal). y ∷ rest) (sym is))
-    ∙ passing_both (passed_actual c i (supplied actuals f)) (passings_from c actuals (suc i) rest)
-    ∙ ap (λ (k : ℕ). passing (passed_actual c i (supplied actuals f)) ++ passing (passings_from c actuals k rest)) (sym (add-one i))
+    ap (λ (l : List Formal). pass_ops (passings_from c actuals i l)) (drop_more formals i f within ∙ ap (λ (y : Formal). y ∷ rest) (sym is))
+    ∙ passing_both (passed_actual c i (actual_of_formal actuals f)) (passings_from c actuals (suc i) rest)
+    ∙ ap (λ (k : ℕ). pass_ops (passed_actual c i (actual_of_formal actuals f)) ++ pass_ops (passings_from c actuals k rest)) (sym (add-one i))
 
-pub passings_end : (c : Context) (actuals : List Actual) (formals : List Formal) (i : ℕ) → length formals ≤ i → passing (passings_from c actuals i (drop i formals)) ≡ []
-passings_end c actuals formals i over = ap (λ (l : List Formal). passing (passings_from c actuals i l)) (drop_of_length-le formals over)
+pub passings_end : (c : Context) (actuals : List Actual) (formals : List Formal) (i : ℕ) → length formals ≤ i → pass_ops (passings_from c actuals i (drop i formals)) ≡ []
+passings_end c actuals formals i over = ap (λ (l : List Formal). pass_ops (passings_from c actuals i l)) (drop_of_length-le formals over)
 
 -- two names in either order
 swapped : (xs ys : List ℕ) → bytes_eq xs ys ≡ bytes_eq ys xs

@@ -3,12 +3,12 @@ use Rattle.std.proofs.Common.{◌≡◌, ℕ, suc, ◌+◌, Bool, true, false, c
 use Rattle.std.specs.List.{slice_get}
 use Rattle.std.specs.Str.{bytes_eq}
 use Rattle.stl_ast.specs.declared.statements.Statement.{Statement}
-use Rattle.stl_symbols.specs.Names.{place_of}
+use Rattle.stl_symbols.specs.Names.{name_place}
 use Rattle.stl_types.specs.Labels.{label_of, labels_of}
 use Rattle.stl_types.specs.Lists.{has_label}
 use Rattle.block_layout.specs.Fits.{or_0}
-use Rattle.stl_codegen.specs.Bodies.{AreTargets, count_of, number_here, numbers_of}
-use Rattle.stl_codegen.specs.Instruction.{counted, target_in}
+use Rattle.stl_codegen.specs.Bodies.{AreTargets, count_of_statements, number_here, numbers_of_labels}
+use Rattle.stl_codegen.specs.Instruction.{count_of_statement, target_in}
 
 -- the number at a place; with no place, how many there are
 abbrev pub target_by : (numbers : List ℕ) (count : ℕ) → Option ℕ → ℕ
@@ -24,27 +24,27 @@ labelled : (n here behind : ℕ) (numbers : List ℕ) (count : ℕ) (place : Opt
 labelled n here behind numbers count place true h = omega arith
 labelled n here behind numbers count place false h = h ∙ sym (moved n count numbers place)
 
-placed : (name : List ℕ) (n : ℕ) (body : List Statement) → n + target_in name body ≡ target_by (numbers_of n body) (n + count_of body) (place_of name (labels_of body))
+placed : (name : List ℕ) (n : ℕ) (body : List Statement) → n + target_in name body ≡ target_by (numbers_of_labels n body) (n + count_of_statements body) (name_place name (labels_of body))
 unfolding target_in
 placed name n [] = refl
 placed name n (s ∷ ss) =
-    let first : n + (counted s + target_in name ss) ≡ (n + counted s) + target_in name ss = omega arith in
-    let last : (n + counted s) + count_of ss ≡ n + (counted s + count_of ss) = omega arith in
-    step s.label (first ∙ placed name (n + counted s) ss ∙ ap (λ (k : ℕ). target_by (numbers_of (n + counted s) ss) k (place_of name (labels_of ss))) last)
+    let first : n + (count_of_statement s + target_in name ss) ≡ (n + count_of_statement s) + target_in name ss = omega arith in
+    let last : (n + count_of_statement s) + count_of_statements ss ≡ n + (count_of_statement s + count_of_statements ss) = omega arith in
+    step s.label (first ∙ placed name (n + count_of_statement s) ss ∙ ap (λ (k : ℕ). target_by (numbers_of_labels (n + count_of_statement s) ss) k (name_place name (labels_of ss))) last)
   where
     step : (label : Option (List ℕ)) →
-        n + (counted s + target_in name ss) ≡ target_by (numbers_of (n + counted s) ss) (n + (counted s + count_of ss)) (place_of name (labels_of ss)) →
-        n + cond (has_label name label) 0 (counted s + target_in name ss) ≡ target_by (number_here n label ++ numbers_of (n + counted s) ss) (n + (counted s + count_of ss)) (place_of name (label_of label ++ labels_of ss))
+        n + (count_of_statement s + target_in name ss) ≡ target_by (numbers_of_labels (n + count_of_statement s) ss) (n + (count_of_statement s + count_of_statements ss)) (name_place name (labels_of ss)) →
+        n + cond (has_label name label) 0 (count_of_statement s + target_in name ss) ≡ target_by (number_here n label ++ numbers_of_labels (n + count_of_statement s) ss) (n + (count_of_statement s + count_of_statements ss)) (name_place name (label_of label ++ labels_of ss))
     step None h = h
-    step (Some label) h = labelled n (counted s) (target_in name ss) (numbers_of (n + counted s) ss) (n + (counted s + count_of ss)) (place_of name (labels_of ss)) (bytes_eq name label) h
+    step (Some label) h = labelled n (count_of_statement s) (target_in name ss) (numbers_of_labels (n + count_of_statement s) ss) (n + (count_of_statement s + count_of_statements ss)) (name_place name (labels_of ss)) (bytes_eq name label) h
 
 pub target_placed : (name : List ℕ) (body : List Statement) (labels : List (List ℕ)) (numbers : List ℕ) (count : ℕ) → AreTargets body labels numbers count →
-    target_in name body ≡ target_by numbers count (place_of name labels)
+    target_in name body ≡ target_by numbers count (name_place name labels)
 target_placed name body labels numbers count are =
     let first : target_in name body ≡ 0 + target_in name body = omega arith in
-    let last : 0 + count_of body ≡ count = omega (arith, are.count) in
+    let last : 0 + count_of_statements body ≡ count = omega (arith, are.count) in
     first
     ∙ placed name 0 body
-    ∙ ap (λ (k : ℕ). target_by (numbers_of 0 body) k (place_of name (labels_of body))) last
-    ∙ ap (λ (l : List ℕ). target_by l count (place_of name (labels_of body))) (sym are.numbers)
-    ∙ ap (λ (l : List (List ℕ)). target_by numbers count (place_of name l)) (sym are.labels)
+    ∙ ap (λ (k : ℕ). target_by (numbers_of_labels 0 body) k (name_place name (labels_of body))) last
+    ∙ ap (λ (l : List ℕ). target_by l count (name_place name (labels_of body))) (sym are.numbers)
+    ∙ ap (λ (l : List (List ℕ)). target_by numbers count (name_place name l)) (sym are.labels)

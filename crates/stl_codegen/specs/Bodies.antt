@@ -4,18 +4,18 @@ use Rattle.std.specs.Prelude.{◌≡◌, ℕ, ◌+◌, List, [], ◌∷◌, ◌+
 use Rattle.std.specs.List.{flat_map}
 use Rattle.flat_code.specs.Ops.{OpData}
 use Rattle.flat_code.specs.declared.operations.EndOperation.TheVariants as ends
-use Rattle.stl_ast.specs.Statements.{is_empty}
+use Rattle.stl_ast.specs.Statements.{is_empty_statement}
 use Rattle.stl_ast.specs.declared.blocks.Block.{Block}
 use Rattle.stl_ast.specs.declared.mnemonics.Mnemonic.{Mnemonic}
 use Rattle.stl_ast.specs.declared.statements.Statement.{Statement}
 use Rattle.stl_types.specs.Context.{Context}
 use Rattle.stl_types.specs.Labels.{labels_of}
 use Rattle.stl_codegen.specs.Emitted.{end_op, ops_of}
-use Rattle.stl_codegen.specs.Instruction.{counted, instruction}
+use Rattle.stl_codegen.specs.Instruction.{count_of_statement, instruction}
 
 -- what a statement adds to the code; its number has no part in it
 unfoldable pub ops_here : Context → List Statement → Statement → List OpData
-ops_here c body s = if is_empty s.code then [] else ops_of (instruction c body 0 s)
+ops_here c body s = if is_empty_statement s.code then [] else ops_of (instruction c body 0 s)
 
 -- what a body adds, and its END clause
 abbrev pub body_ops : Context → Block → List OpData
@@ -23,20 +23,20 @@ body_ops c b = flat_map (λ s. ops_here c b.body s) b.body ++ end_op ends.Be ∷
 
 -- the line of a statement; an empty one has none
 abbrev pub line_here : Statement → List ℕ
-line_here s = if is_empty s.code then [] else s.line ∷ []
+line_here s = if is_empty_statement s.code then [] else s.line ∷ []
 
 -- the lines of a body: of each statement but the empty ones, and of its END clause
 abbrev pub body_lines : Block → List ℕ
 body_lines b = flat_map line_here b.body ++ b.end_line ∷ []
 
 -- 0 for the empty statement, which has no number, and 1 for every other one
-abbrev pub counted_by : Mnemonic → ℕ
-counted_by code = if is_empty code then 0 else 1
+abbrev pub count_of_mnemonic : Mnemonic → ℕ
+count_of_mnemonic code = if is_empty_statement code then 0 else 1
 
 -- how many statements these are, empty ones left out
-abbrev pub count_of : List Statement → ℕ
-count_of [] = 0
-count_of (s ∷ ss) = counted s + count_of ss
+abbrev pub count_of_statements : List Statement → ℕ
+count_of_statements [] = 0
+count_of_statements (s ∷ ss) = count_of_statement s + count_of_statements ss
 
 -- the number of a statement, in a list, where it has a label
 abbrev pub number_here : (n : ℕ) → Option (List ℕ) → List ℕ
@@ -44,13 +44,13 @@ number_here n None = []
 number_here n (Some label) = n ∷ []
 
 -- the number of the statement of each label, of statements from a number on
-abbrev pub numbers_of : (n : ℕ) → List Statement → List ℕ
-numbers_of n [] = []
-numbers_of n (s ∷ ss) = number_here n s.label ++ numbers_of (n + counted s) ss
+abbrev pub numbers_of_labels : (n : ℕ) → List Statement → List ℕ
+numbers_of_labels n [] = []
+numbers_of_labels n (s ∷ ss) = number_here n s.label ++ numbers_of_labels (n + count_of_statement s) ss
 
 -- the labels of a body with these numbers, and how many statements it has
 pub record AreTargets (body : List Statement) (names : List (List ℕ)) (places : List ℕ) (total : ℕ)
     : Type 0 where
   pub labels : names ≡ labels_of body
-  pub numbers : places ≡ numbers_of 0 body
-  pub count : total ≡ count_of body
+  pub numbers : places ≡ numbers_of_labels 0 body
+  pub count : total ≡ count_of_statements body

@@ -3,7 +3,7 @@
 use Rattle.std.specs.Prelude.{ℕ, zero, suc, ◌+◌, Bool, true, false, List, [], ◌∷◌, map}
 use Rattle.std.specs.List.{flat_map}
 use Rattle.plc_base.specs.declared.blocks.BlockId.{BlockId}
-use Rattle.flat_code.specs.Codes.{size}
+use Rattle.flat_code.specs.Codes.{size_of_op}
 use Rattle.flat_code.specs.Instr.{Instr}
 use Rattle.flat_code.specs.Ops.{OpData}
 use Rattle.flat_code.specs.Programs.{CodeBlock}
@@ -13,12 +13,12 @@ use Rattle.flat_code.specs.declared.operands.Operand.TheVariants as operand
 use Rattle.stl_codegen.specs.Emitted.{ops_of}
 
 -- a statement of a block, empty ones left out: its instruction and its line
-pub record Stated : Type 0 where
+pub record SourceInstruction : Type 0 where
   pub instr : Instr
   pub line : ℕ
 
 -- the ops of statements, whose targets are still numbers of statements
-abbrev pub ops_in : List Stated → List OpData
+abbrev pub ops_in : List SourceInstruction → List OpData
 ops_in statements = flat_map (λ s. ops_of s.instr) statements
 
 -- the offset of the first op of a statement, of ops that begin at an offset; `begins`: whether a
@@ -26,32 +26,32 @@ ops_in statements = flat_map (λ s. ops_of s.instr) statements
 abbrev pub offset_from : (at : ℕ) → (begins : Bool) → List OpData → ℕ → ℕ
 offset_from at begins [] n = at
 offset_from at true (op ∷ ops) zero = at
-offset_from at true (op ∷ ops) (suc n) = offset_from (at + size op) op.last ops n
-offset_from at false (op ∷ ops) n = offset_from (at + size op) op.last ops n
+offset_from at true (op ∷ ops) (suc n) = offset_from (at + size_of_op op) op.last ops n
+offset_from at false (op ∷ ops) n = offset_from (at + size_of_op op) op.last ops n
 
 -- the byte offset of the statement of a number, from 0; past the last one that of the code's end
-unfoldable pub offset_of : List OpData → ℕ → ℕ
-offset_of ops n = offset_from 0 true ops n
+unfoldable pub offset_of_statement : List OpData → ℕ → ℕ
+offset_of_statement ops n = offset_from 0 true ops n
 
 -- targets by a function of positions
-abbrev pub aimed : (ℕ → ℕ) → Operand → Operand
-aimed f (operand.Jump kind target) = operand.Jump kind (f target)
-aimed f o = o
+abbrev pub operand_with_target : (ℕ → ℕ) → Operand → Operand
+operand_with_target f (operand.Jump kind target) = operand.Jump kind (f target)
+operand_with_target f o = o
 
 -- an op with its target by such a function; one that is no jump stays as it is
-abbrev pub aimed_op : (ℕ → ℕ) → OpData → OpData
-aimed_op f op = record op { operand = aimed f op.operand }
+abbrev pub op_with_target : (ℕ → ℕ) → OpData → OpData
+op_with_target f op = record op { operand = operand_with_target f op.operand }
 
 -- the ops with byte offsets as targets
 unfoldable pub placed_ops : List OpData → List OpData
-placed_ops ops = map (aimed_op (offset_of ops)) ops
+placed_ops ops = map (op_with_target (offset_of_statement ops)) ops
 
 -- the code and the lines of statements
-abbrev pub code_in : List Stated → List OpData
+abbrev pub code_in : List SourceInstruction → List OpData
 code_in statements = placed_ops (ops_in statements)
 
 -- the source line of each statement, in order
-abbrev pub lines_in : List Stated → List ℕ
+abbrev pub lines_in : List SourceInstruction → List ℕ
 lines_in statements = map (λ s. s.line) statements
 
 -- a code block before its statements are ops
@@ -60,11 +60,11 @@ pub record StatedBlock : Type 0 where
   pub local_len : ℕ
   pub instance_len : ℕ
   pub params : List Param
-  pub statements : List Stated
+  pub statements : List SourceInstruction
 
 -- the code block of these statements: their ops with byte offsets as targets, and their lines
-abbrev pub compiled : StatedBlock → CodeBlock
-compiled b = record {
+abbrev pub compiled_block : StatedBlock → CodeBlock
+compiled_block b = record {
   id = b.id;
   local_len = b.local_len;
   instance_len = b.instance_len;

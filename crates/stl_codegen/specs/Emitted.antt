@@ -16,47 +16,47 @@ use Rattle.flat_code.specs.declared.operations.Operation.{Operation}
 use Rattle.flat_code.specs.declared.operations.Operation.TheVariants as operation
 
 -- an op that prepares its statement, and the op that does it
-abbrev pub preparing : Operation → Operand → OpData
-preparing w o = op_of (op_code_of w) false o
+abbrev pub preparing_op : Operation → Operand → OpData
+preparing_op w o = op_of (op_code_of w) false o
 
 -- the last op of a statement, which has the end mark
-abbrev pub ending : Operation → Operand → OpData
-ending w o = op_of (op_code_of w) true o
+abbrev pub op_with_end_mark : Operation → Operand → OpData
+op_with_end_mark w o = op_of (op_code_of w) true o
 
 -- USEDB: the data block that the statement opens first
-abbrev pub opening : Option ℕ → List OpData
-opening None = []
-opening (Some number) = preparing operation.UseDb (operand.UseDb number) ∷ []
+abbrev pub use_db_ops : Option ℕ → List OpData
+use_db_ops None = []
+use_db_ops (Some number) = preparing_op operation.UseDb (operand.UseDb number) ∷ []
 
 -- PASS: what a CALL passes, one op for each parameter that is supplied
-abbrev pub passing : List Passing → List OpData
-passing [] = []
-passing (p ∷ ps) = preparing operation.Pass (operand.Pass p.index p.actual) ∷ passing ps
+abbrev pub pass_ops : List Passing → List OpData
+pass_ops [] = []
+pass_ops (p ∷ ps) = preparing_op operation.Pass (operand.Pass p.index p.actual) ∷ pass_ops ps
 
 -- a jump, also LOOP and JL, by its kind and its target
 abbrev pub jump_op : JumpOperation → (target : ℕ) → OpData
-jump_op how target = ending operation.Jump (operand.Jump (jump_number how) target)
+jump_op how target = op_with_end_mark operation.Jump (operand.Jump (jump_number how) target)
 
 -- 0 stands for no instance
-abbrev pub instance_number : Option ℕ → ℕ
-instance_number None = 0
-instance_number (Some number) = number
+abbrev pub instance_number_or_zero : Option ℕ → ℕ
+instance_number_or_zero None = 0
+instance_number_or_zero (Some number) = number
 
 -- CALL, UC or CC, with kind and number of the called block, and the number of the instance or 0
 abbrev pub call_op : CallOperation → BlockId → (instance : Option ℕ) → OpData
 call_op how block instance =
-    ending (operation.Call how)
-    (operand.Called (kind_number block.kind) block.number (instance_number instance))
+    op_with_end_mark (operation.Call how)
+    (operand.Called (kind_number block.kind) block.number (instance_number_or_zero instance))
 
 -- BE, BEC or BEU, which have no operand
 abbrev pub end_op : EndOperation → OpData
-end_op how = ending (operation.End how) operand.Nothing
+end_op how = op_with_end_mark (operation.End how) operand.Nothing
 
 -- the ops of an instruction: those that prepare, USEDB or PASS, and the last one
 unfoldable pub ops_of : Instr → List OpData
-ops_of (Does use_db w o) = opening use_db ++ ending w o ∷ []
+ops_of (Does use_db w o) = use_db_ops use_db ++ op_with_end_mark w o ∷ []
 ops_of (Jumps how target) = jump_op how target ∷ []
 -- the list of a JL is the JU statements behind it
 ops_of (JumpsByList targets otherwise) = jump_op jump.Jl otherwise ∷ []
-ops_of (Calls how block instance passings) = passing passings ++ call_op how block instance ∷ []
+ops_of (Calls how block instance passings) = pass_ops passings ++ call_op how block instance ∷ []
 ops_of (Returns how) = end_op how ∷ []

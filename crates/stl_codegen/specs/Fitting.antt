@@ -8,7 +8,7 @@ use Rattle.flat_code.specs.Programs.{CodeBlock}
 use Rattle.flat_code.specs.declared.operands.Operand.{Operand}
 use Rattle.flat_code.specs.declared.operands.Operand.TheVariants as operand
 use Rattle.flat_code.specs.declared.programs.Param.{Param}
-use Rattle.stl_codegen.specs.Compiled.{aimed_op}
+use Rattle.stl_codegen.specs.Compiled.{op_with_target}
 
 -- an operand that isn't a jump's: it is the same in its place
 abbrev pub IsStill : Operand → Type 0
@@ -22,18 +22,18 @@ pub record IsNoOperand (o : Operand) : Type 0 where
 
 -- not all of these are ops of the table, whatever targets they get
 pub record HasNoOp (ops : List OpData) : Type 0 where
-  pub never : (f : ℕ → ℕ) → are_ops (map (aimed_op f) ops) ≡ false
+  pub never : (f : ℕ → ℕ) → are_ops (map (op_with_target f) ops) ≡ false
 
 -- ops that come behind others, or of which one is no op of the table
-abbrev pub Appended : (old new ops : List OpData) → Option (Unit {0}) → Type 0
-Appended old new ops (Some done) = new ≡ old ++ ops
-Appended old new ops None = HasNoOp ops
+abbrev pub AreOpsAppended : (old new ops : List OpData) → Option (Unit {0}) → Type 0
+AreOpsAppended old new ops (Some done) = new ≡ old ++ ops
+AreOpsAppended old new ops None = HasNoOp ops
 
 -- items that come behind others, or of which one doesn't fit
-abbrev pub Added : {A : Type 0} → (A → Type 0) → (old new items : List A) → Option (Unit {0})
+abbrev pub AreItemsAppended : {A : Type 0} → (A → Type 0) → (old new items : List A) → Option (Unit {0})
     → Type 0
-Added fits old new items (Some done) = new ≡ old ++ items
-Added fits old new items None = AllByRecursion fits items → ⊥
+AreItemsAppended fits old new items (Some done) = new ≡ old ++ items
+AreItemsAppended fits old new items None = AllByRecursion fits items → ⊥
 
 -- a parameter's place fits its field
 abbrev pub ParamFits : Param → Type 0

@@ -11,7 +11,7 @@ use Rattle.plc_base.specs.Folding.{upper_case_name}
 use Rattle.flat_code.specs.Programs.{DataBlock, NameEntry, Program}
 use Rattle.flat_code.specs.declared.programs.Param.{Param}
 use Rattle.flat_code.specs.declared.operations.EndOperation.TheVariants as ends
-use Rattle.stl_ast.specs.Statements.{is_empty}
+use Rattle.stl_ast.specs.Statements.{is_empty_statement}
 use Rattle.stl_ast.specs.declared.blocks.Block.{Block}
 use Rattle.stl_ast.specs.declared.blocks.PartKind.{PartKind}
 use Rattle.stl_ast.specs.declared.blocks.PartKind.TheVariants as part
@@ -21,7 +21,7 @@ use Rattle.stl_symbols.specs.Symbol.{Symbol}
 use Rattle.stl_symbols.specs.declared.targets.Target.{Target}
 use Rattle.stl_symbols.specs.declared.targets.Target.TheVariants as target
 use Rattle.block_layout.specs.InitialBytes.{initial_bytes}
-use Rattle.block_layout.specs.Members.{component}
+use Rattle.block_layout.specs.Members.{component_of_name}
 use Rattle.block_layout.specs.Offsets.{width_of}
 use Rattle.block_layout.specs.declared.blocks.BlockLayout.{BlockLayout}
 use Rattle.block_layout.specs.declared.blocks.Shape.{Shape}
@@ -33,27 +33,27 @@ use Rattle.block_layout.specs.declared.members.Member.{Member}
 use Rattle.stl_types.specs.Bodies.{first_context}
 use Rattle.stl_types.specs.Context.{Context}
 use Rattle.stl_ast.specs.Blocks.{is_parameter}
-use Rattle.stl_codegen.specs.Compiled.{Stated, StatedBlock, compiled}
-use Rattle.stl_codegen.specs.Instruction.{instruction, in_order}
-use Rattle.stl_codegen.specs.Order.{is_code_before, is_data_before, is_name_before, sorted}
+use Rattle.stl_codegen.specs.Compiled.{SourceInstruction, StatedBlock, compiled_block}
+use Rattle.stl_codegen.specs.Instruction.{instruction, in_parameter_order}
+use Rattle.stl_codegen.specs.Order.{is_code_before, is_data_before, is_name_before, sorted_list}
 
 -- ---- statements
 
 -- those of a body from a number on; empty statements have no number
-abbrev pub stated_from : Context → (body : List Statement) → (n : ℕ) → List Statement → List Stated
+abbrev pub stated_from : Context → (body : List Statement) → (n : ℕ) → List Statement → List SourceInstruction
 stated_from c body n [] = []
 stated_from c body n (s ∷ ss) =
-    if is_empty s.code then stated_from c body n ss
+    if is_empty_statement s.code then stated_from c body n ss
     else record { instr = instruction c body n s; line = s.line }
     ∷ stated_from c body (suc n) ss
 
 -- and one more that returns, with the line of the END clause
-abbrev pub returning : Block → Stated
-returning b = record { instr = Returns ends.Be; line = b.end_line }
+abbrev pub return_statement : Block → SourceInstruction
+return_statement b = record { instr = Returns ends.Be; line = b.end_line }
 
 -- the statements of a code block: those of its body, numbered from 0, and the one that returns
-unfoldable pub statements_of : Context → Block → List Stated
-statements_of c b = stated_from c b.body 0 b.body ++ returning b ∷ []
+unfoldable pub statements_of : Context → Block → List SourceInstruction
+statements_of c b = stated_from c b.body 0 b.body ++ return_statement b ∷ []
 
 -- ---- parameters
 
@@ -64,25 +64,25 @@ section_number part.Output = 2
 section_number _ = 3
 
 -- a parameter by its section, its width, and its place so many bits from the start
-abbrev pub param : (section : ℕ) → Width → (bits : ℕ) → Param
-param section width bits =
+abbrev pub param_at_bits : (section : ℕ) → Width → (bits : ℕ) → Param
+param_at_bits section width bits =
     record { section = section; width = width; byte = bits / 8; bit = bits % 8 }
 
 -- the offset of a component in its structure, in bits; 0 where there is no such component
-abbrev pub offset_named : Option Member → ℕ
-offset_named None = 0
-offset_named (Some m) = m.offset
+abbrev pub offset_of_member : Option Member → ℕ
+offset_of_member None = 0
+offset_of_member (Some m) = m.offset
 
 -- a parameter of a function block has its place in the instance, that of the component of its name;
 -- one of a function has none, which is written 0
 abbrev pub param_bits : (in_instance : Bool) → List Cell → Cell → ℕ
 param_bits in_instance cells c =
-    if in_instance then offset_named (component 0 0 0 c.name cells) else 0
+    if in_instance then offset_of_member (component_of_name 0 0 0 c.name cells) else 0
 
 -- the parameter that a component of elementary type is; no other type makes one
 abbrev pub param_of : (in_instance : Bool) → List Cell → Cell → Element → List Param
 param_of in_instance cells c (element.Plain kind) =
-    param (section_number c.section) (width_of kind) (param_bits in_instance cells c) ∷ []
+    param_at_bits (section_number c.section) (width_of kind) (param_bits in_instance cells c) ∷ []
 param_of in_instance cells c _ = []
 
 -- the parameter that a component is, if its section is IN, OUT or IN_OUT
@@ -93,7 +93,7 @@ param_here in_instance cells c =
 -- the parameters of a block by their index in a call: in the order of the text, RET_VAL the last
 unfoldable pub params_of : Block → BlockLayout → List Param
 params_of b l =
-    in_order (Some b)
+    in_parameter_order (Some b)
     (flat_map (λ c. param_here (is_function_block b.kind) l.components c) l.components)
 
 -- ---- blocks
@@ -130,8 +130,8 @@ instance_in layouts (shape.Of block) =
 instance_in layouts _ = None
 
 -- a data block: its number, the function block whose instance it is, its initial bytes
-abbrev pub data_block : Context → BlockLayout → BlockId → DataBlock
-data_block c l id = record {
+abbrev pub generated_data_block : Context → BlockLayout → BlockId → DataBlock
+generated_data_block c l id = record {
   number = id.number;
   instance_of = instance_in c.layouts l.shape;
   bytes = initial_bytes c.layouts c.blocks c.block;
@@ -140,7 +140,7 @@ data_block c l id = record {
 -- the data block of a DB; no other block has one, nor does one without kind and number
 abbrev pub data_block_of : Context → BlockLayout → Option BlockId → List DataBlock
 data_block_of c l None = []
-data_block_of c l (Some id) = if is_data_block id.kind then data_block c l id ∷ [] else []
+data_block_of c l (Some id) = if is_data_block id.kind then generated_data_block c l id ∷ [] else []
 
 -- from each block of the source with its layout
 abbrev pub each_block : {A : Type 0} → (Context → Block → BlockLayout → List A) → Context
@@ -167,29 +167,29 @@ name_entry name (target.Variable place width) =
 name_entry name _ = []
 
 -- the names of a program, rising by their bytes
-abbrev pub names_of : List Symbol → List NameEntry
-names_of symbols = sorted is_name_before (flat_map (λ s. name_entry s.name s.target) symbols)
+abbrev pub name_entries_of : List Symbol → List NameEntry
+name_entries_of symbols = sorted_list is_name_before (flat_map (λ s. name_entry s.name s.target) symbols)
 
 -- ---- the program
 
 -- its code blocks, as statements, and its data blocks
 unfoldable pub code_blocks_of : Tree → List Symbol → List BlockLayout → List StatedBlock
 code_blocks_of t symbols layouts =
-    sorted is_code_before
+    sorted_list is_code_before
     (each_block (λ c b l. code_block_of c b l l.id) (first_context symbols layouts t.blocks)
     t.blocks layouts)
 
 -- its data blocks, by number
 unfoldable pub data_blocks_of : Tree → List Symbol → List BlockLayout → List DataBlock
 data_blocks_of t symbols layouts =
-    sorted is_data_before
+    sorted_list is_data_before
     (each_block (λ c b l. data_block_of c l l.id) (first_context symbols layouts t.blocks)
     t.blocks layouts)
 
 -- the program of a source: its code blocks, its data blocks, and the names of its symbols
 abbrev pub program_of : Tree → List Symbol → List BlockLayout → Program
 program_of t symbols layouts = record {
-  code_blocks = map compiled (code_blocks_of t symbols layouts);
+  code_blocks = map compiled_block (code_blocks_of t symbols layouts);
   data_blocks = data_blocks_of t symbols layouts;
-  names = names_of symbols;
+  names = name_entries_of symbols;
 }

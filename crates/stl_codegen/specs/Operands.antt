@@ -34,13 +34,13 @@ abbrev pub opened_by_place : Place → Option ℕ
 opened_by_place place = if is_in_named_block place then Some place.number else None
 
 -- USEDB: the data block that a statement opens first, for a place in a named data block
-abbrev pub opened_by : ResolvedOperand → Option ℕ
-opened_by (view.Direct place width side declared) = opened_by_place place
-opened_by _ = None
+abbrev pub block_opened_by_operand : ResolvedOperand → Option ℕ
+block_opened_by_operand (view.Direct place width side declared) = opened_by_place place
+block_opened_by_operand _ = None
 
 -- a fixed place by area, width, byte and bit; the number of a data block is no part of it
-abbrev pub direct : Place → Width → FlatOperand
-direct place width = flat.Direct place.area width place.byte place.bit
+abbrev pub direct_flat_operand : Place → Width → FlatOperand
+direct_flat_operand place width = flat.Direct place.area width place.byte place.bit
 
 -- the bits of a pointer constant: without an area the bit and the byte alone
 abbrev pub pointer_bits : Option Area → (byte bit : ℕ) → ℕ
@@ -70,17 +70,17 @@ numbered_operand numbered.Di from byte = flat.OpenBy 2 from byte
 
 -- the operand of an instruction that goes on; what names a block, a label or no elementary variable
 -- comes to no such instruction
-unfoldable pub operand_of : Operand → ResolvedOperand → FlatOperand
-operand_of o (view.Direct place width side declared) = direct place width
-operand_of o (view.Parameter index section declared) = flat.Parameter index (width_of declared)
-operand_of o (view.ByMemory a width from byte) = flat.ByMemory a width from byte
-operand_of o (view.ByRegister a width r bits) = flat.ByRegister a width r bits
-operand_of o (view.Timer number) = flat.Numbered 1 number
-operand_of o (view.Counter number) = flat.Numbered 2 number
-operand_of o (view.NumberBy what from byte) = numbered_operand what from byte
-operand_of o view.Constant = flat.Literal (constant_bits o)
-operand_of o (view.Pointer a byte bit) = flat.Literal (pointer_bits a byte bit)
-operand_of o (view.OfStatus flag) = flat.OfStatus (condition_number flag)
-operand_of o (view.Register which) = register_operand which
-operand_of o (view.OpenBlock di number) = flat.OpenBlock (if di then 2 else 1) number
-operand_of o _ = flat.Nothing
+unfoldable pub flat_operand_of : Operand → ResolvedOperand → FlatOperand
+flat_operand_of o (view.Direct place width side declared) = direct_flat_operand place width
+flat_operand_of o (view.Parameter index section declared) = flat.Parameter index (width_of declared)
+flat_operand_of o (view.ByMemory a width from byte) = flat.ByMemory a width from byte
+flat_operand_of o (view.ByRegister a width r bits) = flat.ByRegister a width r bits
+flat_operand_of o (view.Timer number) = flat.Numbered 1 number
+flat_operand_of o (view.Counter number) = flat.Numbered 2 number
+flat_operand_of o (view.NumberBy what from byte) = numbered_operand what from byte
+flat_operand_of o view.Constant = flat.Literal (constant_bits o)
+flat_operand_of o (view.Pointer a byte bit) = flat.Literal (pointer_bits a byte bit)
+flat_operand_of o (view.OfStatus flag) = flat.OfStatus (condition_number flag)
+flat_operand_of o (view.Register which) = register_operand which
+flat_operand_of o (view.OpenBlock di number) = flat.OpenBlock (if di then 2 else 1) number
+flat_operand_of o _ = flat.Nothing

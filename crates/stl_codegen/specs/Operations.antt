@@ -28,40 +28,40 @@ use Rattle.stl_types.specs.declared.views.ResolvedOperand.{ResolvedOperand}
 use Rattle.stl_types.specs.declared.views.ResolvedOperand.TheVariants as view
 
 -- the jumps (manual: logic control instructions)
-abbrev pub jump_of : Mnemonic → Option JumpOperation
-jump_of code.Ju = Some jump.Ju
-jump_of code.Jl = Some jump.Jl
-jump_of code.Jc = Some jump.Jc
-jump_of code.Jcn = Some jump.Jcn
-jump_of code.Jcb = Some jump.Jcb
-jump_of code.Jnb = Some jump.Jnb
-jump_of code.Jbi = Some jump.Jbi
-jump_of code.Jnbi = Some jump.Jnbi
-jump_of code.Jo = Some jump.Jo
-jump_of code.Jos = Some jump.Jos
-jump_of code.Jz = Some jump.Jz
-jump_of code.Jn = Some jump.Jn
-jump_of code.Jp = Some jump.Jp
-jump_of code.Jm = Some jump.Jm
-jump_of code.Jpz = Some jump.Jpz
-jump_of code.Jmz = Some jump.Jmz
-jump_of code.Juo = Some jump.Juo
-jump_of code.Loop = Some jump.Loop
-jump_of _ = None
+abbrev pub jump_operation_of : Mnemonic → Option JumpOperation
+jump_operation_of code.Ju = Some jump.Ju
+jump_operation_of code.Jl = Some jump.Jl
+jump_operation_of code.Jc = Some jump.Jc
+jump_operation_of code.Jcn = Some jump.Jcn
+jump_operation_of code.Jcb = Some jump.Jcb
+jump_operation_of code.Jnb = Some jump.Jnb
+jump_operation_of code.Jbi = Some jump.Jbi
+jump_operation_of code.Jnbi = Some jump.Jnbi
+jump_operation_of code.Jo = Some jump.Jo
+jump_operation_of code.Jos = Some jump.Jos
+jump_operation_of code.Jz = Some jump.Jz
+jump_operation_of code.Jn = Some jump.Jn
+jump_operation_of code.Jp = Some jump.Jp
+jump_operation_of code.Jm = Some jump.Jm
+jump_operation_of code.Jpz = Some jump.Jpz
+jump_operation_of code.Jmz = Some jump.Jmz
+jump_operation_of code.Juo = Some jump.Juo
+jump_operation_of code.Loop = Some jump.Loop
+jump_operation_of _ = None
 
 -- the calls, and the ends of a block (manual: program control instructions)
-abbrev pub call_of : Mnemonic → Option CallOperation
-call_of code.Call = Some calls.Call
-call_of code.Uc = Some calls.Uc
-call_of code.Cc = Some calls.Cc
-call_of _ = None
+abbrev pub call_operation_of : Mnemonic → Option CallOperation
+call_operation_of code.Call = Some calls.Call
+call_operation_of code.Uc = Some calls.Uc
+call_operation_of code.Cc = Some calls.Cc
+call_operation_of _ = None
 
 -- the ends of a block: BE, BEC and BEU; no other instruction is one
-abbrev pub end_of : Mnemonic → Option EndOperation
-end_of code.Be = Some ends.Be
-end_of code.Bec = Some ends.Bec
-end_of code.Beu = Some ends.Beu
-end_of _ = None
+abbrev pub end_operation_of : Mnemonic → Option EndOperation
+end_operation_of code.Be = Some ends.Be
+end_operation_of code.Bec = Some ends.Bec
+end_operation_of code.Beu = Some ends.Beu
+end_operation_of _ = None
 
 -- O without operand is AND before OR
 abbrev pub or_operation : ResolvedOperand → Operation

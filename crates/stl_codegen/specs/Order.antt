@@ -28,11 +28,11 @@ abbrev pub is_name_before : NameEntry → NameEntry → Bool
 is_name_before a b = is_earlier_name a.name b.name
 
 -- a record behind those that come before it
-abbrev pub inserted : {A : Type 0} → (A → A → Bool) → A → List A → List A
-inserted before x [] = x ∷ []
-inserted before x (y ∷ ys) = if before y x then y ∷ inserted before x ys else x ∷ y ∷ ys
+abbrev pub sorted_insertion : {A : Type 0} → (A → A → Bool) → A → List A → List A
+sorted_insertion before x [] = x ∷ []
+sorted_insertion before x (y ∷ ys) = if before y x then y ∷ sorted_insertion before x ys else x ∷ y ∷ ys
 
 -- in order; two that are alike stay as they stood
-unfoldable pub sorted : {A : Type 0} → (A → A → Bool) → List A → List A
-sorted before [] = []
-sorted before (x ∷ xs) = inserted before x (sorted before xs)
+unfoldable pub sorted_list : {A : Type 0} → (A → A → Bool) → List A → List A
+sorted_list before [] = []
+sorted_list before (x ∷ xs) = sorted_insertion before x (sorted_list before xs)

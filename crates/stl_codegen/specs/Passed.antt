@@ -12,7 +12,7 @@ use Rattle.plc_base.specs.Folding.{upper_case_name}
 use Rattle.block_layout.specs.Offsets.{width_of}
 use Rattle.stl_types.specs.Context.{Context}
 use Rattle.stl_types.specs.declared.parameters.Formal.{Formal}
-use Rattle.stl_types.specs.Resolution.{seen}
+use Rattle.stl_types.specs.Resolution.{resolution_of}
 use Rattle.stl_types.specs.declared.views.Resolution.{Resolution}
 use Rattle.stl_types.specs.declared.views.Resolution.TheVariants.{Resolved}
 use Rattle.stl_types.specs.declared.views.ResolvedOperand.{ResolvedOperand}
@@ -40,8 +40,8 @@ passed_seen o (Resolved v) = passed_view o v
 passed_seen o _ = None
 
 -- the actual parameter that is supplied for a parameter
-abbrev pub supplied : List Actual → Formal → Option Actual
-supplied actuals f = find (λ a. bytes_eq (upper_case_name a.name) f.name) actuals
+abbrev pub actual_of_formal : List Actual → Formal → Option Actual
+actual_of_formal actuals f = find (λ a. bytes_eq (upper_case_name a.name) f.name) actuals
 
 -- what is passed, with the index of its parameter, in a list; nothing where nothing can be passed
 abbrev pub with_index : ℕ → Option Passed → List Passing
@@ -51,10 +51,10 @@ with_index index (Some actual) = record { index = index; actual = actual } ∷ [
 -- what a CALL passes for the parameter of an index; nothing where it supplies none
 abbrev pub passed_actual : Context → (index : ℕ) → Option Actual → List Passing
 passed_actual c index None = []
-passed_actual c index (Some a) = with_index index (passed_seen a.value (seen c a.value))
+passed_actual c index (Some a) = with_index index (passed_seen a.value (resolution_of c a.value))
 
 -- one after the other, by rising index
 abbrev pub passings_from : Context → List Actual → (index : ℕ) → List Formal → List Passing
 passings_from c actuals index [] = []
 passings_from c actuals index (f ∷ fs) =
-    passed_actual c index (supplied actuals f) ++ passings_from c actuals (suc index) fs
+    passed_actual c index (actual_of_formal actuals f) ++ passings_from c actuals (suc index) fs

@@ -1,7 +1,7 @@
 -- A table of the offsets of statements.
 use Rattle.std.specs.Prelude.{◌≡◌, ◌≤◌, ℕ, Bool, true, false, List, [], ◌∷◌, ◌++◌, Option, Some, None, slice_get}
 use Rattle.flat_code.specs.Ops.{OpData}
-use Rattle.stl_codegen.specs.Compiled.{offset_of}
+use Rattle.stl_codegen.specs.Compiled.{offset_of_statement}
 
 -- where a statement begins, by the starts of statements and the end of the code
 abbrev pub start_or_end : Option ℕ → Option ℕ → Option ℕ
@@ -9,13 +9,13 @@ start_or_end None end = end
 start_or_end (Some at) end = Some at
 
 -- the offset of the statement of a number: its start, or where it has none the end of the code
-abbrev pub offset_in : List ℕ → (end : Option ℕ) → ℕ → Option ℕ
-offset_in starts end n = start_or_end (slice_get starts n) end
+abbrev pub offset_in_table : List ℕ → (end : Option ℕ) → ℕ → Option ℕ
+offset_in_table starts end n = start_or_end (slice_get starts n) end
 
 -- the starts with one more, where a statement begins
-abbrev pub started : List ℕ → (at : ℕ) → (begins : Bool) → List ℕ
-started starts at true = starts ++ at ∷ []
-started starts at false = starts
+abbrev pub extended_starts : List ℕ → (at : ℕ) → (begins : Bool) → List ℕ
+extended_starts starts at true = starts ++ at ∷ []
+extended_starts starts at false = starts
 
 -- an offset, or that it doesn't fit 32 bits
 abbrev pub IsOffset : Option ℕ → ℕ → Type 0
@@ -23,5 +23,5 @@ IsOffset (Some at) offset = at ≡ offset
 IsOffset None offset = 4294967296 ≤ offset
 
 -- the starts and the end of ops
-pub record AreOffsets (starts : List ℕ) (end : Option ℕ) (ops : List OpData) : Type 0 where
-  pub each : (n : ℕ) → IsOffset (offset_in starts end n) (offset_of ops n)
+pub record AreStatementOffsets (starts : List ℕ) (end : Option ℕ) (ops : List OpData) : Type 0 where
+  pub each : (n : ℕ) → IsOffset (offset_in_table starts end n) (offset_of_statement ops n)

@@ -1,18 +1,18 @@
 ghost use Rattle.std.specs.Prelude.{◌≡◌, ◌<◌, ◌≤◌, ◌++◌, [], ◌∷◌, IfOk, length};
 ghost use Rattle.std.specs.List.{flat_map, slice_get};
 ghost use Rattle.block_layout.specs.Fits.{or_0};
-ghost use Rattle.stl_ast.specs.Statements.{is_empty};
+ghost use Rattle.stl_ast.specs.Statements.{is_empty_statement};
 ghost use Rattle.stl_types.specs.Labels.{label_of};
 ghost use Rattle.stl_codegen.specs.Bodies.{
   AreTargets,
   body_lines,
-  count_of,
-  counted_by,
+  count_of_statements,
+  count_of_mnemonic,
   line_here,
   number_here,
   ops_here,
 };
-ghost use Rattle.stl_codegen.specs.Fitting.{Appended};
+ghost use Rattle.stl_codegen.specs.Fitting.{AreOpsAppended};
 ghost use Rattle.stl_codegen.specs.Instruction.{target_in, target_of};
 
 use crate::instructions::{append_jump_to, append_resolved};
@@ -25,7 +25,7 @@ use stl_symbols::Names;
 use stl_types::Scope;
 
 pub(crate) fn is_empty(code: Mnemonic) -> bool
-    ensures { result ≡ is_empty code }
+    ensures { result ≡ is_empty_statement code }
 {
     matches!(code, Mnemonic::Empty)
 }
@@ -77,7 +77,7 @@ impl<'a> Model for Body<'a> {
 
 /// 0 for an empty statement, which has no number, and 1 for every other.
 fn counted(code: Mnemonic) -> u32
-    ensures { result ≡ counted_by code }
+    ensures { result ≡ count_of_mnemonic code }
 {
     if is_empty(code) { 0 } else { 1 }
 }
@@ -117,7 +117,7 @@ fn number_at(numbers: &[u32], place: usize) -> u32
 impl<'a> Body<'a> {
     /// These statements.
     pub(crate) fn new(alloc: Global, statements: &'a [Statement]) -> Result<Self, AllocError>
-        requires { count_of statements.now < 65536 }
+        requires { count_of_statements statements.now < 65536 }
         ensures { IfOk result (λ body. body ≡ statements.now) }
     {
         let mut labels = Names::new(alloc);
@@ -166,7 +166,7 @@ impl<'a> Body<'a> {
         scope: &Scope,
         statement: &Statement,
     ) -> Result<Option<()>, AllocError>
-        ensures { IfOk result (λ done. Appended ops.old.items ops.new.items
+        ensures { IfOk result (λ done. AreOpsAppended ops.old.items ops.new.items
             (ops_here scope.now self.now statement.now) done) }
     {
         if is_empty(statement.code) {
@@ -188,7 +188,7 @@ impl<'a> Body<'a> {
         ops: &mut Vec<Op>,
         scope: &Scope,
     ) -> Result<Option<()>, AllocError>
-        ensures { IfOk result (λ done. Appended ops.old.items ops.new.items
+        ensures { IfOk result (λ done. AreOpsAppended ops.old.items ops.new.items
             (flat_map (λ s. ops_here scope.now self.now s) self.now) done) }
     {
         for statement in self.statements {

@@ -2,8 +2,8 @@ ghost use Rattle.std.specs.Prelude.{◌≡◌, ◌≤◌, IfOk, IfSome, Some, ma
 ghost use Rattle.std.specs.List.{AllByRecursion};
 ghost use Rattle.std.specs.Option.{IfNone};
 ghost use Rattle.plc_base.specs.Kinds.{is_code};
-ghost use Rattle.stl_codegen.specs.Compiled.{compiled};
-ghost use Rattle.stl_codegen.specs.Fitting.{Added, BlockFits};
+ghost use Rattle.stl_codegen.specs.Compiled.{compiled_block};
+ghost use Rattle.stl_codegen.specs.Fitting.{AreItemsAppended, BlockFits};
 ghost use Rattle.stl_codegen.specs.Generated.{
   code_block,
   code_block_of,
@@ -52,9 +52,9 @@ fn code_block(
     id: BlockId,
 ) -> Result<Option<CodeBlock>, AllocError>
     ensures value { IfOk result (λ made. IfSome made (λ b. b
-        ≡ compiled (code_block scope.now block.now layout.now id))) }
+        ≡ compiled_block (code_block scope.now block.now layout.now id))) }
     ensures none { IfOk result (λ made. IfNone made
-        (BlockFits (compiled (code_block scope.now block.now layout.now id)) → ⊥)) }
+        (BlockFits (compiled_block (code_block scope.now block.now layout.now id)) → ⊥)) }
 {
     let Some(local_len) = field(layout.local_len) else {
         return Ok(None);
@@ -87,8 +87,8 @@ fn add_known(
     layout: &BlockLayout,
     id: BlockId,
 ) -> Result<Option<()>, AllocError>
-    ensures { IfOk result (λ done. Added BlockFits made.old.items made.new.items
-        (map compiled (code_block_of scope.now block.now layout.now (Some id))) done) }
+    ensures { IfOk result (λ done. AreItemsAppended BlockFits made.old.items made.new.items
+        (map compiled_block (code_block_of scope.now block.now layout.now (Some id))) done) }
 {
     if !id.kind.is_code() {
         return Ok(Some(()));
@@ -107,8 +107,8 @@ fn add_code_block(
     block: &Block,
     layout: &BlockLayout,
 ) -> Result<Option<()>, AllocError>
-    ensures { IfOk result (λ done. Added BlockFits made.old.items made.new.items
-        (map compiled (code_block_of scope.now block.now layout.now layout.now.id)) done) }
+    ensures { IfOk result (λ done. AreItemsAppended BlockFits made.old.items made.new.items
+        (map compiled_block (code_block_of scope.now block.now layout.now layout.now.id)) done) }
 {
     match layout.id {
         None => Ok(Some(())),
@@ -124,10 +124,10 @@ pub(crate) fn code_blocks(
     layouts: &[BlockLayout],
 ) -> Result<Option<Vec<CodeBlock>>, AllocError>
     ensures value { IfOk result (λ made. IfSome made (λ list. list.items
-        ≡ map compiled (each_block (λ c b l. code_block_of c b l l.id)
+        ≡ map compiled_block (each_block (λ c b l. code_block_of c b l l.id)
         (record scope.now { block = 0 }) blocks.now layouts.now))) }
     ensures none { IfOk result (λ made. IfNone made
-        (AllByRecursion BlockFits (map compiled (each_block (λ c b l. code_block_of c b l l.id)
+        (AllByRecursion BlockFits (map compiled_block (each_block (λ c b l. code_block_of c b l l.id)
         (record scope.now { block = 0 }) blocks.now layouts.now)) → ⊥)) }
 {
     let mut made = Vec::new(alloc);

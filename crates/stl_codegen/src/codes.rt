@@ -1,6 +1,6 @@
 ghost use Rattle.std.specs.Prelude.{◌≡◌, ◌<◌, IfOk, IfSome};
 ghost use Rattle.std.specs.Option.{IfNone};
-ghost use Rattle.stl_codegen.specs.Bodies.{body_lines, body_ops, count_of};
+ghost use Rattle.stl_codegen.specs.Bodies.{body_lines, body_ops, count_of_statements};
 ghost use Rattle.stl_codegen.specs.Compiled.{code_in, lines_in, placed_ops};
 ghost use Rattle.stl_codegen.specs.Fitting.{CodeFits, HasNoOp};
 ghost use Rattle.stl_codegen.specs.Generated.{statements_of};
@@ -24,7 +24,7 @@ pub(crate) struct Code {
 /// the table.
 #[tactic(auto, using(crate::proofs::AppendLemmas::front_has_none, crate::proofs::AppendLemmas::appended_then))]
 fn ops_of(alloc: Global, scope: &Scope, block: &Block) -> Result<Option<Vec<Op>>, AllocError>
-    requires { count_of block.now.body < 65536 }
+    requires { count_of_statements block.now.body < 65536 }
     ensures value { IfOk result (λ made. IfSome made (λ ops. ops.items
         ≡ body_ops scope.now block.now)) }
     ensures none { IfOk result (λ made. IfNone made (HasNoOp (body_ops scope.now block.now))) }

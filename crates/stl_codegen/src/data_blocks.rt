@@ -1,7 +1,7 @@
 ghost use Rattle.std.specs.Prelude.{◌≡◌, ◌++◌, IfOk, Some};
 ghost use Rattle.block_layout.specs.declared.blocks.Shape.TheVariants as shapes;
 ghost use Rattle.stl_codegen.specs.Generated.{
-  data_block,
+  generated_data_block,
   data_block_of,
   each_block,
   function_block_number,
@@ -58,7 +58,7 @@ fn data_block(
     layout: &BlockLayout,
     id: BlockId,
 ) -> Result<DataBlock, AllocError>
-    ensures { IfOk result (λ made. made ≡ data_block scope.now layout.now id) }
+    ensures { IfOk result (λ made. made ≡ generated_data_block scope.now layout.now id) }
 {
     let layouts = scope.layouts();
     Ok(DataBlock {

@@ -7,12 +7,12 @@ ghost use Rattle.flat_code.specs.declared.operations.Operation.TheVariants as op
 ghost use Rattle.stl_codegen.specs.Emitted.{
   call_op,
   end_op,
-  instance_number,
+  instance_number_or_zero,
   jump_op,
-  opening,
-  preparing,
+  use_db_ops,
+  preparing_op,
 };
-ghost use Rattle.stl_codegen.specs.Fitting.{Appended, IsStill};
+ghost use Rattle.stl_codegen.specs.Fitting.{AreOpsAppended, IsStill};
 
 use crate::operands::index_byte;
 use flat_code::{CallOperation, EndOperation, JumpOperation, Op, Operand, Operation, Passed};
@@ -28,7 +28,7 @@ pub(crate) fn append(
     operand: Operand,
 ) -> Result<Option<()>, AllocError>
     requires { IsStill operand }
-    ensures { IfOk result (λ done. Appended ops.old.items ops.new.items
+    ensures { IfOk result (λ done. AreOpsAppended ops.old.items ops.new.items
         (op_of (op_code_of operation) last operand ∷ []) done) }
 {
     let Some(op) = Op::taken(operation, last, operand) else {
@@ -43,7 +43,7 @@ pub(crate) fn append_opening(
     ops: &mut Vec<Op>,
     block: Option<u16>,
 ) -> Result<Option<()>, AllocError>
-    ensures { IfOk result (λ done. Appended ops.old.items ops.new.items (opening block) done) }
+    ensures { IfOk result (λ done. AreOpsAppended ops.old.items ops.new.items (use_db_ops block) done) }
 {
     match block {
         None => Ok(Some(())),
@@ -58,8 +58,8 @@ pub(crate) fn append_passing(
     index: usize,
     actual: Passed,
 ) -> Result<Option<()>, AllocError>
-    ensures { IfOk result (λ done. Appended ops.old.items ops.new.items
-        (preparing operations.Pass (operands.Pass index actual) ∷ []) done) }
+    ensures { IfOk result (λ done. AreOpsAppended ops.old.items ops.new.items
+        (preparing_op operations.Pass (operands.Pass index actual) ∷ []) done) }
 {
     let Some(index) = index_byte(index) else {
         return Ok(None);
@@ -75,8 +75,8 @@ pub(crate) fn append_passed_parameter(
     own: usize,
     width: Width,
 ) -> Result<Option<()>, AllocError>
-    ensures { IfOk result (λ done. Appended ops.old.items ops.new.items
-        (preparing operations.Pass (operands.Pass index (passed.Parameter own width)) ∷ []) done) }
+    ensures { IfOk result (λ done. AreOpsAppended ops.old.items ops.new.items
+        (preparing_op operations.Pass (operands.Pass index (passed.Parameter own width)) ∷ []) done) }
 {
     let Some(own) = index_byte(own) else {
         return Ok(None);
@@ -91,7 +91,7 @@ pub(crate) fn append_jump(
     how: JumpOperation,
     target: u32,
 ) -> Result<Option<()>, AllocError>
-    ensures { IfOk result (λ done. Appended ops.old.items ops.new.items
+    ensures { IfOk result (λ done. AreOpsAppended ops.old.items ops.new.items
         (jump_op how target ∷ []) done) }
 {
     let operand = Operand::Jump {
@@ -104,7 +104,7 @@ pub(crate) fn append_jump(
 
 /// 0 stands for no instance.
 fn instance_number(instance: Option<u16>) -> u16
-    ensures { result ≡ instance_number instance }
+    ensures { result ≡ instance_number_or_zero instance }
 {
     match instance {
         None => 0,
@@ -119,7 +119,7 @@ pub(crate) fn append_call(
     block: BlockId,
     instance: Option<u16>,
 ) -> Result<Option<()>, AllocError>
-    ensures { IfOk result (λ done. Appended ops.old.items ops.new.items
+    ensures { IfOk result (λ done. AreOpsAppended ops.old.items ops.new.items
         (call_op how block instance ∷ []) done) }
 {
     let operand = Operand::Called {
@@ -132,7 +132,7 @@ pub(crate) fn append_call(
 
 /// Appends the end of a block.
 pub(crate) fn append_end(ops: &mut Vec<Op>, how: EndOperation) -> Result<Option<()>, AllocError>
-    ensures { IfOk result (λ done. Appended ops.old.items ops.new.items (end_op how ∷ []) done) }
+    ensures { IfOk result (λ done. AreOpsAppended ops.old.items ops.new.items (end_op how ∷ []) done) }
 {
     append(ops, Operation::End(how), true, Operand::Nothing)
 }

@@ -1,8 +1,8 @@
 ghost use Rattle.std.specs.Prelude.{◌≡◌, IfOk, IfSome};
 ghost use Rattle.std.specs.Option.{IfNone};
 ghost use Rattle.flat_code.specs.Image.{IsProgram};
-ghost use Rattle.stl_codegen.specs.Generated.{data_blocks_of, names_of, program_of};
-ghost use Rattle.stl_codegen.specs.Order.{is_block_before, is_code_before, sorted};
+ghost use Rattle.stl_codegen.specs.Generated.{data_blocks_of, name_entries_of, program_of};
+ghost use Rattle.stl_codegen.specs.Order.{is_block_before, is_code_before, sorted_list};
 
 use crate::code_blocks::code_blocks;
 use crate::data_blocks::data_blocks;
@@ -54,7 +54,7 @@ fn ordered_data_blocks(
 }
 
 fn ordered_names(alloc: Global, symbols: &Symbols) -> Result<Vec<NameEntry>, NoMemory>
-    ensures { IfOk result (λ list. list.items ≡ names_of symbols.now) }
+    ensures { IfOk result (λ list. list.items ≡ name_entries_of symbols.now) }
 {
     let mut list = names_of(alloc, symbols.list())?;
     sort_names(&mut list)?;

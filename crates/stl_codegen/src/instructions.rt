@@ -3,22 +3,22 @@ ghost use Rattle.std.specs.Option.{option_copied};
 ghost use Rattle.stl_types.specs.Parameters.{callee_of};
 ghost use Rattle.stl_types.specs.declared.views.ResolvedOperand.TheVariants as views;
 ghost use Rattle.flat_code.specs.Instr.{Calls, Does};
-ghost use Rattle.stl_codegen.specs.Emitted.{ops_of, passing};
-ghost use Rattle.stl_codegen.specs.Fitting.{Appended};
+ghost use Rattle.stl_codegen.specs.Emitted.{ops_of, pass_ops};
+ghost use Rattle.stl_codegen.specs.Fitting.{AreOpsAppended};
 ghost use Rattle.stl_codegen.specs.Instruction.{
-  block_at,
+  source_block_at,
   call_instr,
   end_instr,
-  filler,
-  in_order,
+  filler_instruction,
+  in_parameter_order,
   jump_instr,
   passings_to,
   resolved_instr,
   return_last,
   view_instr,
 };
-ghost use Rattle.stl_codegen.specs.Operands.{opened_by, operand_of};
-ghost use Rattle.stl_codegen.specs.Operations.{call_of, end_of, operation_for};
+ghost use Rattle.stl_codegen.specs.Operands.{block_opened_by_operand, flat_operand_of};
+ghost use Rattle.stl_codegen.specs.Operations.{call_operation_of, end_operation_of, operation_for};
 
 use crate::emitting::{append, append_call, append_end, append_jump, append_opening};
 use crate::operands::{opened_by, operand_of};
@@ -37,7 +37,7 @@ pub(crate) fn append_jump_to(
     how: JumpOperation,
     target: u32,
 ) -> Result<Option<()>, AllocError>
-    ensures { IfOk result (λ done. Appended ops.old.items ops.new.items
+    ensures { IfOk result (λ done. AreOpsAppended ops.old.items ops.new.items
         (ops_of (jump_instr how 0 target)) done) }
 {
     append_jump(ops, how, target)
@@ -46,7 +46,7 @@ pub(crate) fn append_jump_to(
 /// Appends NOP 0, for a statement that doesn't name what its instruction takes.
 #[tactic(auto, unfolding(crate::specs::Emitted::ops_of))]
 fn append_filler(ops: &mut Vec<Op>) -> Result<Option<()>, AllocError>
-    ensures { IfOk result (λ done. Appended ops.old.items ops.new.items (ops_of filler) done) }
+    ensures { IfOk result (λ done. AreOpsAppended ops.old.items ops.new.items (ops_of filler_instruction) done) }
 {
     append(ops, Operation::Nop, true, Operand::Literal { value: 0 })
 }
@@ -59,9 +59,9 @@ fn append_operation(
     statement: &Statement,
     view: ResolvedOperand,
 ) -> Result<Option<()>, AllocError>
-    ensures { IfOk result (λ done. Appended ops.old.items ops.new.items
-        (ops_of (Does (opened_by view) (operation_for statement.now.code statement.now.operand view)
-        (operand_of statement.now.operand view))) done) }
+    ensures { IfOk result (λ done. AreOpsAppended ops.old.items ops.new.items
+        (ops_of (Does (block_opened_by_operand view) (operation_for statement.now.code statement.now.operand view)
+        (flat_operand_of statement.now.operand view))) done) }
 {
     let Some(_) = append_opening(ops, opened_by(view))? else {
         return Ok(None);
@@ -86,7 +86,7 @@ fn first_last<T>(list: Vec<T>) -> Vec<T>
 
 /// The parameters of a block by their index in a call; the return value of a function is the last.
 pub(crate) fn in_order<T>(block: Option<&Block>, params: Vec<T>) -> Vec<T>
-    ensures { result.items ≡ in_order (option_copied block.entry) params.items }
+    ensures { result.items ≡ in_parameter_order (option_copied block.entry) params.items }
 {
     match block {
         None => params,
@@ -105,7 +105,7 @@ fn return_last<T>(kind: Option<Simple>, params: Vec<T>) -> Vec<T>
 
 /// The block of the source at a place.
 fn block_at<'a>(scope: &Scope<'a>, place: Option<usize>) -> Option<&'a Block>
-    ensures { option_copied result ≡ block_at scope.now.blocks place }
+    ensures { option_copied result ≡ source_block_at scope.now.blocks place }
 {
     let blocks = scope.tree().blocks.as_slice();
     let place = place?;
@@ -124,8 +124,8 @@ fn append_arguments(
     statement: &Statement,
     callee: Option<Callee>,
 ) -> Result<Option<()>, AllocError>
-    ensures { IfOk result (λ done. Appended ops.old.items ops.new.items
-        (passing (passings_to scope.now statement.now callee)) done) }
+    ensures { IfOk result (λ done. AreOpsAppended ops.old.items ops.new.items
+        (pass_ops (passings_to scope.now statement.now callee)) done) }
 {
     match callee {
         None => Ok(Some(())),
@@ -153,7 +153,7 @@ fn append_called(
     block: BlockId,
     instance: Option<u16>,
 ) -> Result<Option<()>, AllocError>
-    ensures { IfOk result (λ done. Appended ops.old.items ops.new.items
+    ensures { IfOk result (λ done. AreOpsAppended ops.old.items ops.new.items
         (ops_of (Calls how block instance (passings_to scope.now statement.now
         (callee_of scope.now statement.now.operand)))) done) }
 {
@@ -172,7 +172,7 @@ fn append_call_by(
     how: CallOperation,
     view: ResolvedOperand,
 ) -> Result<Option<()>, AllocError>
-    ensures { IfOk result (λ done. Appended ops.old.items ops.new.items
+    ensures { IfOk result (λ done. AreOpsAppended ops.old.items ops.new.items
         (ops_of (call_instr scope.now statement.now how view)) done) }
 {
     match view {
@@ -190,8 +190,8 @@ fn append_plain(
     statement: &Statement,
     view: ResolvedOperand,
 ) -> Result<Option<()>, AllocError>
-    ensures { IfOk result (λ done. Appended ops.old.items ops.new.items
-        (ops_of (end_instr statement.now view (end_of statement.now.code))) done) }
+    ensures { IfOk result (λ done. AreOpsAppended ops.old.items ops.new.items
+        (ops_of (end_instr statement.now view (end_operation_of statement.now.code))) done) }
 {
     match end_of(statement.code) {
         None => append_operation(ops, statement, view),
@@ -206,8 +206,8 @@ fn append_by_view(
     statement: &Statement,
     view: ResolvedOperand,
 ) -> Result<Option<()>, AllocError>
-    ensures { IfOk result (λ done. Appended ops.old.items ops.new.items
-        (ops_of (view_instr scope.now statement.now view (call_of statement.now.code))) done) }
+    ensures { IfOk result (λ done. AreOpsAppended ops.old.items ops.new.items
+        (ops_of (view_instr scope.now statement.now view (call_operation_of statement.now.code))) done) }
 {
     match call_of(statement.code) {
         None => append_plain(ops, statement, view),
@@ -223,7 +223,7 @@ pub(crate) fn append_resolved(
     statement: &Statement,
     view: Option<ResolvedOperand>,
 ) -> Result<Option<()>, AllocError>
-    ensures { IfOk result (λ done. Appended ops.old.items ops.new.items
+    ensures { IfOk result (λ done. AreOpsAppended ops.old.items ops.new.items
         (ops_of (resolved_instr scope.now statement.now view)) done) }
 {
     match view {

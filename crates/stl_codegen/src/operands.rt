@@ -3,12 +3,12 @@ ghost use Rattle.std.specs.Option.{IfNone};
 ghost use Rattle.stl_codegen.specs.Fitting.{IsNoOperand, IsStill};
 ghost use Rattle.stl_codegen.specs.Operands.{
   constant_bits,
-  direct,
+  direct_flat_operand,
   is_in_named_block,
   numbered_operand,
-  opened_by,
+  block_opened_by_operand,
   opened_by_place,
-  operand_of,
+  flat_operand_of,
   pointer_bits,
   register_operand,
 };
@@ -38,7 +38,7 @@ fn opened_by_place(place: Place) -> Option<u16>
 
 /// The data block that a statement opens first.
 pub(crate) fn opened_by(view: ResolvedOperand) -> Option<u16>
-    ensures { result ≡ opened_by view }
+    ensures { result ≡ block_opened_by_operand view }
 {
     match view {
         ResolvedOperand::Direct { place, .. } => opened_by_place(place),
@@ -47,7 +47,7 @@ pub(crate) fn opened_by(view: ResolvedOperand) -> Option<u16>
 }
 
 fn direct(place: Place, width: Width) -> FlatOperand
-    ensures { result ≡ direct place width }
+    ensures { result ≡ direct_flat_operand place width }
 {
     FlatOperand::Direct {
         area: place.area,
@@ -131,11 +131,11 @@ pub(crate) fn index_byte(index: usize) -> Option<u8>
 
 /// The operand of an instruction that goes on to the next statement. `None` where it is a parameter
 /// of so high an index that no op has it.
-#[tactic(auto, unfolding(crate::specs::Operands::operand_of))]
+#[tactic(auto, unfolding(crate::specs::Operands::flat_operand_of))]
 pub(crate) fn operand_of(operand: &Operand, view: ResolvedOperand) -> Option<FlatOperand>
-    ensures value { IfSome result (λ o. o ≡ operand_of operand.now view) }
+    ensures value { IfSome result (λ o. o ≡ flat_operand_of operand.now view) }
     ensures still { IfSome result (λ o. IsStill o) }
-    ensures none { IfNone result (IsNoOperand (operand_of operand.now view)) }
+    ensures none { IfNone result (IsNoOperand (flat_operand_of operand.now view)) }
 {
     match view {
         ResolvedOperand::Direct { place, width, .. } => Some(direct(place, width)),

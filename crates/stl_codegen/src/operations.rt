@@ -1,9 +1,9 @@
 ghost use Rattle.std.specs.Prelude.{◌≡◌};
 ghost use Rattle.stl_codegen.specs.Operations.{
   add_operation,
-  call_of,
-  end_of,
-  jump_of,
+  call_operation_of,
+  end_operation_of,
+  jump_operation_of,
   load_pointer_operation,
   load_operation,
   or_operation,
@@ -22,7 +22,7 @@ use stl_types::{Register, ResolvedOperand};
 
 /// The jump that an instruction is, if it is one.
 pub(crate) fn jump_of(code: Mnemonic) -> Option<JumpOperation>
-    ensures { result ≡ jump_of code }
+    ensures { result ≡ jump_operation_of code }
 {
     match code {
         Mnemonic::Ju => Some(JumpOperation::Ju),
@@ -49,7 +49,7 @@ pub(crate) fn jump_of(code: Mnemonic) -> Option<JumpOperation>
 
 /// The call that an instruction is, if it is one.
 pub(crate) fn call_of(code: Mnemonic) -> Option<CallOperation>
-    ensures { result ≡ call_of code }
+    ensures { result ≡ call_operation_of code }
 {
     match code {
         Mnemonic::Call => Some(CallOperation::Call),
@@ -61,7 +61,7 @@ pub(crate) fn call_of(code: Mnemonic) -> Option<CallOperation>
 
 /// The end of a block that an instruction is, if it is one.
 pub(crate) fn end_of(code: Mnemonic) -> Option<EndOperation>
-    ensures { result ≡ end_of code }
+    ensures { result ≡ end_operation_of code }
 {
     match code {
         Mnemonic::Be => Some(EndOperation::Be),

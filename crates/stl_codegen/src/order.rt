@@ -1,7 +1,7 @@
 //! The records of a program in the order of an image.
 ghost use Rattle.std.specs.Prelude.{◌≡◌, OnOk};
 ghost use Rattle.std.specs.Ordering.{is_lt};
-ghost use Rattle.stl_codegen.specs.Order.{is_block_before, is_data_before, is_name_before, sorted};
+ghost use Rattle.stl_codegen.specs.Order.{is_block_before, is_data_before, is_name_before, sorted_list};
 
 use flat_code::{CodeBlock, DataBlock, NameEntry};
 use plc_base::NoMemory;
@@ -32,7 +32,7 @@ fn order_of_names(a: &NameEntry, b: &NameEntry) -> Ordering
 /// Puts code blocks in the order of an image: organization blocks, functions, function blocks, each
 /// by number. On an error they stay as they stood.
 pub fn sort_code_blocks(blocks: &mut Vec<CodeBlock>) -> Result<(), NoMemory>
-    ensures { OnOk result (blocks.new.items ≡ sorted is_block_before blocks.old.items) }
+    ensures { OnOk result (blocks.new.items ≡ sorted_list is_block_before blocks.old.items) }
 {
     blocks.sort_by(|a: &CodeBlock, b: &CodeBlock| order_of_blocks(a, b))?;
     Ok(())
@@ -40,7 +40,7 @@ pub fn sort_code_blocks(blocks: &mut Vec<CodeBlock>) -> Result<(), NoMemory>
 
 /// Puts data blocks in the order of their numbers. On an error they stay as they stood.
 pub fn sort_data_blocks(blocks: &mut Vec<DataBlock>) -> Result<(), NoMemory>
-    ensures { OnOk result (blocks.new.items ≡ sorted is_data_before blocks.old.items) }
+    ensures { OnOk result (blocks.new.items ≡ sorted_list is_data_before blocks.old.items) }
 {
     blocks.sort_by(|a: &DataBlock, b: &DataBlock| order_of_data(a, b))?;
     Ok(())
@@ -48,7 +48,7 @@ pub fn sort_data_blocks(blocks: &mut Vec<DataBlock>) -> Result<(), NoMemory>
 
 /// Puts names in the order of their bytes. On an error they stay as they stood.
 pub fn sort_names(entries: &mut Vec<NameEntry>) -> Result<(), NoMemory>
-    ensures { OnOk result (entries.new.items ≡ sorted is_name_before entries.old.items) }
+    ensures { OnOk result (entries.new.items ≡ sorted_list is_name_before entries.old.items) }
 {
     entries.sort_by(|a: &NameEntry, b: &NameEntry| order_of_names(a, b))?;
     Ok(())

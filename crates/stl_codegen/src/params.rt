@@ -13,8 +13,8 @@ ghost use Rattle.std.specs.Option.{IfNone};
 ghost use Rattle.std.specs.List.{AllByRecursion, flat_map};
 ghost use Rattle.plc_base.specs.Kinds.{is_function_block};
 ghost use Rattle.block_layout.specs.Offsets.{width_of};
-ghost use Rattle.stl_codegen.specs.Fitting.{Added, ParamFits, ParamsFit};
-ghost use Rattle.stl_codegen.specs.Generated.{offset_named, param, param_bits, param_here, params_of, section_number};
+ghost use Rattle.stl_codegen.specs.Fitting.{AreItemsAppended, ParamFits, ParamsFit};
+ghost use Rattle.stl_codegen.specs.Generated.{offset_of_member, param_at_bits, param_bits, param_here, params_of, section_number};
 
 use crate::instructions::in_order;
 use arrayvec::ArrayVec;
@@ -37,7 +37,7 @@ fn section_number(section: PartKind) -> u8
 
 /// A parameter that begins so many bits from the start; `None` where its byte doesn't fit its field.
 fn param(section: u8, width: Width, bits: u64) -> Option<Param>
-    ensures value { IfSome result (λ p. p ≡ param section width bits) }
+    ensures value { IfSome result (λ p. p ≡ param_at_bits section width bits) }
     ensures far { IfNone result (65536 ≤ bits / 8) }
 {
     let byte = bits / 8;
@@ -53,7 +53,7 @@ fn param(section: u8, width: Width, bits: u64) -> Option<Param>
 }
 
 fn offset_named(member: Option<Member>) -> u64
-    ensures { result ≡ offset_named member }
+    ensures { result ≡ offset_of_member member }
 {
     match member {
         None => 0,
@@ -81,8 +81,8 @@ fn add_plain(
     cell: &Cell,
     kind: Simple,
 ) -> Result<Option<()>, AllocError>
-    ensures { IfOk result (λ done. Added ParamFits params.old.items params.new.items
-        (param (section_number cell.now.section) (width_of kind)
+    ensures { IfOk result (λ done. AreItemsAppended ParamFits params.old.items params.new.items
+        (param_at_bits (section_number cell.now.section) (width_of kind)
         (param_bits in_instance components.now cell.now) ∷ []) done) }
 {
     let bits = param_bits(in_instance, components, cell);
@@ -100,7 +100,7 @@ fn add_param(
     components: &Layout,
     cell: &Cell,
 ) -> Result<Option<()>, AllocError>
-    ensures { IfOk result (λ done. Added ParamFits params.old.items params.new.items
+    ensures { IfOk result (λ done. AreItemsAppended ParamFits params.old.items params.new.items
         (param_here in_instance components.now cell.now) done) }
 {
     if !is_parameter(cell.section) {

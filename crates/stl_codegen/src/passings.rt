@@ -2,16 +2,16 @@ ghost use Rattle.std.specs.Prelude.{◌≡◌, IfOk, [], ◌∷◌, find};
 ghost use Rattle.std.specs.Option.{option_copied};
 ghost use Rattle.std.specs.Str.{bytes_eq};
 ghost use Rattle.plc_base.specs.Folding.{upper_case_name};
-ghost use Rattle.stl_types.specs.Resolution.{seen};
-ghost use Rattle.stl_codegen.specs.Emitted.{passing};
-ghost use Rattle.stl_codegen.specs.Fitting.{Appended};
+ghost use Rattle.stl_types.specs.Resolution.{resolution_of};
+ghost use Rattle.stl_codegen.specs.Emitted.{pass_ops};
+ghost use Rattle.stl_codegen.specs.Fitting.{AreOpsAppended};
 ghost use Rattle.stl_codegen.specs.Passed.{
   passed_actual,
   passed_place,
   passed_seen,
   passed_view,
   passings_from,
-  supplied,
+  actual_of_formal,
   with_index,
 };
 
@@ -52,8 +52,8 @@ fn append_view(
     operand: &Operand,
     view: ResolvedOperand,
 ) -> Result<Option<()>, AllocError>
-    ensures { IfOk result (λ done. Appended ops.old.items ops.new.items
-        (passing (with_index index (passed_view operand.now view))) done) }
+    ensures { IfOk result (λ done. AreOpsAppended ops.old.items ops.new.items
+        (pass_ops (with_index index (passed_view operand.now view))) done) }
 {
     match view {
         ResolvedOperand::Direct { place, width, .. } => {
@@ -81,8 +81,8 @@ fn append_seen(
     operand: &Operand,
     seen: Resolution,
 ) -> Result<Option<()>, AllocError>
-    ensures { IfOk result (λ done. Appended ops.old.items ops.new.items
-        (passing (with_index index (passed_seen operand.now seen))) done) }
+    ensures { IfOk result (λ done. AreOpsAppended ops.old.items ops.new.items
+        (pass_ops (with_index index (passed_seen operand.now seen))) done) }
 {
     match seen {
         Resolution::Resolved { view } => append_view(ops, index, operand, view),
@@ -106,7 +106,7 @@ fn is_for(actual: &Actual, formal: &Formal) -> bool
 
 /// The actual parameter that is supplied for a parameter.
 fn supplied<'s>(actuals: &'s [Actual], formal: &Formal) -> Option<&'s Actual>
-    ensures { option_copied result ≡ supplied actuals.now formal.now }
+    ensures { option_copied result ≡ actual_of_formal actuals.now formal.now }
 {
     actuals.iter().find(|a| is_for(a, formal))
 }
@@ -118,8 +118,8 @@ fn append_actual(
     index: usize,
     actual: Option<&Actual>,
 ) -> Result<Option<()>, AllocError>
-    ensures { IfOk result (λ done. Appended ops.old.items ops.new.items
-        (passing (passed_actual scope.now index (option_copied actual.entry))) done) }
+    ensures { IfOk result (λ done. AreOpsAppended ops.old.items ops.new.items
+        (pass_ops (passed_actual scope.now index (option_copied actual.entry))) done) }
 {
     match actual {
         None => Ok(Some(())),
@@ -138,8 +138,8 @@ pub(crate) fn append_passings(
     actuals: &[Actual],
     formals: &[Formal],
 ) -> Result<Option<()>, AllocError>
-    ensures { IfOk result (λ done. Appended ops.old.items ops.new.items
-        (passing (passings_from scope.now actuals.now 0 formals.now)) done) }
+    ensures { IfOk result (λ done. AreOpsAppended ops.old.items ops.new.items
+        (pass_ops (passings_from scope.now actuals.now 0 formals.now)) done) }
 {
     for index in 0..formals.len() {
         let actual = supplied(actuals, &formals[index]);

@@ -2,8 +2,8 @@
 ghost use Rattle.std.specs.Prelude.{◌≡◌, List, false, IfOk, IfSome, IfNone, OnOk};
 ghost use Rattle.flat_code.specs.Codes.{are_ops};
 ghost use Rattle.flat_code.specs.Ops.{IsOp, OpData};
-ghost use Rattle.stl_codegen.specs.Compiled.{aimed_op, offset_of, placed_ops};
-ghost use Rattle.stl_codegen.specs.Places.{AreOffsets, started};
+ghost use Rattle.stl_codegen.specs.Compiled.{op_with_target, offset_of_statement, placed_ops};
+ghost use Rattle.stl_codegen.specs.Places.{AreStatementOffsets, extended_starts};
 
 use flat_code::{Op, Operand};
 use plc_base::NoMemory;
@@ -19,11 +19,11 @@ struct Offsets {
 
 impl Offsets {
     ghost use Rattle.std.specs.Prelude.{◌≡◌};
-    ghost use Rattle.stl_codegen.specs.Places.{offset_in};
+    ghost use Rattle.stl_codegen.specs.Places.{offset_in_table};
 
     /// The offset of a statement; behind the last one the end of the code.
     fn of(&self, statement: u32) -> Option<u32>
-        ensures { result ≡ offset_in self.now.starts.items self.now.end statement }
+        ensures { result ≡ offset_in_table self.now.starts.items self.now.end statement }
     {
         match self.starts.get(statement as usize) {
             Some(start) => Some(*start),
@@ -34,7 +34,7 @@ impl Offsets {
 
 /// Notes an offset where a statement begins there.
 fn note_start(starts: &mut Vec<u32>, at: u32, begins: bool) -> Result<(), NoMemory>
-    ensures { OnOk result (starts.new.items ≡ started starts.old.items at begins) }
+    ensures { OnOk result (starts.new.items ≡ extended_starts starts.old.items at begins) }
 {
     if begins {
         starts.push(at)?;
@@ -44,7 +44,7 @@ fn note_start(starts: &mut Vec<u32>, at: u32, begins: bool) -> Result<(), NoMemo
 
 /// The offsets of the statements of ops.
 fn offsets_of(alloc: Global, ops: &[Op]) -> Result<Offsets, NoMemory>
-    ensures { IfOk result (λ o. AreOffsets o.starts.items o.end ops.now) }
+    ensures { IfOk result (λ o. AreStatementOffsets o.starts.items o.end ops.now) }
 {
     let mut starts = Vec::new(alloc);
     let mut at = 0_u32;
@@ -67,11 +67,11 @@ fn offsets_of(alloc: Global, ops: &[Op]) -> Result<Offsets, NoMemory>
 #[tactic(auto, unfolding(flat_code::specs::Ops::is_op, flat_code::specs::Table::admits))]
 fn aimed(op: &Op, offsets: &Offsets) -> Option<Op>
     ensures some { IfSome result (λ placed. (ops : List OpData)
-        → AreOffsets offsets.now.starts.items offsets.now.end ops
-        → placed ≡ aimed_op (offset_of ops) op.now) }
+        → AreStatementOffsets offsets.now.starts.items offsets.now.end ops
+        → placed ≡ op_with_target (offset_of_statement ops) op.now) }
     ensures none { IfNone result ((ops : List OpData)
-        → AreOffsets offsets.now.starts.items offsets.now.end ops
-        → IsOp (aimed_op (offset_of ops) op.now) → ⊥) }
+        → AreStatementOffsets offsets.now.starts.items offsets.now.end ops
+        → IsOp (op_with_target (offset_of_statement ops) op.now) → ⊥) }
 {
     match op.operand {
         Operand::Jump { kind, target } => Some(Op {

@@ -12,7 +12,7 @@ use Rattle.std.proofs.lemmas.List.Sums.{AllPass-from_list_all}
 use Rattle.stl_lexer.specs.declared.tables.Tail.{Tail}
 use Rattle.stl_lexer.specs.Forms.{begins_with, entries_from, first_letter, is_tail, is_entry, is_listed, opens_entry, sign_words}
 use Rattle.stl_lexer.specs.Marks.{mark_text, marks}
-use Rattle.stl_lexer.specs.Longest.{IsFormAt, IsLongestOf, HasNone, FindsLongest, IsTailAt, IsLongestTail, longer_of}
+use Rattle.stl_lexer.specs.Longest.{IsFormAt, IsLongestOfForm, HasNoneOfForm, FindsLongest, IsTailAt, IsLongestTail, longer_of}
 use Rattle.stl_lexer.proofs.LongestLemmas.{same_form, either_longest}
 
 same_length : (a b : List ℕ) → str_eq_ignore_ascii_case a b ≡ true → length a ≡ length b
@@ -63,7 +63,7 @@ entry_at tail entry text m at =
       },
     )
 
-pub entry_found : (tail : Tail) (entry text : List ℕ) (n : ℕ) → 0 < length entry → begins_with entry text ≡ true → IsLongestTail tail (drop (length entry) text) n → IsLongestOf (is_entry tail entry) text (length entry + n)
+pub entry_found : (tail : Tail) (entry text : List ℕ) (n : ℕ) → 0 < length entry → begins_with entry text ≡ true → IsLongestTail tail (drop (length entry) text) n → IsLongestOfForm (is_entry tail entry) text (length entry + n)
 unfolding is_entry
 entry_found tail entry text n some begins h =
     let within : length entry + n ≤ length text = omega (arith, entry_within entry text begins, h.fits.within, length-drop (length entry) text) in
@@ -77,14 +77,14 @@ entry_found tail entry text n some begins h =
       longest = λ m at. let there = entry_at tail entry text m at in omega (arith, there.0, h.longest (m - length entry) there.2);
     }
 
-pub no_entry : (tail : Tail) (entry text : List ℕ) → begins_with entry text ≡ false → HasNone (is_entry tail entry) text
+pub no_entry : (tail : Tail) (entry text : List ℕ) → begins_with entry text ≡ false → HasNoneOfForm (is_entry tail entry) text
 no_entry tail entry text e n at = false≢true (sym e ∙ (entry_at tail entry text n at).1)
 
-pub no_tail : (tail : Tail) (entry text : List ℕ) → ((n : ℕ) → IsTailAt tail (drop (length entry) text) n → ⊥) → HasNone (is_entry tail entry) text
+pub no_tail : (tail : Tail) (entry text : List ℕ) → ((n : ℕ) → IsTailAt tail (drop (length entry) text) n → ⊥) → HasNoneOfForm (is_entry tail entry) text
 no_tail tail entry text none n at = none (n - length entry) (entry_at tail entry text n at).2
 
 -- an empty table lists nothing
-pub listed_none : (tail : Tail) (text : List ℕ) → HasNone (is_listed tail []) text
+pub listed_none : (tail : Tail) (text : List ℕ) → HasNoneOfForm (is_listed tail []) text
 unfolding is_listed
 listed_none tail text n at = false≢true at.fits
 
@@ -114,7 +114,7 @@ opened_by tail (entry ∷ table) text n some e pos within =
     ]
 
 -- a table lists nothing where no entry begins with the text's first letter
-pub not_opened : (tail : Tail) (table : List (List ℕ)) (text : List ℕ) → list_all (λ entry. nat_lt 0 (length entry)) table ≡ true → opens_entry table (first_letter text) ≡ false → HasNone (is_listed tail table) text
+pub not_opened : (tail : Tail) (table : List (List ℕ)) (text : List ℕ) → list_all (λ entry. nat_lt 0 (length entry)) table ≡ true → opens_entry table (first_letter text) ≡ false → HasNoneOfForm (is_listed tail table) text
 unfolding is_listed
 not_opened tail table text some e n at = false≢true (sym e ∙ opened_by tail table text n some at.fits at.some at.within)
 

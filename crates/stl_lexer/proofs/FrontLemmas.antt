@@ -13,7 +13,7 @@ use Rattle.stl_lexer.specs.declared.tables.Tail.TheVariants.{Nothing, Apart, Run
 use Rattle.stl_lexer.specs.Bytes.{hash, double_quote, single_quote, open_brace, close_brace, is_word_byte, is_word_start}
 use Rattle.stl_lexer.specs.Forms.{has_form, is_word, is_number, is_quoted, is_local, is_enclosed, is_entry, is_listed, begins_with, first_letter, sign_words, based_prefixes, long_prefixes, count_prefixes, time_prefixes, s5time_prefixes, title_words}
 use Rattle.stl_lexer.specs.Marks.{marks, mark_text}
-use Rattle.stl_lexer.specs.Longest.{FindsLongest, HasNone, HasNoForm, IsLongest, IsLongestOf, better_of}
+use Rattle.stl_lexer.specs.Longest.{FindsLongest, HasNoneOfForm, HasNoForm, IsLongestToken, IsLongestOfForm, better_of}
 use Rattle.stl_lexer.proofs.EntryLemmas.{begun, entry_at}
 use Rattle.stl_lexer.proofs.LongestLemmas.{either_longest}
 use Rattle.stl_lexer.proofs.QuoteLemmas.{not_opened, not_quoted}
@@ -34,7 +34,7 @@ pub best_found : (text : List ℕ) (word number quoted local characters based nu
     → FindsLongest (is_listed Apart sign_words) text sign_word
     → FindsLongest (λ s after. is_enclosed open_brace close_brace false s) text attribute
     → FindsLongest (is_listed Line title_words) text title
-    → MatchOption (better_of (better_of (better_of (better_of (better_of (better_of (better_of (better_of (better_of (better_of (better_of (better_of None Word word) Number number) Quoted quoted) Local local) Characters characters) Based based) NumberLiteral number_literal) TimeLiteral time_literal) Mark mark) SignWord sign_word) Attribute attribute) Title title) (HasNoForm text) (λ found. IsLongest text found.kind found.length)
+    → MatchOption (better_of (better_of (better_of (better_of (better_of (better_of (better_of (better_of (better_of (better_of (better_of (better_of None Word word) Number number) Quoted quoted) Local local) Characters characters) Based based) NumberLiteral number_literal) TimeLiteral time_literal) Mark mark) SignWord sign_word) Attribute attribute) Title title) (HasNoForm text) (λ found. IsLongestToken text found.kind found.length)
 unfolding has_form
 best_found text word number quoted local characters based number_literal time_literal mark sign_word attribute title h0 h1 h2 h3 h4 h5 h6 h7 h8 h9 h10 h11 =
     let b0 = best_more Word text None word (best_none text) h0 in
@@ -76,7 +76,7 @@ listed_in tail test (entry ∷ table) text n never all some within e =
     ]
 
 -- a table lists nothing where its entries pass a test, and the text begins with no entry that does
-pub none_listed : (tail : Tail) (test : List ℕ → Bool) (table : List (List ℕ)) (text : List ℕ) → ((entry : List ℕ) → test entry ≡ true → begins_with entry text ≡ true → ⊥) → list_all test table ≡ true → HasNone (is_listed tail table) text
+pub none_listed : (tail : Tail) (test : List ℕ → Bool) (table : List (List ℕ)) (text : List ℕ) → ((entry : List ℕ) → test entry ≡ true → begins_with entry text ≡ true → ⊥) → list_all test table ≡ true → HasNoneOfForm (is_listed tail table) text
 unfolding is_listed
 none_listed tail test table text never all n at = listed_in tail test table text n never all at.some at.within at.fits
 
@@ -122,7 +122,7 @@ none_hash text yes_ never entry e begins = elim (or_cases (get_or entry (prefix_
 
 -- ---- kinds of one first byte
 
-none_local : (text : List ℕ) → (get_or text 0 0 ≡ hash → ⊥) → HasNone (λ s after. is_local s) text
+none_local : (text : List ℕ) → (get_or text 0 0 ≡ hash → ⊥) → HasNoneOfForm (λ s after. is_local s) text
 none_local text h zero at = absurd (omega (arith, at.some))
 none_local [] h (suc n) at = absurd (omega (arith, at.within))
 none_local (b ∷ s) h (suc n) at = h (eqb-true b hash (and_parts (b == hash) (is_word (take n s)) at.fits).0)
@@ -143,7 +143,7 @@ word_byte : (b : ℕ) → is_word_start b ≡ true → is_word_byte b ≡ true
 unfolding is_word_byte
 word_byte b e = or_left (is_word_start b) (is_ascii_digit b) e
 
-word_front : (text : List ℕ) (n : ℕ) → IsLongestOf (λ s after. is_word s) text n → IsWordFront text n
+word_front : (text : List ℕ) (n : ℕ) → IsLongestOfForm (λ s after. is_word s) text n → IsWordFront text n
 unfolding first_letter
 word_front [] n h = absurd (omega (arith, h.fits.some, h.fits.within))
 word_front (b ∷ s) zero h = absurd (omega (arith, h.fits.some))
@@ -158,7 +158,7 @@ word_front (b ∷ s) (suc m) h =
     }
 
 -- where no `#` follows a word, the token is the word or a title
-pub word_alone : (text : List ℕ) (n : ℕ) (title : Option ℕ) → IsLongestOf (λ s after. is_word s) text n → (first_letter (drop n text) ≡ hash → ⊥) → FindsLongest (is_listed Line title_words) text title → MatchOption (better_of (Some (record { kind = Word; length = n })) Title title) (HasNoForm text) (λ found. IsLongest text found.kind found.length)
+pub word_alone : (text : List ℕ) (n : ℕ) (title : Option ℕ) → IsLongestOfForm (λ s after. is_word s) text n → (first_letter (drop n text) ≡ hash → ⊥) → FindsLongest (is_listed Line title_words) text title → MatchOption (better_of (Some (record { kind = Word; length = n })) Title title) (HasNoForm text) (λ found. IsLongestToken text found.kind found.length)
 unfolding is_word_start is_word_byte first_letter is_apart needs_hash sign_words based_prefixes long_prefixes count_prefixes time_prefixes s5time_prefixes marks mark_text
 word_alone text n title word never h =
     let front = word_front text n word in
@@ -181,7 +181,7 @@ word_alone text n title word never h =
 
 -- ---- a number
 
-number_first : (text : List ℕ) (n : ℕ) → IsLongestOf (λ s after. is_number s) text n → is_ascii_digit (get_or text 0 0) ≡ true
+number_first : (text : List ℕ) (n : ℕ) → IsLongestOfForm (λ s after. is_number s) text n → is_ascii_digit (get_or text 0 0) ≡ true
 number_first [] n h = absurd (omega (arith, h.fits.some, h.fits.within))
 number_first (b ∷ s) zero h = absurd (omega (arith, h.fits.some))
 number_first (b ∷ s) (suc m) h = (and_parts (is_ascii_digit b) (list_all is_ascii_digit (take m s)) h.fits.fits).0
@@ -196,7 +196,7 @@ unfolding is_word_start
 digit_no_start b e = grind (arith, nat_tests)
 
 -- where a number stands, the token is the number or a binary literal
-pub number_alone : (text : List ℕ) (n : ℕ) (based : Option ℕ) → IsLongestOf (λ s after. is_number s) text n → FindsLongest (is_listed Run based_prefixes) text based → MatchOption (better_of (Some (record { kind = Number; length = n })) Based based) (HasNoForm text) (λ found. IsLongest text found.kind found.length)
+pub number_alone : (text : List ℕ) (n : ℕ) (based : Option ℕ) → IsLongestOfForm (λ s after. is_number s) text n → FindsLongest (is_listed Run based_prefixes) text based → MatchOption (better_of (Some (record { kind = Number; length = n })) Based based) (HasNoForm text) (λ found. IsLongestToken text found.kind found.length)
 unfolding first_letter is_apart sign_words long_prefixes count_prefixes time_prefixes s5time_prefixes title_words marks mark_text
 number_alone text n based number h =
     let first = number_first text n number in
@@ -218,12 +218,12 @@ number_alone text n based number h =
 
 -- ---- neither
 
-no_start : (text : List ℕ) → HasNone (λ s after. is_word s) text → is_word_start (get_or text 0 0) ≡ false
+no_start : (text : List ℕ) → HasNoneOfForm (λ s after. is_word s) text → is_word_start (get_or text 0 0) ≡ false
 unfolding is_word_start
 no_start [] none = refl
 no_start (b ∷ s) none = false_from_ne_true (is_word_start b) (λ e. none 1 (record { some = omega arith; within = omega arith; fits = and_from (is_word_start b) true e refl }))
 
-no_digit : (text : List ℕ) → HasNone (λ s after. is_number s) text → is_ascii_digit (get_or text 0 0) ≡ false
+no_digit : (text : List ℕ) → HasNoneOfForm (λ s after. is_number s) text → is_ascii_digit (get_or text 0 0) ≡ false
 no_digit [] none = refl
 no_digit (b ∷ s) none = false_from_ne_true (is_ascii_digit b) (λ e. none 1 (record { some = omega arith; within = omega arith; fits = and_from (is_ascii_digit b) true e refl }))
 
@@ -243,15 +243,15 @@ other_letter text start digit =
 
 -- the kinds that begin with neither a word nor a number
 sign_best : (text : List ℕ) (quoted local characters mark sign_word attribute : Option ℕ)
-    → HasNone (λ s after. is_word s) text
-    → HasNone (λ s after. is_number s) text
+    → HasNoneOfForm (λ s after. is_word s) text
+    → HasNoneOfForm (λ s after. is_number s) text
     → FindsLongest (λ s after. is_quoted s) text quoted
     → FindsLongest (λ s after. is_local s) text local
     → FindsLongest (λ s after. is_enclosed single_quote single_quote true s) text characters
     → FindsLongest (is_listed Nothing marks) text mark
     → FindsLongest (is_listed Apart sign_words) text sign_word
     → FindsLongest (λ s after. is_enclosed open_brace close_brace false s) text attribute
-    → MatchOption (better_of (better_of (better_of (better_of (better_of (better_of None Quoted quoted) Local local) Characters characters) Mark mark) SignWord sign_word) Attribute attribute) (HasNoForm text) (λ found. IsLongest text found.kind found.length)
+    → MatchOption (better_of (better_of (better_of (better_of (better_of (better_of None Quoted quoted) Local local) Characters characters) Mark mark) SignWord sign_word) Attribute attribute) (HasNoForm text) (λ found. IsLongestToken text found.kind found.length)
 unfolding first_letter is_apart is_other is_word_start is_word_byte based_prefixes long_prefixes count_prefixes time_prefixes s5time_prefixes title_words
 sign_best text quoted local characters mark sign_word attribute word number h2 h3 h4 h8 h9 h10 =
     let without : (entry : List ℕ) → is_apart is_other entry ≡ true → begins_with entry text ≡ true → ⊥ = none_apart is_other text (other_letter text (no_start text word) (no_digit text number)) in
@@ -270,23 +270,23 @@ sign_best text quoted local characters mark sign_word attribute word number h2 h
     (none_listed Line (is_apart is_other) title_words text without refl)
 
 -- no mark begins with this byte
-none_mark : (b : ℕ) (text : List ℕ) → get_or text 0 0 ≡ b → (to_ascii_lowercase b == b) ≡ true → list_all (is_apart (λ c. c == b)) marks ≡ true → HasNone (is_listed Nothing marks) text
+none_mark : (b : ℕ) (text : List ℕ) → get_or text 0 0 ≡ b → (to_ascii_lowercase b == b) ≡ true → list_all (is_apart (λ c. c == b)) marks ≡ true → HasNoneOfForm (is_listed Nothing marks) text
 none_mark b text first same all = none_listed Nothing (is_apart (λ c. c == b)) marks text (none_apart (λ c. c == b) text (ap (λ c. c == b) (letter_lower text ∙ ap to_ascii_lowercase first) ∙ same)) all
 
-none_sign_word : (b : ℕ) (text : List ℕ) → get_or text 0 0 ≡ b → (to_ascii_lowercase b == b) ≡ true → list_all (is_apart (λ c. c == b)) sign_words ≡ true → HasNone (is_listed Apart sign_words) text
+none_sign_word : (b : ℕ) (text : List ℕ) → get_or text 0 0 ≡ b → (to_ascii_lowercase b == b) ≡ true → list_all (is_apart (λ c. c == b)) sign_words ≡ true → HasNoneOfForm (is_listed Apart sign_words) text
 none_sign_word b text first same all = none_listed Apart (is_apart (λ c. c == b)) sign_words text (none_apart (λ c. c == b) text (ap (λ c. c == b) (letter_lower text ∙ ap to_ascii_lowercase first) ∙ same)) all
 
-none_quoted : (text : List ℕ) → (get_or text 0 0 ≡ double_quote → ⊥) → HasNone (λ s after. is_quoted s) text
+none_quoted : (text : List ℕ) → (get_or text 0 0 ≡ double_quote → ⊥) → HasNoneOfForm (λ s after. is_quoted s) text
 none_quoted text h = not_quoted text (not_opened double_quote double_quote true text (λ _. h))
 
-none_characters : (text : List ℕ) → (get_or text 0 0 ≡ single_quote → ⊥) → HasNone (λ s after. is_enclosed single_quote single_quote true s) text
+none_characters : (text : List ℕ) → (get_or text 0 0 ≡ single_quote → ⊥) → HasNoneOfForm (λ s after. is_enclosed single_quote single_quote true s) text
 none_characters text h = not_opened single_quote single_quote true text (λ _. h)
 
-none_attribute : (text : List ℕ) → (get_or text 0 0 ≡ open_brace → ⊥) → HasNone (λ s after. is_enclosed open_brace close_brace false s) text
+none_attribute : (text : List ℕ) → (get_or text 0 0 ≡ open_brace → ⊥) → HasNoneOfForm (λ s after. is_enclosed open_brace close_brace false s) text
 none_attribute text h = not_opened open_brace close_brace false text (λ _. h)
 
 -- what begins with its own byte is of one kind
-pub quoted_alone : (text : List ℕ) (found : Option ℕ) → HasNone (λ s after. is_word s) text → HasNone (λ s after. is_number s) text → get_or text 0 0 ≡ double_quote → FindsLongest (λ s after. is_quoted s) text found → MatchOption (better_of None Quoted found) (HasNoForm text) (λ found. IsLongest text found.kind found.length)
+pub quoted_alone : (text : List ℕ) (found : Option ℕ) → HasNoneOfForm (λ s after. is_word s) text → HasNoneOfForm (λ s after. is_number s) text → get_or text 0 0 ≡ double_quote → FindsLongest (λ s after. is_quoted s) text found → MatchOption (better_of None Quoted found) (HasNoForm text) (λ found. IsLongestToken text found.kind found.length)
 unfolding first_letter is_apart marks mark_text sign_words
 quoted_alone text found word number first h = sign_best text found None None None None None word number h
     (none_local text (λ e. absurd (omega (arith, first, e))))
@@ -295,7 +295,7 @@ quoted_alone text found word number first h = sign_best text found None None Non
     (none_sign_word double_quote text first refl refl)
     (none_attribute text (λ e. absurd (omega (arith, first, e))))
 
-pub local_alone : (text : List ℕ) (found : Option ℕ) → HasNone (λ s after. is_word s) text → HasNone (λ s after. is_number s) text → get_or text 0 0 ≡ hash → FindsLongest (λ s after. is_local s) text found → MatchOption (better_of None Local found) (HasNoForm text) (λ found. IsLongest text found.kind found.length)
+pub local_alone : (text : List ℕ) (found : Option ℕ) → HasNoneOfForm (λ s after. is_word s) text → HasNoneOfForm (λ s after. is_number s) text → get_or text 0 0 ≡ hash → FindsLongest (λ s after. is_local s) text found → MatchOption (better_of None Local found) (HasNoForm text) (λ found. IsLongestToken text found.kind found.length)
 unfolding first_letter is_apart marks mark_text sign_words
 local_alone text found word number first h = sign_best text None found None None None None word number
     (none_quoted text (λ e. absurd (omega (arith, first, e))))
@@ -305,7 +305,7 @@ local_alone text found word number first h = sign_best text None found None None
     (none_sign_word hash text first refl refl)
     (none_attribute text (λ e. absurd (omega (arith, first, e))))
 
-pub characters_alone : (text : List ℕ) (found : Option ℕ) → HasNone (λ s after. is_word s) text → HasNone (λ s after. is_number s) text → get_or text 0 0 ≡ single_quote → FindsLongest (λ s after. is_enclosed single_quote single_quote true s) text found → MatchOption (better_of None Characters found) (HasNoForm text) (λ found. IsLongest text found.kind found.length)
+pub characters_alone : (text : List ℕ) (found : Option ℕ) → HasNoneOfForm (λ s after. is_word s) text → HasNoneOfForm (λ s after. is_number s) text → get_or text 0 0 ≡ single_quote → FindsLongest (λ s after. is_enclosed single_quote single_quote true s) text found → MatchOption (better_of None Characters found) (HasNoForm text) (λ found. IsLongestToken text found.kind found.length)
 unfolding first_letter is_apart marks mark_text sign_words
 characters_alone text found word number first h = sign_best text None None found None None None word number
     (none_quoted text (λ e. absurd (omega (arith, first, e))))
@@ -315,7 +315,7 @@ characters_alone text found word number first h = sign_best text None None found
     (none_sign_word single_quote text first refl refl)
     (none_attribute text (λ e. absurd (omega (arith, first, e))))
 
-pub attribute_alone : (text : List ℕ) (found : Option ℕ) → HasNone (λ s after. is_word s) text → HasNone (λ s after. is_number s) text → get_or text 0 0 ≡ open_brace → FindsLongest (λ s after. is_enclosed open_brace close_brace false s) text found → MatchOption (better_of None Attribute found) (HasNoForm text) (λ found. IsLongest text found.kind found.length)
+pub attribute_alone : (text : List ℕ) (found : Option ℕ) → HasNoneOfForm (λ s after. is_word s) text → HasNoneOfForm (λ s after. is_number s) text → get_or text 0 0 ≡ open_brace → FindsLongest (λ s after. is_enclosed open_brace close_brace false s) text found → MatchOption (better_of None Attribute found) (HasNoForm text) (λ found. IsLongestToken text found.kind found.length)
 unfolding first_letter is_apart marks mark_text sign_words
 attribute_alone text found word number first h = sign_best text None None None None None found word number
     (none_quoted text (λ e. absurd (omega (arith, first, e))))
@@ -326,5 +326,5 @@ attribute_alone text found word number first h = sign_best text None None None N
     h
 
 -- another byte is only asked for marks and sign words
-pub mark_best : (text : List ℕ) (mark sign_word : Option ℕ) → HasNone (λ s after. is_word s) text → HasNone (λ s after. is_number s) text → (get_or text 0 0 ≡ double_quote → ⊥) → (get_or text 0 0 ≡ hash → ⊥) → (get_or text 0 0 ≡ single_quote → ⊥) → (get_or text 0 0 ≡ open_brace → ⊥) → FindsLongest (is_listed Nothing marks) text mark → FindsLongest (is_listed Apart sign_words) text sign_word → MatchOption (better_of (better_of None Mark mark) SignWord sign_word) (HasNoForm text) (λ found. IsLongest text found.kind found.length)
+pub mark_best : (text : List ℕ) (mark sign_word : Option ℕ) → HasNoneOfForm (λ s after. is_word s) text → HasNoneOfForm (λ s after. is_number s) text → (get_or text 0 0 ≡ double_quote → ⊥) → (get_or text 0 0 ≡ hash → ⊥) → (get_or text 0 0 ≡ single_quote → ⊥) → (get_or text 0 0 ≡ open_brace → ⊥) → FindsLongest (is_listed Nothing marks) text mark → FindsLongest (is_listed Apart sign_words) text sign_word → MatchOption (better_of (better_of None Mark mark) SignWord sign_word) (HasNoForm text) (λ found. IsLongestToken text found.kind found.length)
 mark_best text mark sign_word word number quote local single brace h8 h9 = sign_best text None None None mark sign_word None word number (none_quoted text quote) (none_local text local) (none_characters text single) h8 h9 (none_attribute text brace)

@@ -9,7 +9,7 @@ use Rattle.std.proofs.lemmas.Bool.Decides.{nat_tests}
 use Rattle.stl_lexer.specs.declared.tables.Tail.TheVariants.{Nothing, Apart}
 use Rattle.stl_lexer.specs.Forms.{begins_with, entries_from, first_letter, is_entry, is_listed, sign_words}
 use Rattle.stl_lexer.specs.Marks.{marks, mark_text}
-use Rattle.stl_lexer.specs.Longest.{FindsLongest, HasNone, IsLongestOf, longer_of}
+use Rattle.stl_lexer.specs.Longest.{FindsLongest, HasNoneOfForm, IsLongestOfForm, longer_of}
 use Rattle.stl_lexer.proofs.EntryLemmas.{entry_found, found_from, listed_more, listed_none, marks_some, no_entry, words_some}
 use Rattle.stl_lexer.proofs.FrontLemmas.{none_listed}
 use Rattle.stl_lexer.proofs.TailLemmas.{tail_nothing}
@@ -25,7 +25,7 @@ lower_twice : (b : ℕ) → to_ascii_lowercase (to_ascii_lowercase b) ≡ to_asc
 lower_twice b = grind (arith, nat_tests)
 
 -- a text begins with its first letter
-letter_found : (text : List ℕ) → 0 < length text → IsLongestOf (is_entry Nothing (first_letter text ∷ [])) text 1
+letter_found : (text : List ℕ) → 0 < length text → IsLongestOfForm (is_entry Nothing (first_letter text ∷ [])) text 1
 unfolding begins_with first_letter
 letter_found [] h = absurd (omega arith)
 letter_found (b ∷ s) h =
@@ -102,7 +102,7 @@ second_begun (c ∷ d ∷ entry) text e begins =
     second_same d entry c (b ∷ f ∷ s) is low = lower_equals f (ap to_ascii_lowercase (sym is) ∙ ap (λ l. get_or l 1 0) low)
 
 -- one `=` opens no sign word
-pub one_equals : (text : List ℕ) → first_letter text ≡ equals → (get_or text 1 0 ≡ equals → ⊥) → HasNone (is_listed Apart sign_words) text
+pub one_equals : (text : List ℕ) → first_letter text ≡ equals → (get_or text 1 0 ≡ equals → ⊥) → HasNoneOfForm (is_listed Apart sign_words) text
 unfolding first_letter entries_from sign_words goes_on_equals
 one_equals text first other =
     found_from Apart sign_words (entries_from equals sign_words) text None words_some (ap (λ b. entries_from b sign_words) (sym first))

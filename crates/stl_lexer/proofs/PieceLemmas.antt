@@ -7,10 +7,10 @@ use Rattle.std.proofs.Math.Seq.{drop-append_seam, take-append_seam}
 use Rattle.stl_lexer.specs.declared.gaps.GapPart.TheVariants.{Blanks}
 use Rattle.stl_lexer.specs.declared.kinds.Token.{Token}
 use Rattle.stl_lexer.specs.Gap.{after_gap, line_at, newlines_of}
-use Rattle.stl_lexer.specs.Longest.{IsLongest}
+use Rattle.stl_lexer.specs.Longest.{IsLongestToken}
 use Rattle.stl_lexer.specs.Rules.{fault_of}
-use Rattle.stl_lexer.specs.Tokens.{AreTokens, Follow, IsEnd, IsNext, is_minus, text_of}
-use Rattle.stl_lexer.specs.Pieces.{ArePiecesRead, AreStanding, Piece, Show, Stands, spelled, tokens_of}
+use Rattle.stl_lexer.specs.Tokens.{AreTokens, TokensFollow, IsEndOfTokens, IsNextToken, is_minus, text_of}
+use Rattle.stl_lexer.specs.Pieces.{ArePiecesRead, ArePiecesStanding, Piece, ShowPieces, StandsBefore, text_of_pieces, tokens_of}
 
 -- a place in a source: what stands before it, with its length and its line
 record IsAt (before : List ℕ) (from line : ℕ) : Type 0 where
@@ -38,9 +38,9 @@ text_here before text after from line t h start end =
 
 -- a piece that stands is the next token
 next_piece : (source before : List ℕ) (p : Piece) (after : List ℕ) (from line : ℕ) (minus : Bool) (t : Token)
-    → source ≡ before ++ (p.gap ++ (p.text ++ after)) → IsAt before from line → Stands p minus after
+    → source ≡ before ++ (p.gap ++ (p.text ++ after)) → IsAt before from line → StandsBefore p minus after
     → t.kind ≡ p.kind → t.start ≡ from + length p.gap → t.end ≡ from + length p.gap + length p.text → t.line ≡ line + sum_by newlines_of p.gap
-    → IsNext source from minus t × (text_of source t ≡ p.text)
+    → IsNextToken source from minus t × (text_of source t ≡ p.text)
 next_piece source before p after from line minus t source_is h s kind start end line_is =
     let here : IsAt (before ++ p.gap) (from + length p.gap) (line + sum_by newlines_of p.gap) = at_more before p.gap from line h in
     let whole : source ≡ (before ++ p.gap) ++ (p.text ++ after) = source_is ∙ sym (append_assoc before p.gap (p.text ++ after)) in
@@ -69,18 +69,18 @@ next_piece source before p after from line minus t source_is h s kind start end 
 
 -- from a place on
 read_behind : (source before : List ℕ) (ps : List Piece) (end : List ℕ) (from line : ℕ) (minus : Bool)
-    → source ≡ before ++ spelled ps end → IsAt before from line → AreStanding minus ps end
-    → Follow source (λ at m. IsEnd source at) from minus (tokens_of from line ps) × Show source ps (tokens_of from line ps)
+    → source ≡ before ++ text_of_pieces ps end → IsAt before from line → ArePiecesStanding minus ps end
+    → TokensFollow source (λ at m. IsEndOfTokens source at) from minus (tokens_of from line ps) × ShowPieces source ps (tokens_of from line ps)
 read_behind source before [] end from line minus source_is h stands =
     (rw (source_is, h.from_is, drop-append_seam before end) stands, tt)
 read_behind source before (p ∷ ps) end from line minus source_is h (stands, others) =
     let t : Token = record { kind = p.kind; start = from + length p.gap; end = from + length p.gap + length p.text; line = line + sum_by newlines_of p.gap } in
-    let one = next_piece source before p (spelled ps end) from line minus t source_is h stands refl refl refl refl in
+    let one = next_piece source before p (text_of_pieces ps end) from line minus t source_is h stands refl refl refl refl in
     let here = at_more (before ++ p.gap) p.text (from + length p.gap) (line + sum_by newlines_of p.gap) (at_more before p.gap from line h) in
-    let whole : source ≡ (before ++ p.gap ++ p.text) ++ spelled ps end =
-    source_is ∙ sym (append_assoc before p.gap (p.text ++ spelled ps end)) ∙ sym (append_assoc (before ++ p.gap) p.text (spelled ps end)) in
+    let whole : source ≡ (before ++ p.gap ++ p.text) ++ text_of_pieces ps end =
+    source_is ∙ sym (append_assoc before p.gap (p.text ++ text_of_pieces ps end)) ∙ sym (append_assoc (before ++ p.gap) p.text (text_of_pieces ps end)) in
     let rest = read_behind source (before ++ p.gap ++ p.text) ps end (from + length p.gap + length p.text) (line + sum_by newlines_of p.gap + sum_by newlines_of p.text) (is_minus p.kind p.text) whole here others in (
-      (one.0, subst (λ m. Follow source (λ at m. IsEnd source at) (from + length p.gap + length p.text) m (tokens_of (from + length p.gap + length p.text) (line + sum_by newlines_of p.gap + sum_by newlines_of p.text) ps)) (ap (is_minus p.kind) (sym one.1)) rest.0),
+      (one.0, subst (λ m. TokensFollow source (λ at m. IsEndOfTokens source at) (from + length p.gap + length p.text) m (tokens_of (from + length p.gap + length p.text) (line + sum_by newlines_of p.gap + sum_by newlines_of p.text) ps)) (ap (is_minus p.kind) (sym one.1)) rest.0),
       (refl, one.1, rest.1),
     )
 
@@ -89,4 +89,4 @@ at_front = record { from_is = refl; line_is = refl }
 
 pub pieces_read : ArePiecesRead
 unfolding AreTokens
-pieces_read ps end stands = read_behind (spelled ps end) [] ps end 0 1 false refl at_front stands
+pieces_read ps end stands = read_behind (text_of_pieces ps end) [] ps end 0 1 false refl at_front stands

@@ -11,7 +11,7 @@ use Rattle.std.proofs.lemmas.List.{length-drop, take_all}
 use Rattle.std.proofs.lemmas.List.Folds.{sum_by-zero}
 use Rattle.stl_lexer.specs.declared.kinds.TokenKind.TheVariants.{Word, Number, Mark}
 use Rattle.stl_lexer.specs.declared.tables.Tail.TheVariants.{Nothing}
-use Rattle.stl_lexer.specs.Bytes.{newline, in_source, is_separator, is_word_byte, is_word_start}
+use Rattle.stl_lexer.specs.Bytes.{newline, is_source_byte, is_separator, is_word_byte, is_word_start}
 use Rattle.stl_lexer.specs.Forms.{begins_with, has_form, is_entry, is_listed, is_run, is_tail}
 use Rattle.stl_lexer.specs.Gap.{is_comment_byte, newlines_of}
 use Rattle.stl_lexer.specs.Marks.{marks, mark_text}
@@ -32,15 +32,15 @@ run_plain f p first plain (b ∷ s) e =
     and_from (is_comment_byte b) (list_all is_comment_byte s) (first b parts.0) (all_kept p is_comment_byte plain s parts.1)
 
 start_plain : (b : ℕ) → is_word_start b ≡ true → is_comment_byte b ≡ true
-unfolding is_word_start is_comment_byte in_source is_separator
+unfolding is_word_start is_comment_byte is_source_byte is_separator
 start_plain b e = grind (arith, nat_tests)
 
 word_byte_plain : (b : ℕ) → is_word_byte b ≡ true → is_comment_byte b ≡ true
-unfolding is_word_byte is_word_start is_comment_byte in_source is_separator
+unfolding is_word_byte is_word_start is_comment_byte is_source_byte is_separator
 word_byte_plain b e = grind (arith, nat_tests)
 
 digit_plain : (b : ℕ) → is_ascii_digit b ≡ true → is_comment_byte b ≡ true
-unfolding is_comment_byte in_source is_separator
+unfolding is_comment_byte is_source_byte is_separator
 digit_plain b e = grind (arith, nat_tests)
 
 pub plain_word : (s after : List ℕ) → has_form Word s after ≡ true → list_all is_comment_byte s ≡ true
@@ -54,7 +54,7 @@ plain_number s after e = run_plain is_ascii_digit is_ascii_digit digit_plain dig
 -- ---- marks
 
 plain_lower : (b : ℕ) → is_comment_byte b ≡ is_comment_byte (to_ascii_lowercase b)
-unfolding is_comment_byte in_source is_separator
+unfolding is_comment_byte is_source_byte is_separator
 plain_lower b = grind (arith, nat_tests)
 
 same_plain : (entry s : List ℕ) → map to_ascii_lowercase entry ≡ map to_ascii_lowercase s → list_all is_comment_byte entry ≡ true → list_all is_comment_byte s ≡ true
@@ -84,7 +84,7 @@ listed_plain (entry ∷ table) s after plain e =
     ]
 
 marks_plain : list_all (list_all is_comment_byte) marks ≡ true
-unfolding marks mark_text is_comment_byte in_source is_separator
+unfolding marks mark_text is_comment_byte is_source_byte is_separator
 marks_plain = refl
 
 pub plain_mark : (s after : List ℕ) → has_form Mark s after ≡ true → list_all is_comment_byte s ≡ true
@@ -93,23 +93,23 @@ plain_mark s after e = listed_plain marks s after marks_plain e
 
 -- ---- what plain bytes hold
 
-not_foreign : (b : ℕ) → is_comment_byte b ≡ true → not (not (in_source b)) ≡ true
+not_foreign : (b : ℕ) → is_comment_byte b ≡ true → not (not (is_source_byte b)) ≡ true
 unfolding is_comment_byte
-not_foreign b e = rw (and_parts (in_source b) (not (b == newline)) e).0 refl
+not_foreign b e = rw (and_parts (is_source_byte b) (not (b == newline)) e).0 refl
 
 no_place : (m n : ℕ) → m ≡ n → (if nat_lt m n then Some m else None) ≡ None
 no_place m n e =
     let no : nat_lt m n ≡ false = false_from_ne_true (nat_lt m n) (λ t. absurd (omega (arith, ltb-true m n t, e))) in
     rw no refl
 
-pub none_foreign : (s : List ℕ) → list_all is_comment_byte s ≡ true → position (λ b. not (in_source b)) s ≡ None
+pub none_foreign : (s : List ℕ) → list_all is_comment_byte s ≡ true → position (λ b. not (is_source_byte b)) s ≡ None
 none_foreign s e =
-    let all = all_kept is_comment_byte (λ b. not (not (in_source b))) not_foreign s e in
-    no_place (prefix_len (λ b. not (not (in_source b))) s) (length s) (eqb-true (prefix_len (λ b. not (not (in_source b))) s) (length s) (sym (all_run (λ b. not (not (in_source b))) s) ∙ all))
+    let all = all_kept is_comment_byte (λ b. not (not (is_source_byte b))) not_foreign s e in
+    no_place (prefix_len (λ b. not (not (is_source_byte b))) s) (length s) (eqb-true (prefix_len (λ b. not (not (is_source_byte b))) s) (length s) (sym (all_run (λ b. not (not (is_source_byte b))) s) ∙ all))
 
 no_newline : (b : ℕ) → is_comment_byte b ≡ true → (newlines_of b == 0) ≡ true
 unfolding is_comment_byte
-no_newline b e = rw (not-true (b == newline) (and_parts (in_source b) (not (b == newline)) e).1) refl
+no_newline b e = rw (not-true (b == newline) (and_parts (is_source_byte b) (not (b == newline)) e).1) refl
 
 pub no_lines : (s : List ℕ) → list_all is_comment_byte s ≡ true → sum_by newlines_of s ≡ 0
 no_lines s e = eqb-true (sum_by newlines_of s) 0 (sum_by-zero newlines_of s ∙ all_kept is_comment_byte (λ b. newlines_of b == 0) no_newline s e)

@@ -6,7 +6,7 @@ use Rattle.std.proofs.lemmas.Bool.{and_parts, and_from, and_left, cases_Bool, eq
 use Rattle.std.proofs.lemmas.List.{length-take-le}
 use Rattle.stl_lexer.specs.Bytes.{double_quote}
 use Rattle.stl_lexer.specs.Forms.{is_closed, is_inner, is_enclosed, is_quoted}
-use Rattle.stl_lexer.specs.Longest.{IsFormAt, IsLongestOf, HasNone}
+use Rattle.stl_lexer.specs.Longest.{IsFormAt, IsLongestOfForm, HasNoneOfForm}
 
 one_add : (n : ℕ) → 1 + n ≡ suc n
 one_add n = omega arith
@@ -60,7 +60,7 @@ enclosed_is opening close one_line b s m at =
     let parts = and_parts (b == opening) (is_closed (is_inner close one_line) close (take m s)) at.fits in
     (eqb-true b opening parts.0, closed_is (is_inner close one_line) close s m (stops_at close one_line) (omega (arith, at.within)) parts.1)
 
-enclosed_cons : (opening close : ℕ) (one_line : Bool) (b : ℕ) (s : List ℕ) → b ≡ opening → prefix_len (is_inner close one_line) s < length s → get_or s (prefix_len (is_inner close one_line) s) 0 ≡ close → IsLongestOf (enclosed opening close one_line) (b ∷ s) (suc (suc (prefix_len (is_inner close one_line) s)))
+enclosed_cons : (opening close : ℕ) (one_line : Bool) (b : ℕ) (s : List ℕ) → b ≡ opening → prefix_len (is_inner close one_line) s < length s → get_or s (prefix_len (is_inner close one_line) s) 0 ≡ close → IsLongestOfForm (enclosed opening close one_line) (b ∷ s) (suc (suc (prefix_len (is_inner close one_line) s)))
 enclosed_cons opening close one_line b s first h e = record {
   fits = record {
     some = omega arith;
@@ -74,22 +74,22 @@ enclosed_cons opening close one_line b s first h e = record {
   longest (suc m) at = omega (arith, (enclosed_is opening close one_line b s m at).1.size)
 
 -- a token between its opening and its closing byte; rest is the text behind the opening one
-pub enclosed_found : (opening close : ℕ) (one_line : Bool) (text rest : List ℕ) (n : ℕ) → 0 < length text → get_or text 0 0 ≡ opening → rest ≡ drop 1 text → n ≡ prefix_len (is_inner close one_line) rest → n < length rest → get_or rest n 0 ≡ close → IsLongestOf (enclosed opening close one_line) text (n + 2)
+pub enclosed_found : (opening close : ℕ) (one_line : Bool) (text rest : List ℕ) (n : ℕ) → 0 < length text → get_or text 0 0 ≡ opening → rest ≡ drop 1 text → n ≡ prefix_len (is_inner close one_line) rest → n < length rest → get_or rest n 0 ≡ close → IsLongestOfForm (enclosed opening close one_line) text (n + 2)
 enclosed_found opening close one_line [] rest n h first rest_is n_is within there = absurd (omega arith)
 enclosed_found opening close one_line (b ∷ s) rest n h first rest_is n_is within there =
     let inside : n ≡ prefix_len (is_inner close one_line) s = n_is ∙ ap (prefix_len (is_inner close one_line)) rest_is in
     let size : suc (suc (prefix_len (is_inner close one_line) s)) ≡ n + 2 = omega (arith, inside) in
-    subst (IsLongestOf (enclosed opening close one_line) (b ∷ s)) size
+    subst (IsLongestOfForm (enclosed opening close one_line) (b ∷ s)) size
     (enclosed_cons opening close one_line b s first (omega (arith, inside, ap length rest_is)) (ap (λ k. get_or s k 0) (sym inside) ∙ ap (λ l. get_or l n 0) (sym rest_is) ∙ there))
 
 -- no opening byte
-pub not_opened : (opening close : ℕ) (one_line : Bool) (text : List ℕ) → (0 < length text → get_or text 0 0 ≡ opening → ⊥) → HasNone (enclosed opening close one_line) text
+pub not_opened : (opening close : ℕ) (one_line : Bool) (text : List ℕ) → (0 < length text → get_or text 0 0 ≡ opening → ⊥) → HasNoneOfForm (enclosed opening close one_line) text
 not_opened opening close one_line text h zero at = absurd (omega (arith, at.some))
 not_opened opening close one_line [] h (suc m) at = absurd (omega (arith, at.within))
 not_opened opening close one_line (b ∷ s) h (suc m) at = h (omega arith) (enclosed_is opening close one_line b s m at).0
 
 -- no closing byte
-pub not_closed : (opening close : ℕ) (one_line : Bool) (text rest : List ℕ) (n : ℕ) → rest ≡ drop 1 text → n ≡ prefix_len (is_inner close one_line) rest → (n < length rest → get_or rest n 0 ≡ close → ⊥) → HasNone (enclosed opening close one_line) text
+pub not_closed : (opening close : ℕ) (one_line : Bool) (text rest : List ℕ) (n : ℕ) → rest ≡ drop 1 text → n ≡ prefix_len (is_inner close one_line) rest → (n < length rest → get_or rest n 0 ≡ close → ⊥) → HasNoneOfForm (enclosed opening close one_line) text
 not_closed opening close one_line text rest n rest_is n_is h zero at = absurd (omega (arith, at.some))
 not_closed opening close one_line [] rest n rest_is n_is h (suc m) at = absurd (omega (arith, at.within))
 not_closed opening close one_line (b ∷ s) rest n rest_is n_is h (suc m) at =
@@ -106,7 +106,7 @@ quoted_is text m at =
     (record { some = at.some; within = at.within; fits = parts.0 }, omega (arith, ltb-true 2 (length (take m text)) parts.1, length-take-le m text at.within))
 
 -- a quoted name has a byte between the quotes
-pub quoted_found : (text : List ℕ) (n : ℕ) → IsLongestOf (enclosed double_quote double_quote true) text n → 2 < n → IsLongestOf quoted text n
+pub quoted_found : (text : List ℕ) (n : ℕ) → IsLongestOfForm (enclosed double_quote double_quote true) text n → 2 < n → IsLongestOfForm quoted text n
 quoted_found text n h some = record {
   fits = record {
     some = h.fits.some;
@@ -116,8 +116,8 @@ quoted_found text n h some = record {
   longest = λ m at. h.longest m (quoted_is text m at).0;
 }
 
-pub empty_quoted : (text : List ℕ) (n : ℕ) → IsLongestOf (enclosed double_quote double_quote true) text n → n ≤ 2 → HasNone quoted text
+pub empty_quoted : (text : List ℕ) (n : ℕ) → IsLongestOfForm (enclosed double_quote double_quote true) text n → n ≤ 2 → HasNoneOfForm quoted text
 empty_quoted text n h none m at = let is = quoted_is text m at in absurd (omega (arith, h.longest m is.0, is.1))
 
-pub not_quoted : (text : List ℕ) → HasNone (enclosed double_quote double_quote true) text → HasNone quoted text
+pub not_quoted : (text : List ℕ) → HasNoneOfForm (enclosed double_quote double_quote true) text → HasNoneOfForm quoted text
 not_quoted text h m at = h m (quoted_is text m at).0

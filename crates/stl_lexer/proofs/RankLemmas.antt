@@ -5,12 +5,12 @@ use Rattle.stl_lexer.specs.declared.kinds.TokenKind.{TokenKind}
 use Rattle.stl_lexer.specs.declared.kinds.TokenKind.TheVariants.{Word, Number, Quoted, Local, Characters, Based, NumberLiteral, TimeLiteral, Mark, SignWord, Attribute, Title}
 use Rattle.stl_lexer.specs.declared.places.Found.{Found}
 use Rattle.stl_lexer.specs.Forms.{has_form}
-use Rattle.stl_lexer.specs.Longest.{IsFormAt, IsLongestOf, IsLongest, HasNone, HasNoForm, FindsLongest, rank_of, better_of}
+use Rattle.stl_lexer.specs.Longest.{IsFormAt, IsLongestOfForm, IsLongestToken, HasNoneOfForm, HasNoForm, FindsLongest, rank_of_kind, better_of}
 
 kinds : List TokenKind
 kinds = Word ∷ Number ∷ Quoted ∷ Local ∷ Characters ∷ Based ∷ NumberLiteral ∷ TimeLiteral ∷ Mark ∷ SignWord ∷ Attribute ∷ Title ∷ []
 
-kind_at_rank : (k : TokenKind) → get_or kinds (rank_of k) Word ≡ k
+kind_at_rank : (k : TokenKind) → get_or kinds (rank_of_kind k) Word ≡ k
 unfolding kinds
 kind_at_rank Word = refl
 kind_at_rank Number = refl
@@ -26,10 +26,10 @@ kind_at_rank Attribute = refl
 kind_at_rank Title = refl
 
 -- each kind has a rank of its own
-pub same_rank : (j k : TokenKind) → rank_of j ≡ rank_of k → j ≡ k
+pub same_rank : (j k : TokenKind) → rank_of_kind j ≡ rank_of_kind k → j ≡ k
 same_rank j k e = sym (kind_at_rank j) ∙ ap (λ n. get_or kinds n Word) e ∙ kind_at_rank k
 
-rank-lt : (k : TokenKind) → rank_of k < 12
+rank-lt : (k : TokenKind) → rank_of_kind k < 12
 rank-lt Word = lit< tt
 rank-lt Number = lit< tt
 rank-lt Quoted = lit< tt
@@ -46,15 +46,15 @@ rank-lt Title = lit< tt
 -- the longest token of the kinds below a rank
 pub record IsBest (r : ℕ) (text : List ℕ) (best : Found) : Type 0 where
   pub fits : IsFormAt (has_form best.kind) text best.length
-  pub below : rank_of best.kind < r
-  pub longest : (other : TokenKind) (m : ℕ) → rank_of other < r → IsFormAt (has_form other) text m → (m < best.length) ⊎ ((m ≡ best.length) × (rank_of other ≤ rank_of best.kind))
+  pub below : rank_of_kind best.kind < r
+  pub longest : (other : TokenKind) (m : ℕ) → rank_of_kind other < r → IsFormAt (has_form other) text m → (m < best.length) ⊎ ((m ≡ best.length) × (rank_of_kind other ≤ rank_of_kind best.kind))
 
 abbrev pub FindsBest : ℕ → List ℕ → Option Found → Type 0
-FindsBest r text best = MatchOption best ((other : TokenKind) → rank_of other < r → HasNone (has_form other) text) (IsBest r text)
+FindsBest r text best = MatchOption best ((other : TokenKind) → rank_of_kind other < r → HasNoneOfForm (has_form other) text) (IsBest r text)
 
 -- a kind below the next rank is of a lower one, or the kind itself
-split_rank : (j k : TokenKind) → rank_of j < suc (rank_of k) → (rank_of j < rank_of k) ⊎ (j ≡ k)
-split_rank j k h = elim (cases_lt (rank_of j) (rank_of k)) [ inl lt ↦ inl lt | inr ge ↦ inr (same_rank j k (omega arith)) ]
+split_rank : (j k : TokenKind) → rank_of_kind j < suc (rank_of_kind k) → (rank_of_kind j < rank_of_kind k) ⊎ (j ≡ k)
+split_rank j k h = elim (cases_lt (rank_of_kind j) (rank_of_kind k)) [ inl lt ↦ inl lt | inr ge ↦ inr (same_rank j k (omega arith)) ]
 
 at_kind : (text : List ℕ) (m : ℕ) (j k : TokenKind) → j ≡ k → IsFormAt (has_form j) text m → IsFormAt (has_form k) text m
 at_kind text m j k e at = subst (λ kind. IsFormAt (has_form kind) text m) e at
@@ -64,7 +64,7 @@ placed : (m n a b : ℕ) → m ≤ n → a ≤ b → (m < n) ⊎ ((m ≡ n) × (
 placed m n a b h l = elim (cases_lt m n) [ inl lt ↦ inl lt | inr ge ↦ inr (omega arith, l) ]
 
 -- the best stays where a further kind has none, or a shorter one
-kept : (k : TokenKind) (text : List ℕ) (best : Found) → IsBest (rank_of k) text best → ((m : ℕ) → IsFormAt (has_form k) text m → m < best.length) → IsBest (suc (rank_of k)) text best
+kept : (k : TokenKind) (text : List ℕ) (best : Found) → IsBest (rank_of_kind k) text best → ((m : ℕ) → IsFormAt (has_form k) text m → m < best.length) → IsBest (suc (rank_of_kind k)) text best
 kept k text best b shorter = record {
   fits = b.fits;
   below = omega (arith, b.below);
@@ -75,13 +75,13 @@ kept k text best b shorter = record {
 }
 
 -- a further kind is the best where it is as long as any other
-taken : (k : TokenKind) (text : List ℕ) (n : ℕ) → IsLongestOf (has_form k) text n → ((other : TokenKind) (m : ℕ) → rank_of other < rank_of k → IsFormAt (has_form other) text m → m ≤ n) → IsBest (suc (rank_of k)) text (record { kind = k; length = n })
+taken : (k : TokenKind) (text : List ℕ) (n : ℕ) → IsLongestOfForm (has_form k) text n → ((other : TokenKind) (m : ℕ) → rank_of_kind other < rank_of_kind k → IsFormAt (has_form other) text m → m ≤ n) → IsBest (suc (rank_of_kind k)) text (record { kind = k; length = n })
 taken k text n f no_longer = record {
   fits = f.fits;
   below = omega arith;
   longest = λ other m lt at. elim (split_rank other k lt) [
-    | inl low ↦ placed m n (rank_of other) (rank_of k) (no_longer other m low at) (omega arith)
-    | inr e ↦ placed m n (rank_of other) (rank_of k) (f.longest m (at_kind text m other k e at)) (omega (arith, ap rank_of e))
+    | inl low ↦ placed m n (rank_of_kind other) (rank_of_kind k) (no_longer other m low at) (omega arith)
+    | inr e ↦ placed m n (rank_of_kind other) (rank_of_kind k) (f.longest m (at_kind text m other k e at)) (omega (arith, ap rank_of_kind e))
   ];
 }
 
@@ -90,7 +90,7 @@ no_longer_than m n P (inl lt) = omega arith
 no_longer_than m n P (inr same) = omega (arith, same.0)
 
 -- one kind more
-pub best_more : (k : TokenKind) (text : List ℕ) (best : Option Found) (found : Option ℕ) → FindsBest (rank_of k) text best → FindsLongest (has_form k) text found → FindsBest (suc (rank_of k)) text (better_of best k found)
+pub best_more : (k : TokenKind) (text : List ℕ) (best : Option Found) (found : Option ℕ) → FindsBest (rank_of_kind k) text best → FindsLongest (has_form k) text found → FindsBest (suc (rank_of_kind k)) text (better_of best k found)
 best_more k text None None b f = λ other lt. elim (split_rank other k lt) [
   | inl low ↦ b other low
   | inr e ↦ λ n at. f n (at_kind text n other k e at)
@@ -100,13 +100,13 @@ best_more k text None (Some n) b f = taken k text n f (λ other m low at. absurd
 best_more k text (Some best) (Some n) b f = elim (cases_lt n best.length) [
   | inl lt ↦ rw (lt-ltb n best.length lt) (kept k text best b (λ m at. omega (arith, f.longest m at)))
   | inr ge ↦ rw (le-ltb n best.length ge) (taken k text n f (λ other m low at.
-      omega (arith, no_longer_than m best.length (rank_of other ≤ rank_of best.kind) (b.longest other m low at))))
+      omega (arith, no_longer_than m best.length (rank_of_kind other ≤ rank_of_kind best.kind) (b.longest other m low at))))
 ]
 
 pub best_none : (text : List ℕ) → FindsBest 0 text None
 best_none text other h = absurd (omega arith)
 
 -- all kinds
-pub best_of_all : (text : List ℕ) (best : Option Found) → FindsBest 12 text best → MatchOption best (HasNoForm text) (λ found. IsLongest text found.kind found.length)
+pub best_of_all : (text : List ℕ) (best : Option Found) → FindsBest 12 text best → MatchOption best (HasNoForm text) (λ found. IsLongestToken text found.kind found.length)
 best_of_all text None b = λ kind. b kind (rank-lt kind)
 best_of_all text (Some found) b = record { fits = b.fits; longest = λ other m at. b.longest other m (rank-lt other) at }

@@ -7,7 +7,7 @@ use Rattle.std.proofs.lemmas.List.{length-take-le, length-drop, take-append-drop
 use Rattle.std.proofs.lemmas.List.Sums.{prefix_len-le-length}
 use Rattle.stl_lexer.specs.declared.tables.Tail.TheVariants.{Nothing, Apart, Run, SignedRun, Line}
 use Rattle.stl_lexer.specs.Bytes.{is_sign, is_word_byte, is_line_byte}
-use Rattle.stl_lexer.specs.Forms.{is_tail, behind_sign, goes_on}
+use Rattle.stl_lexer.specs.Forms.{is_tail, behind_sign, continues_word}
 use Rattle.stl_lexer.specs.Longest.{IsTailAt, IsLongestTail}
 use Rattle.stl_lexer.proofs.RunLemmas.{run_passes, run_longest}
 
@@ -22,21 +22,21 @@ tail_nothing text = record {
   longest = λ m at. omega (arith, empty_tail text m at.within at.fits);
 }
 
-pub tail_apart : (text : List ℕ) → goes_on text ≡ false → IsLongestTail Apart text 0
+pub tail_apart : (text : List ℕ) → continues_word text ≡ false → IsLongestTail Apart text 0
 unfolding is_tail
 tail_apart text e = record {
-  fits = record { within = omega arith; fits = not_from_false (goes_on text) e };
-  longest = λ m at. omega (arith, empty_tail text m at.within (and_parts (length (take m text) == 0) (not (goes_on (drop m text))) at.fits).0);
+  fits = record { within = omega arith; fits = not_from_false (continues_word text) e };
+  longest = λ m at. omega (arith, empty_tail text m at.within (and_parts (length (take m text) == 0) (not (continues_word (drop m text))) at.fits).0);
 }
 
-pub no_apart : (text : List ℕ) → goes_on text ≡ true → (n : ℕ) → IsTailAt Apart text n → ⊥
+pub no_apart : (text : List ℕ) → continues_word text ≡ true → (n : ℕ) → IsTailAt Apart text n → ⊥
 unfolding is_tail
 no_apart text e n at =
-    let parts = and_parts (length (take n text) == 0) (not (goes_on (drop n text))) at.fits in
+    let parts = and_parts (length (take n text) == 0) (not (continues_word (drop n text))) at.fits in
     let none = empty_tail text n at.within parts.0 in
-    let P : ℕ → Type 0 = λ k. goes_on (drop k text) ≡ false in
+    let P : ℕ → Type 0 = λ k. continues_word (drop k text) ≡ false in
     let P' : ℕ → Type 0 = λ k. k ≡ 0 in
-    false≢true (sym (subst P none (not-true (goes_on (drop n text)) parts.1)) ∙ e)
+    false≢true (sym (subst P none (not-true (continues_word (drop n text)) parts.1)) ∙ e)
 
 pub tail_run : (text : List ℕ) → IsLongestTail Run text (prefix_len is_word_byte text)
 unfolding is_tail
@@ -94,19 +94,19 @@ tail_signed (b ∷ s) sign e h = elim (cases_Bool (is_sign b)) [
 ]
 
 -- all up to the line's end
-pub tail_line : (text : List ℕ) → goes_on text ≡ false → IsLongestTail Line text (prefix_len is_line_byte text)
+pub tail_line : (text : List ℕ) → continues_word text ≡ false → IsLongestTail Line text (prefix_len is_line_byte text)
 unfolding is_tail
 tail_line text e = record {
   fits = record {
     within = prefix_len-le-length is_line_byte text;
-    fits = and_from (list_all is_line_byte (take (prefix_len is_line_byte text) text)) (not (goes_on (take (prefix_len is_line_byte text) text ++ drop (prefix_len is_line_byte text) text))) (run_passes is_line_byte text) (rw (take-append-drop (prefix_len is_line_byte text) text) (not_from_false (goes_on text) e));
+    fits = and_from (list_all is_line_byte (take (prefix_len is_line_byte text) text)) (not (continues_word (take (prefix_len is_line_byte text) text ++ drop (prefix_len is_line_byte text) text))) (run_passes is_line_byte text) (rw (take-append-drop (prefix_len is_line_byte text) text) (not_from_false (continues_word text) e));
   };
-  longest = λ m at. run_longest is_line_byte text m at.within (and_parts (list_all is_line_byte (take m text)) (not (goes_on (take m text ++ drop m text))) at.fits).0;
+  longest = λ m at. run_longest is_line_byte text m at.within (and_parts (list_all is_line_byte (take m text)) (not (continues_word (take m text ++ drop m text))) at.fits).0;
 }
 
-pub no_line : (text : List ℕ) → goes_on text ≡ true → (n : ℕ) → IsTailAt Line text n → ⊥
+pub no_line : (text : List ℕ) → continues_word text ≡ true → (n : ℕ) → IsTailAt Line text n → ⊥
 unfolding is_tail
 no_line text e n at =
-    let parts = and_parts (list_all is_line_byte (take n text)) (not (goes_on (take n text ++ drop n text))) at.fits in
-    let stops = not-true (goes_on (take n text ++ drop n text)) parts.1 in
+    let parts = and_parts (list_all is_line_byte (take n text)) (not (continues_word (take n text ++ drop n text))) at.fits in
+    let stops = not-true (continues_word (take n text ++ drop n text)) parts.1 in
     false≢true (sym (rw (take-append-drop n text) at stops) ∙ e)

@@ -10,12 +10,12 @@ use Rattle.stl_lexer.specs.declared.kinds.TokenKind.TheVariants.{Word, Number, Q
 use Rattle.stl_lexer.specs.declared.kinds.Token.{Token}
 use Rattle.stl_lexer.specs.declared.places.Found.{Found}
 use Rattle.stl_lexer.specs.declared.rules.Fault.{Fault}
-use Rattle.stl_lexer.specs.Bytes.{newline, in_source, is_separator, opens_comment}
+use Rattle.stl_lexer.specs.Bytes.{newline, is_source_byte, is_separator, opens_comment}
 use Rattle.stl_lexer.specs.Forms.{has_form}
 use Rattle.stl_lexer.specs.Gap.{after_gap, line_at}
-use Rattle.stl_lexer.specs.Longest.{Form, IsFormAt, FindsLongest, FindsToken, IsLongest, rank_of, better_of}
+use Rattle.stl_lexer.specs.Longest.{Form, IsFormAt, FindsLongest, FindsToken, IsLongestToken, rank_of_kind, better_of}
 use Rattle.stl_lexer.specs.Rules.{fault_of, rule_without_form}
-use Rattle.stl_lexer.specs.Tokens.{text_of, is_minus, IsBehindGap, IsNext, IsEnd, Breaks, Follow, AreTokens, IsViolation, IsTotal}
+use Rattle.stl_lexer.specs.Tokens.{text_of, is_minus, IsBehindGap, IsNextToken, IsEndOfTokens, BreaksTokenRule, TokensFollow, AreTokens, IsViolation, IsLexingTotal}
 use Rattle.stl_lexer.proofs.RankLemmas.{FindsBest, best_none, best_more, best_of_all}
 
 -- the longest of a form is at most n bytes, or there is none
@@ -44,7 +44,7 @@ longest_there form text = longest_below form text (length text) (omega arith) (�
 abbrev Best : ℕ → List ℕ → Type 0
 Best r text = (best : Option Found) × FindsBest r text best
 
-best_next : (k : TokenKind) (text : List ℕ) → Best (rank_of k) text → Best (suc (rank_of k)) text
+best_next : (k : TokenKind) (text : List ℕ) → Best (rank_of_kind k) text → Best (suc (rank_of_kind k)) text
 best_next k text (best, b) =
     let there = longest_there (has_form k) text in
     (better_of best k there.0, best_more k text best there.0 b there.1)
@@ -72,7 +72,7 @@ gap_there Comment [] = (zero, omega arith, refl)
 gap_there Blanks [] = (zero, omega arith, refl)
 gap_there Comment (b ∷ s) = elim (cases_Bool (b == newline)) [
   | inl ends ↦ gap_longer Comment Blanks b s (rw ends refl) (gap_there Blanks s)
-  | inr stays ↦ elim (cases_Bool (in_source b)) [
+  | inr stays ↦ elim (cases_Bool (is_source_byte b)) [
     | inl on ↦ gap_longer Comment Comment b s (rw (stays, on) refl) (gap_there Comment s)
     | inr foreign ↦ (zero, omega arith, rw (stays, foreign) refl)
   ]
@@ -87,9 +87,9 @@ gap_there Blanks (b ∷ s) = elim (cases_Bool (is_separator b)) [
 
 -- behind a place stands a token, or a rule is broken there, or nothing else stands there
 abbrev HasNext : List ℕ → ℕ → Bool → Type 0
-HasNext source from minus = ((t : Token) × IsNext source from minus t) ⊎ (IsEnd source from ⊎ ((line : ℕ) × (rule : ℕ) × Breaks source from minus line rule))
+HasNext source from minus = ((t : Token) × IsNextToken source from minus t) ⊎ (IsEndOfTokens source from ⊎ ((line : ℕ) × (rule : ℕ) × BreaksTokenRule source from minus line rule))
 
-token_at : (source : List ℕ) (from at : ℕ) (minus : Bool) (found : Found) → IsBehindGap source from at → IsLongest (drop at source) found.kind found.length → (fault : Option Fault) → fault_of found.kind (take found.length (drop at source)) minus ≡ fault → HasNext source from minus
+token_at : (source : List ℕ) (from at : ℕ) (minus : Bool) (found : Found) → IsBehindGap source from at → IsLongestToken (drop at source) found.kind found.length → (fault : Option Fault) → fault_of found.kind (take found.length (drop at source)) minus ≡ fault → HasNext source from minus
 token_at source from at minus found start longest None right =
     let n = found.length in
     let size : (at + n) - at ≡ n = omega arith in
@@ -144,10 +144,10 @@ next_there source from minus h =
 -- tokens follow one another behind a place up to the end, or up to a place that breaks a rule
 abbrev Ends : List ℕ → ℕ → Bool → Type 0
 Ends source from minus =
-    ((ts : List Token) × Follow source (λ at m. IsEnd source at) from minus ts)
-    ⊎ ((line : ℕ) × (rule : ℕ) × ((ts : List Token) × Follow source (λ at m. Breaks source at m line rule) from minus ts))
+    ((ts : List Token) × TokensFollow source (λ at m. IsEndOfTokens source at) from minus ts)
+    ⊎ ((line : ℕ) × (rule : ℕ) × ((ts : List Token) × TokensFollow source (λ at m. BreaksTokenRule source at m line rule) from minus ts))
 
-ends_behind : (source : List ℕ) (from : ℕ) (minus : Bool) (t : Token) → IsNext source from minus t → Ends source t.end (is_minus t.kind (text_of source t)) → Ends source from minus
+ends_behind : (source : List ℕ) (from : ℕ) (minus : Bool) (t : Token) → IsNextToken source from minus t → Ends source t.end (is_minus t.kind (text_of source t)) → Ends source from minus
 ends_behind source from minus t next (inl (ts, follow)) = inl (t ∷ ts, (next, follow))
 ends_behind source from minus t next (inr (line, rule, (ts, follow))) = inr (line, rule, (t ∷ ts, (next, follow)))
 
@@ -164,6 +164,6 @@ ends_there (suc fuel) source from minus h enough = elim (next_there source from 
   ]
 ]
 
-pub total : IsTotal
+pub total : IsLexingTotal
 unfolding AreTokens IsViolation
 total source = ends_there (suc (length source)) source 0 false (omega arith) (omega arith)

@@ -31,8 +31,8 @@ abbrev pub single_quote : ℕ
 single_quote = 39
 
 -- `+`, a sign
-abbrev pub plus : ℕ
-plus = 43
+abbrev pub plus_sign : ℕ
+plus_sign = 43
 
 -- `-`, a sign
 abbrev pub minus_sign : ℕ
@@ -75,8 +75,8 @@ abbrev pub close_brace : ℕ
 close_brace = 125
 
 -- the byte 127, which isn't printable
-abbrev pub delete : ℕ
-delete = 127
+abbrev pub delete_byte : ℕ
+delete_byte = 127
 
 -- a word begins with a letter or `_`
 unfoldable pub is_word_start : ℕ → Bool
@@ -91,8 +91,8 @@ unfoldable pub is_separator : ℕ → Bool
 is_separator b = b == blank || b == tab || b == carriage_return || b == newline
 
 -- a source holds the separators, the printable bytes of ASCII, and the bytes from 128 on
-unfoldable pub in_source : ℕ → Bool
-in_source b = is_separator b || (nat_le blank b && not (b == delete))
+unfoldable pub is_source_byte : ℕ → Bool
+is_source_byte b = is_separator b || (nat_le blank b && not (b == delete_byte))
 
 -- a comment begins with `//`
 unfoldable pub opens_comment : List ℕ → Bool
@@ -101,7 +101,7 @@ opens_comment _ = false
 
 -- `+` or `-`
 unfoldable pub is_sign : ℕ → Bool
-is_sign b = b == plus || b == minus_sign
+is_sign b = b == plus_sign || b == minus_sign
 
 -- a byte that doesn't end a line
 abbrev pub is_line_byte : ℕ → Bool

@@ -48,9 +48,9 @@ abbrev pub is_quoted : List ℕ → Bool
 is_quoted s = is_enclosed double_quote double_quote true s && nat_lt 2 (length s)
 
 -- a letter, a digit or `_` stands here
-unfoldable pub goes_on : List ℕ → Bool
-goes_on [] = false
-goes_on (b ∷ s) = is_word_byte b
+unfoldable pub continues_word : List ℕ → Bool
+continues_word [] = false
+continues_word (b ∷ s) = is_word_byte b
 
 -- a text without the sign in front of it
 unfoldable pub behind_sign : List ℕ → List ℕ
@@ -61,10 +61,10 @@ behind_sign (b ∷ s) = if is_sign b then s else b ∷ s
 -- may follow; letters, digits and `_`; the same behind an optional sign; or, behind a word, all up to the line's end
 unfoldable pub is_tail : Tail → List ℕ → List ℕ → Bool
 is_tail Nothing s after = length s == 0
-is_tail Apart s after = length s == 0 && not (goes_on after)
+is_tail Apart s after = length s == 0 && not (continues_word after)
 is_tail Run s after = list_all is_word_byte s
 is_tail SignedRun s after = list_all is_word_byte (behind_sign s)
-is_tail Line s after = list_all is_line_byte s && not (goes_on (s ++ after))
+is_tail Line s after = list_all is_line_byte s && not (continues_word (s ++ after))
 
 -- a text begins with this entry, without case of ASCII letters
 unfoldable pub begins_with : List ℕ → List ℕ → Bool

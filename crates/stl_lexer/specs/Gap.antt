@@ -2,28 +2,28 @@
 use Rattle.std.specs.Prelude.{◌≡◌, ◌<◌, ℕ, ◌+◌, Bool, ◌&&◌, not, ◌==◌, if◌then◌else◌, List, [], ◌∷◌, length, take, drop, Option, MatchOption, sum_by}
 use Rattle.stl_lexer.specs.declared.gaps.GapPart.{GapPart}
 use Rattle.stl_lexer.specs.declared.gaps.GapPart.TheVariants.{Blanks, Comment}
-use Rattle.stl_lexer.specs.Bytes.{newline, is_separator, in_source, opens_comment}
+use Rattle.stl_lexer.specs.Bytes.{newline, is_separator, is_source_byte, opens_comment}
 
 -- what is left of a text behind separators and comments, where this part of a gap is open
 abbrev pub after_gap : GapPart → List ℕ → List ℕ
 after_gap part [] = []
 after_gap Comment (b ∷ s) =
-    if b == newline then after_gap Blanks s else (if in_source b then after_gap Comment s else b ∷ s)
+    if b == newline then after_gap Blanks s else (if is_source_byte b then after_gap Comment s else b ∷ s)
 after_gap Blanks (b ∷ s) =
     if is_separator b then after_gap Blanks s else (if opens_comment (b ∷ s) then after_gap Comment s else b ∷ s)
 
 -- the first byte belongs to the gap, and behind it this part goes on
-abbrev pub GoesOn : GapPart → List ℕ → Option GapPart → Type 0
-GoesOn part text found =
+abbrev pub ContinuesGap : GapPart → List ℕ → Option GapPart → Type 0
+ContinuesGap part text found =
     MatchOption found (after_gap part text ≡ text) (λ next. (0 < length text) × (after_gap part text ≡ after_gap next (drop 1 text)))
 
 -- a byte that separates tokens, or may stand in a comment, and ends no line
-unfoldable pub is_blank : ℕ → Bool
-is_blank b = is_separator b && not (b == newline)
+unfoldable pub is_inline_separator : ℕ → Bool
+is_inline_separator b = is_separator b && not (b == newline)
 
 -- a byte that goes on with a comment: any that a source holds but the line feed, which ends it
 unfoldable pub is_comment_byte : ℕ → Bool
-is_comment_byte b = in_source b && not (b == newline)
+is_comment_byte b = is_source_byte b && not (b == newline)
 
 -- 1 for the byte 10, else 0
 abbrev pub newlines_of : ℕ → ℕ

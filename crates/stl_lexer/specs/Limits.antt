@@ -6,20 +6,20 @@ abbrev pub source_limit : ℕ
 source_limit = 1048576
 
 -- rule 1: a byte begins no token
-abbrev pub no_token : ℕ
-no_token = 1
+abbrev pub no_token_rule : ℕ
+no_token_rule = 1
 
 -- rule 2: a quoted name, characters or an attribute without end
-abbrev pub no_end : ℕ
-no_end = 2
+abbrev pub no_end_rule : ℕ
+no_end_rule = 2
 
 -- rule 3: a literal with wrong digits, parts or length
-abbrev pub wrong_literal : ℕ
-wrong_literal = 3
+abbrev pub wrong_literal_rule : ℕ
+wrong_literal_rule = 3
 
 -- rule 4: a literal beyond its range
-abbrev pub out_of_range : ℕ
-out_of_range = 4
+abbrev pub out_of_range_rule : ℕ
+out_of_range_rule = 4
 
 -- the greatest decimal number, behind the mark `-` or not
 abbrev pub greatest_number : Bool → ℕ

@@ -17,17 +17,17 @@ pub record IsFormAt (form : Form) (text : List ℕ) (n : ℕ) : Type 0 where
   pub fits : form (take n text) (drop n text) ≡ true
 
 -- no bytes at the front of the text have this form
-abbrev pub HasNone : Form → List ℕ → Type 0
-HasNone form text = (n : ℕ) → ¬ IsFormAt form text n
+abbrev pub HasNoneOfForm : Form → List ℕ → Type 0
+HasNoneOfForm form text = (n : ℕ) → ¬ IsFormAt form text n
 
 -- the first n bytes have this form, and no more of them
-pub record IsLongestOf (form : Form) (text : List ℕ) (n : ℕ) : Type 0 where
+pub record IsLongestOfForm (form : Form) (text : List ℕ) (n : ℕ) : Type 0 where
   pub fits : IsFormAt form text n
   pub longest : (m : ℕ) → IsFormAt form text m → m ≤ n
 
 -- the longest of this form, or None
 abbrev pub FindsLongest : Form → List ℕ → Option ℕ → Type 0
-FindsLongest form text found = MatchOption found (HasNone form text) (IsLongestOf form text)
+FindsLongest form text found = MatchOption found (HasNoneOfForm form text) (IsLongestOfForm form text)
 
 -- the first n bytes of a text, or none where n is 0, are such a tail
 pub record IsTailAt (tail : Tail) (text : List ℕ) (n : ℕ) : Type 0 where
@@ -50,33 +50,33 @@ longer_of (Some a) None = Some a
 longer_of (Some a) (Some b) = Some (max a b)
 
 -- the place of a kind in the table of tokens
-abbrev pub rank_of : TokenKind → ℕ
-rank_of Word = 0
-rank_of Number = 1
-rank_of Quoted = 2
-rank_of Local = 3
-rank_of Characters = 4
-rank_of Based = 5
-rank_of NumberLiteral = 6
-rank_of TimeLiteral = 7
-rank_of Mark = 8
-rank_of SignWord = 9
-rank_of Attribute = 10
-rank_of Title = 11
+abbrev pub rank_of_kind : TokenKind → ℕ
+rank_of_kind Word = 0
+rank_of_kind Number = 1
+rank_of_kind Quoted = 2
+rank_of_kind Local = 3
+rank_of_kind Characters = 4
+rank_of_kind Based = 5
+rank_of_kind NumberLiteral = 6
+rank_of_kind TimeLiteral = 7
+rank_of_kind Mark = 8
+rank_of_kind SignWord = 9
+rank_of_kind Attribute = 10
+rank_of_kind Title = 11
 
 -- the longest token at the front of the text: it has the form of its kind, and any other token there is shorter, or as
 -- long and of a kind that stands before it in the table (the word TITLE at a line's end is a title)
-pub record IsLongest (text : List ℕ) (kind : TokenKind) (n : ℕ) : Type 0 where
+pub record IsLongestToken (text : List ℕ) (kind : TokenKind) (n : ℕ) : Type 0 where
   pub fits : IsFormAt (has_form kind) text n
-  pub longest : (other : TokenKind) (m : ℕ) → IsFormAt (has_form other) text m → (m < n) ⊎ ((m ≡ n) × (rank_of other ≤ rank_of kind))
+  pub longest : (other : TokenKind) (m : ℕ) → IsFormAt (has_form other) text m → (m < n) ⊎ ((m ≡ n) × (rank_of_kind other ≤ rank_of_kind kind))
 
 -- no token begins at the front of the text
 abbrev pub HasNoForm : List ℕ → Type 0
-HasNoForm text = (kind : TokenKind) → HasNone (has_form kind) text
+HasNoForm text = (kind : TokenKind) → HasNoneOfForm (has_form kind) text
 
 -- the longest token at the front of the text, or None
 abbrev pub FindsToken : List ℕ → Option Found → Type 0
-FindsToken text found = MatchOption found (HasNoForm text) (λ token. IsLongest text token.kind token.length)
+FindsToken text found = MatchOption found (HasNoForm text) (λ token. IsLongestToken text token.kind token.length)
 
 -- the better of the token found so far and one of a further kind: the longer, or the later of two that are as long
 abbrev pub better_of : Option Found → TokenKind → Option ℕ → Option Found

@@ -7,7 +7,7 @@ use Rattle.stl_lexer.specs.declared.kinds.Token.{Token}
 use Rattle.stl_lexer.specs.Bytes.{hash, is_word_byte}
 use Rattle.stl_lexer.specs.Forms.{begins_with, is_number, is_word}
 use Rattle.stl_lexer.specs.Gap.{after_gap, newlines_of}
-use Rattle.stl_lexer.specs.Longest.{IsLongest}
+use Rattle.stl_lexer.specs.Longest.{IsLongestToken}
 use Rattle.stl_lexer.specs.Rules.{fault_of}
 use Rattle.stl_lexer.specs.Tokens.{AreTokens, is_minus, text_of}
 
@@ -18,21 +18,21 @@ pub record Piece : Type 0 where
   pub text : List ℕ
 
 -- what pieces spell, with the gap behind the last one
-abbrev pub spelled : List Piece → List ℕ → List ℕ
-spelled [] end = end
-spelled (p ∷ ps) end = p.gap ++ (p.text ++ spelled ps end)
+abbrev pub text_of_pieces : List Piece → List ℕ → List ℕ
+text_of_pieces [] end = end
+text_of_pieces (p ∷ ps) end = p.gap ++ (p.text ++ text_of_pieces ps end)
 
 -- a piece stands before these bytes: its gap ends at its text, which is the longest token there, and right
-pub record Stands (p : Piece) (minus : Bool) (after : List ℕ) : Type 0 where
+pub record StandsBefore (p : Piece) (minus : Bool) (after : List ℕ) : Type 0 where
   pub gap : after_gap Blanks (p.gap ++ (p.text ++ after)) ≡ p.text ++ after
-  pub longest : IsLongest (p.text ++ after) p.kind (length p.text)
+  pub longest : IsLongestToken (p.text ++ after) p.kind (length p.text)
   pub right : fault_of p.kind p.text minus ≡ None
 
 -- each of these pieces stands before those behind it
-abbrev pub AreStanding : Bool → List Piece → List ℕ → Type 0
-AreStanding minus [] end = after_gap Blanks end ≡ []
-AreStanding minus (p ∷ ps) end =
-    Stands p minus (spelled ps end) × AreStanding (is_minus p.kind p.text) ps end
+abbrev pub ArePiecesStanding : Bool → List Piece → List ℕ → Type 0
+ArePiecesStanding minus [] end = after_gap Blanks end ≡ []
+ArePiecesStanding minus (p ∷ ps) end =
+    StandsBefore p minus (text_of_pieces ps end) × ArePiecesStanding (is_minus p.kind p.text) ps end
 
 -- the tokens of pieces, the first of which begins with its gap at a place on a line
 abbrev pub tokens_of : (from line : ℕ) → List Piece → List Token
@@ -48,32 +48,32 @@ tokens_of from line (p ∷ ps) =
     (line + sum_by newlines_of p.gap + sum_by newlines_of p.text) ps
 
 -- these tokens have the kinds and the bytes of these pieces
-abbrev pub Show : List ℕ → List Piece → List Token → Type 0
-Show source [] [] = Unit {0}
-Show source (p ∷ ps) (t ∷ ts) = (t.kind ≡ p.kind) × (text_of source t ≡ p.text) × Show source ps ts
-Show source _ _ = ⊥
+abbrev pub ShowPieces : List ℕ → List Piece → List Token → Type 0
+ShowPieces source [] [] = Unit {0}
+ShowPieces source (p ∷ ps) (t ∷ ts) = (t.kind ≡ p.kind) × (text_of source t ≡ p.text) × ShowPieces source ps ts
+ShowPieces source _ _ = ⊥
 
 -- pieces that stand are the tokens of what they spell
 abbrev pub ArePiecesRead : Type 0
 ArePiecesRead =
-    (ps : List Piece) (end : List ℕ) → AreStanding false ps end
-    → AreTokens (spelled ps end) (tokens_of 0 1 ps)
-    × Show (spelled ps end) ps (tokens_of 0 1 ps)
+    (ps : List Piece) (end : List ℕ) → ArePiecesStanding false ps end
+    → AreTokens (text_of_pieces ps end) (tokens_of 0 1 ps)
+    × ShowPieces (text_of_pieces ps end) ps (tokens_of 0 1 ps)
 
 -- the byte behind a token goes on with no word and opens no literal
-abbrev pub stops : List ℕ → Bool
-stops [] = true
-stops (b ∷ s) = not (is_word_byte b) && not (b == hash)
+abbrev pub stops_token : List ℕ → Bool
+stops_token [] = true
+stops_token (b ∷ s) = not (is_word_byte b) && not (b == hash)
 
 -- a word before such a byte is the longest token there, where no title begins
 abbrev pub DoWordsStand : Type 0
 DoWordsStand =
-    (word after : List ℕ) → is_word word ≡ true → stops after ≡ true
+    (word after : List ℕ) → is_word word ≡ true → stops_token after ≡ true
     → begins_with (codes "TITLE") (word ++ after) ≡ false
-    → IsLongest (word ++ after) Word (length word)
+    → IsLongestToken (word ++ after) Word (length word)
 
 -- and so is a number
 abbrev pub DoNumbersStand : Type 0
 DoNumbersStand =
-    (digits after : List ℕ) → is_number digits ≡ true → stops after ≡ true
-    → IsLongest (digits ++ after) Number (length digits)
+    (digits after : List ℕ) → is_number digits ≡ true → stops_token after ≡ true
+    → IsLongestToken (digits ++ after) Number (length digits)

@@ -9,24 +9,24 @@ use Rattle.stl_lexer.specs.Bytes.{underscore}
 use Rattle.plc_base.specs.Decimal.{decimal_value}
 
 -- the units in falling order
-unfoldable pub units : List TimeUnit
-units = Day ∷ Hour ∷ Minute ∷ Second ∷ Millisecond ∷ []
+unfoldable pub time_units : List TimeUnit
+time_units = Day ∷ Hour ∷ Minute ∷ Second ∷ Millisecond ∷ []
 
 -- the letters of a unit, and its milliseconds
-unfoldable pub letters_of : TimeUnit → List ℕ
-letters_of Day = codes "D"
-letters_of Hour = codes "H"
-letters_of Minute = codes "M"
-letters_of Second = codes "S"
-letters_of Millisecond = codes "MS"
+unfoldable pub letters_of_unit : TimeUnit → List ℕ
+letters_of_unit Day = codes "D"
+letters_of_unit Hour = codes "H"
+letters_of_unit Minute = codes "M"
+letters_of_unit Second = codes "S"
+letters_of_unit Millisecond = codes "MS"
 
 -- the milliseconds of one such unit
-unfoldable pub length_of : TimeUnit → ℕ
-length_of Day = 24 * 60 * 60 * 1000
-length_of Hour = 60 * 60 * 1000
-length_of Minute = 60 * 1000
-length_of Second = 1000
-length_of Millisecond = 1
+unfoldable pub milliseconds_of_unit : TimeUnit → ℕ
+milliseconds_of_unit Day = 24 * 60 * 60 * 1000
+milliseconds_of_unit Hour = 60 * 60 * 1000
+milliseconds_of_unit Minute = 60 * 1000
+milliseconds_of_unit Second = 1000
+milliseconds_of_unit Millisecond = 1
 
 -- the digits of the first part, the letters behind them, and what is left behind these
 abbrev pub part_digits : List ℕ → List ℕ
@@ -46,7 +46,7 @@ behind_part s = drop (prefix_len is_ascii_alphabetic (behind_digits s)) (behind_
 
 -- a text begins with a part of this unit: digits, one at least, and the unit's letters without case
 unfoldable pub is_part : TimeUnit → List ℕ → Bool
-is_part unit s = nat_lt 0 (length (part_digits s)) && str_eq_ignore_ascii_case (letters_of unit) (part_letters s)
+is_part unit s = nat_lt 0 (length (part_digits s)) && str_eq_ignore_ascii_case (letters_of_unit unit) (part_letters s)
 
 -- an underscore may stand between two parts
 unfoldable pub behind_underscore : List ℕ → List ℕ
@@ -55,7 +55,7 @@ behind_underscore (b ∷ s) = if b == underscore then s else b ∷ s
 
 -- the milliseconds of a part
 abbrev pub part_value : TimeUnit → List ℕ → ℕ
-part_value unit digits = decimal_value digits * length_of unit
+part_value unit digits = decimal_value digits * milliseconds_of_unit unit
 
 -- the milliseconds of a text that is parts of these units, each at most once and in this order; of another text None
 unfoldable pub milliseconds : List TimeUnit → List ℕ → Option ℕ
@@ -66,41 +66,41 @@ milliseconds (unit ∷ smaller) s =
     else option_map (λ rest. part_value unit (part_digits s) + rest) (milliseconds smaller (behind_underscore (behind_part s))))
 
 -- a part by itself: decimal digits, one at least, and the letters of its unit in either case
-pub record Part : Type 0 where
+pub record TimePart : Type 0 where
   pub digits : List ℕ
   pub letters : List ℕ
   pub unit : TimeUnit
 
 -- a right part: digits alone, one at least, and the letters of its unit, whatever their case
-pub record IsPart (p : Part) : Type 0 where
+pub record IsTimePart (p : TimePart) : Type 0 where
   pub some : 0 < length p.digits
   pub digits : list_all is_ascii_digit p.digits ≡ true
-  pub letters : str_eq_ignore_ascii_case (letters_of p.unit) p.letters ≡ true
+  pub letters : str_eq_ignore_ascii_case (letters_of_unit p.unit) p.letters ≡ true
 
 -- a text is these parts, one at least, and between two of them stands one `_` or nothing
-abbrev pub Spells : List Part → List ℕ → Type 0
-Spells [] text = ⊥
-Spells (p ∷ []) text = IsPart p × (text ≡ p.digits ++ p.letters)
-Spells (p ∷ q ∷ parts) text =
-    IsPart p × ((rest : List ℕ) × ((text ≡ p.digits ++ p.letters ++ rest) ⊎ (text ≡ p.digits ++ p.letters ++ underscore ∷ rest)) × Spells (q ∷ parts) rest)
+abbrev pub SpellsTime : List TimePart → List ℕ → Type 0
+SpellsTime [] text = ⊥
+SpellsTime (p ∷ []) text = IsTimePart p × (text ≡ p.digits ++ p.letters)
+SpellsTime (p ∷ q ∷ parts) text =
+    IsTimePart p × ((rest : List ℕ) × ((text ≡ p.digits ++ p.letters ++ rest) ⊎ (text ≡ p.digits ++ p.letters ++ underscore ∷ rest)) × SpellsTime (q ∷ parts) rest)
 
 -- each unit is below a length, and below the units before it
-abbrev pub FallBelow : ℕ → List Part → Type 0
-FallBelow bound [] = Unit {0}
-FallBelow bound (p ∷ parts) = (length_of p.unit < bound) × FallBelow (length_of p.unit) parts
+abbrev pub UnitsFallBelow : ℕ → List TimePart → Type 0
+UnitsFallBelow bound [] = Unit {0}
+UnitsFallBelow bound (p ∷ parts) = (milliseconds_of_unit p.unit < bound) × UnitsFallBelow (milliseconds_of_unit p.unit) parts
 
 -- the milliseconds of all parts together, 0 where there are none
-abbrev pub total : List Part → ℕ
-total [] = 0
-total (p ∷ parts) = part_value p.unit p.digits + total parts
+abbrev pub total_milliseconds : List TimePart → ℕ
+total_milliseconds [] = 0
+total_milliseconds (p ∷ parts) = part_value p.unit p.digits + total_milliseconds parts
 
 -- a text is parts whose units fall, and these come to n milliseconds together
 pub record IsTime (text : List ℕ) (n : ℕ) : Type 0 where
-  pub parts : List Part
-  pub spelled : Spells parts text
-  pub falling : FallBelow (length_of Day + 1) parts
-  pub sum : n ≡ total parts
+  pub parts : List TimePart
+  pub spelled : SpellsTime parts text
+  pub falling : UnitsFallBelow (milliseconds_of_unit Day + 1) parts
+  pub sum : n ≡ total_milliseconds parts
 
 -- the milliseconds of a time literal are those of its parts, and there are none where it isn't parts whose units fall
 abbrev pub ReadsTimes : Type 0
-ReadsTimes = (text : List ℕ) (n : ℕ) → (milliseconds units text ≡ Some n) ↔ IsTime text n
+ReadsTimes = (text : List ℕ) (n : ℕ) → (milliseconds time_units text ≡ Some n) ↔ IsTime text n

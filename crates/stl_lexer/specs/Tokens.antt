@@ -10,7 +10,7 @@ use Rattle.stl_lexer.specs.declared.kinds.TokenKind.TheVariants.{Mark}
 use Rattle.stl_lexer.specs.declared.kinds.Token.{Token}
 use Rattle.stl_lexer.specs.declared.rules.Fault.{Fault}
 use Rattle.stl_lexer.specs.Gap.{after_gap, line_at}
-use Rattle.stl_lexer.specs.Longest.{IsLongest, HasNoForm}
+use Rattle.stl_lexer.specs.Longest.{IsLongestToken, HasNoForm}
 use Rattle.stl_lexer.specs.Rules.{fault_of, rule_without_form}
 
 -- the bytes of a token
@@ -30,57 +30,57 @@ pub record IsBehindGap (source : List ℕ) (from at : ℕ) : Type 0 where
 
 -- t is the next token behind `from`, where `minus` says that the mark `-` stands before it: only separators and comments
 -- lie before it, it is the longest token at its place, it breaks no rule, and its line is that of its place
-pub record IsNext (source : List ℕ) (from : ℕ) (minus : Bool) (t : Token) : Type 0 where
+pub record IsNextToken (source : List ℕ) (from : ℕ) (minus : Bool) (t : Token) : Type 0 where
   pub start : IsBehindGap source from t.start
   pub forward : t.start < t.end
   pub within : t.end ≤ length source
-  pub longest : IsLongest (drop t.start source) t.kind (t.end - t.start)
+  pub longest : IsLongestToken (drop t.start source) t.kind (t.end - t.start)
   pub right : fault_of t.kind (text_of source t) minus ≡ None
   pub line : t.line ≡ line_at source t.start
 
 -- only separators and comments stand behind `from`
-abbrev pub IsEnd : List ℕ → ℕ → Type 0
-IsEnd source from = after_gap Blanks (drop from source) ≡ []
+abbrev pub IsEndOfTokens : List ℕ → ℕ → Type 0
+IsEndOfTokens source from = after_gap Blanks (drop from source) ≡ []
 
 -- no token begins at `at`
-pub record NoneBegins (source : List ℕ) (at line rule : ℕ) : Type 0 where
+pub record NoTokenBegins (source : List ℕ) (at line rule : ℕ) : Type 0 where
   pub none : HasNoForm (drop at source)
   pub line_is : line ≡ line_at source at
   pub rule_is : rule ≡ rule_without_form (drop at source)
 
 -- the longest token at `at` breaks a rule
-pub record OneBreaks (source : List ℕ) (at : ℕ) (minus : Bool) (line rule : ℕ) : Type 0 where
+pub record LongestBreaksRule (source : List ℕ) (at : ℕ) (minus : Bool) (line rule : ℕ) : Type 0 where
   pub kind : TokenKind
   pub size : ℕ
-  pub longest : IsLongest (drop at source) kind size
+  pub longest : IsLongestToken (drop at source) kind size
   pub fault : Fault
   pub breaks : fault_of kind (take size (drop at source)) minus ≡ Some fault
   pub line_is : line ≡ line_at source (at + fault.offset)
   pub rule_is : rule ≡ fault.rule
 
 -- a rule of tokens is broken at the next token behind `from`
-pub record Breaks (source : List ℕ) (from : ℕ) (minus : Bool) (line rule : ℕ) : Type 0 where
+pub record BreaksTokenRule (source : List ℕ) (from : ℕ) (minus : Bool) (line rule : ℕ) : Type 0 where
   pub at : ℕ
   pub start : IsBehindGap source from at
-  pub broken : NoneBegins source at line rule ⊎ OneBreaks source at minus line rule
+  pub broken : NoTokenBegins source at line rule ⊎ LongestBreaksRule source at minus line rule
 
 -- the next token behind `from`, or None where no more stands there, or the rule that is broken there
-abbrev pub FindsNext : List ℕ → ℕ → Bool → Result (Option Token) Refusal → Type 0
-FindsNext source from minus found =
-    MatchResult found (λ next. MatchOption next (IsEnd source from) (IsNext source from minus)) (λ refusal. Breaks source from minus refusal.line refusal.rule)
+abbrev pub FindsNextToken : List ℕ → ℕ → Bool → Result (Option Token) Refusal → Type 0
+FindsNextToken source from minus found =
+    MatchResult found (λ next. MatchOption next (IsEndOfTokens source from) (IsNextToken source from minus)) (λ refusal. BreaksTokenRule source from minus refusal.line refusal.rule)
 
 -- these tokens follow one another behind `from`, and then `rest` holds at the end of the last
-abbrev pub Follow : List ℕ → (ℕ → Bool → Type 0) → ℕ → Bool → List Token → Type 0
-Follow source rest from minus [] = rest from minus
-Follow source rest from minus (t ∷ ts) = IsNext source from minus t × Follow source rest t.end (is_minus t.kind (text_of source t)) ts
+abbrev pub TokensFollow : List ℕ → (ℕ → Bool → Type 0) → ℕ → Bool → List Token → Type 0
+TokensFollow source rest from minus [] = rest from minus
+TokensFollow source rest from minus (t ∷ ts) = IsNextToken source from minus t × TokensFollow source rest t.end (is_minus t.kind (text_of source t)) ts
 
 -- the tokens of a source: they follow one another from its front on, and nothing else stands behind the last
 unfoldable pub AreTokens : List ℕ → List Token → Type 0
-AreTokens source ts = Follow source (λ from minus. IsEnd source from) 0 false ts
+AreTokens source ts = TokensFollow source (λ from minus. IsEndOfTokens source from) 0 false ts
 
 -- the first violation of rules 1 to 4: what stands before it are tokens
 unfoldable pub IsViolation : List ℕ → ℕ → ℕ → Type 0
-IsViolation source line rule = (ts : List Token) × Follow source (λ from minus. Breaks source from minus line rule) 0 false ts
+IsViolation source line rule = (ts : List Token) × TokensFollow source (λ from minus. BreaksTokenRule source from minus line rule) 0 false ts
 
 -- a refusal names the first violation; nothing is said of want of memory
 abbrev pub IsRefused : List ℕ → SourceFault → Type 0
@@ -104,5 +104,5 @@ abbrev pub HasTokensOrViolation : List ℕ → Type 0
 HasTokensOrViolation source = ((ts : List Token) × AreTokens source ts) ⊎ ((line : ℕ) × (rule : ℕ) × IsViolation source line rule)
 
 -- so it is with every source, whatever bytes it has and however long it is
-abbrev pub IsTotal : Type 0
-IsTotal = (source : List ℕ) → HasTokensOrViolation source
+abbrev pub IsLexingTotal : Type 0
+IsLexingTotal = (source : List ℕ) → HasTokensOrViolation source

@@ -4,7 +4,7 @@ ghost use Rattle.std.specs.Char.{is_ascii_alphabetic, is_ascii_digit};
 ghost use Rattle.std.specs.Str.{str_eq_ignore_ascii_case};
 ghost use Rattle.stl_lexer.specs.Forms.{first_letter};
 ghost use Rattle.stl_lexer.specs.Bytes.{
-  in_source,
+  is_source_byte,
   is_line_byte,
   is_separator,
   is_sign,
@@ -46,9 +46,9 @@ pub(crate) fn is_sign(b: u8) -> bool
 }
 
 /// Whether a source may hold this byte.
-#[tactic(auto, unfolding(crate::specs::Bytes::in_source))]
+#[tactic(auto, unfolding(crate::specs::Bytes::is_source_byte))]
 pub(crate) fn in_source(b: u8) -> bool
-    ensures { result ≡ in_source b }
+    ensures { result ≡ is_source_byte b }
 {
     is_separator(b) || (b >= b' ' && b != 127)
 }

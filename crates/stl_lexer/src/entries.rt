@@ -10,7 +10,7 @@ ghost use Rattle.stl_lexer.specs.Forms.{
   count_prefixes,
   entries_from,
   first_letter,
-  goes_on,
+  continues_word,
   is_entry,
   is_listed,
   is_number_literal,
@@ -34,9 +34,9 @@ use crate::tables::{
 };
 
 /// Whether a letter, a digit or `_` stands here.
-#[tactic(auto, unfolding(crate::specs::Forms::goes_on))]
+#[tactic(auto, unfolding(crate::specs::Forms::continues_word))]
 fn goes_on(text: &[u8]) -> bool
-    ensures { result ≡ goes_on text.now }
+    ensures { result ≡ continues_word text.now }
 {
     match text {
         [first, ..] => is_word_byte(*first),

@@ -3,9 +3,9 @@ ghost use Rattle.std.specs.List.{prefix_len};
 ghost use Rattle.stl_lexer.specs.declared.gaps.GapPart.TheVariants.{Blanks};
 ghost use Rattle.stl_lexer.specs.Forms.{has_form};
 ghost use Rattle.stl_lexer.specs.Gap.{
-  GoesOn,
+  ContinuesGap,
   after_gap,
-  is_blank,
+  is_inline_separator,
   is_comment_byte,
   line_at,
   newlines_of,
@@ -61,7 +61,7 @@ pub(crate) fn token_lines(kind: TokenKind, token: &[u8]) -> u32
 /// The part of the gap that goes on behind the first byte, or None where the gap ends before it.
 #[tactic(auto, unfolding(crate::specs::Bytes::is_separator))]
 fn gap_byte(part: GapPart, text: &[u8]) -> Option<GapPart>
-    ensures { GoesOn part text.now result }
+    ensures { ContinuesGap part text.now result }
 {
     match (part, text) {
         (_, []) => None,
@@ -86,9 +86,9 @@ fn gap_byte(part: GapPart, text: &[u8]) -> Option<GapPart>
 }
 
 /// Whether a byte separates tokens and ends no line.
-#[tactic(auto, unfolding(crate::specs::Gap::is_blank))]
+#[tactic(auto, unfolding(crate::specs::Gap::is_inline_separator))]
 fn is_blank(b: u8) -> bool
-    ensures { result ≡ is_blank b }
+    ensures { result ≡ is_inline_separator b }
 {
     is_separator(b) && b != b'\n'
 }
@@ -103,7 +103,7 @@ fn is_comment_byte(b: u8) -> bool
 
 /// How many bytes at the front are separators that end no line.
 fn blank_run(text: &[u8]) -> usize
-    ensures value { result ≡ prefix_len is_blank text.now }
+    ensures value { result ≡ prefix_len is_inline_separator text.now }
     ensures within { result ≤ length text.now }
 {
     text.iter().take_while(|b| is_blank(**b)).count()

@@ -1,7 +1,7 @@
 ghost use Rattle.std.specs.Prelude.{◌≡◌, ◌≤◌, length, IfOk, IfErr};
 ghost use Rattle.stl_lexer.specs.Limits.{source_limit};
 ghost use Rattle.stl_lexer.specs.TimeLiteral.{ReadsTimes};
-ghost use Rattle.stl_lexer.specs.Tokens.{AreTokens, AreTokensUnique, ExcludesViolation, IsRefused, IsTotal, IsViolationUnique};
+ghost use Rattle.stl_lexer.specs.Tokens.{AreTokens, AreTokensUnique, ExcludesViolation, IsRefused, IsLexingTotal, IsViolationUnique};
 
 use crate::gaps::{Position, token_lines};
 use crate::lists::Tokens;
@@ -48,7 +48,7 @@ pub fn law_of_tokens()
     ensures one_list { AreTokensUnique }
     ensures list_or_violation { ExcludesViolation }
     ensures one_violation { IsViolationUnique }
-    ensures total { IsTotal }
+    ensures total { IsLexingTotal }
 {}
 
 /// A time literal means the sum of its parts, whose units fall.

@@ -5,11 +5,11 @@ ghost use Rattle.stl_lexer.specs.Forms.{is_number};
 ghost use Rattle.stl_lexer.specs.Limits.{greatest_long, greatest_number, value_cap};
 ghost use Rattle.stl_lexer.specs.Rules.{
   are_digits,
-  are_grouped,
+  are_grouped_digits,
   base_of,
   based_rule,
   behind_prefix,
-  decimal,
+  value_of_digits,
   decimal_rule,
   digit_count,
   is_negative,
@@ -17,9 +17,9 @@ ghost use Rattle.stl_lexer.specs.Rules.{
   number_rule,
   time_rule,
   value_rule,
-  within,
+  value_up_to,
 };
-ghost use Rattle.stl_lexer.specs.TimeLiteral.{milliseconds, units};
+ghost use Rattle.stl_lexer.specs.TimeLiteral.{milliseconds, time_units};
 
 use crate::bytes::{behind, digit_run, first_letter};
 use crate::entries::sign_length;
@@ -77,9 +77,9 @@ fn is_number(text: &[u8]) -> bool
 }
 
 /// The value of decimal digits, cut off above every limit.
-#[tactic(auto, unfolding(crate::specs::Rules::decimal))]
+#[tactic(auto, unfolding(crate::specs::Rules::value_of_digits))]
 fn decimal(text: &[u8]) -> Option<u64>
-    ensures { result ≡ option_map (λ n. min n value_cap) (decimal text.now) }
+    ensures { result ≡ option_map (λ n. min n value_cap) (value_of_digits text.now) }
 {
     if is_number(text) {
         Some(capped_decimal(text, VALUE_CAP))
@@ -117,11 +117,11 @@ fn are_digits(base: u32, text: &[u8]) -> bool
 }
 
 /// Whether a text is digits of a base with single `_` between them.
-#[tactic(auto, unfolding(crate::specs::Rules::are_grouped))]
+#[tactic(auto, unfolding(crate::specs::Rules::are_grouped_digits))]
 fn are_grouped(base: u32, text: &[u8]) -> bool
     requires low { 2 ≤ base }
     requires high { base ≤ 36 }
-    ensures { result ≡ are_grouped base text.now }
+    ensures { result ≡ are_grouped_digits base text.now }
 {
     text.split(|b| *b == b'_')
         .all(|part| are_digits(base, part))
@@ -200,7 +200,7 @@ pub(crate) fn number_rule(token: &[u8]) -> Option<u16>
 }
 
 /// The rule that a time literal breaks.
-#[tactic(auto, unfolding(crate::specs::Rules::time_rule, crate::specs::TimeLiteral::units))]
+#[tactic(auto, unfolding(crate::specs::Rules::time_rule, crate::specs::TimeLiteral::time_units))]
 pub(crate) fn time_rule(token: &[u8]) -> Option<u16>
     ensures { result ≡ time_rule token.now }
 {
@@ -239,10 +239,10 @@ pub(crate) fn decimal_rule(token: &[u8], minus: bool) -> Option<u16>
 }
 
 /// A value where it is at most `greatest`; a value may be cut off above every limit.
-#[tactic(auto, unfolding(crate::specs::Rules::within))]
+#[tactic(auto, unfolding(crate::specs::Rules::value_up_to))]
 fn within(greatest: u32, value: Option<u64>) -> Option<u32>
     ensures { (exact : Option ℕ) → value ≡ option_map (λ n. min n value_cap) exact
-        → result ≡ within greatest exact }
+        → result ≡ value_up_to greatest exact }
 {
     match value {
         None => None,
@@ -257,9 +257,9 @@ fn within(greatest: u32, value: Option<u64>) -> Option<u32>
 }
 
 /// The milliseconds of the parts of a time literal, where they are at most `greatest`.
-#[tactic(auto, unfolding(crate::specs::TimeLiteral::units, crate::specs::Rules::within))]
+#[tactic(auto, unfolding(crate::specs::TimeLiteral::time_units, crate::specs::Rules::value_up_to))]
 pub fn milliseconds_within(greatest: u32, parts: &[u8]) -> Option<u32>
-    ensures value { result ≡ within greatest (milliseconds units parts.now) }
+    ensures value { result ≡ value_up_to greatest (milliseconds time_units parts.now) }
     ensures bound { IfSome result (λ n. n ≤ greatest) }
 {
     within(greatest, milliseconds(&UNITS, parts))

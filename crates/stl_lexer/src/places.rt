@@ -2,8 +2,8 @@ ghost use Rattle.std.specs.Prelude.{◌≡◌, ◌≤◌, length};
 ghost use Rattle.stl_lexer.specs.Forms.{is_number, is_word};
 ghost use Rattle.stl_lexer.specs.Gap.{line_at};
 ghost use Rattle.stl_lexer.specs.Limits.{source_limit};
-ghost use Rattle.stl_lexer.specs.Longest.{FindsToken, HasNone, IsLongestOf, better_of};
-ghost use Rattle.stl_lexer.specs.Tokens.{FindsNext, is_minus};
+ghost use Rattle.stl_lexer.specs.Longest.{FindsToken, HasNoneOfForm, IsLongestOfForm, better_of};
+ghost use Rattle.stl_lexer.specs.Tokens.{FindsNextToken, is_minus};
 
 use crate::bytes::{behind, first_letter};
 use crate::entries::{
@@ -62,7 +62,7 @@ fn longest_of_all(text: &[u8]) -> Option<Found>
 /// The longest token where a word of this size stands at the front: with no `#` behind it, the word
 /// or a title.
 fn word_token(text: &[u8], size: usize) -> Option<Found>
-    requires word { IsLongestOf (λ s after. is_word s) text.now size }
+    requires word { IsLongestOfForm (λ s after. is_word s) text.now size }
     requires within { size ≤ length text.now }
     ensures { FindsToken text.now result }
 {
@@ -79,7 +79,7 @@ fn word_token(text: &[u8], size: usize) -> Option<Found>
 /// The longest token where a number of this size stands at the front: the number, or a binary
 /// literal.
 fn number_token(text: &[u8], size: usize) -> Option<Found>
-    requires { IsLongestOf (λ s after. is_number s) text.now size }
+    requires { IsLongestOfForm (λ s after. is_number s) text.now size }
     ensures { FindsToken text.now result }
 {
     let number = Some(Found {
@@ -91,8 +91,8 @@ fn number_token(text: &[u8], size: usize) -> Option<Found>
 
 /// The longest token where neither a word nor a number stands at the front.
 fn sign_token(text: &[u8]) -> Option<Found>
-    requires word { HasNone (λ s after. is_word s) text.now }
-    requires number { HasNone (λ s after. is_number s) text.now }
+    requires word { HasNoneOfForm (λ s after. is_word s) text.now }
+    requires number { HasNoneOfForm (λ s after. is_number s) text.now }
     ensures { FindsToken text.now result }
 {
     let [first, ..] = text else {
@@ -151,7 +151,7 @@ pub(crate) fn next_token(
     requires limit { length source.now ≤ source_limit }
     requires within { from.offset ≤ length source.now }
     requires line { from.line ≡ line_at source.now from.offset }
-    ensures { FindsNext source.now from.offset minus result }
+    ensures { FindsNextToken source.now from.offset minus result }
 {
     let start = skip_gap(source, from);
     let text = behind(source, start.offset);

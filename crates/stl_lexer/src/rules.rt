@@ -1,8 +1,8 @@
 ghost use Rattle.std.specs.Prelude.{◌≡◌, ◌<◌, ◌≤◌, ℕ, true, List, length, not, position, IfSome};
 ghost use Rattle.stl_lexer.specs.declared.kinds.TokenKind.{TokenKind};
-ghost use Rattle.stl_lexer.specs.Bytes.{in_source};
+ghost use Rattle.stl_lexer.specs.Bytes.{is_source_byte};
 ghost use Rattle.stl_lexer.specs.Forms.{has_form};
-ghost use Rattle.stl_lexer.specs.Rules.{characters_rule, fault_of, rule_of, rule_without_form};
+ghost use Rattle.stl_lexer.specs.Rules.{characters_rule, fault_of, rule_broken_by_token, rule_without_form};
 
 use crate::bytes::in_source;
 use crate::kinds::{TokenKind, is_plain};
@@ -65,9 +65,9 @@ fn characters_rule(token: &[u8]) -> Option<u16>
 
 /// The rule that a token of this kind breaks by its digits, parts, length or range; `minus` says
 /// that the mark `-` stands before it.
-#[tactic(auto, unfolding(crate::specs::Rules::rule_of))]
+#[tactic(auto, unfolding(crate::specs::Rules::rule_broken_by_token))]
 fn rule_of(kind: TokenKind, token: &[u8], minus: bool) -> Option<u16>
-    ensures { result ≡ rule_of kind token.now minus }
+    ensures { result ≡ rule_broken_by_token kind token.now minus }
 {
     match kind {
         TokenKind::Number => decimal_rule(token, minus),
@@ -82,7 +82,7 @@ fn rule_of(kind: TokenKind, token: &[u8], minus: bool) -> Option<u16>
 /// The place of the first byte that no source holds.
 fn foreign_byte(kind: TokenKind, token: &[u8]) -> Option<usize>
     requires { (after : List ℕ) × (has_form kind token.now after ≡ true) }
-    ensures value { result ≡ position (λ b. not (in_source b)) token.now }
+    ensures value { result ≡ position (λ b. not (is_source_byte b)) token.now }
     ensures within { IfSome result (λ offset. offset < length token.now) }
 {
     if is_plain(kind) {

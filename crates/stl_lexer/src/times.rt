@@ -5,8 +5,8 @@ ghost use Rattle.stl_lexer.specs.TimeLiteral.{
   behind_part,
   behind_underscore,
   is_part,
-  length_of,
-  letters_of,
+  milliseconds_of_unit,
+  letters_of_unit,
   milliseconds,
   part_digits,
   part_letters,
@@ -36,9 +36,9 @@ pub(crate) const UNITS: [TimeUnit; 5] = [
 ];
 
 /// The letters of a unit.
-#[tactic(auto, unfolding(crate::specs::TimeLiteral::letters_of))]
+#[tactic(auto, unfolding(crate::specs::TimeLiteral::letters_of_unit))]
 fn letters_of(unit: TimeUnit) -> &'static [u8]
-    ensures { result.now ≡ letters_of unit }
+    ensures { result.now ≡ letters_of_unit unit }
 {
     match unit {
         TimeUnit::Day => b"D",
@@ -50,9 +50,9 @@ fn letters_of(unit: TimeUnit) -> &'static [u8]
 }
 
 /// The milliseconds of a unit.
-#[tactic(auto, unfolding(crate::specs::TimeLiteral::length_of))]
+#[tactic(auto, unfolding(crate::specs::TimeLiteral::milliseconds_of_unit))]
 fn length_of(unit: TimeUnit) -> u64
-    ensures value { result ≡ length_of unit }
+    ensures value { result ≡ milliseconds_of_unit unit }
     ensures some { 0 < result }
     ensures within { result ≤ 86_400_000 }
 {

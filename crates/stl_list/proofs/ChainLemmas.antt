@@ -4,21 +4,21 @@ use Rattle.std.proofs.lemmas.Bool.Decides.{nat_tests}
 use Rattle.std.proofs.lemmas.List.{append-nil, drop_all, take_all}
 use Rattle.std.proofs.lemmas.List.Edits.{map_over_more}
 use Rattle.std.proofs.lemmas.List.{get_or_default}
-use Rattle.stl_list.specs.Joined.{replaced}
+use Rattle.stl_list.specs.Joined.{replaced_label}
 
 replaced_here : (a label : ℕ) → (b : Bool) → eqb label a ≡ b → cond b a label ≡ label
 replaced_here a label true e = let same : label ≡ a = grind (arith, nat_tests) in sym same
 replaced_here a label false e = refl
 
-replaced_all : (a : ℕ) (labels : List ℕ) → map (replaced a a) labels ≡ labels
+replaced_all : (a : ℕ) (labels : List ℕ) → map (replaced_label a a) labels ≡ labels
 replaced_all a [] = refl
 replaced_all a (label ∷ labels) =
-    ap (λ (l : ℕ). l ∷ map (replaced a a) labels) (replaced_here a label (eqb label a) refl)
+    ap (λ (l : ℕ). l ∷ map (replaced_label a a) labels) (replaced_here a label (eqb label a) refl)
     ∙ ap (λ (ls : List ℕ). label ∷ ls) (replaced_all a labels)
 
 -- a label that gives way to itself stays
-pub replaced_by_itself : (from to : ℕ) (labels : List ℕ) → from ≡ to → map (replaced from to) labels ≡ labels
-replaced_by_itself from to labels same = ap (λ (k : ℕ). map (replaced from k) labels) (sym same) ∙ replaced_all from labels
+pub replaced_by_itself : (from to : ℕ) (labels : List ℕ) → from ≡ to → map (replaced_label from to) labels ≡ labels
+replaced_by_itself from to labels same = ap (λ (k : ℕ). map (replaced_label from k) labels) (sym same) ∙ replaced_all from labels
 
 -- what is mapped in place
 pub mapped_more : {A : Type 0} (f : A → A) (xs ys : List A) (i : ℕ) (d : A) → i < length xs → length ys ≡ length xs

@@ -4,14 +4,14 @@ use Rattle.stl_ast.specs.Outline.{IsOutline}
 use Rattle.stl_ast.specs.declared.blocks.PartKind.{PartKind}
 use Rattle.stl_ast.specs.declared.declarations.Init.{Init}
 use Rattle.stl_types.specs.declared.parameters.Formal.{Formal}
-use Rattle.stl_list.specs.Sections.{bytes_here, declared_in, is_declared_in, plain_declaration}
+use Rattle.stl_list.specs.Sections.{bytes_here, declarations_of_section, is_declared_in, plain_declaration}
 
 -- the parameters of a section stand at level 0
-pub declared_outline : (line : ℕ) (formals : List Formal) (kind : PartKind) → IsOutline 0 (declared_in line formals kind)
+pub declared_outline : (line : ℕ) (formals : List Formal) (kind : PartKind) → IsOutline 0 (declarations_of_section line formals kind)
 declared_outline line [] kind = tt
 declared_outline line (f ∷ fs) kind = by_test (is_declared_in kind f) (declared_outline line fs kind)
   where
-    by_test : (b : Bool) → IsOutline 0 (declared_in line fs kind) → IsOutline 0 (cond b (plain_declaration line f ∷ []) [] ++ declared_in line fs kind)
+    by_test : (b : Bool) → IsOutline 0 (declarations_of_section line fs kind) → IsOutline 0 (cond b (plain_declaration line f ∷ []) [] ++ declarations_of_section line fs kind)
     by_test true more = (omega arith, more)
     by_test false more = more
 

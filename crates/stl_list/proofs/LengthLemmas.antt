@@ -7,16 +7,16 @@ use Rattle.std.proofs.lemmas.List.{length-replicate}
 use Rattle.plc_base.proofs.ListLemmas.{all_append}
 use Rattle.flat_code.specs.Programs.{CodeBlock, Program}
 use Rattle.stl_ast.specs.Outline.{level_behind}
-use Rattle.stl_ast.specs.Statements.{is_empty}
+use Rattle.stl_ast.specs.Statements.{is_empty_statement}
 use Rattle.stl_ast.specs.declared.blocks.Block.{Block}
 use Rattle.stl_ast.specs.declared.blocks.Part.{Part}
 use Rattle.stl_ast.specs.declared.declarations.Declaration.{Declaration}
 use Rattle.stl_ast.specs.declared.statements.Statement.{Statement}
 use Rattle.plc_base.specs.Kinds.{is_data_type}
-use Rattle.stl_codegen.specs.Order.{inserted, sorted}
+use Rattle.stl_codegen.specs.Order.{sorted_insertion, sorted_list}
 use Rattle.stl_codegen.proofs.ProgramLemmas.{all_before}
 use Rattle.stl_lexer.specs.Marks.{mark_text}
-use Rattle.stl_lexer.specs.Pieces.{Piece, spelled}
+use Rattle.stl_lexer.specs.Pieces.{Piece, text_of_pieces}
 use Rattle.stl_lexer.specs.declared.kinds.TokenKind.{TokenKind}
 use Rattle.stl_lexer.specs.declared.kinds.TokenKind.TheVariants as kind
 use Rattle.stl_lexer.specs.declared.marks.Mark.TheVariants as mark_of
@@ -25,56 +25,56 @@ use Rattle.stl_parser.specs.declared.clauses.Clause.TheVariants as clause
 use Rattle.stl_print.specs.Clauses.{clause_pieces, line_of, pieces_from, result_pieces}
 use Rattle.stl_print.specs.Declarations.{array_pieces, behind_type, declaration_pieces, element_pieces}
 use Rattle.stl_print.specs.Gaps.{clause_gap, gap_text, line_behind}
-use Rattle.stl_print.specs.Mnemonics.{Spelling, one, two, spelling, spelling_pieces}
-use Rattle.stl_print.specs.Names.{block_name}
+use Rattle.stl_print.specs.Mnemonics.{Spelling, one, two, mnemonic_spelling, spelling_pieces}
+use Rattle.stl_print.specs.Names.{block_name_pieces}
 use Rattle.stl_print.specs.Operands.{operand_pieces}
-use Rattle.stl_print.specs.Pieces.{mark, token}
+use Rattle.stl_print.specs.Pieces.{mark_piece, token_piece}
 use Rattle.stl_print.specs.Statements.{actuals_pieces, instruction_pieces, labelled_pieces, pieces_by_label, statement_pieces, unlabelled_pieces}
-use Rattle.stl_print.specs.Trees.{begin_clauses, block_clauses, declared_from, end_of, part_clauses, pieces, printed, structure_ends}
+use Rattle.stl_print.specs.Trees.{begin_clauses, block_clauses, declaration_clauses_from, end_of_text, part_clauses, pieces_of_tree, printed_text, structure_ends}
 use Rattle.stl_print.specs.Words.{end_word, head_word, section_word}
 use Rattle.stl_print.specs.declared.gaps.Gap.{Gap}
 use Rattle.stl_print.specs.declared.gaps.Gap.TheVariants as gap
 use Rattle.stl_list.specs.CodeBlocks.{in_lines, line_reached, listed_block, listed_blocks}
 use Rattle.stl_list.specs.DataBlocks.{listed_data_blocks}
 use Rattle.stl_list.specs.Joined.{chains_of}
-use Rattle.stl_list.specs.Lines.{last_line, line_at, line_behind as line_behind_all, stands_before}
+use Rattle.stl_list.specs.Lines.{last_statement_line, line_of_statement, line_behind_statements as line_behind_all, stands_before}
 use Rattle.stl_list.specs.Listing.{listed_source, listed_tree}
 use Rattle.stl_list.specs.Signatures.{Signature, signatures}
 
 -- ---- a clause is as long as the gap before it
 
-spelled_both : (ps qs : List Piece) (end : List ℕ) → length (spelled (ps ++ qs) end) ≡ length (spelled ps []) + length (spelled qs end)
+spelled_both : (ps qs : List Piece) (end : List ℕ) → length (text_of_pieces (ps ++ qs) end) ≡ length (text_of_pieces ps []) + length (text_of_pieces qs end)
 spelled_both [] qs end = omega arith
 spelled_both (p ∷ ps) qs end =
     let more = spelled_both ps qs end in
-    omega (arith, more, length-append p.gap (p.text ++ spelled (ps ++ qs) end), length-append p.text (spelled (ps ++ qs) end), length-append p.gap (p.text ++ spelled ps []), length-append p.text (spelled ps []))
+    omega (arith, more, length-append p.gap (p.text ++ text_of_pieces (ps ++ qs) end), length-append p.text (text_of_pieces (ps ++ qs) end), length-append p.gap (p.text ++ text_of_pieces ps []), length-append p.text (text_of_pieces ps []))
 
 -- the gap before the first of these tokens
-gap_least : (g : Gap) (k : TokenKind) (text : List ℕ) (ps : List Piece) → length (gap_text g) ≤ length (spelled (token g k text ∷ ps) [])
-gap_least g k text ps = omega (arith, length-append (gap_text g) (text ++ spelled ps []))
+gap_least : (g : Gap) (k : TokenKind) (text : List ℕ) (ps : List Piece) → length (gap_text g) ≤ length (text_of_pieces (token_piece g k text ∷ ps) [])
+gap_least g k text ps = omega (arith, length-append (gap_text g) (text ++ text_of_pieces ps []))
 
 -- a clause that is no setting is printed behind its gap, or stands on the line that is reached
 Prints : Clause → Type 0
 Prints (clause.Sets s) = ⊥
 Prints _ = Unit {0}
 
-gap_of_spelling : (g : Gap) (s : Spelling) (ps : List Piece) → length (gap_text g) ≤ length (spelled (spelling_pieces g s ++ ps) [])
+gap_of_spelling : (g : Gap) (s : Spelling) (ps : List Piece) → length (gap_text g) ≤ length (text_of_pieces (spelling_pieces g s ++ ps) [])
 gap_of_spelling g (one k text) ps = gap_least g k text ps
-gap_of_spelling g (two k text j behind) ps = gap_least g k text (token gap.Nothing j behind ∷ ps)
+gap_of_spelling g (two k text j behind) ps = gap_least g k text (token_piece gap.Nothing j behind ∷ ps)
 
-gap_of_unlabelled : (g : Gap) (s : Statement) (empty : Bool) → length (gap_text g) ≤ length (spelled (cond empty (mark g mark_of.Semicolon ∷ []) (instruction_pieces g s)) [])
+gap_of_unlabelled : (g : Gap) (s : Statement) (empty : Bool) → length (gap_text g) ≤ length (text_of_pieces (cond empty (mark_piece g mark_of.Semicolon ∷ []) (instruction_pieces g s)) [])
 unfolding instruction_pieces
 gap_of_unlabelled g s true = gap_least g kind.Mark (mark_text mark_of.Semicolon) []
 gap_of_unlabelled g s false =
-    gap_of_spelling g (spelling s.code) (operand_pieces gap.Blank s.operand ++ (actuals_pieces s.actuals ++ mark gap.Nothing mark_of.Semicolon ∷ []))
+    gap_of_spelling g (mnemonic_spelling s.code) (operand_pieces gap.Blank s.operand ++ (actuals_pieces s.actuals ++ mark_piece gap.Nothing mark_of.Semicolon ∷ []))
 
-gap_of_statement : (g : Gap) (s : Statement) → length (gap_text g) ≤ length (spelled (statement_pieces g s) [])
+gap_of_statement : (g : Gap) (s : Statement) → length (gap_text g) ≤ length (text_of_pieces (statement_pieces g s) [])
 unfolding statement_pieces unlabelled_pieces
 gap_of_statement g s = by_label s.label
   where
-    by_label : (label : Option (List ℕ)) → length (gap_text g) ≤ length (spelled (pieces_by_label g label s) [])
-    by_label None = gap_of_unlabelled g s (is_empty s.code)
-    by_label (Some name) = gap_least g kind.Word name (mark gap.Nothing mark_of.Colon ∷ labelled_pieces s)
+    by_label : (label : Option (List ℕ)) → length (gap_text g) ≤ length (text_of_pieces (pieces_by_label g label s) [])
+    by_label None = gap_of_unlabelled g s (is_empty_statement s.code)
+    by_label (Some name) = gap_least g kind.Word name (mark_piece gap.Nothing mark_of.Colon ∷ labelled_pieces s)
 
 -- the line behind a clause is reached by the line before it and the ends of lines in its gap
 gap_reaches : (reached line : ℕ) → line_behind reached line ≤ max 1 reached + length (gap_text (clause_gap reached line))
@@ -91,17 +91,17 @@ unfolding line_behind
 stays reached n = omega arith
 
 -- a clause whose first token is known reaches its line
-at_line : (reached line : ℕ) (k : TokenKind) (text : List ℕ) (ps : List Piece) → line_behind reached line ≤ max 1 reached + length (spelled (token (clause_gap reached line) k text ∷ ps) [])
+at_line : (reached line : ℕ) (k : TokenKind) (text : List ℕ) (ps : List Piece) → line_behind reached line ≤ max 1 reached + length (text_of_pieces (token_piece (clause_gap reached line) k text ∷ ps) [])
 at_line reached line k text ps = omega (arith, gap_reaches reached line, gap_least (clause_gap reached line) k text ps)
 
-clause_reaches : (reached : ℕ) (c : Clause) → Prints c → line_behind reached (line_of c) ≤ max 1 reached + length (spelled (clause_pieces (clause_gap reached (line_of c)) c) [])
+clause_reaches : (reached : ℕ) (c : Clause) → Prints c → line_behind reached (line_of c) ≤ max 1 reached + length (text_of_pieces (clause_pieces (clause_gap reached (line_of c)) c) [])
 unfolding Prints clause_pieces line_of declaration_pieces
-clause_reaches reached (clause.Head line k name result) h = at_line reached line kind.Word (head_word k) (block_name gap.Blank name ++ result_pieces k result)
+clause_reaches reached (clause.Head line k name result) h = at_line reached line kind.Word (head_word k) (block_name_pieces gap.Blank name ++ result_pieces k result)
 clause_reaches reached (clause.Ends line k) h = at_line reached line kind.Word (end_word k) []
 clause_reaches reached (clause.Section line p) h = at_line reached line kind.Word (section_word p) []
 clause_reaches reached (clause.Declares d) h =
     at_line reached d.line kind.Word d.name
-    (mark gap.Blank mark_of.Colon ∷ (flat_map array_pieces d.of.arrays ++ (element_pieces gap.Blank d.of.of ++ behind_type d.of.of d.init)))
+    (mark_piece gap.Blank mark_of.Colon ∷ (flat_map array_pieces d.of.arrays ++ (element_pieces gap.Blank d.of.of ++ behind_type d.of.of d.init)))
 clause_reaches reached (clause.Runs s) h = omega (arith, gap_reaches reached s.line, gap_of_statement (clause_gap reached s.line) s)
 clause_reaches reached (clause.Sets s) h = absurd h
 clause_reaches reached clause.EndSection h = stays reached _
@@ -134,7 +134,7 @@ unfolding line_from
 never_falls reached [] = omega arith
 never_falls reached (c ∷ cs) = omega (arith, (behind_1 reached (line_of c)).1, never_falls (line_behind reached (line_of c)) cs)
 
-pieces_reach : (reached : ℕ) (cs : List Clause) → AllByRecursion Prints cs → line_from reached cs ≤ max 1 reached + length (spelled (pieces_from reached cs) [])
+pieces_reach : (reached : ℕ) (cs : List Clause) → AllByRecursion Prints cs → line_from reached cs ≤ max 1 reached + length (text_of_pieces (pieces_from reached cs) [])
 unfolding line_from
 pieces_reach reached [] h = omega arith
 pieces_reach reached (c ∷ cs) h =
@@ -158,11 +158,11 @@ unfolding Prints
 ends_print zero = tt
 ends_print (suc n) = (tt, ends_print n)
 
-declared_print : (level : ℕ) (ds : List Declaration) → AllByRecursion Prints (declared_from level ds)
+declared_print : (level : ℕ) (ds : List Declaration) → AllByRecursion Prints (declaration_clauses_from level ds)
 unfolding Prints
 declared_print level [] = ends_print level
 declared_print level (d ∷ ds) =
-    all_append Prints (structure_ends (level - d.level)) (clause.Declares d ∷ declared_from (level_behind d.level d.of.of) ds)
+    all_append Prints (structure_ends (level - d.level)) (clause.Declares d ∷ declaration_clauses_from (level_behind d.level d.of.of) ds)
     (ends_print (level - d.level)) (tt, declared_print (level_behind d.level d.of.of) ds)
 
 parts_print : (ps : List Part) → AllByRecursion Prints (flat_map part_clauses ps)
@@ -170,7 +170,7 @@ unfolding Prints part_clauses
 parts_print [] = tt
 parts_print (p ∷ ps) =
     all_append Prints (part_clauses p) (flat_map part_clauses ps)
-    (tt, all_append Prints (declared_from 0 p.items) (clause.EndSection ∷ []) (declared_print 0 p.items) (tt, tt))
+    (tt, all_append Prints (declaration_clauses_from 0 p.items) (clause.EndSection ∷ []) (declared_print 0 p.items) (tt, tt))
     (parts_print ps)
 
 runs_print : (ss : List Statement) (line : ℕ) (b : Block) → AllByRecursion Prints (map clause.Runs ss ++ clause.Ends line b.kind ∷ [])
@@ -237,7 +237,7 @@ not_below : (reached : ℕ) (lines : List ℕ) → reached ≤ fold max reached 
 not_below reached [] = omega arith
 not_below reached (line ∷ lines) = let more = not_below (max reached line) lines in omega (arith, more)
 
-line_below : (reached : ℕ) (lines : List ℕ) (n : ℕ) → line_at lines n ≤ fold max reached lines
+line_below : (reached : ℕ) (lines : List ℕ) (n : ℕ) → line_of_statement lines n ≤ fold max reached lines
 line_below reached [] n = omega arith
 line_below reached (line ∷ lines) zero = let more = not_below (max reached line) lines in omega (arith, more)
 line_below reached (line ∷ lines) (suc n) = line_below (max reached line) lines n
@@ -249,42 +249,42 @@ reached_above reached (b ∷ bs) =
     let more = reached_above (line_behind_all reached b.lines) bs in
     omega (arith, here, more)
 
-all_reached : (reached : ℕ) (bs : List CodeBlock) → AllByRecursion (λ b. last_line b ≤ line_reached reached bs) bs
+all_reached : (reached : ℕ) (bs : List CodeBlock) → AllByRecursion (λ b. last_statement_line b ≤ line_reached reached bs) bs
 all_reached reached [] = tt
 all_reached reached (b ∷ bs) =
     let next = line_behind_all reached b.lines in
     (omega (arith, line_below reached b.lines (length b.lines - 1), reached_above next bs), all_reached next bs)
 
-past_some : (most n : ℕ) (bs : List CodeBlock) → AllByRecursion (λ b. last_line b ≤ n) bs → list_any (λ b. ltb most (last_line b)) bs ≡ true → (most < n) × (0 < length bs)
+past_some : (most n : ℕ) (bs : List CodeBlock) → AllByRecursion (λ b. last_statement_line b ≤ n) bs → list_any (λ b. ltb most (last_statement_line b)) bs ≡ true → (most < n) × (0 < length bs)
 past_some most n [] all h = absurd cc
-past_some most n (b ∷ bs) all h = (by_test (ltb most (last_line b)) refl (λ f. (past_some most n bs all.1 f).0) h, omega arith)
+past_some most n (b ∷ bs) all h = (by_test (ltb most (last_statement_line b)) refl (λ f. (past_some most n bs all.1 f).0) h, omega arith)
   where
-    by_test : (t : Bool) → ltb most (last_line b) ≡ t → (list_any (λ b. ltb most (last_line b)) bs ≡ true → most < n) → (t || list_any (λ b. ltb most (last_line b)) bs) ≡ true → most < n
-    by_test true e more f = let less : most < last_line b = grind (arith, nat_tests) in omega (arith, less, all.0)
+    by_test : (t : Bool) → ltb most (last_statement_line b) ≡ t → (list_any (λ b. ltb most (last_statement_line b)) bs ≡ true → most < n) → (t || list_any (λ b. ltb most (last_statement_line b)) bs) ≡ true → most < n
+    by_test true e more f = let less : most < last_statement_line b = grind (arith, nat_tests) in omega (arith, less, all.0)
     by_test false e more f = more f
 
-inserted_some : {A : Type 0} (before : A → A → Bool) (x : A) (ys : List A) → 0 < length (inserted before x ys)
+inserted_some : {A : Type 0} (before : A → A → Bool) (x : A) (ys : List A) → 0 < length (sorted_insertion before x ys)
 inserted_some before x [] = omega arith
 inserted_some before x (y ∷ ys) = by_test (before y x)
   where
-    by_test : (t : Bool) → 0 < length (cond t (y ∷ inserted before x ys) (x ∷ y ∷ ys))
+    by_test : (t : Bool) → 0 < length (cond t (y ∷ sorted_insertion before x ys) (x ∷ y ∷ ys))
     by_test true = omega arith
     by_test false = omega arith
 
-sorted_some : {A : Type 0} (before : A → A → Bool) (xs : List A) → 0 < length xs → 0 < length (sorted before xs)
-unfolding sorted
+sorted_some : {A : Type 0} (before : A → A → Bool) (xs : List A) → 0 < length xs → 0 < length (sorted_list before xs)
+unfolding sorted_list
 sorted_some before [] h = absurd (omega arith)
-sorted_some before (x ∷ xs) h = inserted_some before x (sorted before xs)
+sorted_some before (x ∷ xs) h = inserted_some before x (sorted_list before xs)
 
 -- ---- the text
 
-end_below : (ps : List Piece) (end : List ℕ) → length end ≤ length (spelled ps end)
+end_below : (ps : List Piece) (end : List ℕ) → length end ≤ length (text_of_pieces ps end)
 end_below [] end = omega arith
 end_below (p ∷ ps) end =
     let more = end_below ps end in
-    omega (arith, more, length-append p.gap (p.text ++ spelled ps end), length-append p.text (spelled ps end))
+    omega (arith, more, length-append p.gap (p.text ++ text_of_pieces ps end), length-append p.text (text_of_pieces ps end))
 
-line_end : (ss : List Signature) (reached : ℕ) (bs : List CodeBlock) (others : List Block) → 0 < length bs → length (end_of (listed_blocks ss reached bs ++ others)) ≡ 1
+line_end : (ss : List Signature) (reached : ℕ) (bs : List CodeBlock) (others : List Block) → 0 < length bs → length (end_of_text (listed_blocks ss reached bs ++ others)) ≡ 1
 line_end ss reached [] others h = absurd (omega arith)
 line_end ss reached (b ∷ bs) others h = refl
 
@@ -295,18 +295,18 @@ clauses_both (b ∷ bs) cs =
     ∙ sym (append_assoc (block_clauses b) (flat_map block_clauses bs) (flat_map block_clauses cs))
 
 -- where a line of a code block is past so many bytes, the text of the source is longer
-pub past_lines : (p : Program) (most : ℕ) → list_any (λ b. ltb most (last_line b)) p.code_blocks ≡ true → most < length (listed_source p)
-unfolding listed_tree printed pieces in_lines
+pub past_lines : (p : Program) (most : ℕ) → list_any (λ b. ltb most (last_statement_line b)) p.code_blocks ≡ true → most < length (listed_source p)
+unfolding listed_tree printed_text pieces_of_tree in_lines
 past_lines p most h =
     let ss = signatures (chains_of p.code_blocks) p.code_blocks in
-    let bs = sorted stands_before p.code_blocks in
+    let bs = sorted_list stands_before p.code_blocks in
     let n = line_reached 1 bs in
-    let past = past_some most n p.code_blocks (all_before (λ b. last_line b ≤ n) stands_before p.code_blocks (all_reached 1 bs)) h in
+    let past = past_some most n p.code_blocks (all_before (λ b. last_statement_line b ≤ n) stands_before p.code_blocks (all_reached 1 bs)) h in
     let code = listed_blocks ss 1 bs in
     let own = listed_data_blocks ss n p.data_blocks in
     let cs = flat_map block_clauses code in
     let ds = flat_map block_clauses own in
-    let end = end_of (code ++ own) in
+    let end = end_of_text (code ++ own) in
     let reach = listed_all_reach ss 0 1 bs (omega arith) in
     let bytes = pieces_reach 0 cs (listed_all_print ss 1 bs) in
     let one = line_end ss 1 bs own (sorted_some stands_before p.code_blocks past.1) in

@@ -9,14 +9,14 @@ use Rattle.std.proofs.lemmas.Bool.Decides.{nat_tests}
 use Rattle.std.proofs.lemmas.List.{append-nil, drop_more}
 use Rattle.std.proofs.lemmas.List.Sorted.{searched}
 use Rattle.std.proofs.lemmas.Map.Keys.{below_from_sorted}
-use Rattle.flat_code.specs.Codes.{code_bytes, size}
+use Rattle.flat_code.specs.Codes.{code_bytes, size_of_op}
 use Rattle.flat_code.specs.Ops.{OpData, op_bytes}
-use Rattle.stl_list.specs.Runs.{number_at, runs_from, start_here, starts, starts_from}
+use Rattle.stl_list.specs.Runs.{number_at, runs_from, start_here, statement_starts, starts_from}
 
 -- ---- they rise
 
-size_above : (op : OpData) → 0 < size op
-unfolding size op_bytes
+size_above : (op : OpData) → 0 < size_of_op op
+unfolding size_of_op op_bytes
 size_above op = omega arith
 
 -- all of them are at a place or past it
@@ -32,8 +32,8 @@ from_later at next (s ∷ ss) le h = (omega (arith, h.0), from_later at next ss 
 are_from : (at : ℕ) (begins : Bool) (ops : List OpData) → AreFrom at (starts_from at begins ops)
 unfolding AreFrom
 are_from at begins [] = tt
-are_from at true (op ∷ ops) = (omega arith, from_later at (at + size op) (starts_from (at + size op) op.last ops) (omega arith) (are_from (at + size op) op.last ops))
-are_from at false (op ∷ ops) = from_later at (at + size op) (starts_from (at + size op) op.last ops) (omega arith) (are_from (at + size op) op.last ops)
+are_from at true (op ∷ ops) = (omega arith, from_later at (at + size_of_op op) (starts_from (at + size_of_op op) op.last ops) (omega arith) (are_from (at + size_of_op op) op.last ops))
+are_from at false (op ∷ ops) = from_later at (at + size_of_op op) (starts_from (at + size_of_op op) op.last ops) (omega arith) (are_from (at + size_of_op op) op.last ops)
 
 less_from : (at next : ℕ) (ss : List ℕ) → at < next → AreFrom next ss → AllByRecursion (λ y. nat_cmp at y ≡ Less) ss
 unfolding AreFrom
@@ -47,13 +47,13 @@ unfolding IsStrictlySortedBy
 rise_from at begins [] = tt
 rise_from at true (op ∷ ops) =
     let above = size_above op in (
-      less_from at (at + size op) (starts_from (at + size op) op.last ops) (omega arith) (are_from (at + size op) op.last ops),
-      rise_from (at + size op) op.last ops,
+      less_from at (at + size_of_op op) (starts_from (at + size_of_op op) op.last ops) (omega arith) (are_from (at + size_of_op op) op.last ops),
+      rise_from (at + size_of_op op) op.last ops,
     )
-rise_from at false (op ∷ ops) = rise_from (at + size op) op.last ops
+rise_from at false (op ∷ ops) = rise_from (at + size_of_op op) op.last ops
 
-pub starts_rise : (ops : List OpData) → IsStrictlySortedBy nat_cmp (starts ops)
-unfolding starts
+pub starts_rise : (ops : List OpData) → IsStrictlySortedBy nat_cmp (statement_starts ops)
+unfolding statement_starts
 starts_rise ops = rise_from 0 true ops
 
 -- ---- they are found
@@ -107,24 +107,24 @@ found_nowhere starts x i rise h =
 
 -- those that were noted, and those of the ops that are left, are all
 pub record Reaches (noted : List ℕ) (at : ℕ) (begins : Bool) (left ops : List OpData) : Type 0 where
-  pub listed : noted ++ starts_from at begins left ≡ starts ops
+  pub listed : noted ++ starts_from at begins left ≡ statement_starts ops
   pub place : at + length (code_bytes left) ≡ length (code_bytes ops)
 
 pub reaches_none : (noted : List ℕ) (ops : List OpData) → noted ≡ [] → Reaches noted 0 true ops ops
-unfolding starts
+unfolding statement_starts
 reaches_none noted ops is = record { listed = ap (λ (z : List ℕ). z ++ starts_from 0 true ops) is; place = omega arith }
 
 -- the bytes of the ops that are left, behind one op more
-bytes_behind : (at after : ℕ) (op : OpData) (rest : List OpData) (whole : ℕ) → after ≡ at + size op → at + length (code_bytes (op ∷ rest)) ≡ whole → after + length (code_bytes rest) ≡ whole
-unfolding size
+bytes_behind : (at after : ℕ) (op : OpData) (rest : List OpData) (whole : ℕ) → after ≡ at + size_of_op op → at + length (code_bytes (op ∷ rest)) ≡ whole → after + length (code_bytes rest) ≡ whole
+unfolding size_of_op
 bytes_behind at after op rest whole there bytes = omega (arith, there, bytes, length-append (op_bytes op) (code_bytes rest))
 
 -- behind one op more
 pub reaches_next : (noted next : List ℕ) (at after : ℕ) (begins : Bool) (op : OpData) (ops : List OpData) (i : ℕ) → i < length ops → op ≡ get_or ops i op
-    → next ≡ noted ++ start_here at begins → after ≡ at + size op → Reaches noted at begins (drop i ops) ops → Reaches next after op.last (drop (i + 1) ops) ops
+    → next ≡ noted ++ start_here at begins → after ≡ at + size_of_op op → Reaches noted at begins (drop i ops) ops → Reaches next after op.last (drop (i + 1) ops) ops
 reaches_next noted next at after begins op ops i within is more there h =
     let parted : drop i ops ≡ op ∷ drop (i + 1) ops = drop_more ops i op within ∙ ap (λ (y : OpData). y ∷ drop (i + 1) ops) (sym is) in
-    let all = subst (λ (z : List OpData). noted ++ starts_from at begins z ≡ starts ops) parted h.listed in
+    let all = subst (λ (z : List OpData). noted ++ starts_from at begins z ≡ statement_starts ops) parted h.listed in
     let bytes = subst (λ (z : List OpData). at + length (code_bytes z) ≡ length (code_bytes ops)) parted h.place in
     record {
       listed =
@@ -137,14 +137,14 @@ reaches_next noted next at after begins op ops i within is more there h =
 
 -- an op that is left has room
 pub room_left : (noted : List ℕ) (at : ℕ) (begins : Bool) (op : OpData) (ops : List OpData) (i : ℕ) → i < length ops → op ≡ get_or ops i op
-    → Reaches noted at begins (drop i ops) ops → at + size op ≤ length (code_bytes ops)
-unfolding size
+    → Reaches noted at begins (drop i ops) ops → at + size_of_op op ≤ length (code_bytes ops)
+unfolding size_of_op
 room_left noted at begins op ops i within is h =
     let parted : drop i ops ≡ op ∷ drop (i + 1) ops = drop_more ops i op within ∙ ap (λ (y : OpData). y ∷ drop (i + 1) ops) (sym is) in
     let bytes = subst (λ (z : List OpData). at + length (code_bytes z) ≡ length (code_bytes ops)) parted h.place in
     omega (arith, bytes, length-append (op_bytes op) (code_bytes (drop (i + 1) ops)))
 
-pub reaches_end : (noted : List ℕ) (at : ℕ) (begins : Bool) (left ops : List OpData) → left ≡ [] → Reaches noted at begins left ops → noted ≡ starts ops
+pub reaches_end : (noted : List ℕ) (at : ℕ) (begins : Bool) (left ops : List OpData) → left ≡ [] → Reaches noted at begins left ops → noted ≡ statement_starts ops
 reaches_end noted at begins left ops over h =
     sym (append-nil noted) ∙ sym (ap (λ (z : List OpData). noted ++ starts_from at begins z) over) ∙ h.listed
 

@@ -32,14 +32,14 @@ passed_operand formals f (passed.InBlock number a width byte bit) =
     direct_operand (Some number) (is_written f.section) a width byte bit
 
 -- the actual parameter for one that the called block has
-abbrev pub actual : (line : ℕ) → List Formal → Formal → Passed → Actual
-actual line formals f p =
+abbrev pub actual_of_passed : (line : ℕ) → List Formal → Formal → Passed → Actual
+actual_of_passed line formals f p =
     record { line = line; name = f.name; value = passed_operand formals f p }
 
 -- what is passed for a parameter that the called block lacks is left out
 abbrev pub actual_for : (line : ℕ) → List Formal → Option Formal → Passed → List Actual
 actual_for line formals None p = []
-actual_for line formals (Some f) p = actual line formals f p ∷ []
+actual_for line formals (Some f) p = actual_of_passed line formals f p ∷ []
 
 -- the actual parameter that an op before the call passes
 abbrev pub actual_here : (line : ℕ) → (formals called : List Formal) → FlatOperand → List Actual

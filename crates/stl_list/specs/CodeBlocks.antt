@@ -6,11 +6,11 @@ use Rattle.stl_ast.specs.declared.blocks.Block.{Block}
 use Rattle.stl_ast.specs.declared.declarations.Simple.{Simple}
 use Rattle.stl_ast.specs.declared.names.BlockName.TheVariants as block
 use Rattle.stl_types.specs.declared.parameters.Formal.{Formal}
-use Rattle.stl_codegen.specs.Order.{sorted}
-use Rattle.stl_list.specs.Sections.{sections}
-use Rattle.stl_list.specs.Lines.{first_line, line_behind, lines_from, stands_before}
+use Rattle.stl_codegen.specs.Order.{sorted_list}
+use Rattle.stl_list.specs.Sections.{section_parts}
+use Rattle.stl_list.specs.Lines.{first_statement_line, line_behind_statements, lines_from, stands_before}
 use Rattle.stl_list.specs.Parameters.{is_return}
-use Rattle.stl_list.specs.Signatures.{Signature, formals_of}
+use Rattle.stl_list.specs.Signatures.{Signature, formals_of_block}
 use Rattle.stl_list.specs.Statements.{body_of}
 
 -- the type of the return value; a function without one is VOID
@@ -21,12 +21,12 @@ result_of formals = option_map (λ f. f.kind) (find is_return formals)
 -- END clause on that of its last
 abbrev pub listed_block : List Signature → (reached : ℕ) → CodeBlock → Block
 listed_block signatures reached b = record {
-  line = max reached (first_line b);
-  end_line = line_behind reached b.lines;
+  line = max reached (first_statement_line b);
+  end_line = line_behind_statements reached b.lines;
   kind = b.id.kind;
   name = block.Number b.id;
-  result = result_of (formals_of signatures b.id);
-  parts = sections (max reached (first_line b)) (formals_of signatures b.id) b;
+  result = result_of (formals_of_block signatures b.id);
+  parts = section_parts (max reached (first_statement_line b)) (formals_of_block signatures b.id) b;
   shape = None;
   components = [];
   instance_of = None;
@@ -39,13 +39,13 @@ abbrev pub listed_blocks : List Signature → (reached : ℕ) → List CodeBlock
 listed_blocks signatures reached [] = []
 listed_blocks signatures reached (b ∷ bs) =
     listed_block signatures reached b
-    ∷ listed_blocks signatures (line_behind reached b.lines) bs
+    ∷ listed_blocks signatures (line_behind_statements reached b.lines) bs
 
 -- the line that they reach
 abbrev pub line_reached : (reached : ℕ) → List CodeBlock → ℕ
 line_reached reached [] = reached
-line_reached reached (b ∷ bs) = line_reached (line_behind reached b.lines) bs
+line_reached reached (b ∷ bs) = line_reached (line_behind_statements reached b.lines) bs
 
 -- code blocks in the order in which a listing has them
 unfoldable pub in_lines : List CodeBlock → List CodeBlock
-in_lines blocks = sorted stands_before blocks
+in_lines blocks = sorted_list stands_before blocks

@@ -13,17 +13,17 @@ use Rattle.stl_ast.specs.declared.names.BlockName.{BlockName}
 use Rattle.stl_ast.specs.declared.names.BlockName.TheVariants as block
 use Rattle.stl_list.specs.Sections.{bytes_here, data_name}
 use Rattle.stl_list.specs.Initial.{settings_of, values_of}
-use Rattle.stl_list.specs.Operands.{data_block_name}
+use Rattle.stl_list.specs.Operands.{name_of_data_block}
 use Rattle.stl_list.specs.Signatures.{Signature}
 
 -- a data block on a line: a structure with its components, or an instance with its settings
-abbrev pub data_block : (line number : ℕ) → Option TypeTree → List Declaration → Option BlockName
+abbrev pub data_block_tree : (line number : ℕ) → Option TypeTree → List Declaration → Option BlockName
     → List Setting → Block
-data_block line number shape components instance_of settings = record {
+data_block_tree line number shape components instance_of settings = record {
   line = line;
   end_line = line;
   kind = kinds.Db;
-  name = data_block_name number;
+  name = name_of_data_block number;
   result = None;
   parts = [];
   shape = shape;
@@ -34,8 +34,8 @@ data_block line number shape components instance_of settings = record {
 }
 
 -- STRUCT
-abbrev pub structure : TypeTree
-structure = record { arrays = []; of = element.Structure }
+abbrev pub structure_type : TypeTree
+structure_type = record { arrays = []; of = element.Structure }
 
 -- the function block of a number
 abbrev pub function_block : ℕ → BlockId
@@ -53,10 +53,10 @@ instance_signature signatures number = find (λ s. is_same_block s.id (function_
 -- a data block of its own, or an instance
 abbrev pub listed_data : List Signature → (line number : ℕ) → (bytes : List ℕ) → Option ℕ → Block
 listed_data signatures line number bytes None =
-    data_block line number (Some structure)
+    data_block_tree line number (Some structure_type)
     (bytes_here line data_name (length bytes) (values_of bytes)) None []
 listed_data signatures line number bytes (Some of) =
-    data_block line number None [] (Some (block.Number (function_block of)))
+    data_block_tree line number None [] (Some (block.Number (function_block of)))
     (known_settings line bytes (instance_signature signatures of))
 
 -- the data blocks, which all stand on one line

@@ -17,18 +17,18 @@ use Rattle.stl_list.specs.Signatures.{Signature}
 -- ---- a data block of its own
 
 -- `value`, or `count (value)` of several
-abbrev pub init : (value count : ℕ) → Init
-init value count = record {
+abbrev pub initial_run : (value count : ℕ) → Init
+initial_run value count = record {
   count = if count == 1 then None else Some count;
   value = literal.Byte value;
 }
 
 -- bytes behind so many equal ones: each longest run is one initial value, of at most 65,535 bytes
 abbrev pub inits_from : (value count : ℕ) → List ℕ → List Init
-inits_from value count [] = init value count ∷ []
+inits_from value count [] = initial_run value count ∷ []
 inits_from value count (b ∷ bs) =
     if b == value && nat_lt count 65535 then inits_from value (suc count) bs
-    else init value count ∷ inits_from b 1 bs
+    else initial_run value count ∷ inits_from b 1 bs
 
 -- the runs of bytes
 abbrev pub inits_of : List ℕ → List Init
@@ -46,15 +46,15 @@ abbrev pub byte_at : List ℕ → ℕ → ℕ
 byte_at bytes at = unwrap_or (slice_get bytes at) 0
 
 -- the word at a place, the higher byte first
-abbrev pub word_at : List ℕ → ℕ → ℕ
-word_at bytes at = 256 * byte_at bytes at + byte_at bytes (at + 1)
+abbrev pub word_in_bytes : List ℕ → ℕ → ℕ
+word_in_bytes bytes at = 256 * byte_at bytes at + byte_at bytes (at + 1)
 
 -- the bits of a parameter in an instance
 abbrev pub value_in : List ℕ → Width → (byte bit : ℕ) → ℕ
 value_in bytes width.Bit byte bit = byte_at bytes byte / 2 ^ (bit % 8) % 2
 value_in bytes width.Byte byte bit = byte_at bytes byte
-value_in bytes width.Word byte bit = word_at bytes byte
-value_in bytes width.Dword byte bit = 65536 * word_at bytes byte + word_at bytes (byte + 2)
+value_in bytes width.Word byte bit = word_in_bytes bytes byte
+value_in bytes width.Dword byte bit = 65536 * word_in_bytes bytes byte + word_in_bytes bytes (byte + 2)
 
 -- `name := value;`
 abbrev pub parameter_setting : (line : ℕ) → Formal → (bits : ℕ) → Setting

@@ -21,7 +21,7 @@ use Rattle.stl_types.specs.Parameters.{system_formals}
 use Rattle.stl_types.specs.declared.parameters.Formal.{Formal}
 use Rattle.stl_list.specs.declared.links.Link.{Link}
 use Rattle.stl_list.specs.declared.links.Link.TheVariants.{Joins, Has}
-use Rattle.stl_list.specs.Parameters.{plain_kind}
+use Rattle.stl_list.specs.Parameters.{kind_of_width}
 use Rattle.stl_list.specs.Runs.{Run, runs}
 
 -- ---- blocks that are called
@@ -112,41 +112,41 @@ unfoldable pub links : List CodeBlock → List Link
 links blocks = links_from blocks 0 blocks
 
 -- how many parameters blocks have
-abbrev pub parameter_count : List CodeBlock → ℕ
-parameter_count [] = 0
-parameter_count (b ∷ bs) = length b.params + parameter_count bs
+abbrev pub total_parameter_count : List CodeBlock → ℕ
+total_parameter_count [] = 0
+total_parameter_count (b ∷ bs) = length b.params + total_parameter_count bs
 
 -- ---- chains
 
 -- a label, if it is this one, gives way to another
-abbrev pub replaced : (from to label : ℕ) → ℕ
-replaced from to label = if label == from then to else label
+abbrev pub replaced_label : (from to label : ℕ) → ℕ
+replaced_label from to label = if label == from then to else label
 
 -- all that have one label get another
-abbrev pub relabelled : Option ℕ → Option ℕ → List ℕ → List ℕ
-relabelled (Some from) (Some to) labels = map (replaced from to) labels
-relabelled _ _ labels = labels
+abbrev pub merged_labels : Option ℕ → Option ℕ → List ℕ → List ℕ
+merged_labels (Some from) (Some to) labels = map (replaced_label from to) labels
+merged_labels _ _ labels = labels
 
 -- the labels of parameters after a link: two that are joined have the same label, and so have all that
 -- were joined to one of them before
-abbrev pub relinked : List ℕ → Link → List ℕ
-relinked labels (Joins own other) =
-    relabelled (slice_get labels own) (slice_get labels other) labels
-relinked labels (Has own kind) = labels
+abbrev pub labels_after_link : List ℕ → Link → List ℕ
+labels_after_link labels (Joins own other) =
+    merged_labels (slice_get labels own) (slice_get labels other) labels
+labels_after_link labels (Has own kind) = labels
 
 -- parameters that a chain of passings joins have the same label, and no others have
-unfoldable pub labels_of : (count : ℕ) → List Link → List ℕ
-labels_of count links = fold relinked (range_with_len 0 count) links
+unfoldable pub chain_labels : (count : ℕ) → List Link → List ℕ
+chain_labels count links = fold labels_after_link (range_with_len 0 count) links
 
 -- the types that a chain hands on
-abbrev pub is_int : Simple → Bool
-is_int simple.Int = true
-is_int _ = false
+abbrev pub is_int_kind : Simple → Bool
+is_int_kind simple.Int = true
+is_int_kind _ = false
 
 -- TIME
-abbrev pub is_time : Simple → Bool
-is_time simple.Time = true
-is_time _ = false
+abbrev pub is_time_kind : Simple → Bool
+is_time_kind simple.Time = true
+is_time_kind _ = false
 
 -- a label is marked
 abbrev pub set_label : List Bool → Option ℕ → List Bool
@@ -154,15 +154,15 @@ set_label marks None = marks
 set_label marks (Some label) = slice_set marks label true
 
 -- the marks of labels after a link to a parameter of a type that is meant
-abbrev pub marked : (Simple → Bool) → (labels : List ℕ) → List Bool → Link → List Bool
-marked is_meant labels marks (Joins own other) = marks
-marked is_meant labels marks (Has own kind) =
+abbrev pub marks_after_link : (Simple → Bool) → (labels : List ℕ) → List Bool → Link → List Bool
+marks_after_link is_meant labels marks (Joins own other) = marks
+marks_after_link is_meant labels marks (Has own kind) =
     if is_meant kind then set_label marks (slice_get labels own) else marks
 
 -- which labels a chain joins to a type that is meant
 unfoldable pub marks_of : (Simple → Bool) → (labels : List ℕ) → List Link → List Bool
 marks_of is_meant labels links =
-    fold (marked is_meant labels) (replicate (length labels) false) links
+    fold (marks_after_link is_meant labels) (replicate (length labels) false) links
 
 -- ---- types
 
@@ -176,13 +176,13 @@ pub record Chains : Type 0 where
 abbrev pub chains_by : (labels : List ℕ) → List Link → Chains
 chains_by labels links = record {
   labels = labels;
-  ints = marks_of is_int labels links;
-  times = marks_of is_time labels links;
+  ints = marks_of is_int_kind labels links;
+  times = marks_of is_time_kind labels links;
 }
 
 -- the chains of a program
 unfoldable pub chains_of : List CodeBlock → Chains
-chains_of blocks = chains_by (labels_of (parameter_count blocks) (links blocks)) (links blocks)
+chains_of blocks = chains_by (chain_labels (total_parameter_count blocks) (links blocks)) (links blocks)
 
 -- the mark of a label
 abbrev pub mark_at : List Bool → Option ℕ → Bool
@@ -193,7 +193,7 @@ mark_at marks (Some label) = unwrap_or (slice_get marks label) false
 abbrev pub kind_by : (int time : Bool) → Width → Simple
 kind_by true time width = simple.Int
 kind_by false true width = simple.Time
-kind_by false false width = plain_kind width
+kind_by false false width = kind_of_width width
 
 -- the type of the parameter of a number
 unfoldable pub kind_at : Chains → (parameter : ℕ) → Width → Simple

@@ -11,23 +11,23 @@ lines_from reached [] = []
 lines_from reached (line ∷ lines) = max reached line ∷ lines_from (max reached line) lines
 
 -- the line that is reached behind statements on these lines
-abbrev pub line_behind : (reached : ℕ) → List ℕ → ℕ
-line_behind reached lines = fold max reached lines
+abbrev pub line_behind_statements : (reached : ℕ) → List ℕ → ℕ
+line_behind_statements reached lines = fold max reached lines
 
 -- the number in a list at a place; 0 past its end
-abbrev pub line_at : List ℕ → (n : ℕ) → ℕ
-line_at lines n = unwrap_or (slice_get lines n) 0
+abbrev pub line_of_statement : List ℕ → (n : ℕ) → ℕ
+line_of_statement lines n = unwrap_or (slice_get lines n) 0
 
 -- the lines of the first and of the last statement of a block
-abbrev pub first_line : CodeBlock → ℕ
-first_line b = line_at b.lines 0
+abbrev pub first_statement_line : CodeBlock → ℕ
+first_statement_line b = line_of_statement b.lines 0
 
 -- the last one is its END clause
-abbrev pub last_line : CodeBlock → ℕ
-last_line b = line_at b.lines (length b.lines - 1)
+abbrev pub last_statement_line : CodeBlock → ℕ
+last_statement_line b = line_of_statement b.lines (length b.lines - 1)
 
 -- code blocks stand by their first lines, then by their last
 abbrev pub stands_before : CodeBlock → CodeBlock → Bool
 stands_before a b =
-    nat_lt (first_line a) (first_line b)
-    || nat_eq (first_line a) (first_line b) && nat_lt (last_line a) (last_line b)
+    nat_lt (first_statement_line a) (first_statement_line b)
+    || nat_eq (first_statement_line a) (first_statement_line b) && nat_lt (last_statement_line a) (last_statement_line b)

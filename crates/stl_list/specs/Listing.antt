@@ -3,7 +3,7 @@ use Rattle.std.specs.Prelude.{ℕ, List, ◌++◌}
 use Rattle.flat_code.specs.Programs.{CodeBlock, DataBlock, Program}
 use Rattle.stl_ast.specs.declared.blocks.Block.{Block}
 use Rattle.stl_ast.specs.declared.blocks.Tree.{Tree}
-use Rattle.stl_print.specs.Trees.{printed}
+use Rattle.stl_print.specs.Trees.{printed_text}
 use Rattle.stl_list.specs.CodeBlocks.{in_lines, line_reached, listed_blocks}
 use Rattle.stl_list.specs.DataBlocks.{listed_data_blocks}
 use Rattle.stl_list.specs.Joined.{chains_of}
@@ -26,4 +26,4 @@ listed_tree p = record {
 
 -- the text of the source
 abbrev pub listed_source : Program → List ℕ
-listed_source p = printed (listed_tree p)
+listed_source p = printed_text (listed_tree p)

@@ -25,48 +25,48 @@ use Rattle.stl_ast.specs.declared.operands.PathHead.TheVariants as head
 use Rattle.stl_types.specs.declared.parameters.Formal.{Formal}
 use Rattle.stl_list.specs.Constants.{instruction_constant}
 use Rattle.stl_list.specs.Joined.{called_id}
-use Rattle.stl_list.specs.Labels.{label_of}
+use Rattle.stl_list.specs.Labels.{label_of_number}
 use Rattle.stl_list.specs.Parameters.{parameter_name}
 use Rattle.stl_list.specs.Runs.{Run, number_at}
 
 -- the letters of an area; those of peripherals say which way they are used
-abbrev pub letters_of : (writes : Bool) → Area → Letters
-letters_of writes area.I = letters.I
-letters_of writes area.Q = letters.Q
-letters_of writes area.M = letters.M
-letters_of writes area.Db = letters.Db
-letters_of writes area.Di = letters.Di
-letters_of writes area.L = letters.L
-letters_of writes area.P = if writes then letters.Pq else letters.Pi
+abbrev pub letters_for_area : (writes : Bool) → Area → Letters
+letters_for_area writes area.I = letters.I
+letters_for_area writes area.Q = letters.Q
+letters_for_area writes area.M = letters.M
+letters_for_area writes area.Db = letters.Db
+letters_for_area writes area.Di = letters.Di
+letters_for_area writes area.L = letters.L
+letters_for_area writes area.P = if writes then letters.Pq else letters.Pi
 
 -- the letters of an area that isn't peripherals, or that is only read
 abbrev pub read_letters : Area → Letters
-read_letters a = letters_of false a
+read_letters a = letters_for_area false a
 
 -- the instructions that write their operand
-abbrev pub writes : Operation → Bool
-writes operation.Transfer = true
-writes operation.Assign = true
-writes operation.Set = true
-writes operation.Reset = true
-writes (operation.Edge rising) = true
-writes (operation.Pointer pointers.Tar1) = true
-writes (operation.Pointer pointers.Tar2) = true
-writes _ = false
+abbrev pub operation_writes_operand : Operation → Bool
+operation_writes_operand operation.Transfer = true
+operation_writes_operand operation.Assign = true
+operation_writes_operand operation.Set = true
+operation_writes_operand operation.Reset = true
+operation_writes_operand (operation.Edge rising) = true
+operation_writes_operand (operation.Pointer pointers.Tar1) = true
+operation_writes_operand (operation.Pointer pointers.Tar2) = true
+operation_writes_operand _ = false
 
 -- a data block by its number
-abbrev pub data_block_name : ℕ → BlockName
-data_block_name number = block.Number (record { kind = kinds.Db; number = number })
+abbrev pub name_of_data_block : ℕ → BlockName
+name_of_data_block number = block.Number (record { kind = kinds.Db; number = number })
 
 -- the data block that USEDB names, if an op is one
-abbrev pub used_by : FlatOperand → Option ℕ
-used_by (flat.UseDb number) = Some number
-used_by _ = None
+abbrev pub block_of_use_db : FlatOperand → Option ℕ
+block_of_use_db (flat.UseDb number) = Some number
+block_of_use_db _ = None
 
 -- the data block that a statement opens first, which its first op names
-abbrev pub opened_by : List OpData → Option ℕ
-opened_by [] = None
-opened_by (op ∷ ops) = used_by op.operand
+abbrev pub block_opened_by_ops : List OpData → Option ℕ
+block_opened_by_ops [] = None
+block_opened_by_ops (op ∷ ops) = block_of_use_db op.operand
 
 -- the name of the parameter of an index
 abbrev pub name_at : List Formal → ℕ → List ℕ
@@ -97,18 +97,18 @@ abbrev pub numbered_by : (kind : ℕ) → Numbered
 numbered_by kind = if kind == 1 then numbered.Timer else numbered.Counter
 
 -- the register of a data block, 1 DB or 2 DI, whose number stands in memory
-abbrev pub register_of : ℕ → Numbered
-register_of register = if register == 1 then numbered.Db else numbered.Di
+abbrev pub data_block_register : ℕ → Numbered
+data_block_register register = if register == 1 then numbered.Db else numbered.Di
 
 -- 0 is no instance
 abbrev pub instance_name : ℕ → Option BlockName
-instance_name instance = if instance == 0 then None else Some (data_block_name instance)
+instance_name instance = if instance == 0 then None else Some (name_of_data_block instance)
 
 -- a fixed place, in the data block that the statement opens first, if it does
 abbrev pub direct_operand : (opened : Option ℕ) → (writes : Bool) → Area → Width → (byte bit : ℕ)
     → Operand
 direct_operand opened writes a width byte bit =
-    operand.Direct (option_map data_block_name opened) (letters_of writes a) width byte bit
+    operand.Direct (option_map name_of_data_block opened) (letters_for_area writes a) width byte bit
 
 -- a condition of the status word; USEDB and PASS, which only prepare, have no operand
 abbrev pub condition_operand : FlatOperand → Operand
@@ -118,7 +118,7 @@ condition_operand _ = operand.Nothing
 -- the operand of an op that names no parameter, no label and no constant
 unfoldable pub plain_operand : (opened : Option ℕ) → Operation → FlatOperand → Operand
 plain_operand opened o (flat.Direct a width byte bit) =
-    direct_operand opened (writes o) a width byte bit
+    direct_operand opened (operation_writes_operand o) a width byte bit
 plain_operand opened o (flat.ByMemory a width from byte) =
     operand.ByMemory (read_letters a) width (read_letters from) byte
 plain_operand opened o (flat.ByRegister a width register bits) =
@@ -129,9 +129,9 @@ plain_operand opened o (flat.NumberedBy kind from byte) =
 plain_operand opened o (flat.Called kind number instance) =
     operand.Called (block.Number (called_id kind number)) (instance_name instance)
 plain_operand opened o (flat.OpenBlock register number) =
-    operand.OpenBlock (register == 2) (data_block_name number)
+    operand.OpenBlock (register == 2) (name_of_data_block number)
 plain_operand opened o (flat.OpenBy register from byte) =
-    operand.NumberBy (register_of register) (read_letters from) byte
+    operand.NumberBy (data_block_register register) (read_letters from) byte
 plain_operand opened o other = condition_operand other
 
 -- the operand of an op. `formals` are the parameters of its block, `starts` the offsets of the
@@ -142,10 +142,10 @@ operand_by formals starts opened o flat.Nothing = implied_operand o
 operand_by formals starts opened o (flat.Literal value) = instruction_constant o value
 operand_by formals starts opened o (flat.Parameter index width) = own_parameter formals index
 operand_by formals starts opened o (flat.Jump kind target) =
-    operand.Label (label_of (number_at starts target))
+    operand.Label (label_of_number (number_at starts target))
 operand_by formals starts opened o other = plain_operand opened o other
 
 -- the operand of a statement
-abbrev pub operand_of : List Formal → (starts : List ℕ) → Run → Operand
-operand_of formals starts r =
-    operand_by formals starts (opened_by r.before) (operation_of r.op.code) r.op.operand
+abbrev pub operand_of_run : List Formal → (starts : List ℕ) → Run → Operand
+operand_of_run formals starts r =
+    operand_by formals starts (block_opened_by_ops r.before) (operation_of r.op.code) r.op.operand

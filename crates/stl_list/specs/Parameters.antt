@@ -23,11 +23,11 @@ abbrev pub is_return : Formal → Bool
 is_return f = bytes_eq f.name return_name
 
 -- the type that a width has by itself
-abbrev pub plain_kind : Width → Simple
-plain_kind width.Bit = simple.Bool
-plain_kind width.Byte = simple.Byte
-plain_kind width.Word = simple.Word
-plain_kind width.Dword = simple.Dword
+abbrev pub kind_of_width : Width → Simple
+kind_of_width width.Bit = simple.Bool
+kind_of_width width.Byte = simple.Byte
+kind_of_width width.Word = simple.Word
+kind_of_width width.Dword = simple.Dword
 
 -- the section by its number in an image: 1 IN, 2 OUT, 3 IN_OUT
 abbrev pub section_of : ℕ → PartKind

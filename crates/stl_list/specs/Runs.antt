@@ -1,7 +1,7 @@
 -- The statements of a code block: its ops up to each end mark.
 use Rattle.std.specs.Prelude.{ℕ, ◌+◌, ◌==◌, Bool, true, false, List, [], ◌∷◌, ◌++◌, length, replicate, if◌then◌else◌, slice_set}
 use Rattle.std.specs.List.{fold, position_or_len}
-use Rattle.flat_code.specs.Codes.{size}
+use Rattle.flat_code.specs.Codes.{size_of_op}
 use Rattle.flat_code.specs.Ops.{OpData}
 use Rattle.flat_code.specs.declared.operands.Operand.{Operand}
 use Rattle.flat_code.specs.declared.operands.Operand.TheVariants as flat
@@ -30,22 +30,22 @@ start_here at begins = if begins then at ∷ [] else []
 -- with the first of them
 abbrev pub starts_from : (at : ℕ) → (begins : Bool) → List OpData → List ℕ
 starts_from at begins [] = []
-starts_from at begins (op ∷ ops) = start_here at begins ++ starts_from (at + size op) op.last ops
+starts_from at begins (op ∷ ops) = start_here at begins ++ starts_from (at + size_of_op op) op.last ops
 
 -- the offsets at which the statements of a block begin
-unfoldable pub starts : List OpData → List ℕ
-starts ops = starts_from 0 true ops
+unfoldable pub statement_starts : List OpData → List ℕ
+statement_starts ops = starts_from 0 true ops
 
 -- the number of the statement that begins at an offset, from 0; where none does, how many there are
 unfoldable pub number_at : (starts : List ℕ) → (offset : ℕ) → ℕ
 number_at starts offset = position_or_len (λ start. start == offset) starts
 
 -- the statement at which an op goes on is marked, if it is a jump
-abbrev pub marked_by : (starts : List ℕ) → List Bool → Operand → List Bool
-marked_by starts marks (flat.Jump kind target) = slice_set marks (number_at starts target) true
-marked_by starts marks _ = marks
+abbrev pub marks_with_target : (starts : List ℕ) → List Bool → Operand → List Bool
+marks_with_target starts marks (flat.Jump kind target) = slice_set marks (number_at starts target) true
+marks_with_target starts marks _ = marks
 
 -- of each statement whether a jump leads to it
-unfoldable pub targets : (starts : List ℕ) → List OpData → List Bool
-targets starts ops =
-    fold (λ marks op. marked_by starts marks op.operand) (replicate (length starts) false) ops
+unfoldable pub target_marks : (starts : List ℕ) → List OpData → List Bool
+target_marks starts ops =
+    fold (λ marks op. marks_with_target starts marks op.operand) (replicate (length starts) false) ops

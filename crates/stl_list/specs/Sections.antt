@@ -54,12 +54,12 @@ declared_here line kind f =
     if is_declared_in kind f then plain_declaration line f ∷ [] else []
 
 -- the parameters of a section
-abbrev pub declared_in : (line : ℕ) → List Formal → PartKind → List Declaration
-declared_in line formals kind = flat_map (declared_here line kind) formals
+abbrev pub declarations_of_section : (line : ℕ) → List Formal → PartKind → List Declaration
+declarations_of_section line formals kind = flat_map (declared_here line kind) formals
 
 -- a section; one without content is left out
-abbrev pub section : (line : ℕ) → PartKind → List Declaration → List Part
-section line kind items =
+abbrev pub section_part : (line : ℕ) → PartKind → List Declaration → List Part
+section_part line kind items =
     if length items == 0 then [] else record { line = line; kind = kind; items = items } ∷ []
 
 -- the first even byte at or past the end of a parameter
@@ -95,10 +95,10 @@ abbrev pub static_bytes : CodeBlock → ℕ
 static_bytes b = if is_function_block b.id.kind then static_len b.instance_len b.params else 0
 
 -- the sections of a code block with these parameters
-unfoldable pub sections : (line : ℕ) → List Formal → CodeBlock → List Part
-sections line formals b =
-    section line part.Input (declared_in line formals part.Input)
-    ++ section line part.Output (declared_in line formals part.Output)
-    ++ section line part.InOut (declared_in line formals part.InOut)
-    ++ section line part.Static (bytes_here line static_name (static_bytes b) [])
-    ++ section line part.Temp (bytes_here line temporary_name b.local_len [])
+unfoldable pub section_parts : (line : ℕ) → List Formal → CodeBlock → List Part
+section_parts line formals b =
+    section_part line part.Input (declarations_of_section line formals part.Input)
+    ++ section_part line part.Output (declarations_of_section line formals part.Output)
+    ++ section_part line part.InOut (declarations_of_section line formals part.InOut)
+    ++ section_part line part.Static (bytes_here line static_name (static_bytes b) [])
+    ++ section_part line part.Temp (bytes_here line temporary_name b.local_len [])

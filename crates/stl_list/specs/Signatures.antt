@@ -23,8 +23,8 @@ abbrev pub is_behind : (returns behind : Bool) → Param → Bool
 is_behind returns behind p = behind || returns && p.section == SECTION_IN_OUT
 
 -- a parameter of an index with its number among all; `behind`: an IN_OUT of a function stands before it
-abbrev pub formal_of : Chains → (behind : Bool) → (index parameter : ℕ) → Param → Formal
-formal_of c behind index parameter p =
+abbrev pub formal_of_param : Chains → (behind : Bool) → (index parameter : ℕ) → Param → Formal
+formal_of_param c behind index parameter p =
     formal (name_of (behind && p.section == SECTION_OUT) index) (section_of p.section)
     (kind_at c parameter p.width)
 
@@ -33,7 +33,7 @@ formal_of c behind index parameter p =
 abbrev pub formals_from : Chains → (returns behind : Bool) → (index first : ℕ) → List Param → List Formal
 formals_from c returns behind index first [] = []
 formals_from c returns behind index first (p ∷ ps) =
-    formal_of c behind index first p
+    formal_of_param c behind index first p
     ∷ formals_from c returns (is_behind returns behind p) (suc index) (suc first) ps
 
 -- a code block whose first parameter has this number
@@ -55,11 +55,11 @@ unfoldable pub signatures : Chains → List CodeBlock → List Signature
 signatures c blocks = signatures_from c 0 blocks
 
 -- the parameters of a code block; none where there is no such block
-abbrev pub formals_of : List Signature → BlockId → List Formal
-formals_of [] id = []
-formals_of (s ∷ ss) id = if is_same_block s.id id then s.formals else formals_of ss id
+abbrev pub formals_of_block : List Signature → BlockId → List Formal
+formals_of_block [] id = []
+formals_of_block (s ∷ ss) id = if is_same_block s.id id then s.formals else formals_of_block ss id
 
 -- the parameters of a block that is called
 abbrev pub called_formals : List Signature → BlockId → List Formal
 called_formals signatures id =
-    if is_system_function id.kind then system_parameters id.number else formals_of signatures id
+    if is_system_function id.kind then system_parameters id.number else formals_of_block signatures id

@@ -7,12 +7,12 @@ use Rattle.stl_ast.specs.declared.operands.Operand.TheVariants as operand
 use Rattle.stl_ast.specs.declared.statements.Statement.{Statement}
 use Rattle.stl_types.specs.declared.parameters.Formal.{Formal}
 use Rattle.stl_list.specs.Actuals.{actuals_by}
-use Rattle.stl_list.specs.Labels.{label_of}
-use Rattle.stl_list.specs.Lines.{line_at}
+use Rattle.stl_list.specs.Labels.{label_of_number}
+use Rattle.stl_list.specs.Lines.{line_of_statement}
 use Rattle.stl_list.specs.Mnemonics.{mnemonic_of}
-use Rattle.stl_list.specs.Operands.{operand_of}
-use Rattle.stl_list.specs.Runs.{Run, runs, starts, targets}
-use Rattle.stl_list.specs.Signatures.{Signature, formals_of}
+use Rattle.stl_list.specs.Operands.{operand_of_run}
+use Rattle.stl_list.specs.Runs.{Run, runs, statement_starts, target_marks}
+use Rattle.stl_list.specs.Signatures.{Signature, formals_of_block}
 
 -- what the statements of a block refer to: the blocks of the program, the block's own parameters, the
 -- lines on which its statements stand, their offsets, and of each whether a jump leads to it
@@ -27,24 +27,24 @@ pub record Surroundings : Type 0 where
 abbrev pub surroundings : List Signature → (lines : List ℕ) → CodeBlock → Surroundings
 surroundings signatures lines b = record {
   signatures = signatures;
-  formals = formals_of signatures b.id;
+  formals = formals_of_block signatures b.id;
   lines = lines;
-  starts = starts b.code;
-  targets = targets (starts b.code) b.code;
+  starts = statement_starts b.code;
+  targets = target_marks (statement_starts b.code) b.code;
 }
 
 -- a statement has a label where a jump leads to it
 abbrev pub label_at : (targets : List Bool) → (n : ℕ) → Option (List ℕ)
-label_at targets n = if unwrap_or (slice_get targets n) false then Some (label_of n) else None
+label_at targets n = if unwrap_or (slice_get targets n) false then Some (label_of_number n) else None
 
 -- the statement of a number
-abbrev pub statement : Surroundings → (n : ℕ) → Run → Statement
-statement s n r = record {
-  line = line_at s.lines n;
+abbrev pub listed_statement : Surroundings → (n : ℕ) → Run → Statement
+listed_statement s n r = record {
+  line = line_of_statement s.lines n;
   code = mnemonic_of r.op;
   label = label_at s.targets n;
-  operand = operand_of s.formals s.starts r;
-  actuals = actuals_by s.signatures (line_at s.lines n) s.formals r.before r.op.operand;
+  operand = operand_of_run s.formals s.starts r;
+  actuals = actuals_by s.signatures (line_of_statement s.lines n) s.formals r.before r.op.operand;
 }
 
 -- a label alone, with nothing behind its colon
@@ -65,8 +65,8 @@ label_of_end line (Some label) = label_alone line label ∷ []
 -- what a statement adds to the body; there are as many statements as lines
 unfoldable pub statement_at : Surroundings → (n : ℕ) → Run → List Statement
 statement_at s n r =
-    if suc n == length s.lines then label_of_end (line_at s.lines n) (label_at s.targets n)
-    else statement s n r ∷ []
+    if suc n == length s.lines then label_of_end (line_of_statement s.lines n) (label_at s.targets n)
+    else listed_statement s n r ∷ []
 
 -- statements from a number on
 abbrev pub statements_from : Surroundings → (n : ℕ) → List Run → List Statement

@@ -1,7 +1,7 @@
 //! The actual parameters of a CALL.
 ghost use Rattle.std.specs.Prelude.{◌≡◌, ◌++◌, IfOk, Some, None, slice_get};
 ghost use Rattle.stl_list.specs.Actuals.{
-  actual,
+  actual_of_passed,
   actual_for,
   actual_here,
   actuals_before,
@@ -72,7 +72,7 @@ fn actual(
     formal: &Formal,
     passed: Passed,
 ) -> Result<Actual, NoMemory>
-    ensures { IfOk result (λ a. a ≡ actual line formals.now formal.now passed) }
+    ensures { IfOk result (λ a. a ≡ actual_of_passed line formals.now formal.now passed) }
 {
     let name = Name::new(alloc, formal.name.as_bytes())?;
     Ok(Actual {

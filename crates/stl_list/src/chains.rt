@@ -4,15 +4,15 @@ ghost use Rattle.std.specs.List.{range_with_len};
 ghost use Rattle.stl_list.specs.Joined.{
   chains_by,
   chains_of,
-  is_int,
-  is_time,
-  labels_of,
+  is_int_kind,
+  is_time_kind,
+  chain_labels,
   mark_at,
-  marked,
+  marks_after_link,
   marks_of,
-  parameter_count,
-  relinked,
-  replaced,
+  total_parameter_count,
+  labels_after_link,
+  replaced_label,
   set_label,
 };
 
@@ -27,7 +27,7 @@ use stl_ast::Simple;
 /// How many parameters blocks have.
 fn parameter_count(blocks: &[CodeBlock]) -> usize
     requires { length blocks.now < 65536 }
-    ensures { result ≡ parameter_count blocks.now }
+    ensures { result ≡ total_parameter_count blocks.now }
 {
     let mut count = 0;
     for block in blocks {
@@ -37,14 +37,14 @@ fn parameter_count(blocks: &[CodeBlock]) -> usize
 }
 
 fn replaced(from: usize, to: usize, label: usize) -> usize
-    ensures { result ≡ replaced from to label }
+    ensures { result ≡ replaced_label from to label }
 {
     if label == from { to } else { label }
 }
 
 /// Gives all that have one label another.
 fn relabel(labels: &mut [usize], from: usize, to: usize)
-    ensures { labels.new ≡ map (replaced from to) labels.old }
+    ensures { labels.new ≡ map (replaced_label from to) labels.old }
 {
     for label in labels.iter_mut() {
         *label = replaced(from, to, *label);
@@ -60,7 +60,7 @@ fn label_at(labels: &[usize], parameter: usize) -> Option<usize>
 /// Joins two parameters, and all that are joined to one of them.
 #[tactic(auto, using(crate::proofs::ChainLemmas::replaced_by_itself))]
 fn join(labels: &mut [usize], own: usize, other: usize)
-    ensures { labels.new ≡ relinked labels.old (Link.Joins own other) }
+    ensures { labels.new ≡ labels_after_link labels.old (Link.Joins own other) }
 {
     let Some(from) = label_at(labels, own) else {
         return;
@@ -74,7 +74,7 @@ fn join(labels: &mut [usize], own: usize, other: usize)
 }
 
 fn relink(labels: &mut [usize], link: Link)
-    ensures { labels.new ≡ relinked labels.old link }
+    ensures { labels.new ≡ labels_after_link labels.old link }
 {
     match link {
         Link::Joins { own, other } => join(labels, own, other),
@@ -94,9 +94,9 @@ fn first_labels(alloc: Global, count: usize) -> Result<Vec<usize>, NoMemory>
 }
 
 /// Labels of so many parameters: those that a chain of passings joins have the same.
-#[tactic(auto, unfolding(crate::specs::Joined::labels_of))]
+#[tactic(auto, unfolding(crate::specs::Joined::chain_labels))]
 fn labels_of(alloc: Global, count: usize, links: &[Link]) -> Result<Vec<usize>, NoMemory>
-    ensures { IfOk result (λ v. v.items ≡ labels_of count links.now) }
+    ensures { IfOk result (λ v. v.items ≡ chain_labels count links.now) }
 {
     let mut labels = first_labels(alloc, count)?;
     for link in links {
@@ -106,13 +106,13 @@ fn labels_of(alloc: Global, count: usize, links: &[Link]) -> Result<Vec<usize>, 
 }
 
 fn is_int(kind: Simple) -> bool
-    ensures { result ≡ is_int kind }
+    ensures { result ≡ is_int_kind kind }
 {
     matches!(kind, Simple::Int)
 }
 
 fn is_time(kind: Simple) -> bool
-    ensures { result ≡ is_time kind }
+    ensures { result ≡ is_time_kind kind }
 {
     matches!(kind, Simple::Time)
 }
@@ -130,7 +130,7 @@ fn mark_label(marks: &mut [bool], labels: &[usize], own: usize)
 
 /// Marks the label of a parameter that is passed for an INT of a system function.
 fn mark_int(marks: &mut [bool], labels: &[usize], link: Link)
-    ensures { marks.new ≡ marked is_int labels.now marks.old link }
+    ensures { marks.new ≡ marks_after_link is_int_kind labels.now marks.old link }
 {
     match link {
         Link::Joins { .. } => {}
@@ -144,7 +144,7 @@ fn mark_int(marks: &mut [bool], labels: &[usize], link: Link)
 
 /// The same for a TIME.
 fn mark_time(marks: &mut [bool], labels: &[usize], link: Link)
-    ensures { marks.new ≡ marked is_time labels.now marks.old link }
+    ensures { marks.new ≡ marks_after_link is_time_kind labels.now marks.old link }
 {
     match link {
         Link::Joins { .. } => {}
@@ -159,7 +159,7 @@ fn mark_time(marks: &mut [bool], labels: &[usize], link: Link)
 /// The labels that a chain joins to INT.
 #[tactic(auto, unfolding(crate::specs::Joined::marks_of))]
 fn int_marks(alloc: Global, labels: &[usize], links: &[Link]) -> Result<Vec<bool>, NoMemory>
-    ensures { IfOk result (λ v. v.items ≡ marks_of is_int labels.now links.now) }
+    ensures { IfOk result (λ v. v.items ≡ marks_of is_int_kind labels.now links.now) }
 {
     let mut marks = vec![in alloc; false; labels.len()]?;
     for link in links {
@@ -171,7 +171,7 @@ fn int_marks(alloc: Global, labels: &[usize], links: &[Link]) -> Result<Vec<bool
 /// The labels that a chain joins to TIME.
 #[tactic(auto, unfolding(crate::specs::Joined::marks_of))]
 fn time_marks(alloc: Global, labels: &[usize], links: &[Link]) -> Result<Vec<bool>, NoMemory>
-    ensures { IfOk result (λ v. v.items ≡ marks_of is_time labels.now links.now) }
+    ensures { IfOk result (λ v. v.items ≡ marks_of is_time_kind labels.now links.now) }
 {
     let mut marks = vec![in alloc; false; labels.len()]?;
     for link in links {
@@ -217,7 +217,7 @@ fn mark_at(marks: &[bool], label: Option<usize>) -> bool
 
 /// The chains of these links.
 fn chains_by(alloc: Global, count: usize, links: &[Link]) -> Result<Chains, NoMemory>
-    ensures { IfOk result (λ c. c ≡ chains_by (labels_of count links.now) links.now) }
+    ensures { IfOk result (λ c. c ≡ chains_by (chain_labels count links.now) links.now) }
 {
     let labels = labels_of(alloc, count, links)?;
     let ints = int_marks(alloc, labels.as_slice(), links)?;

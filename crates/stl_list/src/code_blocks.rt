@@ -2,9 +2,9 @@
 ghost use Rattle.std.specs.Prelude.{◌≡◌, ◌++◌, max, IfOk};
 ghost use Rattle.std.specs.List.{All};
 ghost use Rattle.stl_list.specs.Lines.{lines_from as lines_behind};
-ghost use Rattle.stl_list.specs.Lines.{first_line as first_line_of};
-ghost use Rattle.stl_list.specs.Sections.{sections as sections_of};
-ghost use Rattle.stl_list.specs.Signatures.{formals_of as formals_in};
+ghost use Rattle.stl_list.specs.Lines.{first_statement_line as first_line_of};
+ghost use Rattle.stl_list.specs.Sections.{section_parts as sections_of};
+ghost use Rattle.stl_list.specs.Signatures.{formals_of_block as formals_in};
 ghost use Rattle.stl_list.specs.Statements.{body_of as body_on};
 ghost use Rattle.image_file.specs.Writing.{BlockFitsFields};
 ghost use Rattle.stl_list.specs.CodeBlocks.{line_reached, listed_block, listed_blocks, result_of};

@@ -4,13 +4,13 @@ ghost use Rattle.std.specs.List.{All};
 ghost use Rattle.image_file.specs.Writing.{DataFitsFields};
 ghost use Rattle.std.specs.Option.{option_copied, option_map};
 ghost use Rattle.stl_list.specs.DataBlocks.{
-  data_block,
+  data_block_tree,
   function_block,
   instance_signature,
   known_settings,
   listed_data,
   listed_data_blocks,
-  structure,
+  structure_type,
 };
 
 use crate::initial::{settings_of, values_of};
@@ -25,7 +25,7 @@ use stl_ast::{Block, BlockName, Declarations, ElementType, Sequence, Setting, Ty
 
 /// A data block with its components, on a line.
 fn own_block(alloc: Global, line: u32, number: u16, components: Declarations) -> Block
-    ensures { result ≡ data_block line number (Some structure) components None [] }
+    ensures { result ≡ data_block_tree line number (Some structure_type) components None [] }
 {
     Block {
         line,
@@ -53,7 +53,7 @@ fn instance_block(
     of: BlockId,
     settings: Vec<Setting>,
 ) -> Block
-    ensures { result ≡ data_block line number None []
+    ensures { result ≡ data_block_tree line number None []
         (Some (BlockName.Number of)) settings.items }
 {
     Block {

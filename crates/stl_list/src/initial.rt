@@ -6,7 +6,7 @@ ghost use Rattle.stl_list.specs.Initial.{
   byte_here,
   byte_setting,
   byte_settings,
-  init,
+  initial_run,
   inits_from,
   inits_of,
   parameter_here,
@@ -15,7 +15,7 @@ ghost use Rattle.stl_list.specs.Initial.{
   settings_of,
   value_in,
   values_of,
-  word_at,
+  word_in_bytes,
 };
 
 use crate::constants::typed_constant;
@@ -32,7 +32,7 @@ const MOST_EQUAL: u16 = 65_535;
 
 /// `value`, or `count (value)` of several.
 fn init(value: u8, count: u16) -> Init
-    ensures { result ≡ init value count }
+    ensures { result ≡ initial_run value count }
 {
     Init {
         count: if count == 1 { None } else { Some(count) },
@@ -120,7 +120,7 @@ fn byte_at(bytes: &[u8], at: usize) -> u8
 
 fn word_at(bytes: &[u8], at: usize) -> u32
     requires { at < 65540 }
-    ensures { result ≡ word_at bytes.now at }
+    ensures { result ≡ word_in_bytes bytes.now at }
 {
     256 * u32::from(byte_at(bytes, at)) + u32::from(byte_at(bytes, at + 1))
 }

@@ -1,6 +1,6 @@
 //! The labels of statements.
 ghost use Rattle.std.specs.Prelude.{◌≡◌, ◌<◌, ◌∷◌, IfOk};
-ghost use Rattle.stl_list.specs.Labels.{digit, label_of, three_digits};
+ghost use Rattle.stl_list.specs.Labels.{base_36_digit, label_of_number, three_digits};
 
 use plc_base::NoMemory;
 use std::alloc::Global;
@@ -12,7 +12,7 @@ const NUMBERS: usize = 46_656;
 /// A digit of base 36.
 fn digit(n: usize) -> u8
     requires { n < 36 }
-    ensures { result ≡ digit n }
+    ensures { result ≡ base_36_digit n }
 {
     if n < 10 {
         b'0' + n as u8
@@ -35,9 +35,9 @@ fn label(alloc: Global, letter: u8, n: usize) -> Result<Name, NoMemory>
 }
 
 /// The label of the statement of a number.
-#[tactic(auto, unfolding(crate::specs::Labels::label_of))]
+#[tactic(auto, unfolding(crate::specs::Labels::label_of_number))]
 pub(crate) fn label_of(alloc: Global, n: usize) -> Result<Name, NoMemory>
-    ensures { IfOk result (λ name. name ≡ label_of n) }
+    ensures { IfOk result (λ name. name ≡ label_of_number n) }
 {
     if n < NUMBERS {
         label(alloc, b'_', n)

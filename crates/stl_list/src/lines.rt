@@ -3,7 +3,7 @@ ghost use Rattle.std.specs.Prelude.{◌≡◌, IfOk};
 ghost use Rattle.std.specs.List.Sorted.{IsPermutation};
 ghost use Rattle.std.specs.Ordering.{is_lt};
 ghost use Rattle.stl_list.specs.CodeBlocks.{in_lines};
-ghost use Rattle.stl_list.specs.Lines.{first_line, last_line, line_at, line_behind, lines_from, stands_before};
+ghost use Rattle.stl_list.specs.Lines.{first_statement_line, last_statement_line, line_of_statement, line_behind_statements, lines_from, stands_before};
 
 use flat_code::CodeBlock;
 use plc_base::NoMemory;
@@ -25,7 +25,7 @@ pub(crate) fn lines_from(alloc: Global, reached: u32, lines: &[u32]) -> Result<V
 
 /// The line that is reached behind statements on these lines.
 pub(crate) fn line_behind(reached: u32, lines: &[u32]) -> u32
-    ensures { result ≡ line_behind reached lines.now }
+    ensures { result ≡ line_behind_statements reached lines.now }
 {
     let mut line = reached;
     for next in lines {
@@ -36,21 +36,21 @@ pub(crate) fn line_behind(reached: u32, lines: &[u32]) -> u32
 
 /// The line at a place; 0 past the end.
 pub(crate) fn line_at(lines: &[u32], n: usize) -> u32
-    ensures { result ≡ line_at lines.now n }
+    ensures { result ≡ line_of_statement lines.now n }
 {
     lines.get(n).copied().unwrap_or(0)
 }
 
 /// The line of the first statement of a block.
 pub(crate) fn first_line(block: &CodeBlock) -> u32
-    ensures { result ≡ first_line block.now }
+    ensures { result ≡ first_statement_line block.now }
 {
     line_at(block.lines.as_slice(), 0)
 }
 
 /// The line of the last statement of a block.
 pub(crate) fn last_line(block: &CodeBlock) -> u32
-    ensures { result ≡ last_line block.now }
+    ensures { result ≡ last_statement_line block.now }
 {
     line_at(block.lines.as_slice(), block.lines.len().saturating_sub(1))
 }

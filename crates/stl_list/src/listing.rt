@@ -9,7 +9,7 @@ ghost use Rattle.stl_list.specs.Listing.{
   listed_source as source_of,
   listed_tree as tree_of,
 };
-ghost use Rattle.stl_list.specs.Lines.{last_line as last_line_of};
+ghost use Rattle.stl_list.specs.Lines.{last_statement_line as last_line_of};
 ghost use Rattle.stl_list.specs.Signatures.{signatures as signatures_in};
 ghost use Rattle.stl_list.specs.Symbols.{listed_names as text_of_names};
 

@@ -3,25 +3,25 @@ ghost use Rattle.std.specs.Prelude.{◌≡◌, option_map, IfOk};
 ghost use Rattle.flat_code.specs.Operations.{operation_of};
 ghost use Rattle.std.specs.List.Sorted.{IsStrictlySortedBy};
 ghost use Rattle.std.specs.Ordering.{nat_cmp};
-ghost use Rattle.stl_list.specs.Labels.{label_of};
+ghost use Rattle.stl_list.specs.Labels.{label_of_number};
 ghost use Rattle.stl_list.specs.Runs.{number_at};
 ghost use Rattle.stl_list.specs.Operands.{
   condition_operand,
-  data_block_name,
+  name_of_data_block,
   direct_operand,
   implied_operand,
   instance_name,
-  letters_of,
+  letters_for_area,
   name_at,
   numbered_by,
-  opened_by,
+  block_opened_by_ops,
   operand_by,
   own_parameter,
   plain_operand,
   read_letters,
-  register_of,
+  data_block_register,
   timer_or_counter,
-  writes,
+  operation_writes_operand,
 };
 
 use crate::constants::instruction_constant;
@@ -37,7 +37,7 @@ use stl_types::Formal;
 
 /// The letters of an area; those of peripherals say which way they are used.
 pub(crate) fn letters_of(writes: bool, area: Area) -> Letters
-    ensures { result ≡ letters_of writes area }
+    ensures { result ≡ letters_for_area writes area }
 {
     match area {
         Area::I => Letters::I,
@@ -68,7 +68,7 @@ fn letters_left(area: Option<Area>) -> Option<Letters>
 
 /// Whether an instruction writes its operand.
 fn writes(operation: Operation) -> bool
-    ensures { result ≡ writes operation }
+    ensures { result ≡ operation_writes_operand operation }
 {
     matches!(
         operation,
@@ -83,7 +83,7 @@ fn writes(operation: Operation) -> bool
 
 /// A data block by its number.
 pub(crate) fn data_block_name(number: u16) -> BlockName
-    ensures { result ≡ data_block_name number }
+    ensures { result ≡ name_of_data_block number }
 {
     BlockName::Number {
         id: BlockId {
@@ -95,7 +95,7 @@ pub(crate) fn data_block_name(number: u16) -> BlockName
 
 /// The data block that a statement opens first, which its first op names.
 pub(crate) fn opened_by(before: &[Op]) -> Option<u16>
-    ensures { result ≡ opened_by before.now }
+    ensures { result ≡ block_opened_by_ops before.now }
 {
     match before {
         [] => None,
@@ -176,7 +176,7 @@ fn numbered_by(kind: u8) -> Numbered
 
 /// The register of a data block, 1 DB or 2 DI.
 fn register_of(register: u8) -> Numbered
-    ensures { result ≡ register_of register }
+    ensures { result ≡ data_block_register register }
 {
     if register == 1 {
         Numbered::Db
@@ -196,7 +196,7 @@ fn instance_name(instance: u16) -> Option<BlockName>
 }
 
 fn block_name(opened: Option<u16>) -> Option<BlockName>
-    ensures { result ≡ option_map data_block_name opened }
+    ensures { result ≡ option_map name_of_data_block opened }
 {
     match opened {
         None => None,
@@ -227,7 +227,7 @@ pub(crate) fn direct_operand(
 /// The label of the statement at an offset.
 fn target(alloc: Global, starts: &[u32], offset: u32) -> Result<Operand, NoMemory>
     requires { IsStrictlySortedBy nat_cmp starts.now }
-    ensures { IfOk result (λ o. o ≡ Operand.Label (label_of (number_at starts.now offset))) }
+    ensures { IfOk result (λ o. o ≡ Operand.Label (label_of_number (number_at starts.now offset))) }
 {
     Ok(Operand::Label {
         name: label_of(alloc, number_at(starts, offset))?,

@@ -1,6 +1,6 @@
 //! The parameters of a code block as a source declares them.
 ghost use Rattle.std.specs.Prelude.{◌≡◌, option_map, slice_get, IfOk};
-ghost use Rattle.stl_list.specs.Parameters.{is_return, name_of, parameter_name, plain_kind, section_of};
+ghost use Rattle.stl_list.specs.Parameters.{is_return, name_of, parameter_name, kind_of_width, section_of};
 
 use flat_code::{SECTION_IN, SECTION_OUT};
 use itoa::Buffer;
@@ -48,7 +48,7 @@ pub(crate) fn is_return(formal: &Formal) -> bool
 
 /// The type that a width has by itself.
 pub(crate) fn plain_kind(width: Width) -> Simple
-    ensures { result ≡ plain_kind width }
+    ensures { result ≡ kind_of_width width }
 {
     match width {
         Width::Bit => Simple::Bool,

@@ -3,7 +3,7 @@ ghost use Rattle.std.specs.Prelude.{◌≡◌, ◌<◌, ◌++◌, length, IfOk};
 ghost use Rattle.std.specs.List.Sorted.{IsStrictlySortedBy};
 ghost use Rattle.std.specs.Ordering.{nat_cmp};
 ghost use Rattle.flat_code.specs.Codes.{code_bytes};
-ghost use Rattle.stl_list.specs.Runs.{marked_by, number_at, start_here, starts, targets};
+ghost use Rattle.stl_list.specs.Runs.{marks_with_target, number_at, start_here, statement_starts, target_marks};
 
 use flat_code::{Op, Operand};
 use plc_base::NoMemory;
@@ -27,10 +27,10 @@ fn note_start(starts: &mut Vec<u32>, at: u32, begins: bool) -> Result<(), NoMemo
 }
 
 /// The offsets at which the statements of a block begin.
-#[tactic(auto, unfolding(crate::specs::Runs::starts))]
+#[tactic(auto, unfolding(crate::specs::Runs::statement_starts))]
 pub(crate) fn starts(alloc: Global, ops: &[Op]) -> Result<Vec<u32>, NoMemory>
     requires { length (code_bytes ops.now) < 4294967296 }
-    ensures { IfOk result (λ v. v.items ≡ starts ops.now) }
+    ensures { IfOk result (λ v. v.items ≡ statement_starts ops.now) }
 {
     let mut starts = Vec::new(alloc);
     let mut at = 0_u32;
@@ -58,7 +58,7 @@ pub(crate) fn number_at(starts: &[u32], offset: u32) -> usize
 /// Marks the statement at which an op goes on, if it is a jump.
 fn mark(marks: &mut [bool], starts: &[u32], op: &Op)
     requires { IsStrictlySortedBy nat_cmp starts.now }
-    ensures { marks.new ≡ marked_by starts.now marks.old op.now.operand }
+    ensures { marks.new ≡ marks_with_target starts.now marks.old op.now.operand }
 {
     if let Operand::Jump { target, .. } = op.operand {
         let number = number_at(starts, target);
@@ -69,10 +69,10 @@ fn mark(marks: &mut [bool], starts: &[u32], op: &Op)
 }
 
 /// Of each statement whether a jump leads to it.
-#[tactic(auto, unfolding(crate::specs::Runs::targets))]
+#[tactic(auto, unfolding(crate::specs::Runs::target_marks))]
 pub(crate) fn targets(alloc: Global, starts: &[u32], ops: &[Op]) -> Result<Vec<bool>, NoMemory>
     requires { IsStrictlySortedBy nat_cmp starts.now }
-    ensures { IfOk result (λ marks. marks.items ≡ targets starts.now ops.now) }
+    ensures { IfOk result (λ marks. marks.items ≡ target_marks starts.now ops.now) }
 {
     let mut marks = vec![in alloc; false; starts.len()]?;
     for op in ops {

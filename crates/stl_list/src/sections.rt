@@ -5,12 +5,12 @@ ghost use Rattle.stl_list.specs.Sections.{
   byte_array,
   bytes_here,
   declared_here,
-  declared_in,
+  declarations_of_section,
   even_end,
   is_declared_in,
   plain_declaration,
-  section,
-  sections,
+  section_part,
+  section_parts,
   static_bytes,
   static_len,
   static_start,
@@ -143,7 +143,7 @@ fn declared_in(
     formals: &[Formal],
     kind: PartKind,
 ) -> Result<Declarations, NoMemory>
-    ensures { IfOk result (λ v. v ≡ declared_in line formals.now kind) }
+    ensures { IfOk result (λ v. v ≡ declarations_of_section line formals.now kind) }
 {
     let mut items = Vec::new(alloc);
     for formal in formals {
@@ -159,7 +159,7 @@ fn add_section(
     kind: PartKind,
     items: Declarations,
 ) -> Result<(), NoMemory>
-    ensures { IfOk result (λ _. parts.new.items ≡ parts.old.items ++ section line kind items) }
+    ensures { IfOk result (λ _. parts.new.items ≡ parts.old.items ++ section_part line kind items) }
 {
     if !items.as_slice().is_empty() {
         parts.push(Part { line, kind, items })?;
@@ -212,7 +212,7 @@ fn add_parameters(
     kind: PartKind,
 ) -> Result<(), NoMemory>
     ensures { IfOk result (λ _. parts.new.items
-        ≡ parts.old.items ++ section line kind (declared_in line formals.now kind)) }
+        ≡ parts.old.items ++ section_part line kind (declarations_of_section line formals.now kind)) }
 {
     let items = declared_in(alloc, line, formals, kind)?;
     add_section(parts, line, kind, items)
@@ -228,21 +228,21 @@ fn add_bytes(
     count: u16,
 ) -> Result<(), NoMemory>
     ensures { IfOk result (λ _. parts.new.items
-        ≡ parts.old.items ++ section line kind (bytes_here line name.now count [])) }
+        ≡ parts.old.items ++ section_part line kind (bytes_here line name.now count [])) }
 {
     let items = bytes_here(alloc, line, name, count, Vec::new(alloc))?;
     add_section(parts, line, kind, items)
 }
 
 /// The sections of a code block with these parameters.
-#[tactic(auto, unfolding(crate::specs::Sections::sections))]
+#[tactic(auto, unfolding(crate::specs::Sections::section_parts))]
 pub(crate) fn sections(
     alloc: Global,
     line: u32,
     formals: &[Formal],
     block: &CodeBlock,
 ) -> Result<Vec<Part>, NoMemory>
-    ensures { IfOk result (λ v. v.items ≡ sections line formals.now block.now) }
+    ensures { IfOk result (λ v. v.items ≡ section_parts line formals.now block.now) }
 {
     let mut parts = Vec::new(alloc);
     add_parameters(alloc, &mut parts, line, formals, PartKind::Input)?;

@@ -1,7 +1,7 @@
 //! What a source says of a code block before its statements, as far as calls and instances need it.
 ghost use Rattle.std.specs.Prelude.{◌≡◌, ◌<◌, ◌≤◌, ◌^◌, false, length, IfOk};
 ghost use Rattle.plc_base.specs.Kinds.{is_function};
-ghost use Rattle.stl_list.specs.Signatures.{formal_of, formals_from, formals_of, is_behind, signature, signatures};
+ghost use Rattle.stl_list.specs.Signatures.{formal_of_param, formals_from, formals_of_block, is_behind, signature, signatures};
 
 use crate::chains::Chains;
 use crate::links::is_same;
@@ -45,7 +45,7 @@ fn formal_of(
     parameter: usize,
     param: &Param,
 ) -> Result<Formal, NoMemory>
-    ensures { IfOk result (λ f. f ≡ formal_of chains.now behind index parameter param.now) }
+    ensures { IfOk result (λ f. f ≡ formal_of_param chains.now behind index parameter param.now) }
 {
     let returns = behind && param.section == SECTION_OUT;
     Ok(Formal {
@@ -125,7 +125,7 @@ pub(crate) fn signatures(
 
 /// The parameters of a code block; none where there is no such block.
 pub(crate) fn formals_of(signatures: &[Signature], id: BlockId) -> &[Formal]
-    ensures { result.now ≡ formals_of signatures.now id }
+    ensures { result.now ≡ formals_of_block signatures.now id }
 {
     for signature in signatures {
         if is_same(signature.id, id) {

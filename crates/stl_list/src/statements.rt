@@ -79,12 +79,12 @@ fn add_label(
 impl<'a> Surroundings<'a> {
     ghost use Rattle.std.specs.Prelude.{◌≡◌, ◌+◌, ◌<◌, ◌≤◌, ◌^◌, ◌++◌, ◌∷◌, List, IfOk};
     ghost use Rattle.flat_code.specs.Ops.{OpData};
-    ghost use Rattle.stl_list.specs.Lines.{line_at};
-    ghost use Rattle.stl_list.specs.Statements.{label_at, statement, statement_at, statements_from};
+    ghost use Rattle.stl_list.specs.Lines.{line_of_statement};
+    ghost use Rattle.stl_list.specs.Statements.{label_at, listed_statement, statement_at, statements_from};
     ghost use Rattle.stl_list.specs.Runs.{runs, runs_from};
 
     fn line_at(&self, n: usize) -> u32
-        ensures { result ≡ line_at self.now.lines n }
+        ensures { result ≡ line_of_statement self.now.lines n }
     {
         line_at(self.lines, n)
     }
@@ -109,7 +109,7 @@ impl<'a> Surroundings<'a> {
         op: &Op,
     ) -> Result<Statement, NoMemory>
         ensures { IfOk result (λ s. s
-            ≡ statement self.now n (record { before = before.now; op = op.now })) }
+            ≡ listed_statement self.now n (record { before = before.now; op = op.now })) }
     {
         let line = self.line_at(n);
         let label = self.label_at(alloc, n)?;

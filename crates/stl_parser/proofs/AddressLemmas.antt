@@ -23,15 +23,15 @@ use Rattle.plc_base.specs.Decimal.{decimal_up_to}
 use Rattle.plc_base.proofs.DecimalLemmas.{decimal_range}
 use Rattle.plc_base.proofs.TruthLemmas.{and_first}
 use Rattle.stl_parser.specs.Numbers.{number_of}
-use Rattle.stl_parser.specs.Addresses.{letter_count, glued_at, separate_at, numbered_at, address_at, block_number_at, quoted_at, block_at, bit_of}
+use Rattle.stl_parser.specs.Addresses.{letter_count, glued_letters_and_number, separate_letters_and_number, letters_and_number_at, address_at, block_number_at, quoted_block_at, block_at, bit_of}
 use Rattle.stl_parser.specs.Operands.{place_bit, register_of, offset_of, register_pointer, holds_pointer, pointer_close, pointer_end, memory_pointer}
 use Rattle.stl_parser.proofs.OptionLemmas.{found, mapped, chained, either, both, passed, also, none_holds, at_most}
 use Rattle.stl_parser.proofs.RangeLemmas.{number_holds}
 use Rattle.stl_parser.proofs.LengthLemmas.{numbered_rest}
 
 glued_holds : {X : Type 0} (table : List (List ℕ × X)) (text : List ℕ) (rest : List Token) →
-    IfSome (glued_at table text rest) (λ r. IsNumber r.1)
-unfolding glued_at
+    IfSome (glued_letters_and_number table text rest) (λ r. IsNumber r.1)
+unfolding glued_letters_and_number
 glued_holds table text rest =
     chained (look_up table (take (letter_count text) text)) _ (λ x. Unit {0}) (λ r. IsNumber r.1)
     (none_holds (look_up table (take (letter_count text) text)))
@@ -39,20 +39,20 @@ glued_holds table text rest =
     (found (decimal_up_to 65535 (drop (letter_count text) text)) IsNumber (decimal_range 65535 (drop (letter_count text) text))) (λ n k. k))
 
 separate_holds : {X : Type 0} (table : List (List ℕ × X)) (source text : List ℕ) (tokens : List Token) →
-    IfSome (separate_at table source text tokens) (λ r. IsNumber r.1)
-unfolding separate_at
+    IfSome (separate_letters_and_number table source text tokens) (λ r. IsNumber r.1)
+unfolding separate_letters_and_number
 separate_holds table source text [] = tt
 separate_holds table source text (n ∷ rest) =
     chained (look_up table text) _ (λ x. Unit {0}) (λ r. IsNumber r.1) (none_holds (look_up table text))
     (λ x h. mapped (number_of source n) _ IsNumber (λ r. IsNumber r.1) (number_holds source n) (λ n k. k))
 
 numbered_holds : {X : Type 0} (table : List (List ℕ × X)) (source : List ℕ) (tokens : List Token) →
-    IfSome (numbered_at table source tokens) (λ r. IsNumber r.1)
-unfolding numbered_at
+    IfSome (letters_and_number_at table source tokens) (λ r. IsNumber r.1)
+unfolding letters_and_number_at
 numbered_holds table source [] = tt
 numbered_holds table source (w ∷ rest) =
     passed (has_kind w kind.Word) _ (λ r. IsNumber r.1)
-    (λ test. either (glued_at table (text_of source w) rest) _ (λ r. IsNumber r.1) (glued_holds table (text_of source w) rest)
+    (λ test. either (glued_letters_and_number table (text_of source w) rest) _ (λ r. IsNumber r.1) (glued_holds table (text_of source w) rest)
     (separate_holds table source (text_of source w) rest))
 
 -- an address: its number, and fewer tokens behind it
@@ -60,15 +60,15 @@ pub address_holds : (source : List ℕ) (tokens : List Token) →
     IfSome (address_at source tokens) (λ r. IsNumber r.1 × (length r.2 < length tokens))
 unfolding address_at
 address_holds source tokens =
-    also (numbered_at addresses source tokens) (λ r. IsNumber r.1) (λ r. length r.2 < length tokens) (numbered_holds addresses source tokens)
+    also (letters_and_number_at addresses source tokens) (λ r. IsNumber r.1) (λ r. length r.2 < length tokens) (numbered_holds addresses source tokens)
     (numbered_rest addresses source tokens)
 
 block_number_holds : (source : List ℕ) (tokens : List Token) → IfSome (block_number_at source tokens) (λ r. IsNumber r.1)
 unfolding block_number_at
 block_number_holds source tokens = numbered_holds _ source tokens
 
-quoted_holds : (source : List ℕ) (tokens : List Token) → IfSome (quoted_at source tokens) (λ r. IsAnyName r.0)
-unfolding quoted_at
+quoted_holds : (source : List ℕ) (tokens : List Token) → IfSome (quoted_block_at source tokens) (λ r. IsAnyName r.0)
+unfolding quoted_block_at
 quoted_holds source [] = tt
 quoted_holds source (t ∷ rest) = passed (has_kind t kind.Quoted) _ (λ r. IsAnyName r.0) (λ test. tt)
 

@@ -94,8 +94,8 @@ abbrev IsHeadRest : BlockKind → ℕ → BlockName × List Token → Type 0
 IsHeadRest k n r = IsHeadName k r.0 × (length r.1 < n)
 
 named_holds : (source : List ℕ) (k : BlockKind) (tokens : List Token) →
-    IfSome (spec.named_at source k tokens) (IsHeadRest k (length tokens))
-unfolding spec.named_at
+    IfSome (spec.block_of_kind_at source k tokens) (IsHeadRest k (length tokens))
+unfolding spec.block_of_kind_at
 named_holds source k tokens =
     chained (block_at source tokens) _ (λ r. IsAnyName r.0 × (length r.1 < length tokens)) (IsHeadRest k (length tokens))
     (also (block_at source tokens) (λ r. IsAnyName r.0) (λ r. length r.1 < length tokens) (block_holds source tokens) (block_rest source tokens))
@@ -115,10 +115,10 @@ return_fits kinds.Fb left n h = omega (arith, h)
 return_fits _ left n h = omega (arith, h)
 
 head_holds : (source : List ℕ) (p : ClausePlace) (line : ℕ) (k : BlockKind) (tokens : List Token) →
-    IfSome (spec.head_of source line k tokens) (IsReadAt p (suc (length tokens)))
-unfolding spec.head_of
+    IfSome (spec.head_clause source line k tokens) (IsReadAt p (suc (length tokens)))
+unfolding spec.head_clause
 head_holds source p line k tokens =
-    chained (spec.named_at source k tokens) _ (IsHeadRest k (length tokens)) (IsReadAt p (suc (length tokens))) (named_holds source k tokens)
+    chained (spec.block_of_kind_at source k tokens) _ (IsHeadRest k (length tokens)) (IsReadAt p (suc (length tokens))) (named_holds source k tokens)
     (λ b h. mapped (spec.result_at source k b.1) _ (λ r. MayReturn k r.0 × (length r.1 ≤ length b.1)) (IsReadAt p (suc (length tokens)))
     (also (spec.result_at source k b.1) (λ r. MayReturn k r.0) (λ r. length r.1 ≤ length b.1) (result_holds source k b.1)
     (result_rest source k b.1))
@@ -153,15 +153,15 @@ base_kind kinds.Fb test = inl refl
 base_kind kinds.Udt test = inr refl
 base_kind _ test = cc
 
-base_name : (name : BlockName) → IsAnyName name → spec.is_base name ≡ true → IsBaseName name
+base_name : (name : BlockName) → IsAnyName name → spec.is_base_block name ≡ true → IsBaseName name
 base_name (block.Number id) h test = (base_kind id.kind test, h.1)
 base_name (block.Quoted name) h test = tt
 
-based_holds : (source : List ℕ) (p : ClausePlace) (n : ℕ) (tokens : List Token) → IfSome (spec.based_at source tokens) (IsReadAt p n)
-unfolding spec.based_at
+based_holds : (source : List ℕ) (p : ClausePlace) (n : ℕ) (tokens : List Token) → IfSome (spec.base_block_at source tokens) (IsReadAt p n)
+unfolding spec.base_block_at
 based_holds source p n tokens =
     chained (block_at source tokens) _ (λ r. IsAnyName r.0) (IsReadAt p n) (block_holds source tokens)
-    (λ r h. passed (spec.is_base r.0) _ (IsReadAt p n) (λ test. (λ short. base_name r.0 h test, tt)))
+    (λ r h. passed (spec.is_base_block r.0) _ (IsReadAt p n) (λ test. (λ short. base_name r.0 h test, tt)))
 
 true_is_no_false : {A : Type 0} (b : Bool) → b ≡ false → b ≡ true → A
 true_is_no_false true h k = cc
@@ -277,7 +277,7 @@ other_holds : (source : List ℕ) (p : ClausePlace) (line : ℕ) (tokens : List 
 unfolding spec.other_clause
 other_holds source p line tokens =
     both (spec.in_data_head p) _ _ (IsReadAt p (length tokens))
-    (either (spec.based_at source tokens) _ (IsReadAt p (length tokens)) (based_holds source p (length tokens) tokens)
+    (either (spec.base_block_at source tokens) _ (IsReadAt p (length tokens)) (based_holds source p (length tokens) tokens)
     (plain_holds source p line tokens))
     (plain_holds source p line tokens)
 

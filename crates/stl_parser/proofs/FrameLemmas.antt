@@ -24,16 +24,16 @@ use Rattle.stl_parser.specs.declared.clauses.Clause.{Clause}
 use Rattle.stl_parser.specs.declared.clauses.Clause.TheVariants as clause
 use Rattle.stl_parser.specs.declared.places.ClausePlace.{ClausePlace}
 use Rattle.stl_parser.specs.declared.places.ClausePlace.TheVariants as place
-use Rattle.stl_parser.specs.Clauses.{Read, level_at, clause_at}
-use Rattle.stl_parser.specs.Frame.{follow, follow_outside, follow_head, follow_section, follow_between, follow_shape, follow_shaped, follow_body, follow_settings}
-use Rattle.stl_ast.specs.Blocks.{may_have, may_declare, has_shape, part_rank, is_date_and_time}
+use Rattle.stl_parser.specs.Clauses.{ClauseReading, level_at, clause_at}
+use Rattle.stl_parser.specs.Frame.{next_place, next_place_outside, next_place_in_head, next_place_in_section, next_place_between, next_place_in_shape, next_place_behind_shape, next_place_in_body, next_place_in_settings}
+use Rattle.stl_ast.specs.Blocks.{may_have_section, may_declare, has_shape, part_rank, is_date_and_time}
 use Rattle.stl_ast.specs.Operands.{IsNameOf}
 use Rattle.stl_ast.specs.Statements.{IsStatement}
-use Rattle.stl_ast.specs.WellFormed.{IsSourceKind, IsHeadName, MayReturn, AreDeclaredIn, IsSection, AreInOrder, AreSections, IsComponent, AreComponents, IsShapeOf, IsSetting, AreSettings, IsBody, IsBlock}
+use Rattle.stl_ast.specs.WellFormed.{IsSourceKind, IsHeadName, MayReturn, AreDeclaredIn, IsSection, AreSectionsInOrder, AreSections, IsComponent, AreComponents, IsShapeOf, IsSetting, AreSettings, IsBody, IsBlock}
 use Rattle.stl_parser.proofs.OptionLemmas.{some_holds}
 use Rattle.stl_parser.proofs.ClauseLemmas.{IsBaseName, IsRight, Fits, IsReadAt, clause_holds}
-use Rattle.stl_parser.specs.Spelling.{is_kept, is_udt, nowhere, spelled_part, spelled_shape, spelled_block}
-use Rattle.stl_parser.specs.Source.{Step, step_of, judged, place_of, placed, Reads, ClausesHaveTree}
+use Rattle.stl_parser.specs.Spelling.{is_kept_by_tree, is_udt, unspelled_clauses, spelled_part, spelled_shape, spelled_block}
+use Rattle.stl_parser.specs.Source.{ClauseStep, step_of, step_of_reading, place_or_rule, step_or_rule, ReadsClauses, ClausesHaveTree}
 use Rattle.std.proofs.lemmas.List.{append_assoc}
 use Rattle.plc_base.proofs.TruthLemmas.{and_first, and_second}
 use Rattle.stl_parser.proofs.TreeLemmas.{block_is_spelled}
@@ -59,7 +59,7 @@ AreBlocks bs = AllByRecursion IsBlock bs
 
 -- sections in their order, none before the rank `least`
 abbrev AreSectionsFrom : ℕ → BlockKind → List Part → Type 0
-AreSectionsFrom least k ps = AreInOrder least ps × AllByRecursion (IsSection k) ps
+AreSectionsFrom least k ps = AreSectionsInOrder least ps × AllByRecursion (IsSection k) ps
 
 -- declarations of a section from a level on
 abbrev AreBehind : BlockKind → PartKind → ℕ → List Declaration → Type 0
@@ -113,7 +113,7 @@ SpellsBehind (Some q) cs = Spells q cs
 
 -- a clause and the kept ones behind it
 abbrev kept_with : Clause → List Clause → List Clause
-kept_with c cs = cond (is_kept c) (c ∷ cs) cs
+kept_with c cs = cond (is_kept_by_tree c) (c ∷ cs) cs
 
 passes : (b : Bool) (q : ClausePlace) (cs : List Clause) → SpellsBehind (if b then Some q else None) cs → (b ≡ true) × Spells q cs
 passes true q cs h = (refl, h)
@@ -169,9 +169,9 @@ head_spells line k name result cs named returns (ps, s, i, ds, ss, xs, end_line,
       ),
     )
 
-from_outside : (c : Clause) (cs : List Clause) → IsRight place.Outside c → SpellsBehind (follow_outside c) cs →
+from_outside : (c : Clause) (cs : List Clause) → IsRight place.Outside c → SpellsBehind (next_place_outside c) cs →
     Spells place.Outside (kept_with c cs)
-unfolding follow_outside
+unfolding next_place_outside
 from_outside (clause.Head line k name result) cs right h = head_spells line k name result cs right.0 right.1 h
 from_outside _ cs right h = absurd h
 
@@ -202,7 +202,7 @@ fb_name (block.Quoted name) h test = tt
 based_spells : (name : BlockName) (b : Bool) (cs : List Clause) → IsBaseName name → is_udt name ≡ b → Spells (place.Shaped kinds.Db) cs →
     Spells (place.Head kinds.Db) (clause.Based name ∷ cs)
 based_spells name true cs base udt (ss, line, bs, e, set, blocks) =
-    let shape : Bool → List Clause = λ b. (if b then clause.Based name ∷ [] else nowhere) ++ spelled_settings kinds.Db ss line bs in (
+    let shape : Bool → List Clause = λ b. (if b then clause.Based name ∷ [] else unspelled_clauses) ++ spelled_settings kinds.Db ss line bs in (
       [],
       Some (record { arrays = []; of = element.Udt name }),
       None,
@@ -222,7 +222,7 @@ based_spells name true cs base udt (ss, line, bs, e, set, blocks) =
       blocks,
     )
 based_spells name false cs base udt (ss, line, bs, e, set, blocks) =
-    let shape : Bool → List Clause = λ b. (if b then nowhere else clause.Based name ∷ []) ++ spelled_settings kinds.Db ss line bs in (
+    let shape : Bool → List Clause = λ b. (if b then unspelled_clauses else clause.Based name ∷ []) ++ spelled_settings kinds.Db ss line bs in (
       [],
       None,
       Some name,
@@ -243,8 +243,8 @@ based_spells name false cs base udt (ss, line, bs, e, set, blocks) =
     )
 
 -- a block with sections has a body
-with_section : (k : BlockKind) (p : PartKind) → may_have k p ≡ true → is_code k ≡ true
-unfolding may_have
+with_section : (k : BlockKind) (p : PartKind) → may_have_section k p ≡ true → is_code k ≡ true
+unfolding may_have_section
 with_section kinds.Ob p h = refl
 with_section kinds.Fc p h = refl
 with_section kinds.Fb p h = refl
@@ -283,13 +283,13 @@ from_based : (k : BlockKind) (name : BlockName) (cs : List Clause) → IsBaseNam
 from_based kinds.Db name cs base test h = based_spells name (is_udt name) cs base refl h
 from_based _ name cs base test h = cc
 
-from_head : (k : BlockKind) (c : Clause) (cs : List Clause) → IsRight (place.Head k) c → SpellsBehind (follow_head k c) cs →
+from_head : (k : BlockKind) (c : Clause) (cs : List Clause) → IsRight (place.Head k) c → SpellsBehind (next_place_in_head k c) cs →
     Spells (place.Head k) (kept_with c cs)
-unfolding follow_head
+unfolding next_place_in_head
 from_head k clause.Note cs right h = h
 from_head k clause.Title cs right h = h
 from_head k (clause.Section line p) cs right h =
-    let passed = passes (may_have k p) (place.Section k p 0) cs h in
+    let passed = passes (may_have_section k p) (place.Section k p 0) cs h in
     let s = passed.1 in
     let part : Part = record { line = line; kind = p; items = s.0 } in (
       part ∷ s.1,
@@ -338,8 +338,8 @@ one_deeper : (level : ℕ) (d : Declaration) (ds : List Declaration) → d.level
 one_deeper level d ds at h = (omega (arith, at), subst (λ n. IsOutline (level_behind n d.of.of) ds) (sym at) h)
 
 from_section : (k : BlockKind) (p : PartKind) (level : ℕ) (c : Clause) (cs : List Clause) → IsRight (place.Section k p level) c →
-    IsAt level c → SpellsBehind (follow_section k p level c) cs → Spells (place.Section k p level) (kept_with c cs)
-unfolding follow_section
+    IsAt level c → SpellsBehind (next_place_in_section k p level c) cs → Spells (place.Section k p level) (kept_with c cs)
+unfolding next_place_in_section
 from_section k p level clause.EndSection cs right at h =
     let s = (passes (nat_eq level 0) (place.Between k p) cs h).1 in ([], s.0, s.1, s.2, s.3, s.4, (tt, tt), s.5, s.6, s.7)
 from_section k p level (clause.Declares d) cs right at h =
@@ -366,11 +366,11 @@ from_section k p level _ cs right at h = absurd h
 later : (m n : ℕ) → nat_lt m n ≡ true → m + 1 ≤ n
 later m n test = grind (arith, nat_tests)
 
-from_between : (k : BlockKind) (p : PartKind) (c : Clause) (cs : List Clause) → SpellsBehind (follow_between k p c) cs →
+from_between : (k : BlockKind) (p : PartKind) (c : Clause) (cs : List Clause) → SpellsBehind (next_place_between k p c) cs →
     Spells (place.Between k p) (kept_with c cs)
-unfolding follow_between
+unfolding next_place_between
 from_between k p (clause.Section line q) cs h =
-    let passed = passes (may_have k q && nat_lt (part_rank p) (part_rank q)) (place.Section k q 0) cs h in
+    let passed = passes (may_have_section k q && nat_lt (part_rank p) (part_rank q)) (place.Section k q 0) cs h in
     let s = passed.1 in (
       record { line = line; kind = q; items = s.0 } ∷ s.1,
       s.2,
@@ -378,8 +378,8 @@ from_between k p (clause.Section line q) cs h =
       s.4,
       section_spells line q s.0 s.1 cs _ s.5,
       (
-        (later (part_rank p) (part_rank q) (and_second (may_have k q) _ passed.0), s.7.0),
-        ((and_first (may_have k q) _ passed.0, s.6.0, s.6.1), s.7.1),
+        (later (part_rank p) (part_rank q) (and_second (may_have_section k q) _ passed.0), s.7.0),
+        ((and_first (may_have_section k q) _ passed.0, s.6.0, s.6.1), s.7.1),
       ),
       s.8,
       s.9,
@@ -392,8 +392,8 @@ not_date true q cs h = absurd h
 not_date false q cs h = (refl, h)
 
 from_shape : (k : BlockKind) (level : ℕ) (c : Clause) (cs : List Clause) → IsRight (place.Shape k level) c → IsAt level c →
-    SpellsBehind (follow_shape k level c) cs → Spells (place.Shape k level) (kept_with c cs)
-unfolding follow_shape
+    SpellsBehind (next_place_in_shape k level c) cs → Spells (place.Shape k level) (kept_with c cs)
+unfolding next_place_in_shape
 from_shape k level (clause.Declares d) cs right at h =
     let passed = not_date (is_date_and_time d.of.of) (place.Shape k (level_behind level d.of.of)) cs h in
     let s = passed.1 in (
@@ -415,16 +415,16 @@ from_shape k level _ cs right at h = absurd h
 end_spells : (line : ℕ) (k : BlockKind) (cs : List Clause) → Spells place.Outside cs → Spells (place.Shaped k) (clause.Ends line k ∷ cs)
 end_spells line k cs h = ([], line, h.0, ap (λ xs. clause.Ends line k ∷ xs) h.1, (tt, λ lacks. refl), h.2)
 
-from_shaped : (k : BlockKind) (c : Clause) (cs : List Clause) → SpellsBehind (follow_shaped k c) cs → Spells (place.Shaped k) (kept_with c cs)
-unfolding follow_shaped
+from_shaped : (k : BlockKind) (c : Clause) (cs : List Clause) → SpellsBehind (next_place_behind_shape k c) cs → Spells (place.Shaped k) (kept_with c cs)
+unfolding next_place_behind_shape
 from_shaped kinds.Db clause.Begins cs h =
     (h.0, h.1, h.2, h.3, (h.4, λ lacks. true_is_no_false (is_data_block kinds.Db) refl lacks), h.5)
 from_shaped kinds.Udt (clause.Ends line kinds.Udt) cs h = end_spells line kinds.Udt cs h
 from_shaped _ _ cs h = absurd h
 
-from_body : (k : BlockKind) (c : Clause) (cs : List Clause) → IsRight (place.Body k) c → SpellsBehind (follow_body k c) cs →
+from_body : (k : BlockKind) (c : Clause) (cs : List Clause) → IsRight (place.Body k) c → SpellsBehind (next_place_in_body k c) cs →
     Spells (place.Body k) (kept_with c cs)
-unfolding follow_body
+unfolding next_place_in_body
 from_body k (clause.Runs s) cs right h = (s ∷ h.0, h.1, h.2, ap (λ xs. clause.Runs s ∷ xs) h.3, (right, h.4), h.5)
 from_body k clause.Network cs right h = h
 from_body k clause.Title cs right h = h
@@ -433,17 +433,17 @@ from_body k (clause.Ends line e) cs right h =
     ([], line, s.1.0, ap (λ x. clause.Ends line x ∷ cs) (same_kind e k s.0) ∙ ap (λ xs. clause.Ends line k ∷ xs) s.1.1, tt, s.1.2)
 from_body k _ cs right h = absurd h
 
-from_settings : (c : Clause) (cs : List Clause) → IsRight place.Settings c → SpellsBehind (follow_settings c) cs →
+from_settings : (c : Clause) (cs : List Clause) → IsRight place.Settings c → SpellsBehind (next_place_in_settings c) cs →
     Spells place.Settings (kept_with c cs)
-unfolding follow_settings
+unfolding next_place_in_settings
 from_settings (clause.Sets s) cs right h = (s ∷ h.0, h.1, h.2, ap (λ xs. clause.Sets s ∷ xs) h.3, (right, h.4), h.5)
 from_settings (clause.Ends line kinds.Db) cs right h =
     ([], line, h.0, ap (λ xs. clause.Ends line kinds.Db ∷ xs) h.1, tt, h.2)
 from_settings _ cs right h = absurd h
 
-one_more : (p : ClausePlace) (c : Clause) (cs : List Clause) → IsRight p c → IsAt (level_at p) c → SpellsBehind (follow p c) cs →
+one_more : (p : ClausePlace) (c : Clause) (cs : List Clause) → IsRight p c → IsAt (level_at p) c → SpellsBehind (next_place p c) cs →
     Spells p (kept_with c cs)
-unfolding follow
+unfolding next_place
 one_more place.Outside c cs right at h = from_outside c cs right h
 one_more (place.Head k) c cs right at h = from_head k c cs right h
 one_more (place.Section k p level) c cs right at h = from_section k p level c cs right at h
@@ -454,20 +454,20 @@ one_more (place.Body k) c cs right at h = from_body k c cs right h
 one_more place.Settings c cs right at h = from_settings c cs right h
 
 was_placed : (p : ClausePlace) (c : Clause) (rest : List Token) (long : Bool) (f : Option ClausePlace) (d : Clause) (behind : List Token) (q : ClausePlace) →
-    placed c rest (place_of long f) ≡ Ok (d, behind, q) → follow p c ≡ f →
-    (◌≡◌ {A = Read} (Some (c, rest, long)) (Some (d, behind, false))) × (follow p d ≡ Some q)
+    step_or_rule c rest (place_or_rule long f) ≡ Ok (d, behind, q) → next_place p c ≡ f →
+    (◌≡◌ {A = ClauseReading} (Some (c, rest, long)) (Some (d, behind, false))) × (next_place p d ≡ Some q)
 was_placed p c rest long None d behind q same followed = cc
 was_placed p c rest true (Some next) d behind q same followed = cc
 was_placed p c rest false (Some next) d behind q same followed =
-    let read_of : Result Step ℕ → Read = λ r. elim r [ Ok s ↦ Some (s.0, s.1, false) | Err e ↦ None ] in
-    let clause_of : Result Step ℕ → Clause = λ r. elim r [ Ok s ↦ s.0 | Err e ↦ c ] in
-    let next_of : Result Step ℕ → ClausePlace = λ r. elim r [ Ok s ↦ s.2 | Err e ↦ next ] in
-    (ap read_of same, sym (ap (λ r. follow p (clause_of r)) same) ∙ followed ∙ ap (λ r. Some (next_of r)) same)
+    let read_of : Result ClauseStep ℕ → ClauseReading = λ r. elim r [ Ok s ↦ Some (s.0, s.1, false) | Err e ↦ None ] in
+    let clause_of : Result ClauseStep ℕ → Clause = λ r. elim r [ Ok s ↦ s.0 | Err e ↦ c ] in
+    let next_of : Result ClauseStep ℕ → ClausePlace = λ r. elim r [ Ok s ↦ s.2 | Err e ↦ next ] in
+    (ap read_of same, sym (ap (λ r. next_place p (clause_of r)) same) ∙ followed ∙ ap (λ r. Some (next_of r)) same)
 
-was_right : (p : ClausePlace) (read : Read) (d : Clause) (behind : List Token) (q : ClausePlace) → judged p read ≡ Ok (d, behind, q) →
-    (read ≡ Some (d, behind, false)) × (follow p d ≡ Some q)
+was_right : (p : ClausePlace) (read : ClauseReading) (d : Clause) (behind : List Token) (q : ClausePlace) → step_of_reading p read ≡ Ok (d, behind, q) →
+    (read ≡ Some (d, behind, false)) × (next_place p d ≡ Some q)
 was_right p None d behind q same = cc
-was_right p (Some r) d behind q same = was_placed p r.0 r.1 r.2 (follow p r.0) d behind q same refl
+was_right p (Some r) d behind q same = was_placed p r.0 r.1 r.2 (next_place p r.0) d behind q same refl
 
 pub level_of : (source : List ℕ) (p : ClausePlace) (tokens : List Token) (c : Clause) (rest : List Token) →
     clause_at source p tokens ≡ Some (c, rest, false) → IsAt (level_at p) c
@@ -476,7 +476,7 @@ level_of source p tokens _ rest h = tt
 
 -- a right clause has no label that is too long, and the frame lets it stand there
 pub right_clause : (source : List ℕ) (p : ClausePlace) (tokens : List Token) (c : Clause) (behind : List Token) (q : ClausePlace) →
-    step_of source p tokens ≡ Ok (c, behind, q) → (clause_at source p tokens ≡ Some (c, behind, false)) × (follow p c ≡ Some q)
+    step_of source p tokens ≡ Ok (c, behind, q) → (clause_at source p tokens ≡ Some (c, behind, false)) × (next_place p c ≡ Some q)
 unfolding step_of
 right_clause source p tokens c behind q same = was_right p (clause_at source p tokens) c behind q same
 
@@ -488,12 +488,12 @@ read_holds source p tokens c rest h =
     (held.0 refl, held.1)
 
 reads_spell : (source : List ℕ) (p : ClausePlace) (ts : List Token) (cs : List Clause) (rest : List Token) →
-    Reads source p ts cs place.Outside rest → Spells p (filter is_kept cs)
+    ReadsClauses source p ts cs place.Outside rest → Spells p (filter is_kept_by_tree cs)
 reads_spell source p ts [] rest reads = subst (λ q. Spells q []) (sym reads.0) ([], refl, tt)
 reads_spell source p ts (c ∷ cs) rest reads =
     let right = right_clause source p ts c reads.0 reads.1 reads.2 in
-    one_more p c (filter is_kept cs) (read_holds source p ts c reads.0 right.0).0 (level_of source p ts c reads.0 right.0)
-    (subst (λ f. SpellsBehind f (filter is_kept cs)) (sym right.1) (reads_spell source reads.1 reads.0 cs rest reads.3))
+    one_more p c (filter is_kept_by_tree cs) (read_holds source p ts c reads.0 right.0).0 (level_of source p ts c reads.0 right.0)
+    (subst (λ f. SpellsBehind f (filter is_kept_by_tree cs)) (sym right.1) (reads_spell source reads.1 reads.0 cs rest reads.3))
 
 pub tree_there : ClausesHaveTree
 tree_there source tokens cs right =

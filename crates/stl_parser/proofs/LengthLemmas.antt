@@ -19,12 +19,12 @@ use Rattle.std.specs.Prelude.{◌&&◌}
 use Rattle.stl_parser.specs.declared.places.ClausePlace.{ClausePlace}
 use Rattle.stl_parser.specs.declared.tables.HeadWord.{HeadWord}
 use Rattle.stl_parser.specs.declared.tables.Keyword.{Keyword}
-use Rattle.stl_parser.specs.Numbers.{signed_at, int_at}
+use Rattle.stl_parser.specs.Numbers.{signed_number_at, int_at}
 use Rattle.stl_parser.specs.Parts.{parts_from}
-use Rattle.stl_parser.specs.Addresses.{glued_at, separate_at, numbered_at, block_number_at, quoted_at, block_at}
+use Rattle.stl_parser.specs.Addresses.{glued_letters_and_number, separate_letters_and_number, letters_and_number_at, block_number_at, quoted_block_at, block_at}
 use Rattle.stl_parser.specs.Types.{array_end, array_high, array_at, arrays_end, arrays_at}
-use Rattle.stl_parser.specs.Declarations.{after_attribute, after_colon, declared_at, after_struct, structure_at}
-use Rattle.stl_parser.specs.Clauses.{skip_semicolon, until_semicolon, behind_note, named_at, result_type, result_at, head_of, inner_end, structure_end, keyword_clause, version_at, word_at, head_word_at, head_word_clause, based_at, structure_clause, semicolon_clause, plain_clause, other_clause, free_word_clause, word_clause, clause_by_kind, clause_at}
+use Rattle.stl_parser.specs.Declarations.{after_attribute, after_colon, declared_name_at, after_struct, structure_at}
+use Rattle.stl_parser.specs.Clauses.{skip_semicolon, until_semicolon, behind_note, block_of_kind_at, result_type, result_at, head_clause, inner_end, structure_end, keyword_clause, version_at, colon_and_word_at, head_word_at, head_word_clause, base_block_at, structure_clause, semicolon_clause, plain_clause, other_clause, free_word_clause, word_clause, clause_by_kind, clause_at}
 
 chain : {A B : Type 0} (o : Option A) (f : A → Option B) (m : A → ℕ) (l : B → ℕ) (n : ℕ) (r : B) → option_and_then f o ≡ Some r →
     ((x : A) → o ≡ Some x → m x ≤ n) → ((x : A) (y : B) → f x ≡ Some y → l y ≤ m x) → l r ≤ n
@@ -47,18 +47,18 @@ taken true o r h = h
 taken false o r h = cc
 
 glued_rest : {X : Type 0} (table : List (List ℕ × X)) (text : List ℕ) (rest : List Token) (r : X × ℕ × List Token) →
-    glued_at table text rest ≡ Some r → length r.2 ≤ length rest
-unfolding glued_at
+    glued_letters_and_number table text rest ≡ Some r → length r.2 ≤ length rest
+unfolding glued_letters_and_number
 glued_rest table text rest r h = grind arith
 
 separate_rest : {X : Type 0} (table : List (List ℕ × X)) (source text : List ℕ) (rest : List Token) (r : X × ℕ × List Token) →
-    separate_at table source text rest ≡ Some r → length r.2 ≤ length rest
-unfolding separate_at
+    separate_letters_and_number table source text rest ≡ Some r → length r.2 ≤ length rest
+unfolding separate_letters_and_number
 separate_rest table source text rest r h = grind arith
 
 pub numbered_rest : {X : Type 0} (table : List (List ℕ × X)) (source : List ℕ) (tokens : List Token) (r : X × ℕ × List Token) →
-    numbered_at table source tokens ≡ Some r → length r.2 < length tokens
-unfolding numbered_at
+    letters_and_number_at table source tokens ≡ Some r → length r.2 < length tokens
+unfolding letters_and_number_at
 numbered_rest table source tokens r h = grind (arith, glued_rest, separate_rest)
 
 block_number_rest : (source : List ℕ) (tokens : List Token) (r : BlockKind × ℕ × List Token) →
@@ -66,9 +66,9 @@ block_number_rest : (source : List ℕ) (tokens : List Token) (r : BlockKind × 
 unfolding block_number_at
 block_number_rest source tokens r h = grind (arith, numbered_rest)
 
-quoted_rest : (source : List ℕ) (tokens : List Token) (r : BlockName × List Token) → quoted_at source tokens ≡ Some r →
+quoted_rest : (source : List ℕ) (tokens : List Token) (r : BlockName × List Token) → quoted_block_at source tokens ≡ Some r →
     length r.1 < length tokens
-unfolding quoted_at
+unfolding quoted_block_at
 quoted_rest source tokens r h = grind arith
 
 pub block_rest : (source : List ℕ) (tokens : List Token) (r : BlockName × List Token) → block_at source tokens ≡ Some r →
@@ -76,9 +76,9 @@ pub block_rest : (source : List ℕ) (tokens : List Token) (r : BlockName × Lis
 unfolding block_at
 block_rest source tokens r h = grind (arith, block_number_rest, quoted_rest)
 
-named_rest : (source : List ℕ) (k : BlockKind) (tokens : List Token) (r : BlockName × List Token) → named_at source k tokens ≡ Some r →
+named_rest : (source : List ℕ) (k : BlockKind) (tokens : List Token) (r : BlockName × List Token) → block_of_kind_at source k tokens ≡ Some r →
     length r.1 ≤ length tokens
-unfolding named_at
+unfolding block_of_kind_at
 named_rest source k tokens r h = grind (arith, block_rest)
 
 colon_rest : (source : List ℕ) (tokens rest : List Token) → after_colon source tokens ≡ Some rest → length rest ≤ length tokens
@@ -106,10 +106,10 @@ result_of_head : (source : List ℕ) (line : ℕ) (k : BlockKind) (b : BlockName
 result_of_head source line k b r h = grind (arith, result_rest)
 
 head_rest : (source : List ℕ) (line : ℕ) (k : BlockKind) (tokens : List Token) (r : Clause × List Token × Bool) →
-    head_of source line k tokens ≡ Some r → length r.1 ≤ length tokens
-unfolding head_of
+    head_clause source line k tokens ≡ Some r → length r.1 ≤ length tokens
+unfolding head_clause
 head_rest source line k tokens r h =
-    chain (named_at source k tokens) (λ b. option_map (λ y. (clause.Head line k b.0 y.0, y.1, false)) (result_at source k b.1))
+    chain (block_of_kind_at source k tokens) (λ b. option_map (λ y. (clause.Head line k b.0 y.0, y.1, false)) (result_at source k b.1))
     (λ b. length b.1) (λ y. length y.1) (length tokens) r h (named_rest source k tokens) (result_of_head source line k)
 
 semicolon_skipped : (source : List ℕ) (tokens : List Token) → length (skip_semicolon source tokens) ≤ length tokens
@@ -132,7 +132,7 @@ note_rest source p rest = grind (arith, semicolon_skipped)
 
 head_word_rest : (source : List ℕ) (w : HeadWord) (tokens rest : List Token) → head_word_at source w tokens ≡ Some rest →
     length rest ≤ length tokens
-unfolding head_word_at version_at word_at
+unfolding head_word_at version_at colon_and_word_at
 head_word_rest source w tokens rest h = grind arith
 
 head_word_clause_rest : (source : List ℕ) (p : ClausePlace) (w : HeadWord) (tokens : List Token) (r : Clause × List Token × Bool) →
@@ -140,13 +140,13 @@ head_word_clause_rest : (source : List ℕ) (p : ClausePlace) (w : HeadWord) (to
 unfolding head_word_clause
 head_word_clause_rest source p w tokens r h = grind (arith, head_word_rest, note_rest)
 
-based_rest : (source : List ℕ) (tokens : List Token) (r : Clause × List Token × Bool) → based_at source tokens ≡ Some r →
+based_rest : (source : List ℕ) (tokens : List Token) (r : Clause × List Token × Bool) → base_block_at source tokens ≡ Some r →
     length r.1 < length tokens
-unfolding based_at
+unfolding base_block_at
 based_rest source tokens r h = grind (arith, block_rest)
 
 int_rest : (source : List ℕ) (tokens : List Token) (r : ℤ × List Token) → int_at source tokens ≡ Some r → length r.1 ≤ length tokens
-unfolding int_at signed_at
+unfolding int_at signed_number_at
 int_rest source tokens r h = grind arith
 
 array_end_rest : (source : List ℕ) (low high : ℤ) (tokens : List Token) (r : Bounds × List Token) →
@@ -202,9 +202,9 @@ attribute_rest : (tokens : List Token) → length (after_attribute tokens) ≤ l
 unfolding after_attribute
 attribute_rest tokens = grind arith
 
-declared_rest : (source : List ℕ) (tokens : List Token) (r : Token × List Token) → declared_at source tokens ≡ Some r →
+declared_rest : (source : List ℕ) (tokens : List Token) (r : Token × List Token) → declared_name_at source tokens ≡ Some r →
     length r.1 < length tokens
-unfolding declared_at
+unfolding declared_name_at
 declared_rest source [] r h = cc
 declared_rest source (w ∷ rest) r h =
     let name : List Token → Token × List Token = λ y. (w, y) in
@@ -221,7 +221,7 @@ structure_rest : (source : List ℕ) (level : ℕ) (tokens : List Token) (r : De
     structure_at source level tokens ≡ Some r → length r.1 < length tokens
 unfolding structure_at
 structure_rest source level tokens r h =
-    chain (declared_at source tokens) _ (λ d. suc (length d.1)) (λ y. suc (length y.1)) (length tokens) r h (declared_rest source tokens)
+    chain (declared_name_at source tokens) _ (λ d. suc (length d.1)) (λ y. suc (length y.1)) (length tokens) r h (declared_rest source tokens)
     (λ d y e. let within : length y.1 ≤ length d.1 = chain (arrays_at source d.1) _ (λ a. length a.1) (λ z. length z.1) (length d.1) y e (arrays_rest source d.1)
     (λ a z f. mapped (after_struct source a.1) _ (λ x. length x.1) (length a.1) z f (struct_rest source a.1)) in omega (arith, within))
 

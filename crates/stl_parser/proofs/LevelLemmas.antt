@@ -9,7 +9,7 @@ use Rattle.stl_parser.specs.declared.places.ClausePlace.{ClausePlace}
 use Rattle.stl_parser.specs.declared.tables.HeadWord.{HeadWord}
 use Rattle.stl_parser.specs.declared.tables.Keyword.{Keyword}
 use Rattle.stl_parser.specs.Declarations.{structure_at, declaration_of}
-use Rattle.stl_parser.specs.Clauses.{level_at, head_of, inner_end, structure_end, keyword_clause, head_word_clause, based_at, structure_clause, declaration_clause, statement_clause, setting_clause, inside_clause, semicolon_clause, plain_clause, other_clause, free_word_clause, word_clause, clause_by_kind, clause_at}
+use Rattle.stl_parser.specs.Clauses.{level_at, head_clause, inner_end, structure_end, keyword_clause, head_word_clause, base_block_at, structure_clause, declaration_clause, statement_clause, setting_clause, inside_clause, semicolon_clause, plain_clause, other_clause, free_word_clause, word_clause, clause_by_kind, clause_at}
 
 -- a declaration stands at this level
 abbrev pub IsAt : ℕ → Clause → Type 0
@@ -53,12 +53,12 @@ plain_level source p line tokens d rest long h = grind (arith, structure_clause_
 
 other_level : (source : List ℕ) (p : ClausePlace) (line : ℕ) (tokens : List Token) (d : Declaration) (rest : List Token) (long : Bool) →
     other_clause source p line tokens ≡ Some (clause.Declares d, rest, long) → d.level ≡ level_at p
-unfolding other_clause based_at
+unfolding other_clause base_block_at
 other_level source p line tokens d rest long h = grind (arith, plain_level)
 
 keyword_is_other : (source : List ℕ) (p : ClausePlace) (line : ℕ) (k : Keyword) (tokens : List Token) (d : Declaration) (rest : List Token) (long : Bool) →
     keyword_clause source p line k tokens ≡ Some (clause.Declares d, rest, long) → ⊥
-unfolding keyword_clause head_of structure_end inner_end
+unfolding keyword_clause head_clause structure_end inner_end
 keyword_is_other source p line k tokens d rest long h = grind arith
 
 free_word_level : (source : List ℕ) (p : ClausePlace) (t : Token) (more tokens : List Token) (w : Option HeadWord) (d : Declaration)

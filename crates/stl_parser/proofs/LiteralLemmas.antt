@@ -6,10 +6,10 @@ use Rattle.std.specs.Option.{option_map, IfSome}
 use Rattle.plc_base.specs.Decimal.{decimal_up_to}
 use Rattle.plc_base.proofs.DecimalLemmas.{decimal_within}
 use Rattle.plc_base.proofs.TruthLemmas.{and_second}
-use Rattle.stl_lexer.specs.Bytes.{underscore, minus_sign, plus, two_digit, letter_b, letter_c, letter_s, letter_w}
+use Rattle.stl_lexer.specs.Bytes.{underscore, minus_sign, plus_sign, two_digit, letter_b, letter_c, letter_s, letter_w}
 use Rattle.stl_lexer.specs.Limits.{greatest_long}
-use Rattle.stl_lexer.specs.Rules.{first_letter, behind_prefix, within}
-use Rattle.stl_lexer.specs.TimeLiteral.{milliseconds, units}
+use Rattle.stl_lexer.specs.Rules.{first_letter, behind_prefix, value_up_to}
+use Rattle.stl_lexer.specs.TimeLiteral.{milliseconds, time_units}
 use Rattle.stl_lexer.specs.declared.kinds.Token.{Token}
 use Rattle.stl_lexer.specs.declared.kinds.TokenKind.{TokenKind}
 use Rattle.stl_lexer.specs.declared.kinds.TokenKind.TheVariants as kind
@@ -21,9 +21,9 @@ use Rattle.stl_ast.specs.Operands.{IsNumber}
 use Rattle.stl_parser.specs.declared.keywords.Key.TheVariants as key
 use Rattle.stl_lexer.specs.declared.marks.Mark.TheVariants as mark
 use Rattle.stl_parser.specs.Terminals.{is_mark, is_key}
-use Rattle.stl_parser.specs.Numbers.{number_of, signed_at}
-use Rattle.stl_parser.specs.Values.{value_from, based_literal, based_value, long_value, long_or_count, time_value, duration}
-use Rattle.stl_parser.specs.Literals.{unquoted, characters_of, truth_of, literal_token, byte_of, last_bytes, bytes_behind, bytes_at, long_literal, literal_at, literal_of}
+use Rattle.stl_parser.specs.Numbers.{number_of, signed_number_at}
+use Rattle.stl_parser.specs.Values.{value_from, based_literal, based_value, long_value, long_or_count, time_value, duration_literal}
+use Rattle.stl_parser.specs.Literals.{text_between_quotes, characters_of, truth_of, literal_token, byte_of, last_bytes, bytes_behind, bytes_at, long_literal, literal_at, literal_of}
 use Rattle.stl_parser.proofs.OptionLemmas.{mapped, chained, either, both, passed, at_most, whole_holds}
 use Rattle.stl_parser.proofs.RangeLemmas.{negated, number_holds, FirstIsDecimal, signed_holds}
 
@@ -61,7 +61,7 @@ long_holds [] = tt
 long_holds (b ∷ bs) =
     both (b == minus_sign) _ _ IsLong
     (mapped (decimal_up_to (2 ^ 31) bs) _ (λ v. v ≤ 2 ^ 31) IsLong (decimal_within (2 ^ 31) bs) (λ v h. negated (2 ^ 31) (2 ^ 31 - 1) v h))
-    (both (b == plus) _ _ IsLong
+    (both (b == plus_sign) _ _ IsLong
     (mapped (decimal_up_to (2 ^ 31 - 1) bs) _ (λ v. v ≤ 2 ^ 31 - 1) IsLong (decimal_within (2 ^ 31 - 1) bs) (λ v h. h))
     (mapped (decimal_up_to (2 ^ 31 - 1) (b ∷ bs)) _ (λ v. v ≤ 2 ^ 31 - 1) IsLong (decimal_within (2 ^ 31 - 1) (b ∷ bs)) (λ v h. h)))
 
@@ -72,8 +72,8 @@ long_or_count_holds text =
     (mapped (decimal_up_to 999 (behind_prefix text)) _ (λ v. v ≤ 999) IsLiteral (decimal_within 999 (behind_prefix text)) (λ v h. h))
     (mapped (long_value (behind_prefix text)) _ IsLong IsLiteral (long_holds (behind_prefix text)) (λ v h. h))
 
-within_range : (greatest : ℕ) (o : Option ℕ) → IfSome (within greatest o) (λ v. v ≤ greatest)
-unfolding within
+within_range : (greatest : ℕ) (o : Option ℕ) → IfSome (value_up_to greatest o) (λ v. v ≤ greatest)
+unfolding value_up_to
 within_range greatest None = tt
 within_range greatest (Some n) = passed (nat_le n greatest) _ (λ v. v ≤ greatest) (λ test. at_most n greatest test)
 
@@ -82,17 +82,17 @@ unfolding time_value greatest_long
 time_holds [] = tt
 time_holds (b ∷ bs) =
     both (b == minus_sign) _ _ IsLong
-    (mapped (within (2 ^ 31) (milliseconds units bs)) _ (λ v. v ≤ 2 ^ 31) IsLong (within_range (2 ^ 31) (milliseconds units bs))
+    (mapped (value_up_to (2 ^ 31) (milliseconds time_units bs)) _ (λ v. v ≤ 2 ^ 31) IsLong (within_range (2 ^ 31) (milliseconds time_units bs))
     (λ v h. negated (2 ^ 31) (2 ^ 31 - 1) v h))
-    (mapped (within (2 ^ 31 - 1) (milliseconds units (b ∷ bs))) _ (λ v. v ≤ 2 ^ 31 - 1) IsLong
-    (within_range (2 ^ 31 - 1) (milliseconds units (b ∷ bs))) (λ v h. h))
+    (mapped (value_up_to (2 ^ 31 - 1) (milliseconds time_units (b ∷ bs))) _ (λ v. v ≤ 2 ^ 31 - 1) IsLong
+    (within_range (2 ^ 31 - 1) (milliseconds time_units (b ∷ bs))) (λ v h. h))
 
-duration_holds : (text : List ℕ) → IfSome (duration text) IsLiteral
-unfolding duration
+duration_holds : (text : List ℕ) → IfSome (duration_literal text) IsLiteral
+unfolding duration_literal
 duration_holds text =
     both (first_letter text == letter_s) _ _ IsLiteral
-    (mapped (within 9990000 (milliseconds units (behind_prefix text))) _ (λ v. v ≤ 9990000) IsLiteral
-    (within_range 9990000 (milliseconds units (behind_prefix text))) (λ v h. h))
+    (mapped (value_up_to 9990000 (milliseconds time_units (behind_prefix text))) _ (λ v. v ≤ 9990000) IsLiteral
+    (within_range 9990000 (milliseconds time_units (behind_prefix text))) (λ v h. h))
     (mapped (time_value (behind_prefix text)) _ IsLong IsLiteral (time_holds (behind_prefix text)) (λ v h. h))
 
 characters_hold : (text : List ℕ) → IfSome (characters_of text) (λ bytes. (1 ≤ length bytes) × (length bytes ≤ 4))
@@ -115,8 +115,8 @@ unfolding literal_token
 token_holds source t kind.Word = truth_holds source t
 token_holds source t kind.Number = decimal_holds source t
 token_holds source t kind.Characters =
-    mapped (characters_of (unquoted (text_of source t))) _ (λ bytes. (1 ≤ length bytes) × (length bytes ≤ 4)) IsLiteral
-    (characters_hold (unquoted (text_of source t))) (λ bytes h. h)
+    mapped (characters_of (text_between_quotes (text_of source t))) _ (λ bytes. (1 ≤ length bytes) × (length bytes ≤ 4)) IsLiteral
+    (characters_hold (text_between_quotes (text_of source t))) (λ bytes h. h)
 token_holds source t kind.Based = based_holds (text_of source t)
 token_holds source t kind.NumberLiteral = long_or_count_holds (text_of source t)
 token_holds source t kind.TimeLiteral = duration_holds (text_of source t)
@@ -161,7 +161,7 @@ long_literal_holds : (source : List ℕ) (t : Token) (rest : List Token) → IfS
 unfolding long_literal
 long_literal_holds source t rest =
     both (is_mark source t mark.Bytes) _ _ FirstIsLiteral (bytes_hold source rest)
-    (mapped (signed_at source t rest) _ FirstIsDecimal FirstIsLiteral (signed_holds source t rest) (λ r h. h))
+    (mapped (signed_number_at source t rest) _ FirstIsDecimal FirstIsLiteral (signed_holds source t rest) (λ r h. h))
 
 pub literal_at_holds : (source : List ℕ) (tokens : List Token) → IfSome (literal_at source tokens) FirstIsLiteral
 unfolding literal_at

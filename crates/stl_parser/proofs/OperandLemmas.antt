@@ -22,7 +22,7 @@ use Rattle.stl_ast.specs.declared.operands.PathHead.TheVariants as head
 use Rattle.stl_ast.specs.Literals.{IsDecimal, IsLiteral}
 use Rattle.stl_ast.specs.Operands.{IsNumber, IsDataBlockName, IsBitOf, IsStep, AreSteps, BeginsByName, IsOperand}
 use Rattle.stl_ast.specs.Sizes.{op_size}
-use Rattle.stl_ast.specs.Statements.{is_nothing, is_label, is_called}
+use Rattle.stl_ast.specs.Statements.{is_nothing, is_label, names_called_block}
 use Rattle.stl_parser.specs.declared.keywords.Key.TheVariants as key
 use Rattle.stl_lexer.specs.declared.marks.Mark.TheVariants as mark
 use Rattle.stl_parser.specs.declared.tables.Address.{Address}
@@ -30,8 +30,8 @@ use Rattle.stl_parser.specs.declared.tables.Address.TheVariants as address
 use Rattle.stl_parser.specs.Terminals.{has_kind, is_mark, is_key}
 use Rattle.stl_parser.specs.Tables.{look_up, addresses, flags, registers}
 use Rattle.stl_parser.specs.Numbers.{number_of, int_at}
-use Rattle.stl_parser.specs.Parts.{whole}
-use Rattle.stl_parser.specs.Literals.{unquoted, literal_of}
+use Rattle.stl_parser.specs.Parts.{complete_reading}
+use Rattle.stl_parser.specs.Literals.{text_between_quotes, literal_of}
 use Rattle.stl_parser.specs.Addresses.{address_at, bit_of}
 use Rattle.stl_parser.specs.Operands as spec
 use Rattle.stl_parser.proofs.OptionLemmas.{mapped, chained, either, both, passed, none_holds, weakened, whole_holds, parts_hold, all_push}
@@ -42,7 +42,7 @@ use Rattle.stl_parser.proofs.AddressLemmas.{address_holds, bit_holds, place_bit_
 -- an operand that is read from a token and `more` behind it: no block that is called, no label, and not nothing
 abbrev pub IsRead : ℕ → Operand → Type 0
 IsRead more o =
-    IsOperand o × (op_size o ≤ 8 + 4 * more) × (is_called o ≡ false) × (is_label o ≡ false) × (is_nothing o ≡ false)
+    IsOperand o × (op_size o ≤ 8 + 4 * more) × (names_called_block o ≡ false) × (is_label o ≡ false) × (is_nothing o ≡ false)
 
 abbrev FirstIsStep : PathStep × List Token → Type 0
 FirstIsStep r = IsStep r.0
@@ -93,13 +93,13 @@ named_steps_hold source first tokens h =
 path_holds : (source name : List ℕ) (tokens : List Token) (more : ℕ) → IfSome (spec.path_of source (head.Local name) tokens) (IsRead more)
 unfolding spec.path_of
 path_holds source name tokens more =
-    mapped (whole (spec.steps_from source [] tokens)) _ AreSteps (IsRead more)
+    mapped (complete_reading (spec.steps_from source [] tokens)) _ AreSteps (IsRead more)
     (whole_holds (spec.steps_from source [] tokens) AreSteps (steps_hold source [] tokens tt))
     (λ steps h. (h, omega arith, refl, refl, refl))
 
 area_holds : (source : List ℕ) (area : Letters) (w : Width) (byte : ℕ) (rest : List Token) (more : ℕ) → IsNumber byte →
-    IfSome (spec.area_of source area w byte rest) (IsRead more)
-unfolding spec.area_of
+    IfSome (spec.area_operand source area w byte rest) (IsRead more)
+unfolding spec.area_operand
 area_holds source area w byte rest more h =
     mapped (spec.place_bit source w rest) _ (IsBitOf w) (IsRead more) (place_bit_holds source w rest)
     (λ bit k. ((tt, h, k), omega arith, refl, refl, refl))
@@ -108,8 +108,8 @@ abbrev IsPlace : Width × ℕ × ℕ → Type 0
 IsPlace p = IsNumber p.1 × IsBitOf p.0 p.2
 
 place_holds : (source : List ℕ) (a : Address) (byte : ℕ) (rest : List Token) → IsNumber byte →
-    IfSome (spec.place_of source a byte rest) IsPlace
-unfolding spec.place_of
+    IfSome (spec.place_of_data_address source a byte rest) IsPlace
+unfolding spec.place_of_data_address
 place_holds source (address.Area letters.Db w) byte rest h =
     mapped (spec.place_bit source w rest) _ (IsBitOf w) IsPlace (place_bit_holds source w rest) (λ bit k. (h, k))
 place_holds source _ byte rest h = tt
@@ -126,14 +126,14 @@ unfolding spec.block_path
 block_path_holds source name [] more h some = tt
 block_path_holds source name (w ∷ rest) more h some =
     passed (has_kind w kind.Word) _ (IsRead more)
-    (λ test. mapped (whole (spec.steps_from source (step.Named (text_of source w) ∷ []) rest)) _ IsNamedPath (IsRead more)
+    (λ test. mapped (complete_reading (spec.steps_from source (step.Named (text_of source w) ∷ []) rest)) _ IsNamedPath (IsRead more)
     (whole_holds (spec.steps_from source (step.Named (text_of source w) ∷ []) rest) IsNamedPath
     (named_steps_hold source (step.Named (text_of source w) ∷ []) rest (tt, (tt, tt))))
     (λ steps k. ((h, k.0, k.1), omega (arith, some), refl, refl, refl)))
 
 in_block_holds : (source : List ℕ) (name : BlockName) (tokens : List Token) (more : ℕ) → IsDataBlockName name → 1 ≤ more →
-    IfSome (spec.in_block source name tokens) (IsRead more)
-unfolding spec.in_block
+    IfSome (spec.operand_in_block source name tokens) (IsRead more)
+unfolding spec.operand_in_block
 in_block_holds source name tokens more h some =
     either (option_map (λ p. operand.Direct (Some name) letters.Db p.0 p.1 p.2) (spec.block_place source tokens)) _ (IsRead more)
     (mapped (spec.block_place source tokens) _ IsPlace (IsRead more) (block_place_holds source tokens)
@@ -141,22 +141,22 @@ in_block_holds source name tokens more h some =
     (block_path_holds source name tokens more h some)
 
 behind_block_holds : (source : List ℕ) (name : BlockName) (tokens : List Token) (more : ℕ) → IsDataBlockName name → 1 ≤ more →
-    IfSome (spec.behind_block source name tokens) (IsRead more)
-unfolding spec.behind_block
+    IfSome (spec.operand_behind_block source name tokens) (IsRead more)
+unfolding spec.operand_behind_block
 behind_block_holds source name [] more h some = tt
 behind_block_holds source name (dot ∷ rest) more h some =
     passed (is_mark source dot mark.Dot) _ (IsRead more) (λ test. in_block_holds source name rest more h some)
 
 data_block_holds : (source : List ℕ) (n : ℕ) (tokens : List Token) (more : ℕ) → IsNumber n → length tokens ≤ more →
-    IfSome (spec.data_block source n tokens) (IsRead more)
-unfolding spec.data_block
+    IfSome (spec.data_block_operand source n tokens) (IsRead more)
+unfolding spec.data_block_operand
 data_block_holds source n [] more h fits = ((refl, h), omega arith, refl, refl, refl)
 data_block_holds source n (t ∷ rest) more h fits =
     behind_block_holds source (spec.data_block_name n) (t ∷ rest) more (refl, h) (omega (arith, fits))
 
 direct_holds : (source : List ℕ) (a : Address) (n : ℕ) (tokens : List Token) (more : ℕ) → IsNumber n → length tokens ≤ more →
-    IfSome (spec.direct_of source a n tokens) (IsRead more)
-unfolding spec.direct_of
+    IfSome (spec.direct_address_operand source a n tokens) (IsRead more)
+unfolding spec.direct_address_operand
 direct_holds source (address.Area area w) n rest more h fits = area_holds source area w n rest more h
 direct_holds source address.Timer n [] more h fits = (h, omega arith, refl, refl, refl)
 direct_holds source address.Timer n (t ∷ rest) more h fits = tt
@@ -167,22 +167,22 @@ direct_holds source (address.Block true) n [] more h fits = ((refl, h), omega ar
 direct_holds source (address.Block true) n (t ∷ rest) more h fits = tt
 
 by_register_holds : (source : List ℕ) (area : Option Letters) (w : Width) (tokens : List Token) (more : ℕ) → length tokens ≤ more + 1 →
-    IfSome (spec.by_register source area w tokens) (IsRead more)
-unfolding spec.by_register
+    IfSome (spec.operand_by_register source area w tokens) (IsRead more)
+unfolding spec.operand_by_register
 by_register_holds source area w tokens more fits =
     mapped (spec.register_pointer source tokens) _ _ (IsRead more) (register_pointer_holds source tokens)
     (λ p h. ((h.0, h.1), omega (arith, fits, h.2), refl, refl, refl))
 
 number_by_holds : (source : List ℕ) (what : Numbered) (tokens : List Token) (more : ℕ) →
-    IfSome (spec.number_by source what tokens) (IsRead more)
-unfolding spec.number_by
+    IfSome (spec.operand_by_memory_number source what tokens) (IsRead more)
+unfolding spec.operand_by_memory_number
 number_by_holds source what tokens more =
     mapped (spec.memory_pointer source false tokens) _ IsPointerPlace (IsRead more) (memory_pointer_holds source false tokens)
     (λ p h. (h, omega arith, refl, refl, refl))
 
 area_by_holds : (source : List ℕ) (area : Letters) (w : Width) (tokens : List Token) (more : ℕ) → length tokens ≤ more →
-    IfSome (spec.area_by source area w tokens) (IsRead more)
-unfolding spec.area_by
+    IfSome (spec.operand_by_pointer source area w tokens) (IsRead more)
+unfolding spec.operand_by_pointer
 area_by_holds source area w tokens more fits =
     either (option_map (λ p. operand.ByMemory area w p.0 p.1) (spec.memory_pointer source true tokens)) _ (IsRead more)
     (mapped (spec.memory_pointer source true tokens) _ IsPointerPlace (IsRead more) (memory_pointer_holds source true tokens)
@@ -190,8 +190,8 @@ area_by_holds source area w tokens more fits =
     (by_register_holds source (Some area) w tokens more (omega (arith, fits)))
 
 indirect_holds : (source : List ℕ) (a : Address) (tokens : List Token) (more : ℕ) → length tokens ≤ more →
-    IfSome (spec.indirect_of source a tokens) (IsRead more)
-unfolding spec.indirect_of
+    IfSome (spec.indirect_operand source a tokens) (IsRead more)
+unfolding spec.indirect_operand
 indirect_holds source (address.Area area w) tokens more fits = area_by_holds source area w tokens more fits
 indirect_holds source address.Timer tokens more fits = number_by_holds source numbered.Timer tokens more
 indirect_holds source address.Counter tokens more fits = number_by_holds source numbered.Counter tokens more
@@ -213,8 +213,8 @@ plain_pointer_holds source (n ∷ rest) more =
     (λ byte h. mapped (bit_of source rest) _ (λ bit. bit ≤ 7) (IsRead more) (bit_holds source rest)
     (λ bit k. ((h, k), omega arith, refl, refl, refl)))
 
-pointer_holds : (source : List ℕ) (tokens : List Token) (more : ℕ) → IfSome (spec.pointer_of source tokens) (IsRead more)
-unfolding spec.pointer_of
+pointer_holds : (source : List ℕ) (tokens : List Token) (more : ℕ) → IfSome (spec.pointer_constant_operand source tokens) (IsRead more)
+unfolding spec.pointer_constant_operand
 pointer_holds source tokens more =
     either (spec.plain_pointer source tokens) _ (IsRead more) (plain_pointer_holds source tokens more)
     (chained (address_at source tokens) _ (λ r. IsNumber r.1 × (length r.2 < length tokens)) (IsRead more) (address_holds source tokens)
@@ -226,17 +226,17 @@ condition_holds source t more =
     mapped (look_up flags (text_of source t)) _ (λ f. Unit {0}) (IsRead more) (none_holds (look_up flags (text_of source t)))
     (λ f h. (tt, omega arith, refl, refl, refl))
 
-other_if_holds : (name : List ℕ) (o : Option Bool) (more : ℕ) → IfSome (spec.other_if name o) (IsRead more)
+other_if_holds : (name : List ℕ) (o : Option Bool) (more : ℕ) → IfSome (spec.register_name_operand_if name o) (IsRead more)
 other_if_holds name None more = tt
 other_if_holds name (Some true) more = (tt, omega arith, refl, refl, refl)
 other_if_holds name (Some false) more = tt
 
-other_holds : (source : List ℕ) (t : Token) (more : ℕ) → IfSome (spec.other_of source t) (IsRead more)
-unfolding spec.other_of
+other_holds : (source : List ℕ) (t : Token) (more : ℕ) → IfSome (spec.register_name_operand source t) (IsRead more)
+unfolding spec.register_name_operand
 other_holds source t more = other_if_holds (text_of source t) (look_up registers (text_of source t)) more
 
-alone_holds : (source : List ℕ) (t : Token) (rest : List Token) (more : ℕ) → IfSome (spec.alone_of source t rest) (IsRead more)
-unfolding spec.alone_of
+alone_holds : (source : List ℕ) (t : Token) (rest : List Token) (more : ℕ) → IfSome (spec.lone_word_operand source t rest) (IsRead more)
+unfolding spec.lone_word_operand
 alone_holds source t [] more =
     either (spec.condition_of source t) _ (IsRead more) (condition_holds source t more) (other_holds source t more)
 alone_holds source t (u ∷ rest) more = tt
@@ -255,15 +255,15 @@ sized_holds source t rest more fits =
     (both (is_key source t key.D) _ _ (IsRead more) (by_register_holds source None width.Dword rest more (omega (arith, fits))) tt))
 
 with_number_holds : (source : List ℕ) (tokens : List Token) (more : ℕ) → length tokens ≤ more + 1 →
-    IfSome (spec.with_number source tokens) (IsRead more)
-unfolding spec.with_number
+    IfSome (spec.operand_with_number source tokens) (IsRead more)
+unfolding spec.operand_with_number
 with_number_holds source tokens more fits =
     chained (address_at source tokens) _ (λ r. IsNumber r.1 × (length r.2 < length tokens)) (IsRead more) (address_holds source tokens)
     (λ r h. direct_holds source r.0 r.1 r.2 more h.0 (omega (arith, fits, h.1)))
 
 with_pointer_holds : (source : List ℕ) (t : Token) (rest : List Token) (more : ℕ) → length rest ≤ more →
-    IfSome (spec.with_pointer source t rest) (IsRead more)
-unfolding spec.with_pointer
+    IfSome (spec.operand_with_pointer source t rest) (IsRead more)
+unfolding spec.operand_with_pointer
 with_pointer_holds source t rest more fits =
     chained (look_up addresses (text_of source t)) _ (λ a. Unit {0}) (IsRead more) (none_holds (look_up addresses (text_of source t)))
     (λ a h. indirect_holds source a rest more fits)
@@ -272,9 +272,9 @@ word_operand_holds : (source : List ℕ) (t : Token) (rest tokens : List Token) 
     IfSome (spec.word_operand source t rest tokens) (IsRead more)
 unfolding spec.word_operand
 word_operand_holds source t rest tokens more fits all =
-    either (spec.alone_of source t rest) _ (IsRead more) (alone_holds source t rest more)
-    (either (spec.with_number source tokens) _ (IsRead more) (with_number_holds source tokens more all)
-    (either (spec.with_pointer source t rest) _ (IsRead more) (with_pointer_holds source t rest more fits)
+    either (spec.lone_word_operand source t rest) _ (IsRead more) (alone_holds source t rest more)
+    (either (spec.operand_with_number source tokens) _ (IsRead more) (with_number_holds source tokens more all)
+    (either (spec.operand_with_pointer source t rest) _ (IsRead more) (with_pointer_holds source t rest more fits)
     (either (spec.sized_by_register source t rest) _ (IsRead more) (sized_holds source t rest more fits)
     (plain_path_holds source t rest more))))
 
@@ -283,7 +283,7 @@ quoted_operand_holds : (source : List ℕ) (t : Token) (rest : List Token) (more
 unfolding spec.quoted_operand
 quoted_operand_holds source t [] more fits = (refl, omega arith, refl, refl, refl)
 quoted_operand_holds source t (u ∷ rest) more fits =
-    behind_block_holds source (block.Quoted (unquoted (text_of source t))) (u ∷ rest) more tt (omega (arith, fits))
+    behind_block_holds source (block.Quoted (text_between_quotes (text_of source t))) (u ∷ rest) more tt (omega (arith, fits))
 
 mark_operand_holds : (source : List ℕ) (t : Token) (rest tokens : List Token) (more : ℕ) → length tokens ≤ more + 1 →
     IfSome (spec.mark_operand source t rest tokens) (IsRead more)

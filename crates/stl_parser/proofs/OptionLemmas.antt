@@ -5,7 +5,7 @@ use Rattle.std.specs.List.{AllByRecursion, list_all}
 use Rattle.std.specs.Str.{str_eq_ignore_ascii_case}
 use Rattle.std.proofs.lemmas.Bool.Decides.{nat_tests}
 use Rattle.stl_lexer.specs.declared.kinds.Token.{Token}
-use Rattle.stl_parser.specs.Parts.{parts_from, whole}
+use Rattle.stl_parser.specs.Parts.{parts_from, complete_reading}
 use Rattle.stl_parser.specs.Tables.{look_up}
 use Rattle.std.specs.Option.{option_map, option_or, option_and_then, IfSome}
 use Rattle.std.proofs.lemmas.Option.{same_Some}
@@ -61,7 +61,7 @@ pub at_most : (m n : ℕ) → nat_le m n ≡ true → m ≤ n
 at_most m n test = grind (arith, nat_tests)
 
 -- what is left is nothing
-pub whole_holds : {X : Type 0} (o : Option (X × List Token)) (P : X → Type 0) → IfSome o (λ r. P r.0) → IfSome (whole o) P
+pub whole_holds : {X : Type 0} (o : Option (X × List Token)) (P : X → Type 0) → IfSome o (λ r. P r.0) → IfSome (complete_reading o) P
 whole_holds None P h = tt
 whole_holds (Some (x, [])) P h = h
 whole_holds (Some (x, t ∷ ts)) P h = tt

@@ -8,7 +8,7 @@ use Rattle.stl_ast.specs.Operands.{IsNumber}
 use Rattle.stl_lexer.specs.declared.marks.Mark.TheVariants as mark
 use Rattle.stl_parser.specs.Terminals.{is_mark}
 use Rattle.plc_base.proofs.DecimalLemmas.{decimal_range}
-use Rattle.stl_parser.specs.Numbers.{number_up_to, number_of, signed_at, int_at}
+use Rattle.stl_parser.specs.Numbers.{number_up_to, number_of, signed_number_at, int_at}
 use Rattle.stl_parser.proofs.OptionLemmas.{found, mapped, either, both}
 
 number_within : (most : ℕ) (source : List ℕ) (t : Token) (n : ℕ) → number_up_to most source t ≡ Some n → n ≤ most
@@ -38,8 +38,8 @@ plain_decimal : (source : List ℕ) (t : Token) (rest : List Token) →
     IfSome (option_map (λ n. (pos n, rest)) (number_of source t)) FirstIsDecimal
 plain_decimal source t rest = mapped (number_of source t) _ IsNumber FirstIsDecimal (number_holds source t) (λ n h. h)
 
-pub signed_holds : (source : List ℕ) (sign : Token) (tokens : List Token) → IfSome (signed_at source sign tokens) FirstIsDecimal
-unfolding signed_at
+pub signed_holds : (source : List ℕ) (sign : Token) (tokens : List Token) → IfSome (signed_number_at source sign tokens) FirstIsDecimal
+unfolding signed_number_at
 signed_holds source sign [] = tt
 signed_holds source sign (t ∷ rest) =
     both (is_mark source sign mark.Minus) _ _ FirstIsDecimal

@@ -9,7 +9,7 @@ use Rattle.plc_base.specs.declared.blocks.BlockKind.{BlockKind}
 use Rattle.plc_base.specs.declared.blocks.BlockKind.TheVariants as kinds
 use Rattle.stl_lexer.specs.Gap.{line_at}
 use Rattle.stl_lexer.specs.Limits.{greatest_number}
-use Rattle.stl_lexer.specs.Tokens.{Follow, IsEnd, AreTokens, is_minus, text_of}
+use Rattle.stl_lexer.specs.Tokens.{TokensFollow, IsEndOfTokens, AreTokens, is_minus, text_of}
 use Rattle.stl_lexer.specs.declared.kinds.Token.{Token}
 use Rattle.stl_lexer.specs.declared.kinds.TokenKind.{TokenKind}
 use Rattle.stl_lexer.specs.declared.kinds.TokenKind.TheVariants as kind
@@ -36,16 +36,16 @@ use Rattle.stl_parser.specs.declared.tables.HeadWord.{HeadWord}
 use Rattle.stl_parser.specs.declared.tables.HeadWord.TheVariants as head_word
 use Rattle.stl_parser.specs.declared.tables.Keyword.{Keyword}
 use Rattle.stl_parser.specs.declared.tables.Keyword.TheVariants as keyword
-use Rattle.stl_parser.specs.Addresses.{glued_at, separate_at, numbered_at, block_number_at, quoted_at, block_at, letter_count}
-use Rattle.stl_parser.specs.Clauses.{skip_semicolon, until_semicolon, behind_note, named_at, result_type, result_at, head_of, inner_end, structure_end, keyword_clause, version_at, word_at, head_word_at, head_word_clause, based_at, structure_clause, declaration_clause, statement_clause, setting_clause, inside_clause, semicolon_clause, plain_clause, other_clause, free_word_clause, word_clause, clause_by_kind, clause_at, takes_parameters, level_at, is_base, setting_of}
-use Rattle.stl_parser.specs.Declarations.{after_attribute, after_colon, declared_at, after_struct, structure_at}
-use Rattle.stl_parser.specs.Lines.{Rises, lines_of, LinesRise, LinesRiseAcross}
-use Rattle.stl_parser.specs.Numbers.{signed_at, int_at, number_of}
+use Rattle.stl_parser.specs.Addresses.{glued_letters_and_number, separate_letters_and_number, letters_and_number_at, block_number_at, quoted_block_at, block_at, letter_count}
+use Rattle.stl_parser.specs.Clauses.{skip_semicolon, until_semicolon, behind_note, block_of_kind_at, result_type, result_at, head_clause, inner_end, structure_end, keyword_clause, version_at, colon_and_word_at, head_word_at, head_word_clause, base_block_at, structure_clause, declaration_clause, statement_clause, setting_clause, inside_clause, semicolon_clause, plain_clause, other_clause, free_word_clause, word_clause, clause_by_kind, clause_at, takes_parameters, level_at, is_base_block, setting_of}
+use Rattle.stl_parser.specs.Declarations.{after_attribute, after_colon, declared_name_at, after_struct, structure_at}
+use Rattle.stl_parser.specs.Lines.{AreRisingLines, statement_lines_of, LinesRise, LinesRiseAcross}
+use Rattle.stl_parser.specs.Numbers.{signed_number_at, int_at, number_of}
 use Rattle.stl_parser.specs.Tables.{look_up}
 use Rattle.stl_parser.specs.Parts.{parts_from}
-use Rattle.stl_parser.specs.Source.{IsTree, Reads}
-use Rattle.stl_parser.specs.Spelling.{is_kept, is_udt, nowhere, spelled_part, spelled_type, spelled_shape, spelled_block}
-use Rattle.stl_parser.specs.Statements.{labelled, unlabelled, statement_of}
+use Rattle.stl_parser.specs.Source.{IsTree, ReadsClauses}
+use Rattle.stl_parser.specs.Spelling.{is_kept_by_tree, is_udt, unspelled_clauses, spelled_part, spelled_type, spelled_shape, spelled_block}
+use Rattle.stl_parser.specs.Statements.{labelled_statement, unlabelled_statement, statement_of}
 use Rattle.stl_parser.specs.Terminals.{has_kind, is_mark, is_key}
 use Rattle.stl_parser.specs.Types.{array_end, array_high, array_at, arrays_end, arrays_at, no_array}
 use Rattle.stl_parser.proofs.FrameLemmas.{right_clause}
@@ -61,11 +61,11 @@ abbrev Lined : ℕ → Clause × Bool → Type 0
 Lined n r = HasLine n r.0
 
 statement_line : (source : List ℕ) (line : ℕ) (tokens : List Token) → IfSome (statement_of source line tokens) (λ r. r.0.line ≡ line)
-unfolding statement_of labelled unlabelled
+unfolding statement_of labelled_statement unlabelled_statement
 statement_line source line [] = refl
 statement_line source line (w ∷ []) = mapped _ _ (λ i. Unit {0}) (λ r. r.0.line ≡ line) (none_holds _) (λ i h. refl)
 statement_line source line (w ∷ colon ∷ rest) =
-    both (has_kind w kind.Word && is_mark source colon mark.Colon) (labelled source line w rest) (unlabelled source line (w ∷ colon ∷ rest)) (λ r. r.0.line ≡ line)
+    both (has_kind w kind.Word && is_mark source colon mark.Colon) (labelled_statement source line w rest) (unlabelled_statement source line (w ∷ colon ∷ rest)) (λ r. r.0.line ≡ line)
     (mapped _ _ (λ i. Unit {0}) (λ r. r.0.line ≡ line) (none_holds _) (λ i h. refl))
     (mapped _ _ (λ i. Unit {0}) (λ r. r.0.line ≡ line) (none_holds _) (λ i h. refl))
 
@@ -92,43 +92,43 @@ module _ (P : List Token → Type 0) (closed : (t : Token) (ts : List Token) →
   abbrev Third : {X : Type 0} → X × ℕ × List Token → Type 0
   Third r = P r.2
 
-  glued : {X : Type 0} (table : List (List ℕ × X)) (text : List ℕ) (rest : List Token) → P rest → IfSome (glued_at table text rest) Third
-  unfolding glued_at
+  glued : {X : Type 0} (table : List (List ℕ × X)) (text : List ℕ) (rest : List Token) → P rest → IfSome (glued_letters_and_number table text rest) Third
+  unfolding glued_letters_and_number
   glued {X = X} table text rest h =
       let letters = look_up table (take (letter_count text) text) in
       let digits = decimal_up_to (greatest_number false) (drop (letter_count text) text) in
       chained letters _ (λ x. Unit {0}) (Third {X = X}) (none_holds letters)
       (λ x k. mapped digits (λ n. (x, n, rest)) (λ n. Unit {0}) (Third {X = X}) (none_holds digits) (λ n l. h))
 
-  separate : {X : Type 0} (table : List (List ℕ × X)) (source text : List ℕ) (rest : List Token) → P rest → IfSome (separate_at table source text rest) Third
-  unfolding separate_at
+  separate : {X : Type 0} (table : List (List ℕ × X)) (source text : List ℕ) (rest : List Token) → P rest → IfSome (separate_letters_and_number table source text rest) Third
+  unfolding separate_letters_and_number
   separate table source text [] h = tt
   separate {X = X} table source text (n ∷ rest) h =
       let letters = look_up table text in
       chained letters _ (λ x. Unit {0}) (Third {X = X}) (none_holds letters)
       (λ x k. mapped (number_of source n) (λ m. (x, m, rest)) (λ m. Unit {0}) (Third {X = X}) (none_holds (number_of source n)) (λ m l. closed n rest h))
 
-  numbered : {X : Type 0} (table : List (List ℕ × X)) (source : List ℕ) (tokens : List Token) → P tokens → IfSome (numbered_at table source tokens) Third
-  unfolding numbered_at
+  numbered : {X : Type 0} (table : List (List ℕ × X)) (source : List ℕ) (tokens : List Token) → P tokens → IfSome (letters_and_number_at table source tokens) Third
+  unfolding letters_and_number_at
   numbered table source [] h = tt
   numbered table source (w ∷ rest) h =
       passed (has_kind w kind.Word) _ Third
-      (λ is. either (glued_at table (text_of source w) rest) (separate_at table source (text_of source w) rest) Third
+      (λ is. either (glued_letters_and_number table (text_of source w) rest) (separate_letters_and_number table source (text_of source w) rest) Third
       (glued table (text_of source w) rest (closed w rest h)) (separate table source (text_of source w) rest (closed w rest h)))
 
-  quoted : (source : List ℕ) (tokens : List Token) → P tokens → IfSome (quoted_at source tokens) Behind
-  unfolding quoted_at
+  quoted : (source : List ℕ) (tokens : List Token) → P tokens → IfSome (quoted_block_at source tokens) Behind
+  unfolding quoted_block_at
   quoted source [] h = tt
   quoted source (t ∷ rest) h = passed (has_kind t kind.Quoted) _ Behind (λ is. closed t rest h)
 
   block : (source : List ℕ) (tokens : List Token) → P tokens → IfSome (block_at source tokens) Behind
   unfolding block_at block_number_at
   block source tokens h =
-      either _ (quoted_at source tokens) Behind
+      either _ (quoted_block_at source tokens) Behind
       (mapped (block_number_at source tokens) _ Third Behind (numbered _ source tokens h) (λ r k. k)) (quoted source tokens h)
 
-  named : (source : List ℕ) (k : BlockKind) (tokens : List Token) → P tokens → IfSome (named_at source k tokens) Behind
-  unfolding named_at
+  named : (source : List ℕ) (k : BlockKind) (tokens : List Token) → P tokens → IfSome (block_of_kind_at source k tokens) Behind
+  unfolding block_of_kind_at
   named source k tokens h =
       chained (block_at source tokens) _ Behind Behind (block source tokens h) (λ r i. passed _ (Some r) Behind (λ is. i))
 
@@ -167,8 +167,8 @@ module _ (P : List Token → Type 0) (closed : (t : Token) (ts : List Token) →
       by true = semicolon_skipped source rest h
       by false = h
 
-  signed : (source : List ℕ) (sign : Token) (tokens : List Token) → P tokens → IfSome (signed_at source sign tokens) Behind
-  unfolding signed_at
+  signed : (source : List ℕ) (sign : Token) (tokens : List Token) → P tokens → IfSome (signed_number_at source sign tokens) Behind
+  unfolding signed_number_at
   signed source sign [] h = tt
   signed source sign (t ∷ rest) h =
       both (is_mark source sign mark.Minus) _ _ Behind (mapped _ _ (λ n. Unit {0}) Behind (none_holds _) (λ n k. closed t rest h))
@@ -178,7 +178,7 @@ module _ (P : List Token → Type 0) (closed : (t : Token) (ts : List Token) →
   unfolding int_at
   int_behind source [] h = tt
   int_behind source (t ∷ rest) h =
-      either _ (signed_at source t rest) Behind (mapped _ _ (λ n. Unit {0}) Behind (none_holds _) (λ n k. closed t rest h))
+      either _ (signed_number_at source t rest) Behind (mapped _ _ (λ n. Unit {0}) Behind (none_holds _) (λ n k. closed t rest h))
       (signed source t rest (closed t rest h))
 
   array_ended : (source : List ℕ) (low high : ℤ) (tokens : List Token) → P tokens → IfSome (array_end source low high tokens) Behind
@@ -232,8 +232,8 @@ module _ (P : List Token → Type 0) (closed : (t : Token) (ts : List Token) →
       by true = closed t rest h
       by false = h
 
-  declared : (source : List ℕ) (tokens : List Token) → P tokens → IfSome (declared_at source tokens) Behind
-  unfolding declared_at
+  declared : (source : List ℕ) (tokens : List Token) → P tokens → IfSome (declared_name_at source tokens) Behind
+  unfolding declared_name_at
   declared source [] h = tt
   declared source (w ∷ rest) h =
       passed (has_kind w kind.Word) _ Behind
@@ -247,7 +247,7 @@ module _ (P : List Token → Type 0) (closed : (t : Token) (ts : List Token) →
   structure : (source : List ℕ) (level : ℕ) (tokens : List Token) → P tokens → IfSome (structure_at source level tokens) Behind
   unfolding structure_at
   structure source level tokens h =
-      chained (declared_at source tokens) _ Behind Behind (declared source tokens h)
+      chained (declared_name_at source tokens) _ Behind Behind (declared source tokens h)
       (λ d i. chained (arrays_at source d.1) _ Behind Behind (arrays source d.1 i)
       (λ a j. mapped (after_struct source a.1) _ P Behind (struct source a.1 j) (λ rest k. k)))
 
@@ -256,7 +256,7 @@ module _ (P : List Token → Type 0) (closed : (t : Token) (ts : List Token) →
   until source tokens h = mapped _ _ (λ n. Unit {0}) Behind (none_holds _) (λ n k. dropped (n + 1) tokens h)
 
   head_word_behind : (source : List ℕ) (w : HeadWord) (tokens : List Token) → P tokens → IfSome (head_word_at source w tokens) P
-  unfolding head_word_at version_at word_at
+  unfolding head_word_at version_at colon_and_word_at
   head_word_behind source head_word.Alone tokens h = h
   head_word_behind source head_word.Version [] h = tt
   head_word_behind source head_word.Version (a ∷ []) h = tt
@@ -272,10 +272,10 @@ module _ (P : List Token → Type 0) (closed : (t : Token) (ts : List Token) →
   abbrev IsRead : ℕ → Clause × List Token × Bool → Type 0
   IsRead n r = HasLine n r.0 × P r.1
 
-  head : (n : ℕ) (source : List ℕ) (line : ℕ) (k : BlockKind) (tokens : List Token) → P tokens → IfSome (head_of source line k tokens) (IsRead n)
-  unfolding head_of
+  head : (n : ℕ) (source : List ℕ) (line : ℕ) (k : BlockKind) (tokens : List Token) → P tokens → IfSome (head_clause source line k tokens) (IsRead n)
+  unfolding head_clause
   head n source line k tokens h =
-      chained (named_at source k tokens) _ Behind (IsRead n) (named source k tokens h)
+      chained (block_of_kind_at source k tokens) _ Behind (IsRead n) (named source k tokens h)
       (λ b i. mapped (result_at source k b.1) _ Behind (IsRead n) (result source k b.1 i) (λ r j. (tt, j)))
 
   inner : (n : ℕ) (source : List ℕ) (tokens : List Token) → P tokens → IfSome (inner_end source tokens) (IsRead n)
@@ -303,10 +303,10 @@ module _ (P : List Token → Type 0) (closed : (t : Token) (ts : List Token) →
   head_word_read n source p w rest h =
       mapped (head_word_at source w rest) _ P (IsRead n) (head_word_behind source w rest h) (λ behind k. (tt, note source p behind k))
 
-  based : (n : ℕ) (source : List ℕ) (tokens : List Token) → P tokens → IfSome (based_at source tokens) (IsRead n)
-  unfolding based_at
+  based : (n : ℕ) (source : List ℕ) (tokens : List Token) → P tokens → IfSome (base_block_at source tokens) (IsRead n)
+  unfolding base_block_at
   based n source tokens h =
-      chained (block_at source tokens) _ Behind (IsRead n) (block source tokens h) (λ r k. passed (is_base r.0) (Some (clause.Based r.0, r.1, false)) (IsRead n) (λ is. (tt, k)))
+      chained (block_at source tokens) _ Behind (IsRead n) (block source tokens h) (λ r k. passed (is_base_block r.0) (Some (clause.Based r.0, r.1, false)) (IsRead n) (λ is. (tt, k)))
 
   plain : (source : List ℕ) (p : ClausePlace) (line : ℕ) (tokens : List Token) → P tokens → IfSome (plain_clause source p line tokens) (IsRead line)
   unfolding plain_clause structure_clause semicolon_clause
@@ -324,7 +324,7 @@ module _ (P : List Token → Type 0) (closed : (t : Token) (ts : List Token) →
   unfolding other_clause
   other source p line tokens h =
       both _ _ _ (IsRead line)
-      (either (based_at source tokens) (plain_clause source p line tokens) (IsRead line) (based line source tokens h) (plain source p line tokens h))
+      (either (base_block_at source tokens) (plain_clause source p line tokens) (IsRead line) (based line source tokens h) (plain source p line tokens h))
       (plain source p line tokens h)
 
   free_word : (source : List ℕ) (p : ClausePlace) (t : Token) (rest : List Token) (w : Option HeadWord) → P (t ∷ rest)
@@ -365,7 +365,7 @@ tokens_lower last low before (t ∷ ts) le h = (omega (arith, le, h.0), h.1, h.2
 tokens_closed : (last before : ℕ) (t : Token) (ts : List Token) → TokensRise last before (t ∷ ts) → TokensRise last before ts
 tokens_closed last before t ts h = tokens_lower last before t.line ts h.0 h.2
 
-tokens_rise : (source : List ℕ) (from : ℕ) (minus : Bool) (ts : List Token) → Follow source (λ from minus. IsEnd source from) from minus ts
+tokens_rise : (source : List ℕ) (from : ℕ) (minus : Bool) (ts : List Token) → TokensFollow source (λ from minus. IsEndOfTokens source from) from minus ts
     → TokensRise (1 + length source) (line_at source from) ts
 tokens_rise source from minus [] h = tt
 tokens_rise source from minus (t ∷ ts) h =
@@ -386,16 +386,16 @@ clause_lines (clause.Ends line k ∷ cs) = line ∷ clause_lines cs
 clause_lines (clause.Runs s ∷ cs) = s.line ∷ clause_lines cs
 clause_lines (c ∷ cs) = clause_lines cs
 
-rises_lower : (last low before : ℕ) (xs : List ℕ) → low ≤ before → Rises last before xs → Rises last low xs
+rises_lower : (last low before : ℕ) (xs : List ℕ) → low ≤ before → AreRisingLines last before xs → AreRisingLines last low xs
 rises_lower last low before [] le h = tt
 rises_lower last low before (x ∷ xs) le h = (omega (arith, le, h.0), h.1, h.2)
 
-one_more : (last before line : ℕ) (c : Clause) (cs : List Clause) → before ≤ line → line ≤ last → HasLine line c → Rises last line (clause_lines cs)
-    → Rises last before (clause_lines (c ∷ cs))
+one_more : (last before line : ℕ) (c : Clause) (cs : List Clause) → before ≤ line → line ≤ last → HasLine line c → AreRisingLines last line (clause_lines cs)
+    → AreRisingLines last before (clause_lines (c ∷ cs))
 one_more last before line (clause.Ends n k) cs low high is more =
-    (omega (arith, low, is), omega (arith, high, is), subst (λ (m : ℕ). Rises last m (clause_lines cs)) (sym is) more)
+    (omega (arith, low, is), omega (arith, high, is), subst (λ (m : ℕ). AreRisingLines last m (clause_lines cs)) (sym is) more)
 one_more last before line (clause.Runs s) cs low high is more =
-    (omega (arith, low, is), omega (arith, high, is), subst (λ (m : ℕ). Rises last m (clause_lines cs)) (sym is) more)
+    (omega (arith, low, is), omega (arith, high, is), subst (λ (m : ℕ). AreRisingLines last m (clause_lines cs)) (sym is) more)
 one_more last before line (clause.Head n k name r) cs low high is more = rises_lower last before line (clause_lines cs) low more
 one_more last before line (clause.Section n k) cs low high is more = rises_lower last before line (clause_lines cs) low more
 one_more last before line clause.EndSection cs low high is more = rises_lower last before line (clause_lines cs) low more
@@ -414,7 +414,7 @@ unfolding clause_at
 nothing source p c behind e = cc
 
 clauses_rise : (source : List ℕ) (last before : ℕ) (p : ClausePlace) (ts : List Token) (cs : List Clause) (q : ClausePlace) (rest : List Token)
-    → Reads source p ts cs q rest → TokensRise last before ts → Rises last before (clause_lines cs)
+    → ReadsClauses source p ts cs q rest → TokensRise last before ts → AreRisingLines last before (clause_lines cs)
 clauses_rise source last before p ts [] q rest reads h = tt
 clauses_rise source last before p [] (c ∷ cs) q rest reads h =
     absurd (nothing source p c reads.0 (right_clause source p [] c reads.0 reads.1 reads.2).0)
@@ -426,7 +426,7 @@ clauses_rise source last before p (t ∷ ts) (c ∷ cs) q rest reads h =
 
 -- ---- and those of the clauses that a tree keeps
 
-kept_lines : (cs : List Clause) → clause_lines (filter is_kept cs) ≡ clause_lines cs
+kept_lines : (cs : List Clause) → clause_lines (filter is_kept_by_tree cs) ≡ clause_lines cs
 kept_lines [] = refl
 kept_lines (clause.Ends n k ∷ cs) = ap (λ (ls : List ℕ). n ∷ ls) (kept_lines cs)
 kept_lines (clause.Runs s ∷ cs) = ap (λ (ls : List ℕ). s.line ∷ ls) (kept_lines cs)
@@ -465,7 +465,7 @@ type_silent : (arrays : List Bounds) (of_ : ElementType) (ds : List Declaration)
 type_silent [] element.Structure ds ys = declarations_silent ds ys
 type_silent [] (element.Udt name) [] ys = by (is_udt name)
   where
-    by : (b : Bool) → clause_lines ((if b then clause.Based name ∷ [] else nowhere) ++ ys) ≡ clause_lines ys
+    by : (b : Bool) → clause_lines ((if b then clause.Based name ∷ [] else unspelled_clauses) ++ ys) ≡ clause_lines ys
     by true = refl
     by false = refl
 type_silent [] (element.Udt name) (d ∷ ds) ys = refl
@@ -478,7 +478,7 @@ shape_silent None None [] ys = refl
 shape_silent None None (d ∷ ds) ys = refl
 shape_silent None (Some name) [] ys = by (is_udt name)
   where
-    by : (b : Bool) → clause_lines ((if b then nowhere else clause.Based name ∷ []) ++ ys) ≡ clause_lines ys
+    by : (b : Bool) → clause_lines ((if b then unspelled_clauses else clause.Based name ∷ []) ++ ys) ≡ clause_lines ys
     by true = refl
     by false = refl
 shape_silent None (Some name) (d ∷ ds) ys = refl
@@ -489,7 +489,7 @@ body_lines : (body : List Statement) (ys : List Clause) → clause_lines (map cl
 body_lines [] ys = refl
 body_lines (s ∷ body) ys = ap (λ (ls : List ℕ). s.line ∷ ls) (body_lines body ys)
 
-block_lines : (b : Block) (ys : List Clause) → clause_lines (spelled_block b ++ ys) ≡ lines_of b ++ clause_lines ys
+block_lines : (b : Block) (ys : List Clause) → clause_lines (spelled_block b ++ ys) ≡ statement_lines_of b ++ clause_lines ys
 block_lines b ys =
     ap clause_lines (append_assoc parts (shape ++ (sets ++ (runs ++ ends))) ys) ∙ parts_silent b.parts ((shape ++ (sets ++ (runs ++ ends))) ++ ys)
     ∙ ap clause_lines (append_assoc shape (sets ++ (runs ++ ends)) ys) ∙ shape_silent b.shape b.instance_of b.components ((sets ++ (runs ++ ends)) ++ ys)
@@ -512,21 +512,21 @@ block_lines b ys =
     ends : List Clause
     ends = clause.Ends b.end_line b.kind ∷ []
 
-rises_front : (last before : ℕ) (xs ys : List ℕ) → Rises last before (xs ++ ys) → Rises last before xs
+rises_front : (last before : ℕ) (xs ys : List ℕ) → AreRisingLines last before (xs ++ ys) → AreRisingLines last before xs
 rises_front last before [] ys h = tt
 rises_front last before (x ∷ xs) ys h = (h.0, h.1, rises_front last x xs ys h.2)
 
-rises_behind : (last before : ℕ) (xs ys : List ℕ) → Rises last before (xs ++ ys) → Rises last before ys
+rises_behind : (last before : ℕ) (xs ys : List ℕ) → AreRisingLines last before (xs ++ ys) → AreRisingLines last before ys
 rises_behind last before [] ys h = h
 rises_behind last before (x ∷ xs) ys h = rises_lower last before x ys h.0 (rises_behind last x xs ys h.2)
 
-blocks_rise : (last before : ℕ) (bs : List Block) → Rises last before (clause_lines (flat_map spelled_block bs))
-    → AllByRecursion (λ b. Rises last before (lines_of b)) bs
+blocks_rise : (last before : ℕ) (bs : List Block) → AreRisingLines last before (clause_lines (flat_map spelled_block bs))
+    → AllByRecursion (λ b. AreRisingLines last before (statement_lines_of b)) bs
 blocks_rise last before [] h = tt
 blocks_rise last before (b ∷ bs) h =
-    let split = subst (Rises last before) (block_lines b (flat_map spelled_block bs)) h in (
-      rises_front last before (lines_of b) (clause_lines (flat_map spelled_block bs)) split,
-      blocks_rise last before bs (rises_behind last before (lines_of b) (clause_lines (flat_map spelled_block bs)) split),
+    let split = subst (AreRisingLines last before) (block_lines b (flat_map spelled_block bs)) h in (
+      rises_front last before (statement_lines_of b) (clause_lines (flat_map spelled_block bs)) split,
+      blocks_rise last before bs (rises_behind last before (statement_lines_of b) (clause_lines (flat_map spelled_block bs)) split),
     )
 
 from_first : (source : List ℕ) → 1 ≤ line_at source 0
@@ -535,22 +535,22 @@ from_first source = omega arith
 
 -- all lines of a tree rise from clause to clause
 tree_rises : (source : List ℕ) (tokens : List Token) (t : Tree) → AreTokens source tokens → IsTree source tokens t
-    → Rises (1 + length source) 1 (clause_lines (flat_map spelled_block t.blocks))
+    → AreRisingLines (1 + length source) 1 (clause_lines (flat_map spelled_block t.blocks))
 unfolding AreTokens
 tree_rises source tokens t are is =
     let risen = tokens_lower (1 + length source) 1 (line_at source 0) tokens (from_first source) (tokens_rise source 0 false tokens are) in
     let all = clauses_rise source (1 + length source) 1 place.Outside tokens is.clauses place.Outside [] is.reads risen in
-    subst (Rises (1 + length source) 1) (sym (kept_lines is.clauses) ∙ ap clause_lines (sym is.those)) all
+    subst (AreRisingLines (1 + length source) 1) (sym (kept_lines is.clauses) ∙ ap clause_lines (sym is.those)) all
 
 pub lines_rise : LinesRise
 lines_rise source tokens t are is =
     blocks_rise (1 + length source) 1 t.blocks (tree_rises source tokens t are is)
 
-blocks_lines : (bs : List Block) → clause_lines (flat_map spelled_block bs) ≡ flat_map lines_of bs
+blocks_lines : (bs : List Block) → clause_lines (flat_map spelled_block bs) ≡ flat_map statement_lines_of bs
 blocks_lines [] = refl
 blocks_lines (b ∷ bs) =
-    block_lines b (flat_map spelled_block bs) ∙ ap (λ (ls : List ℕ). lines_of b ++ ls) (blocks_lines bs)
+    block_lines b (flat_map spelled_block bs) ∙ ap (λ (ls : List ℕ). statement_lines_of b ++ ls) (blocks_lines bs)
 
 pub lines_rise_across : LinesRiseAcross
 lines_rise_across source tokens t are is =
-    subst (Rises (1 + length source) 1) (blocks_lines t.blocks) (tree_rises source tokens t are is)
+    subst (AreRisingLines (1 + length source) 1) (blocks_lines t.blocks) (tree_rises source tokens t are is)

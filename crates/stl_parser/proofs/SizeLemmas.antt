@@ -4,7 +4,7 @@ use Rattle.std.specs.Prelude.{sum_by, IfOk}
 use Rattle.std.specs.List.{flat_map}
 use Rattle.std.proofs.lemmas.List.Sums.{sum_by-append}
 use Rattle.stl_lexer.specs.declared.kinds.Token.{Token}
-use Rattle.stl_lexer.specs.Tokens.{Follow, IsEnd, AreTokens, is_minus, text_of}
+use Rattle.stl_lexer.specs.Tokens.{TokensFollow, IsEndOfTokens, AreTokens, is_minus, text_of}
 use Rattle.stl_ast.specs.declared.blocks.Block.{Block}
 use Rattle.stl_ast.specs.declared.blocks.Tree.{Tree}
 use Rattle.stl_ast.specs.declared.statements.Statement.{Statement}
@@ -15,8 +15,8 @@ use Rattle.stl_parser.specs.declared.clauses.Clause.TheVariants as clause
 use Rattle.stl_parser.specs.declared.places.ClausePlace.{ClausePlace}
 use Rattle.stl_parser.specs.declared.places.ClausePlace.TheVariants as place
 use Rattle.stl_parser.specs.Clauses.{clause_at}
-use Rattle.stl_parser.specs.Source.{Reads, AreKept, IsTree}
-use Rattle.stl_parser.specs.Spelling.{is_kept, spelled_part, spelled_shape, spelled_block}
+use Rattle.stl_parser.specs.Source.{ReadsClauses, AreKeptClauses, IsTree}
+use Rattle.stl_parser.specs.Spelling.{is_kept_by_tree, spelled_part, spelled_shape, spelled_block}
 use Rattle.stl_parser.proofs.ClauseLemmas.{Fits}
 use Rattle.stl_parser.proofs.FrameLemmas.{right_clause, read_holds, tree_there}
 use Rattle.stl_parser.proofs.LengthLemmas.{read_rest}
@@ -44,7 +44,7 @@ fewer_behind source p (t ∷ ts) c behind h = omega (arith, read_rest source p t
 
 -- the code of clauses fits into the tokens that they take
 clauses_fit : (source : List ℕ) (p : ClausePlace) (ts : List Token) (cs : List Clause) (q : ClausePlace) (rest : List Token) →
-    Reads source p ts cs q rest → sum_by clause_size cs + 4 * length rest ≤ 4 * length ts
+    ReadsClauses source p ts cs q rest → sum_by clause_size cs + 4 * length rest ≤ 4 * length ts
 clauses_fit source p ts [] q rest reads = omega (arith, ap length reads.1)
 clauses_fit source p ts (c ∷ cs) q rest reads =
     let right = right_clause source p ts c reads.0 reads.1 reads.2 in
@@ -56,9 +56,9 @@ one_kept : (b : Bool) (c : Clause) (cs : List Clause) → sum_by clause_size (co
 one_kept true c cs = omega (arith, sum_cons clause_size c cs)
 one_kept false c cs = omega arith
 
-kept_fit : (cs : List Clause) → sum_by clause_size (filter is_kept cs) ≤ sum_by clause_size cs
+kept_fit : (cs : List Clause) → sum_by clause_size (filter is_kept_by_tree cs) ≤ sum_by clause_size cs
 kept_fit [] = omega arith
-kept_fit (c ∷ cs) = omega (arith, sum_cons clause_size c cs, one_kept (is_kept c) c (filter is_kept cs), kept_fit cs)
+kept_fit (c ∷ cs) = omega (arith, sum_cons clause_size c cs, one_kept (is_kept_by_tree c) c (filter is_kept_by_tree cs), kept_fit cs)
 
 statements_spelled : (body : List Statement) → sum_by clause_size (map clause.Runs body) ≡ sum_by statement_size body
 statements_spelled [] = refl
@@ -94,7 +94,7 @@ bounded_by_tokens source tokens t is =
     omega (arith, blocks_spelled t.blocks, ap (sum_by clause_size) is.those, kept_fit is.clauses, fits)
 
 -- each token has a byte at least
-tokens_fit : (source : List ℕ) (from : ℕ) (minus : Bool) (ts : List Token) → Follow source (λ from minus. IsEnd source from) from minus ts →
+tokens_fit : (source : List ℕ) (from : ℕ) (minus : Bool) (ts : List Token) → TokensFollow source (λ from minus. IsEndOfTokens source from) from minus ts →
     from ≤ length source → from + length ts ≤ length source
 tokens_fit source from minus [] follow within = omega (arith, within)
 tokens_fit source from minus (t ∷ ts) follow within =
@@ -112,19 +112,19 @@ well_formed source tokens t is =
 
 -- the tree that is built of the kept clauses
 pub kept_well_formed : {E : Type 0} (source : List ℕ) (tokens : List Token) (kept : List Clause) (r : Result Tree E) →
-    AreKept source tokens kept → IfOk r (λ t. flat_map spelled_block t.blocks ≡ kept) → IfOk r IsWellFormed
+    AreKeptClauses source tokens kept → IfOk r (λ t. flat_map spelled_block t.blocks ≡ kept) → IfOk r IsWellFormed
 kept_well_formed source tokens kept (Err e) are spelled = tt
-kept_well_formed source tokens kept (Ok t) are spelled = well_formed source tokens t (subst (AreKept source tokens) (sym spelled) are)
+kept_well_formed source tokens kept (Ok t) are spelled = well_formed source tokens t (subst (AreKeptClauses source tokens) (sym spelled) are)
 
 -- its code is bounded by the bytes of the source
 pub kept_bounded : {E : Type 0} (source : List ℕ) (tokens : List Token) (kept : List Clause) (r : Result Tree E) →
-    length tokens ≤ length source → AreKept source tokens kept → IfOk r (λ t. flat_map spelled_block t.blocks ≡ kept) →
+    length tokens ≤ length source → AreKeptClauses source tokens kept → IfOk r (λ t. flat_map spelled_block t.blocks ≡ kept) →
     IfOk r (λ t. tree_size t ≤ 4 * length source)
 kept_bounded source tokens kept (Err e) fewer are spelled = tt
 kept_bounded source tokens kept (Ok t) fewer are spelled =
-    omega (arith, fewer, bounded_by_tokens source tokens t (subst (AreKept source tokens) (sym spelled) are))
+    omega (arith, fewer, bounded_by_tokens source tokens t (subst (AreKeptClauses source tokens) (sym spelled) are))
 
 pub kept_is_tree : {E : Type 0} (source : List ℕ) (tokens : List Token) (kept : List Clause) (r : Result Tree E) →
-    AreKept source tokens kept → IfOk r (λ t. flat_map spelled_block t.blocks ≡ kept) → IfOk r (IsTree source tokens)
+    AreKeptClauses source tokens kept → IfOk r (λ t. flat_map spelled_block t.blocks ≡ kept) → IfOk r (IsTree source tokens)
 kept_is_tree source tokens kept (Err e) are spelled = tt
-kept_is_tree source tokens kept (Ok t) are spelled = subst (AreKept source tokens) (sym spelled) are
+kept_is_tree source tokens kept (Ok t) are spelled = subst (AreKeptClauses source tokens) (sym spelled) are

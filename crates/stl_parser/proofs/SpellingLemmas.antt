@@ -17,7 +17,7 @@ use Rattle.stl_ast.specs.declared.names.BlockName.{BlockName}
 use Rattle.stl_ast.specs.declared.statements.Statement.{Statement}
 use Rattle.stl_parser.specs.declared.clauses.Clause.{Clause}
 use Rattle.stl_parser.specs.declared.clauses.Clause.TheVariants as clause
-use Rattle.stl_parser.specs.Spelling.{is_kept, is_udt, nowhere, spelled_part, spelled_type, spelled_shape, spelled_block}
+use Rattle.stl_parser.specs.Spelling.{is_kept_by_tree, is_udt, unspelled_clauses, spelled_part, spelled_type, spelled_shape, spelled_block}
 use Rattle.stl_parser.specs.Source.{IsTreeUnique, TreeExcludesViolation}
 use Rattle.stl_parser.proofs.LawLemmas.{one_list, list_or_violation}
 
@@ -134,7 +134,7 @@ sections (p ∷ ps) o =
 
 -- all of the clauses are kept
 abbrev AreAllKept : List Clause → Type 0
-AreAllKept cs = AllByRecursion (λ c. is_kept c ≡ true) cs
+AreAllKept cs = AllByRecursion (λ c. is_kept_by_tree c ≡ true) cs
 
 kept_left : (cs ds : List Clause) → AreAllKept (cs ++ ds) → AreAllKept cs
 kept_left [] ds h = tt
@@ -144,21 +144,21 @@ kept_right : (cs ds : List Clause) → AreAllKept (cs ++ ds) → AreAllKept ds
 kept_right [] ds h = h
 kept_right (c ∷ cs) ds h = kept_right cs ds h.1
 
-not_nowhere : AreAllKept nowhere → ⊥
+not_nowhere : AreAllKept unspelled_clauses → ⊥
 not_nowhere h = false≢true h.0
 
 -- no shape is read
 abbrev shapeless : Open → Open
 shapeless o = with_shape None None [] (with_pending [] o)
 
-udt_of : (name : BlockName) (b : Bool) (o : Open) → is_udt name ≡ b → AreAllKept (if b then clause.Based name ∷ [] else nowhere) →
-    with_clauses (if b then clause.Based name ∷ [] else nowhere) (shapeless o)
+udt_of : (name : BlockName) (b : Bool) (o : Open) → is_udt name ≡ b → AreAllKept (if b then clause.Based name ∷ [] else unspelled_clauses) →
+    with_clauses (if b then clause.Based name ∷ [] else unspelled_clauses) (shapeless o)
     ≡ with_shape (single (element.Udt name)) None [] (with_pending [] o)
 udt_of name true o same h = ap (λ b. based_on b name (shapeless o)) same
 udt_of name false o same h = absurd (not_nowhere h)
 
-instance : (name : BlockName) (b : Bool) (o : Open) → is_udt name ≡ b → AreAllKept (if b then nowhere else clause.Based name ∷ []) →
-    with_clauses (if b then nowhere else clause.Based name ∷ []) (shapeless o) ≡ with_shape None (Some name) [] (with_pending [] o)
+instance : (name : BlockName) (b : Bool) (o : Open) → is_udt name ≡ b → AreAllKept (if b then unspelled_clauses else clause.Based name ∷ []) →
+    with_clauses (if b then unspelled_clauses else clause.Based name ∷ []) (shapeless o) ≡ with_shape None (Some name) [] (with_pending [] o)
 instance name true o same h = absurd (not_nowhere h)
 instance name false o same h = ap (λ b. based_on b name (shapeless o)) same
 
@@ -227,14 +227,14 @@ same_tree t u kept same =
     let tree_of : Open → Tree = λ o. record { blocks = o.blocks } in
     sym (ap tree_of (all_blocks t.blocks kept)) ∙ ap read same ∙ ap tree_of (all_blocks u.blocks (subst AreAllKept same kept))
 
-all_kept : (cs ds : List Clause) → cs ≡ filter is_kept ds → AreAllKept cs
+all_kept : (cs ds : List Clause) → cs ≡ filter is_kept_by_tree ds → AreAllKept cs
 all_kept cs ds those =
-    subst AreAllKept (sym those) (recursion_from_All (λ c. is_kept c ≡ true) (filter is_kept ds) (filter_passes is_kept ds))
+    subst AreAllKept (sym those) (recursion_from_All (λ c. is_kept_by_tree c ≡ true) (filter is_kept_by_tree ds) (filter_passes is_kept_by_tree ds))
 
 pub one_tree : IsTreeUnique
 one_tree source tokens t u a b =
     let same = one_list source tokens a.clauses b.clauses a.reads b.reads in
-    same_tree t u (all_kept _ a.clauses a.those) (a.those ∙ ap (filter is_kept) same ∙ sym b.those)
+    same_tree t u (all_kept _ a.clauses a.those) (a.those ∙ ap (filter is_kept_by_tree) same ∙ sym b.those)
 
 pub tree_or_violation : TreeExcludesViolation
 tree_or_violation source tokens t line rule a v = list_or_violation source tokens a.clauses line rule a.reads v

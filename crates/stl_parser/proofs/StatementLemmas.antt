@@ -23,7 +23,7 @@ use Rattle.stl_ast.specs.declared.statements.Actual.{Actual}
 use Rattle.stl_ast.specs.declared.statements.Statement.{Statement}
 use Rattle.stl_ast.specs.Operands.{IsNameOf, IsAnyName, IsDataBlockName, IsInstance, IsOperand}
 use Rattle.stl_ast.specs.Sizes.{op_size, code_size, statement_size}
-use Rattle.stl_ast.specs.Statements.{is_jump, is_call, has_actuals, is_empty, is_nothing, is_label, is_called, has_instance, IsTarget, IsLabelOf, IsActual, AreActuals, IsStatement}
+use Rattle.stl_ast.specs.Statements.{is_jump, is_call, has_actuals, is_empty_statement, is_nothing, is_label, names_called_block, has_instance, IsTarget, IsLabelOf, IsActual, AreActuals, IsStatement}
 use Rattle.stl_lexer.specs.declared.marks.Mark.TheVariants as mark
 use Rattle.stl_parser.specs.declared.keywords.Key.TheVariants as key
 use Rattle.stl_parser.specs.declared.statements.BareStatement.{BareStatement}
@@ -31,8 +31,8 @@ use Rattle.stl_parser.specs.declared.tables.OperandSyntax.{OperandSyntax}
 use Rattle.stl_parser.specs.declared.tables.OperandSyntax.TheVariants as form
 use Rattle.stl_parser.specs.Terminals.{has_kind, is_mark, is_key}
 use Rattle.stl_parser.specs.Tables.{look_up, mnemonics, opening_mnemonics}
-use Rattle.stl_parser.specs.Parts.{parts_from, whole}
-use Rattle.stl_parser.specs.Literals.{unquoted}
+use Rattle.stl_parser.specs.Parts.{parts_from, complete_reading}
+use Rattle.stl_parser.specs.Literals.{text_between_quotes}
 use Rattle.stl_parser.specs.Addresses.{block_at}
 use Rattle.stl_parser.specs.Operands.{operand_of}
 use Rattle.stl_parser.specs.Statements as spec
@@ -44,11 +44,11 @@ use Rattle.stl_parser.proofs.LengthLemmas.{block_rest}
 -- what an instruction with `more` tokens behind its word keeps
 pub record IsInstruction (more : ℕ) (i : BareStatement) : Type 0 where
   pub value : IsOperand i.operand
-  pub called : is_called i.operand ≡ is_call i.code
+  pub called : names_called_block i.operand ≡ is_call i.code
   pub instance : has_actuals i.code ≡ false → has_instance i.operand ≡ false
   pub target : i.long ≡ false → IsTarget i.operand
   pub jumps : is_label i.operand ≡ true → is_jump i.code ≡ true
-  pub some : is_empty i.code ≡ false
+  pub some : is_empty_statement i.code ≡ false
   pub actuals : AreActuals i.actuals
   pub no_actuals : has_actuals i.code ≡ false → i.actuals ≡ []
   pub size : op_size i.operand + 11 * length i.actuals ≤ 4 + 4 * more
@@ -61,11 +61,11 @@ goes_with m form.Open = not (is_call m)
 goes_with m form.BlockCall = is_call m && not (has_actuals m)
 goes_with m form.Call = has_actuals m
 
-all_go : list_all (λ e. goes_with e.1.0 e.1.1 && not (is_empty e.1.0)) mnemonics ≡ true
+all_go : list_all (λ e. goes_with e.1.0 e.1.1 && not (is_empty_statement e.1.0)) mnemonics ≡ true
 unfolding mnemonics
 all_go = refl
 
-all_open : list_all (λ e. not (is_call e.1) && not (is_empty e.1)) opening_mnemonics ≡ true
+all_open : list_all (λ e. not (is_call e.1) && not (is_empty_statement e.1)) opening_mnemonics ≡ true
 unfolding opening_mnemonics
 all_open = refl
 
@@ -88,8 +88,8 @@ true_is_no_false true h k = cc
 true_is_no_false false h k = cc
 
 -- an instruction that calls no block
-plain_instruction : (code : Mnemonic) (o : Operand) (more : ℕ) → is_call code ≡ false → is_empty code ≡ false → IsOperand o →
-    is_called o ≡ false → is_label o ≡ false → op_size o ≤ 4 + 4 * more → IsInstruction more (spec.plain code o)
+plain_instruction : (code : Mnemonic) (o : Operand) (more : ℕ) → is_call code ≡ false → is_empty_statement code ≡ false → IsOperand o →
+    names_called_block o ≡ false → is_label o ≡ false → op_size o ≤ 4 + 4 * more → IsInstruction more (spec.statement_without_actuals code o)
 plain_instruction code o more call some value called label size =
     record {
       value = value;
@@ -103,7 +103,7 @@ plain_instruction code o more call some value called label size =
       size = omega (arith, size);
     }
   where
-    no_instance : (o : Operand) → is_called o ≡ false → has_instance o ≡ false
+    no_instance : (o : Operand) → names_called_block o ≡ false → has_instance o ≡ false
     no_instance (operand.Called name instance) h = cc
     no_instance _ h = refl
 
@@ -111,13 +111,13 @@ plain_instruction code o more call some value called label size =
     no_target (operand.Label name) h = cc
     no_target _ h = tt
 
-with_operand_holds : (source : List ℕ) (code : Mnemonic) (tokens : List Token) → is_call code ≡ false → is_empty code ≡ false →
-    IfSome (spec.with_operand source code tokens) (IsInstruction (length tokens))
-unfolding spec.with_operand
+with_operand_holds : (source : List ℕ) (code : Mnemonic) (tokens : List Token) → is_call code ≡ false → is_empty_statement code ≡ false →
+    IfSome (spec.statement_with_operand source code tokens) (IsInstruction (length tokens))
+unfolding spec.statement_with_operand
 with_operand_holds source code [] call some =
-    weakened (option_map (spec.plain code) (operand_of source [])) (λ i. i ≡ spec.plain code operand.Nothing) (IsInstruction 0)
-    (mapped (operand_of source []) _ (λ o. o ≡ operand.Nothing) (λ i. i ≡ spec.plain code operand.Nothing) (nothing_read source)
-    (λ o h. ap (spec.plain code) h))
+    weakened (option_map (spec.statement_without_actuals code) (operand_of source [])) (λ i. i ≡ spec.statement_without_actuals code operand.Nothing) (IsInstruction 0)
+    (mapped (operand_of source []) _ (λ o. o ≡ operand.Nothing) (λ i. i ≡ spec.statement_without_actuals code operand.Nothing) (nothing_read source)
+    (λ o h. ap (spec.statement_without_actuals code) h))
     (λ i h. subst (IsInstruction 0) (sym h)
     (plain_instruction code operand.Nothing 0 call some tt refl refl (omega arith)))
   where
@@ -130,9 +130,9 @@ with_operand_holds source code (t ∷ rest) call some =
 short : (n : ℕ) → nat_lt 4 n ≡ false → n ≤ 4
 short n test = grind (arith, nat_tests)
 
-jump_holds : (source : List ℕ) (code : Mnemonic) (tokens : List Token) → is_jump code ≡ true → is_empty code ≡ false →
+jump_holds : (source : List ℕ) (code : Mnemonic) (tokens : List Token) → is_jump code ≡ true → is_empty_statement code ≡ false →
     IfSome (spec.jump_of source code tokens) (IsInstruction (length tokens))
-unfolding spec.jump_of spec.is_long
+unfolding spec.jump_of spec.is_long_label
 jump_holds source code [] jump some = with_operand_holds source code [] (no_call code jump) some
 jump_holds source code (t ∷ []) jump some =
     both (has_kind t kind.Word) _ _ (IsInstruction 1)
@@ -150,13 +150,13 @@ jump_holds source code (t ∷ []) jump some =
     (with_operand_holds source code (t ∷ []) (no_call code jump) some)
 jump_holds source code (t ∷ u ∷ rest) jump some = with_operand_holds source code (t ∷ u ∷ rest) (no_call code jump) some
 
-open_holds : (source : List ℕ) (code : Mnemonic) (tokens : List Token) → is_call code ≡ false → is_empty code ≡ false →
+open_holds : (source : List ℕ) (code : Mnemonic) (tokens : List Token) → is_call code ≡ false → is_empty_statement code ≡ false →
     IfSome (spec.open_of source code tokens) (IsInstruction (length tokens))
 unfolding spec.open_of
 open_holds source code [] call some = with_operand_holds source code [] call some
 open_holds source code (t ∷ []) call some =
     both (has_kind t kind.Quoted) _ _ (IsInstruction 1)
-    (plain_instruction code (operand.OpenBlock false (block.Quoted (unquoted (text_of source t)))) 1 call some tt refl refl (omega arith))
+    (plain_instruction code (operand.OpenBlock false (block.Quoted (text_between_quotes (text_of source t)))) 1 call some tt refl refl (omega arith))
     (with_operand_holds source code (t ∷ []) call some)
 open_holds source code (t ∷ u ∷ rest) call some = with_operand_holds source code (t ∷ u ∷ rest) call some
 
@@ -169,10 +169,10 @@ named_holds source tokens =
     also (block_at source tokens) (λ r. IsAnyName r.0) (λ r. length r.1 < length tokens) (block_holds source tokens) (block_rest source tokens)
 
 block_call_holds : (source : List ℕ) (code : Mnemonic) (tokens : List Token) → is_call code ≡ true → has_actuals code ≡ false →
-    is_empty code ≡ false → IfSome (spec.block_call_of source code tokens) (IsInstruction (length tokens))
+    is_empty_statement code ≡ false → IfSome (spec.block_call_of source code tokens) (IsInstruction (length tokens))
 unfolding spec.block_call_of
 block_call_holds source code tokens call none some =
-    mapped (whole (block_at source tokens)) _ (λ name. IsAnyName name × (1 ≤ length tokens)) (IsInstruction (length tokens))
+    mapped (complete_reading (block_at source tokens)) _ (λ name. IsAnyName name × (1 ≤ length tokens)) (IsInstruction (length tokens))
     (whole_holds (block_at source tokens) (λ name. IsAnyName name × (1 ≤ length tokens))
     (weakened (block_at source tokens) (IsNamed (length tokens)) (λ r. IsAnyName r.0 × (1 ≤ length tokens)) (named_holds source tokens)
     (λ r h. (h.0, omega (arith, h.1)))))
@@ -198,7 +198,7 @@ is_function_block _ h = cc
 
 -- a name that may be that of a block of the kind
 may_be_holds : (name : BlockName) (test : BlockKind → Bool) (kinds : BlockKind → Type 0) → IsAnyName name →
-    ((k : BlockKind) → test k ≡ true → kinds k) → spec.may_be name test ≡ true → IsNameOf kinds name
+    ((k : BlockKind) → test k ≡ true → kinds k) → spec.may_be_of_kind name test ≡ true → IsNameOf kinds name
 may_be_holds (block.Number id) test kinds h k passes = (k id.kind passes, h.1)
 may_be_holds (block.Quoted name) test kinds h k passes = tt
 
@@ -209,7 +209,7 @@ data_block_holds : (source : List ℕ) (tokens : List Token) → IfSome (spec.da
 unfolding spec.data_block_at
 data_block_holds source tokens =
     chained (block_at source tokens) _ (IsNamed (length tokens)) (IsDataBlock (length tokens)) (named_holds source tokens)
-    (λ r h. passed (spec.may_be r.0 of_kind.is_data_block) _ (IsDataBlock (length tokens))
+    (λ r h. passed (spec.may_be_of_kind r.0 of_kind.is_data_block) _ (IsDataBlock (length tokens))
     (λ test. (may_be_holds r.0 of_kind.is_data_block (λ k. k ≡ kinds.Db) h.0 is_data_block test, omega (arith, h.1))))
 
 abbrev HasInstance : BlockName → ℕ → Option BlockName × List Token → Type 0
@@ -221,7 +221,7 @@ unfolding spec.instance_at
 instance_holds source name [] h = (tt, omega arith)
 instance_holds source name (t ∷ rest) h =
     both (is_mark source t mark.Comma) _ _ (HasInstance name (length (t ∷ rest)))
-    (passed (spec.may_be name of_kind.is_function_block) _ (HasInstance name (length (t ∷ rest)))
+    (passed (spec.may_be_of_kind name of_kind.is_function_block) _ (HasInstance name (length (t ∷ rest)))
     (λ test. mapped (spec.data_block_at source rest) _ (IsDataBlock (length rest)) (HasInstance name (length (t ∷ rest)))
     (data_block_holds source rest)
     (λ r k. ((may_be_holds name of_kind.is_function_block (λ k. k ≡ kinds.Fb) h is_function_block test, k.0), omega (arith, k.1)))))
@@ -229,7 +229,7 @@ instance_holds source name (t ∷ rest) h =
 
 -- the value of an actual parameter
 abbrev IsValue : Operand → Type 0
-IsValue o = IsOperand o × (is_called o ≡ false) × (is_label o ≡ false) × (is_nothing o ≡ false)
+IsValue o = IsOperand o × (names_called_block o ≡ false) × (is_label o ≡ false) × (is_nothing o ≡ false)
 
 value_holds : (source : List ℕ) (tokens : List Token) → IfSome (spec.value_of source tokens) (λ o. IsValue o × (1 ≤ length tokens))
 unfolding spec.value_of
@@ -306,7 +306,7 @@ actuals_hold source (t ∷ rest) =
     (λ test. weakened (spec.actuals_behind source rest) (AreSized (1 + length rest)) (AreSized (length (t ∷ rest))) (actuals_behind_hold source rest)
     (λ xs h. (h.0, omega (arith, h.1))))
 
-call_holds : (source : List ℕ) (code : Mnemonic) (tokens : List Token) → has_actuals code ≡ true → is_empty code ≡ false →
+call_holds : (source : List ℕ) (code : Mnemonic) (tokens : List Token) → has_actuals code ≡ true → is_empty_statement code ≡ false →
     IfSome (spec.call_of source code tokens) (IsInstruction (length tokens))
 unfolding spec.call_of
 call_holds source code tokens has some =
@@ -326,7 +326,7 @@ call_holds source code tokens has some =
       size = omega (arith, h.1, k.1, l.1);
     })))
 
-behind_word_holds : (source : List ℕ) (f : OperandSyntax) (code : Mnemonic) (tokens : List Token) → goes_with code f ≡ true → is_empty code ≡ false →
+behind_word_holds : (source : List ℕ) (f : OperandSyntax) (code : Mnemonic) (tokens : List Token) → goes_with code f ≡ true → is_empty_statement code ≡ false →
     IfSome (spec.behind_word source f code tokens) (IsInstruction (length tokens))
 unfolding spec.behind_word
 behind_word_holds source form.Operand code tokens goes some = with_operand_holds source code tokens (not-true (is_call code) goes) some
@@ -358,15 +358,15 @@ roomier low high i more h =
       size = omega (arith, more, h.size);
     }
 
-opening_holds : (source : List ℕ) (t : Token) (rest : List Token) → IfSome (spec.opening_of source t rest) (IsInstruction (length rest))
-unfolding spec.opening_of
+opening_holds : (source : List ℕ) (t : Token) (rest : List Token) → IfSome (spec.opening_instruction source t rest) (IsInstruction (length rest))
+unfolding spec.opening_instruction
 opening_holds source t rest =
-    chained (look_up opening_mnemonics (text_of source t)) _ (λ m. not (is_call m) && not (is_empty m) ≡ true) (IsInstruction (length rest))
-    (entry_passes opening_mnemonics (text_of source t) (λ m. not (is_call m) && not (is_empty m)) all_open)
+    chained (look_up opening_mnemonics (text_of source t)) _ (λ m. not (is_call m) && not (is_empty_statement m) ≡ true) (IsInstruction (length rest))
+    (entry_passes opening_mnemonics (text_of source t) (λ m. not (is_call m) && not (is_empty_statement m)) all_open)
     (λ m h. chained (spec.after_paren source rest) _ (λ behind. length behind < length rest) (IsInstruction (length rest)) (paren_holds source rest)
-    (λ behind k. weakened (spec.with_operand source m behind) (IsInstruction (length behind)) (IsInstruction (length rest))
+    (λ behind k. weakened (spec.statement_with_operand source m behind) (IsInstruction (length behind)) (IsInstruction (length rest))
     (with_operand_holds source m behind (not-true (is_call m) (and_first (not (is_call m)) _ h))
-    (not-true (is_empty m) (and_second (not (is_call m)) _ h)))
+    (not-true (is_empty_statement m) (and_second (not (is_call m)) _ h)))
     (λ i l. roomier (length behind) (length rest) i (omega (arith, k)) l)))
 
 zone_end_holds : (source : List ℕ) (t : Token) (rest : List Token) → IfSome (spec.zone_end_of source t rest) (IsInstruction (length rest))
@@ -374,17 +374,17 @@ unfolding spec.zone_end_of
 zone_end_holds source t [] = tt
 zone_end_holds source t (w ∷ rest) =
     passed (is_mark source t mark.CloseParen && is_key source w key.Mcr) _ (IsInstruction (length (w ∷ rest)))
-    (λ test. weakened (spec.with_operand source mnemonic.McrClose rest) (IsInstruction (length rest)) (IsInstruction (length (w ∷ rest)))
+    (λ test. weakened (spec.statement_with_operand source mnemonic.McrClose rest) (IsInstruction (length rest)) (IsInstruction (length (w ∷ rest)))
     (with_operand_holds source mnemonic.McrClose rest refl refl)
     (λ i h. roomier (length rest) (length (w ∷ rest)) i (omega arith) h))
 
-closed_holds : (source : List ℕ) (t : Token) (rest : List Token) → IfSome (spec.closed_of source t rest) (IsInstruction (length rest))
-unfolding spec.closed_of
+closed_holds : (source : List ℕ) (t : Token) (rest : List Token) → IfSome (spec.one_token_instruction source t rest) (IsInstruction (length rest))
+unfolding spec.one_token_instruction
 closed_holds source t rest =
-    chained (look_up mnemonics (text_of source t)) _ (λ m. goes_with m.0 m.1 && not (is_empty m.0) ≡ true) (IsInstruction (length rest))
-    (entry_passes mnemonics (text_of source t) (λ m. goes_with m.0 m.1 && not (is_empty m.0)) all_go)
+    chained (look_up mnemonics (text_of source t)) _ (λ m. goes_with m.0 m.1 && not (is_empty_statement m.0) ≡ true) (IsInstruction (length rest))
+    (entry_passes mnemonics (text_of source t) (λ m. goes_with m.0 m.1 && not (is_empty_statement m.0)) all_go)
     (λ m h. behind_word_holds source m.1 m.0 rest (and_first (goes_with m.0 m.1) _ h)
-    (not-true (is_empty m.0) (and_second (goes_with m.0 m.1) _ h)))
+    (not-true (is_empty_statement m.0) (and_second (goes_with m.0 m.1) _ h)))
 
 -- an instruction, with the tokens behind its word
 abbrev IsInstructionOf : List Token → BareStatement → Type 0
@@ -395,7 +395,7 @@ instruction_holds : (source : List ℕ) (tokens : List Token) → IfSome (spec.i
 unfolding spec.instruction_of
 instruction_holds source [] = tt
 instruction_holds source (t ∷ rest) =
-    either (spec.opening_of source t rest) _ (IsInstruction (length rest)) (opening_holds source t rest)
+    either (spec.opening_instruction source t rest) _ (IsInstruction (length rest)) (opening_holds source t rest)
     (either (spec.zone_end_of source t rest) _ (IsInstruction (length rest)) (zone_end_holds source t rest) (closed_holds source t rest))
 
 most_size : (code : Mnemonic) (o : Operand) (n : ℕ) → code_size code o n ≤ 4 + op_size o + 11 * n
@@ -407,7 +407,7 @@ abbrev pub IsReadStatement : ℕ → Statement × Bool → Type 0
 IsReadStatement n r = (r.1 ≡ false → IsStatement r.0) × (statement_size r.0 ≤ 4 + 4 * n)
 
 of_instruction : (line more : ℕ) (label : Option (List ℕ)) (i : BareStatement) → IsInstruction more i → i.long ≡ false → IsLabelOf label →
-    IsStatement (spec.statement line label i)
+    IsStatement (spec.statement_with_label line label i)
 of_instruction line more label i h short named =
     record {
       label = named;
@@ -416,15 +416,15 @@ of_instruction line more label i h short named =
       instance = h.instance;
       target = h.target short;
       jumps = h.jumps;
-      empty = λ is. true_is_no_false (is_empty i.code) h.some is;
-      unlabelled = λ is. true_is_no_false (is_empty i.code) h.some is;
+      empty = λ is. true_is_no_false (is_empty_statement i.code) h.some is;
+      unlabelled = λ is. true_is_no_false (is_empty_statement i.code) h.some is;
       actuals = h.actuals;
       no_actuals = h.no_actuals;
     }
 
 unlabelled_holds : (source : List ℕ) (line : ℕ) (tokens : List Token) →
-    IfSome (spec.unlabelled source line tokens) (IsReadStatement (length tokens))
-unfolding spec.unlabelled
+    IfSome (spec.unlabelled_statement source line tokens) (IsReadStatement (length tokens))
+unfolding spec.unlabelled_statement
 unlabelled_holds source line [] =
     mapped (spec.instruction_of source []) _ (IsInstructionOf []) (IsReadStatement 0) (instruction_holds source []) (λ i h. absurd h)
 unlabelled_holds source line (t ∷ rest) =
@@ -444,8 +444,8 @@ or_right true b h = cc
 or_right false b h = h
 
 labelled_holds : (source : List ℕ) (line : ℕ) (w : Token) (tokens : List Token) →
-    IfSome (spec.labelled source line w tokens) (IsReadStatement (length tokens))
-unfolding spec.labelled spec.is_long
+    IfSome (spec.labelled_statement source line w tokens) (IsReadStatement (length tokens))
+unfolding spec.labelled_statement spec.is_long_label
 labelled_holds source line w [] =
     mapped (spec.instruction_of source []) _ (IsInstructionOf []) (IsReadStatement 0) (instruction_holds source []) (λ i h. absurd h)
 labelled_holds source line w (t ∷ rest) =
@@ -479,6 +479,6 @@ statement_holds source line [] = (
 statement_holds source line (w ∷ []) = unlabelled_holds source line (w ∷ [])
 statement_holds source line (w ∷ colon ∷ rest) =
     both (has_kind w kind.Word && is_mark source colon mark.Colon) _ _ (IsReadStatement (length (w ∷ colon ∷ rest)))
-    (weakened (spec.labelled source line w rest) (IsReadStatement (length rest)) (IsReadStatement (length (w ∷ colon ∷ rest)))
+    (weakened (spec.labelled_statement source line w rest) (IsReadStatement (length rest)) (IsReadStatement (length (w ∷ colon ∷ rest)))
     (labelled_holds source line w rest) (λ r h. (h.0, omega (arith, h.1))))
     (unlabelled_holds source line (w ∷ colon ∷ rest))

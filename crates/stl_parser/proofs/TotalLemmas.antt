@@ -4,7 +4,7 @@ use Rattle.stl_lexer.specs.declared.kinds.Token.{Token}
 use Rattle.stl_parser.specs.declared.clauses.Clause.{Clause}
 use Rattle.stl_parser.specs.declared.places.ClausePlace.{ClausePlace}
 use Rattle.stl_parser.specs.declared.places.ClausePlace.TheVariants as place
-use Rattle.stl_parser.specs.Source.{Step, step_of, Reads, Breaks, is_outside, last_line, HasTreeOrViolation, IsTotal}
+use Rattle.stl_parser.specs.Source.{ClauseStep, step_of, ReadsClauses, BreaksClauseRule, is_outside, last_line, HasTreeOrViolation, IsParsingTotal}
 use Rattle.stl_parser.proofs.SourceLemmas.{outside_is}
 use Rattle.stl_parser.proofs.LengthLemmas.{read_rest}
 use Rattle.stl_parser.proofs.FrameLemmas.{right_clause, tree_there}
@@ -12,9 +12,9 @@ use Rattle.stl_parser.proofs.FrameLemmas.{right_clause, tree_there}
 -- the clauses are right up to the end, or up to a violation
 abbrev Ends : List ℕ → ClausePlace → List Token → ℕ → Type 0
 Ends source p ts last =
-    ((cs : List Clause) × Reads source p ts cs place.Outside [])
-    ⊎ ((cs : List Clause) × (q : ClausePlace) × (rest : List Token) × (line : ℕ) × (rule : ℕ) × Reads source p ts cs q rest
-    × Breaks source q rest last line rule)
+    ((cs : List Clause) × ReadsClauses source p ts cs place.Outside [])
+    ⊎ ((cs : List Clause) × (q : ClausePlace) × (rest : List Token) × (line : ℕ) × (rule : ℕ) × ReadsClauses source p ts cs q rest
+    × BreaksClauseRule source q rest last line rule)
 
 at_end : (source : List ℕ) (p : ClausePlace) (last : ℕ) (b : Bool) → is_outside p ≡ b → Ends source p [] last
 at_end source p last true outside = inl ([], (outside_is p outside, refl))
@@ -37,7 +37,7 @@ pub fewer_left : (source : List ℕ) (p : ClausePlace) (ts : List Token) (c : Cl
 fewer_left source p [] c behind q some read = absurd (omega (arith, some))
 fewer_left source p (t ∷ ts) c behind q some read = omega (arith, shorter source p t ts c behind q (sym read))
 
-by_step : (source : List ℕ) (p : ClausePlace) (t : Token) (ts : List Token) (last : ℕ) (r : Result Step ℕ) → step_of source p (t ∷ ts) ≡ r →
+by_step : (source : List ℕ) (p : ClausePlace) (t : Token) (ts : List Token) (last : ℕ) (r : Result ClauseStep ℕ) → step_of source p (t ∷ ts) ≡ r →
     ((q : ClausePlace) (behind : List Token) → length behind ≤ length ts → Ends source q behind last) → Ends source p (t ∷ ts) last
 by_step source p t ts last (Err rule) read k = inr ([], p, t ∷ ts, t.line, rule, (refl, refl), (refl, read))
 by_step source p t ts last (Ok s) read k =
@@ -54,6 +54,6 @@ has_outcome : (source : List ℕ) (tokens : List Token) → Ends source place.Ou
 has_outcome source tokens (inl h) = inl (tree_there source tokens h.0 h.1)
 has_outcome source tokens (inr h) = inr (h.3, h.4, record { before = h.0; at = h.1; rest = h.2; reads = h.5; breaks = h.6 })
 
-pub total : IsTotal
+pub total : IsParsingTotal
 total source tokens =
     has_outcome source tokens (reads_end source (length tokens) place.Outside tokens (last_line 0 tokens) (omega arith))

@@ -18,7 +18,7 @@ use Rattle.stl_ast.specs.declared.names.BlockName.{BlockName}
 use Rattle.stl_ast.specs.declared.names.BlockName.TheVariants as block
 use Rattle.stl_ast.specs.Literals.{IsDecimal, IsLiteral}
 use Rattle.stl_ast.specs.Operands.{IsNumber, IsNameOf, IsAnyName}
-use Rattle.stl_ast.specs.Declarations.{AreBounds, IsElement, IsInit, IsSingle, FitsType, IsDeclaration}
+use Rattle.stl_ast.specs.Declarations.{AreBounds, IsElement, IsInit, IsSingleInit, FitsType, IsDeclaration}
 use Rattle.stl_parser.specs.declared.keywords.Key.TheVariants as key
 use Rattle.stl_lexer.specs.declared.marks.Mark.TheVariants as mark
 use Rattle.stl_parser.specs.Terminals.{has_kind, is_mark, is_key}
@@ -87,7 +87,7 @@ simple_holds source t rest =
     (none_holds (look_up simple_types (text_of source t))) (λ k h. (tt, refl))))
 
 numbered_udt : (id : BlockId) (k : BlockKind) → id.kind ≡ k → IsNumber id.number →
-    IfSome (spec.udt_numbered id k) (λ name. IsNameOf (λ j. j ≡ kinds.Udt) name)
+    IfSome (spec.udt_name_of_id id k) (λ name. IsNameOf (λ j. j ≡ kinds.Udt) name)
 numbered_udt id kinds.Udt same h = (same, h)
 numbered_udt id _ same h = tt
 
@@ -113,13 +113,13 @@ abbrev FirstIsInit : Init × List Token → Type 0
 FirstIsInit r = IsInit r.0
 
 counted_end_holds : (source : List ℕ) (count : ℕ) (value : Literal) (tokens : List Token) → IsNumber count → IsLiteral value →
-    IfSome (spec.counted_end source count value tokens) FirstIsInit
-unfolding spec.counted_end
+    IfSome (spec.counted_init_end source count value tokens) FirstIsInit
+unfolding spec.counted_init_end
 counted_end_holds source count value [] h k = tt
 counted_end_holds source count value (t ∷ rest) h k = passed (is_mark source t mark.CloseParen) _ FirstIsInit (λ test. (h, k))
 
-counted_holds : (source : List ℕ) (tokens : List Token) → IfSome (spec.counted_at source tokens) FirstIsInit
-unfolding spec.counted_at
+counted_holds : (source : List ℕ) (tokens : List Token) → IfSome (spec.counted_init_at source tokens) FirstIsInit
+unfolding spec.counted_init_at
 counted_holds source (n ∷ open_ ∷ rest) =
     passed (is_mark source open_ mark.OpenParen) _ FirstIsInit
     (λ test. chained (number_of source n) _ IsNumber FirstIsInit (number_holds source n)
@@ -130,7 +130,7 @@ counted_holds source _ = tt
 init_holds : (source : List ℕ) (tokens : List Token) → IfSome (spec.init_at source tokens) FirstIsInit
 unfolding spec.init_at
 init_holds source tokens =
-    either (spec.counted_at source tokens) _ FirstIsInit (counted_holds source tokens)
+    either (spec.counted_init_at source tokens) _ FirstIsInit (counted_holds source tokens)
     (mapped (literal_at source tokens) _ FirstIsLiteral FirstIsInit (literal_at_holds source tokens) (λ r h. (tt, h)))
 
 next_init_holds : (source : List ℕ) (tokens : List Token) → IfSome (spec.next_init source tokens) FirstIsInit
@@ -142,9 +142,9 @@ abbrev AreInits : List Init → Type 0
 AreInits init = AllByRecursion IsInit init
 
 further_inits : (source : List ℕ) (first : Init) (n : ℕ) (tokens : List Token) → IsInit first →
-    IfSome (parts_from spec.at_end (spec.next_init source) (first ∷ []) n tokens) (λ r. AreInits r.0)
+    IfSome (parts_from spec.end_of_tokens (spec.next_init source) (first ∷ []) n tokens) (λ r. AreInits r.0)
 further_inits source first n tokens h =
-    parts_hold spec.at_end (spec.next_init source) (first ∷ []) n tokens (λ xs ts. AreInits xs) AreInits (h, tt)
+    parts_hold spec.end_of_tokens (spec.next_init source) (first ∷ []) n tokens (λ xs ts. AreInits xs) AreInits (h, tt)
     (λ xs ts k. weakened (spec.next_init source ts) FirstIsInit (λ r. AreInits (xs ++ r.0 ∷ [])) (next_init_holds source ts)
     (λ r one. all_push IsInit xs r.0 k one)) (λ xs ts k. k)
 
@@ -152,19 +152,19 @@ init_list_holds : (source : List ℕ) (tokens : List Token) → IfSome (spec.ini
 unfolding spec.init_list
 init_list_holds source tokens =
     chained (spec.init_at source tokens) _ FirstIsInit AreInits (init_holds source tokens)
-    (λ r h. whole_holds (parts_from spec.at_end (spec.next_init source) (r.0 ∷ []) (length r.1) r.1) AreInits
+    (λ r h. whole_holds (parts_from spec.end_of_tokens (spec.next_init source) (r.0 ∷ []) (length r.1) r.1) AreInits
     (further_inits source r.0 (length r.1) r.1 h))
 
-single_init_holds : (source : List ℕ) (tokens : List Token) → IfSome (spec.single_init source tokens) (λ init. AreInits init × IsSingle init)
+single_init_holds : (source : List ℕ) (tokens : List Token) → IfSome (spec.single_init source tokens) (λ init. AreInits init × IsSingleInit init)
 unfolding spec.single_init
 single_init_holds source tokens =
-    mapped (literal_of source tokens) _ IsLiteral (λ init. AreInits init × IsSingle init) (literal_holds source tokens)
+    mapped (literal_of source tokens) _ IsLiteral (λ init. AreInits init × IsSingleInit init) (literal_holds source tokens)
     (λ l h. (((tt, h), tt), refl))
 
 abbrev FitInits : List Bounds → ElementType → List Init → Type 0
 FitInits arrays e init = AreInits init × FitsType arrays e init
 
-single_fits : (arrays : List Bounds) (e : ElementType) (init : List Init) → is_structure e ≡ false → IsSingle init → FitsType arrays e init
+single_fits : (arrays : List Bounds) (e : ElementType) (init : List Init) → is_structure e ≡ false → IsSingleInit init → FitsType arrays e init
 single_fits arrays element.Structure init other h = cc
 single_fits [] (element.Plain k) init other h = h
 single_fits (b ∷ []) (element.Plain k) init other h = tt
@@ -184,7 +184,7 @@ none_fits (b ∷ c ∷ bs) _ = tt
 single_of : (source : List ℕ) (arrays : List Bounds) (e : ElementType) (tokens : List Token) → is_structure e ≡ false →
     IfSome (spec.single_init source tokens) (FitInits arrays e)
 single_of source arrays e tokens other =
-    weakened (spec.single_init source tokens) (λ init. AreInits init × IsSingle init) (FitInits arrays e) (single_init_holds source tokens)
+    weakened (spec.single_init source tokens) (λ init. AreInits init × IsSingleInit init) (FitInits arrays e) (single_init_holds source tokens)
     (λ init h. (h.0, single_fits arrays e init other h.1))
 
 init_of_holds : (source : List ℕ) (arrays : List Bounds) (e : ElementType) (tokens : List Token) → is_structure e ≡ false →
@@ -210,7 +210,7 @@ pub structure_holds : (source : List ℕ) (level : ℕ) (tokens : List Token) �
     IfSome (read.structure_at source level tokens) (λ r. IsDeclaration r.0)
 unfolding read.structure_at
 structure_holds source level tokens =
-    chained (read.declared_at source tokens) _ (λ d. Unit {0}) (λ r. IsDeclaration r.0) (none_holds (read.declared_at source tokens))
+    chained (read.declared_name_at source tokens) _ (λ d. Unit {0}) (λ r. IsDeclaration r.0) (none_holds (read.declared_name_at source tokens))
     (λ d h. chained (spec.arrays_at source d.1) _ (λ a. AreArrays a.0) (λ r. IsDeclaration r.0) (arrays_hold source d.1)
     (λ a k. mapped (read.after_struct source a.1) _ (λ rest. Unit {0}) (λ r. IsDeclaration r.0) (none_holds (read.after_struct source a.1))
     (λ rest u. record { arrays = k; element = tt; init = tt; fits = none_fits a.0 element.Structure })))
@@ -220,7 +220,7 @@ pub declaration_holds : (source : List ℕ) (level : ℕ) (tokens : List Token) 
     IfSome (read.declaration_of source level tokens) IsDeclaration
 unfolding read.declaration_of
 declaration_holds source level tokens =
-    chained (read.declared_at source tokens) _ (λ d. Unit {0}) IsDeclaration (none_holds (read.declared_at source tokens))
+    chained (read.declared_name_at source tokens) _ (λ d. Unit {0}) IsDeclaration (none_holds (read.declared_name_at source tokens))
     (λ d h. chained (spec.arrays_at source d.1) _ (λ a. AreArrays a.0) IsDeclaration (arrays_hold source d.1)
     (λ a k. chained (spec.element_at source a.1) _ (λ e. IsValueType e.0) IsDeclaration (element_holds source a.1)
     (λ e v. mapped (read.init_behind source a.0 e.0 e.1) _ (FitInits a.0 e.0) IsDeclaration (init_behind_holds source a.0 e.0 e.1 v.1)

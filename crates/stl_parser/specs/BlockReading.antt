@@ -12,8 +12,8 @@ use Rattle.stl_parser.specs.declared.places.ClausePlace.TheVariants as place
 use Rattle.stl_parser.specs.declared.blocks.Content.{Content}
 use Rattle.stl_parser.specs.declared.blocks.Opened.{Opened}
 use Rattle.stl_parser.specs.declared.blocks.Opened.TheVariants as opened
-use Rattle.stl_parser.specs.Source.{ReadsKept}
-use Rattle.stl_parser.specs.Spelling.{is_kept}
+use Rattle.stl_parser.specs.Source.{ReadsKeptClauses}
+use Rattle.stl_parser.specs.Spelling.{is_kept_by_tree}
 
 -- a place inside a section, or inside the structure of a block
 abbrev pub is_inside : ClausePlace → Bool
@@ -28,19 +28,19 @@ behind_inside (place.Shape k level) = place.Shaped k
 behind_inside p = p
 
 -- what a clause adds to the declarations of a block
-abbrev pub declared_by : Clause → List Declaration
-declared_by (clause.Declares d) = d ∷ []
-declared_by _ = []
+abbrev pub declarations_of_clause : Clause → List Declaration
+declarations_of_clause (clause.Declares d) = d ∷ []
+declarations_of_clause _ = []
 
 -- to its settings
-abbrev pub set_by : Clause → List Setting
-set_by (clause.Sets s) = s ∷ []
-set_by _ = []
+abbrev pub settings_of_clause : Clause → List Setting
+settings_of_clause (clause.Sets s) = s ∷ []
+settings_of_clause _ = []
 
 -- to its statements
-abbrev pub stated_by : Clause → List Statement
-stated_by (clause.Runs s) = s ∷ []
-stated_by _ = []
+abbrev pub statements_of_clause : Clause → List Statement
+statements_of_clause (clause.Runs s) = s ∷ []
+statements_of_clause _ = []
 
 -- a clause opens the structure of a block, or names what the block is based on
 abbrev pub opens_shape : Clause → Bool
@@ -71,7 +71,7 @@ opened_place k _ = place.Head k
 pub record ReadsShape (source : List ℕ) (k : BlockKind) (opening : Clause) (tokens : List Token)
     (spelled : List Clause) (rest : List Token) : Type 0 where
   pub kept : List Clause
-  pub reads : ReadsKept source (opened_place k opening) tokens kept (place.Shaped k) rest
+  pub reads : ReadsKeptClauses source (opened_place k opening) tokens kept (place.Shaped k) rest
   pub whole : spelled ≡ opening ∷ kept
 
 -- a body, or a shape: the clause that opens it, where a tree keeps that, and the components
@@ -92,5 +92,5 @@ spelled_content k c =
 pub record ReadsContent (source : List ℕ) (k : BlockKind) (opening : Clause) (tokens : List Token)
     (spelled : List Clause) (rest : List Token) : Type 0 where
   pub kept : List Clause
-  pub reads : ReadsKept source (opened_place k opening) tokens kept place.Outside rest
-  pub whole : spelled ≡ filter is_kept (opening ∷ []) ++ kept
+  pub reads : ReadsKeptClauses source (opened_place k opening) tokens kept place.Outside rest
+  pub whole : spelled ≡ filter is_kept_by_tree (opening ∷ []) ++ kept

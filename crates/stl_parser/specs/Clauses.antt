@@ -77,8 +77,8 @@ takes_parameters (place.Section k p level) = is_parameter p
 takes_parameters _ = false
 
 -- a clause, what follows it, and whether a label in it is too long
-abbrev pub Read : Type 0
-Read = Option (Clause × List Token × Bool)
+abbrev pub ClauseReading : Type 0
+ClauseReading = Option (Clause × List Token × Bool)
 
 -- what follows a clause that may end with a `;` in a head
 unfoldable pub behind_note : List ℕ → ClausePlace → List Token → List Token
@@ -90,8 +90,8 @@ is_of_kind k (block.Number id) = nat_eq (kind_order id.kind) (kind_order k)
 is_of_kind k (block.Quoted name) = true
 
 -- the name of a block of this kind, and what follows
-unfoldable pub named_at : List ℕ → BlockKind → List Token → Option (BlockName × List Token)
-named_at source k tokens = option_and_then (λ r. if is_of_kind k r.0 then Some r else None) (block_at source tokens)
+unfoldable pub block_of_kind_at : List ℕ → BlockKind → List Token → Option (BlockName × List Token)
+block_of_kind_at source k tokens = option_and_then (λ r. if is_of_kind k r.0 then Some r else None) (block_at source tokens)
 
 -- VOID or the elementary type of a return value, and what follows
 unfoldable pub result_type : List ℕ → List Token → Option (Option Simple × List Token)
@@ -106,23 +106,23 @@ result_at source kinds.Fc tokens = option_and_then (λ rest. result_type source 
 result_at source _ tokens = Some (None, tokens)
 
 -- the first clause of a block, behind its keyword
-unfoldable pub head_of : List ℕ → ℕ → BlockKind → List Token → Read
-head_of source line k tokens =
-    option_and_then (λ b. option_map (λ r. (clause.Head line k b.0 r.0, r.1, false)) (result_at source k b.1)) (named_at source k tokens)
+unfoldable pub head_clause : List ℕ → ℕ → BlockKind → List Token → ClauseReading
+head_clause source line k tokens =
+    option_and_then (λ b. option_map (λ r. (clause.Head line k b.0 r.0, r.1, false)) (result_at source k b.1)) (block_of_kind_at source k tokens)
 
 -- END_STRUCT of an inner structure, behind the word: its `;`
-unfoldable pub inner_end : List ℕ → List Token → Read
+unfoldable pub inner_end : List ℕ → List Token → ClauseReading
 inner_end source [] = None
 inner_end source (t ∷ rest) = if is_mark source t mark.Semicolon then Some (clause.EndStructure, rest, false) else None
 
 -- END_STRUCT, behind the word: with a `;` for an inner structure, and else with or without one
-unfoldable pub structure_end : List ℕ → ClausePlace → List Token → Read
+unfoldable pub structure_end : List ℕ → ClausePlace → List Token → ClauseReading
 structure_end source p tokens =
     if nat_lt 0 (level_at p) then inner_end source tokens else Some (clause.EndStructure, skip_semicolon source tokens, false)
 
 -- a clause that begins with a keyword, behind it
-unfoldable pub keyword_clause : List ℕ → ClausePlace → ℕ → Keyword → List Token → Read
-keyword_clause source p line (keyword.Opens k) rest = head_of source line k rest
+unfoldable pub keyword_clause : List ℕ → ClausePlace → ℕ → Keyword → List Token → ClauseReading
+keyword_clause source p line (keyword.Opens k) rest = head_clause source line k rest
 keyword_clause source p line (keyword.Ends k) rest = Some (clause.Ends line k, rest, false)
 keyword_clause source p line (keyword.Section k) rest = Some (clause.Section line k, rest, false)
 keyword_clause source p line keyword.EndSection rest = Some (clause.EndSection, rest, false)
@@ -139,18 +139,18 @@ version_at source (colon ∷ major ∷ dot ∷ minor ∷ rest) =
 version_at source _ = None
 
 -- `: word`, and what follows
-unfoldable pub word_at : List ℕ → List Token → Option (List Token)
-word_at source (colon ∷ w ∷ rest) = if is_mark source colon mark.Colon && has_kind w kind.Word then Some rest else None
-word_at source _ = None
+unfoldable pub colon_and_word_at : List ℕ → List Token → Option (List Token)
+colon_and_word_at source (colon ∷ w ∷ rest) = if is_mark source colon mark.Colon && has_kind w kind.Word then Some rest else None
+colon_and_word_at source _ = None
 
 -- what stands behind a word of the head, and what follows
 unfoldable pub head_word_at : List ℕ → HeadWord → List Token → Option (List Token)
 head_word_at source head_word.Version rest = version_at source rest
-head_word_at source head_word.Named rest = word_at source rest
+head_word_at source head_word.Named rest = colon_and_word_at source rest
 head_word_at source head_word.Alone rest = Some rest
 
 -- a clause that begins with a word of the head, behind it
-unfoldable pub head_word_clause : List ℕ → ClausePlace → HeadWord → List Token → Read
+unfoldable pub head_word_clause : List ℕ → ClausePlace → HeadWord → List Token → ClauseReading
 head_word_clause source p w rest = option_map (λ behind. (clause.Note, behind_note source p behind, false)) (head_word_at source w rest)
 
 -- FB and UDT, the kinds of block whose declarations a data block can have
@@ -160,17 +160,17 @@ is_base_kind kinds.Udt = true
 is_base_kind _ = false
 
 -- a data block may be based on a block of this name; a quoted name is checked by rule 23
-abbrev pub is_base : BlockName → Bool
-is_base (block.Number id) = is_base_kind id.kind
-is_base (block.Quoted name) = true
+abbrev pub is_base_block : BlockName → Bool
+is_base_block (block.Number id) = is_base_kind id.kind
+is_base_block (block.Quoted name) = true
 
 -- what a data block may be based on: a function block, or a user-defined data type
-unfoldable pub based_at : List ℕ → List Token → Read
-based_at source tokens =
-    option_and_then (λ r. if is_base r.0 then Some (clause.Based r.0, r.1, false) else None) (block_at source tokens)
+unfoldable pub base_block_at : List ℕ → List Token → ClauseReading
+base_block_at source tokens =
+    option_and_then (λ r. if is_base_block r.0 then Some (clause.Based r.0, r.1, false) else None) (block_at source tokens)
 
 -- a declaration that opens a structure; a parameter is no structure
-unfoldable pub structure_clause : List ℕ → ClausePlace → List Token → Read
+unfoldable pub structure_clause : List ℕ → ClausePlace → List Token → ClauseReading
 structure_clause source p tokens =
     if takes_parameters p then None
     else option_map (λ r. (clause.Declares r.0, r.1, false)) (structure_at source (level_at p) tokens)
@@ -216,38 +216,38 @@ inside_clause source p line inside =
     option_or (declaration_clause source p inside) (option_or (statement_clause source line inside) (setting_clause source line inside))
 
 -- a clause that runs to its `;`
-unfoldable pub semicolon_clause : List ℕ → ClausePlace → ℕ → List Token → Read
+unfoldable pub semicolon_clause : List ℕ → ClausePlace → ℕ → List Token → ClauseReading
 semicolon_clause source p line tokens =
     option_and_then (λ cut. option_map (λ c. (c.0, cut.1, c.1)) (inside_clause source p line cut.0)) (until_semicolon source tokens)
 
 -- a clause that opens a structure or runs to its `;`
-unfoldable pub plain_clause : List ℕ → ClausePlace → ℕ → List Token → Read
+unfoldable pub plain_clause : List ℕ → ClausePlace → ℕ → List Token → ClauseReading
 plain_clause source p line tokens = option_or (structure_clause source p tokens) (semicolon_clause source p line tokens)
 
 -- a clause that begins with no keyword; in the head of a data block it may name what the block is based on
-unfoldable pub other_clause : List ℕ → ClausePlace → ℕ → List Token → Read
+unfoldable pub other_clause : List ℕ → ClausePlace → ℕ → List Token → ClauseReading
 other_clause source p line tokens =
-    if in_data_head p then option_or (based_at source tokens) (plain_clause source p line tokens) else plain_clause source p line tokens
+    if in_data_head p then option_or (base_block_at source tokens) (plain_clause source p line tokens) else plain_clause source p line tokens
 
 -- a clause that begins with a word which is no keyword; `tokens` are the word and the rest
-unfoldable pub free_word_clause : List ℕ → ClausePlace → Token → List Token → List Token → Option HeadWord → Read
+unfoldable pub free_word_clause : List ℕ → ClausePlace → Token → List Token → List Token → Option HeadWord → ClauseReading
 free_word_clause source p t rest tokens (Some w) =
     if is_outer p then head_word_clause source p w rest else other_clause source p t.line tokens
 free_word_clause source p t rest tokens None = other_clause source p t.line tokens
 
 -- a clause that begins with a word; `tokens` are the word and the rest
-unfoldable pub word_clause : List ℕ → ClausePlace → Token → List Token → List Token → Option Keyword → Read
+unfoldable pub word_clause : List ℕ → ClausePlace → Token → List Token → List Token → Option Keyword → ClauseReading
 word_clause source p t rest tokens (Some k) = keyword_clause source p t.line k rest
 word_clause source p t rest tokens None = free_word_clause source p t rest tokens (look_up head_words (text_of source t))
 
 -- a clause, by the kind of its first token; `tokens` are it and the rest
-unfoldable pub clause_by_kind : List ℕ → ClausePlace → Token → List Token → List Token → TokenKind → Read
+unfoldable pub clause_by_kind : List ℕ → ClausePlace → Token → List Token → List Token → TokenKind → ClauseReading
 clause_by_kind source p t rest tokens kind.Word = word_clause source p t rest tokens (look_up keywords (text_of source t))
 clause_by_kind source p t rest tokens kind.Attribute = Some (clause.Note, behind_note source p rest, false)
 clause_by_kind source p t rest tokens kind.Title = Some (clause.Title, behind_note source p rest, false)
 clause_by_kind source p t rest tokens _ = other_clause source p t.line tokens
 
 -- the clause at the front, what follows it, and whether a label in it is too long; None where it isn't in the grammar
-unfoldable pub clause_at : List ℕ → ClausePlace → List Token → Read
+unfoldable pub clause_at : List ℕ → ClausePlace → List Token → ClauseReading
 clause_at source p [] = None
 clause_at source p (t ∷ rest) = clause_by_kind source p t rest (t ∷ rest) t.kind

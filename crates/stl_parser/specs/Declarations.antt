@@ -25,9 +25,9 @@ after_colon source [] = None
 after_colon source (t ∷ rest) = if is_mark source t mark.Colon then Some rest else None
 
 -- a declared name, `word [attribute] :`, and the tokens of its type
-unfoldable pub declared_at : List ℕ → List Token → Option (Token × List Token)
-declared_at source [] = None
-declared_at source (w ∷ rest) =
+unfoldable pub declared_name_at : List ℕ → List Token → Option (Token × List Token)
+declared_name_at source [] = None
+declared_name_at source (w ∷ rest) =
     if has_kind w kind.Word then option_map (λ behind. (w, behind)) (after_colon source (after_attribute rest)) else None
 
 -- the tokens behind STRUCT
@@ -36,15 +36,15 @@ after_struct source [] = None
 after_struct source (t ∷ rest) = if is_key source t key.Struct then Some rest else None
 
 -- a declaration with this type and these initial values
-abbrev pub declared : List ℕ → ℕ → Token → List Bounds → ElementType → List Init → Declaration
-declared source level w arrays e init =
+abbrev pub declaration_from_parts : List ℕ → ℕ → Token → List Bounds → ElementType → List Init → Declaration
+declaration_from_parts source level w arrays e init =
     record { line = w.line; name = text_of source w; level = level; of = record { arrays = arrays; of = e }; init = init }
 
 -- a declaration that opens a structure, up to STRUCT, and what follows
 unfoldable pub structure_at : List ℕ → ℕ → List Token → Option (Declaration × List Token)
 structure_at source level tokens =
-    option_and_then (λ d. option_and_then (λ a. option_map (λ rest. (declared source level d.0 a.0 element.Structure [], rest)) (after_struct source a.1))
-    (arrays_at source d.1)) (declared_at source tokens)
+    option_and_then (λ d. option_and_then (λ a. option_map (λ rest. (declaration_from_parts source level d.0 a.0 element.Structure [], rest)) (after_struct source a.1))
+    (arrays_at source d.1)) (declared_name_at source tokens)
 
 -- the initial values behind a type: none, or `:=` and the values
 unfoldable pub init_behind : List ℕ → List Bounds → ElementType → List Token → Option (List Init)
@@ -54,5 +54,5 @@ init_behind source arrays e (t ∷ rest) = if is_mark source t mark.Assign then 
 -- a declaration that is all of the tokens
 unfoldable pub declaration_of : List ℕ → ℕ → List Token → Option Declaration
 declaration_of source level tokens =
-    option_and_then (λ d. option_and_then (λ a. option_and_then (λ e. option_map (λ init. declared source level d.0 a.0 e.0 init) (init_behind source a.0 e.0 e.1))
-    (element_at source a.1)) (arrays_at source d.1)) (declared_at source tokens)
+    option_and_then (λ d. option_and_then (λ a. option_and_then (λ e. option_map (λ init. declaration_from_parts source level d.0 a.0 e.0 init) (init_behind source a.0 e.0 e.1))
+    (element_at source a.1)) (arrays_at source d.1)) (declared_name_at source tokens)

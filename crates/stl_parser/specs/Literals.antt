@@ -10,13 +10,13 @@ use Rattle.stl_ast.specs.declared.literals.Literal.TheVariants as literal
 use Rattle.stl_lexer.specs.declared.marks.Mark.TheVariants as mark
 use Rattle.stl_parser.specs.declared.keywords.Key.TheVariants as key
 use Rattle.stl_parser.specs.Terminals.{is_mark, is_key}
-use Rattle.stl_parser.specs.Numbers.{number_of, signed_at}
-use Rattle.stl_parser.specs.Parts.{whole}
-use Rattle.stl_parser.specs.Values.{based_value, long_or_count, duration}
+use Rattle.stl_parser.specs.Numbers.{number_of, signed_number_at}
+use Rattle.stl_parser.specs.Parts.{complete_reading}
+use Rattle.stl_parser.specs.Values.{based_value, long_or_count, duration_literal}
 
 -- a token without its first and its last byte
-unfoldable pub unquoted : List ℕ → List ℕ
-unquoted text = slice_range text 1 (length text - 1)
+unfoldable pub text_between_quotes : List ℕ → List ℕ
+text_between_quotes text = slice_range text 1 (length text - 1)
 
 -- one to four bytes
 unfoldable pub characters_of : List ℕ → Option (List ℕ)
@@ -33,10 +33,10 @@ truth_of source t =
 unfoldable pub literal_token : List ℕ → Token → TokenKind → Option Literal
 literal_token source t kind.Word = truth_of source t
 literal_token source t kind.Number = option_map (λ n. literal.Number (pos n)) (number_of source t)
-literal_token source t kind.Characters = option_map literal.Characters (characters_of (unquoted (text_of source t)))
+literal_token source t kind.Characters = option_map literal.Characters (characters_of (text_between_quotes (text_of source t)))
 literal_token source t kind.Based = based_value (text_of source t)
 literal_token source t kind.NumberLiteral = long_or_count (text_of source t)
-literal_token source t kind.TimeLiteral = duration (text_of source t)
+literal_token source t kind.TimeLiteral = duration_literal (text_of source t)
 literal_token source t _ = None
 
 -- a number up to 255
@@ -69,7 +69,7 @@ bytes_at source _ = None
 unfoldable pub long_literal : List ℕ → Token → List Token → Option (Literal × List Token)
 long_literal source t rest =
     if is_mark source t mark.Bytes then bytes_at source rest
-    else option_map (λ r. (literal.Number r.0, r.1)) (signed_at source t rest)
+    else option_map (λ r. (literal.Number r.0, r.1)) (signed_number_at source t rest)
 
 -- a constant, and what follows it
 unfoldable pub literal_at : List ℕ → List Token → Option (Literal × List Token)
@@ -79,4 +79,4 @@ literal_at source (t ∷ rest) =
 
 -- a constant that is all of the tokens
 unfoldable pub literal_of : List ℕ → List Token → Option Literal
-literal_of source tokens = whole (literal_at source tokens)
+literal_of source tokens = complete_reading (literal_at source tokens)

@@ -18,9 +18,9 @@ unfoldable pub number_of : List ℕ → Token → Option ℕ
 number_of source t = number_up_to (greatest_number false) source t
 
 -- a number behind its sign, and what follows
-unfoldable pub signed_at : List ℕ → Token → List Token → Option (ℤ × List Token)
-signed_at source sign [] = None
-signed_at source sign (t ∷ rest) =
+unfoldable pub signed_number_at : List ℕ → Token → List Token → Option (ℤ × List Token)
+signed_number_at source sign [] = None
+signed_number_at source sign (t ∷ rest) =
     if is_mark source sign mark.Minus
     then option_map (λ n. (pos 0 -ℤ pos n, rest)) (number_up_to (greatest_number true) source t)
     else (if is_mark source sign mark.Plus then option_map (λ n. (pos n, rest)) (number_of source t) else None)
@@ -28,4 +28,4 @@ signed_at source sign (t ∷ rest) =
 -- a decimal number with or without a sign, and what follows
 unfoldable pub int_at : List ℕ → List Token → Option (ℤ × List Token)
 int_at source [] = None
-int_at source (t ∷ rest) = option_or (option_map (λ n. (pos n, rest)) (number_of source t)) (signed_at source t rest)
+int_at source (t ∷ rest) = option_or (option_map (λ n. (pos n, rest)) (number_of source t)) (signed_number_at source t rest)

@@ -27,8 +27,8 @@ use Rattle.stl_parser.specs.declared.tables.Address.TheVariants as address
 use Rattle.stl_parser.specs.Terminals.{has_kind, is_mark, is_key}
 use Rattle.stl_parser.specs.Tables.{look_up, addresses, flags, registers}
 use Rattle.stl_parser.specs.Numbers.{number_of, int_at}
-use Rattle.stl_parser.specs.Parts.{parts_from, whole}
-use Rattle.stl_parser.specs.Literals.{unquoted, literal_of}
+use Rattle.stl_parser.specs.Parts.{parts_from, complete_reading}
+use Rattle.stl_parser.specs.Literals.{text_between_quotes, literal_of}
 use Rattle.stl_parser.specs.Addresses.{is_address_word, address_at, bit_of}
 
 -- `]` behind the index of a step
@@ -59,7 +59,7 @@ steps_from source first tokens = parts_from (path_end source) (step_at source) f
 
 -- a path that is all of the tokens, behind its head
 unfoldable pub path_of : List ℕ → PathHead → List Token → Option Operand
-path_of source h tokens = option_map (λ steps. operand.Named h steps) (whole (steps_from source [] tokens))
+path_of source h tokens = option_map (λ steps. operand.Named h steps) (complete_reading (steps_from source [] tokens))
 
 -- the bit of an address of this width: `.` and its number for a bit, and nothing for a wider one
 unfoldable pub place_bit : List ℕ → Width → List Token → Option ℕ
@@ -68,56 +68,56 @@ place_bit source _ [] = Some 0
 place_bit source _ (t ∷ rest) = None
 
 -- an address in an area
-unfoldable pub area_of : List ℕ → Letters → Width → ℕ → List Token → Option Operand
-area_of source area w byte rest = option_map (λ bit. operand.Direct None area w byte bit) (place_bit source w rest)
+unfoldable pub area_operand : List ℕ → Letters → Width → ℕ → List Token → Option Operand
+area_operand source area w byte rest = option_map (λ bit. operand.Direct None area w byte bit) (place_bit source w rest)
 
 -- width, byte and bit of an address of a data block, as `DBW 2`
-unfoldable pub place_of : List ℕ → Address → ℕ → List Token → Option (Width × ℕ × ℕ)
-place_of source (address.Area letters.Db w) byte rest = option_map (λ bit. (w, byte, bit)) (place_bit source w rest)
-place_of source _ byte rest = None
+unfoldable pub place_of_data_address : List ℕ → Address → ℕ → List Token → Option (Width × ℕ × ℕ)
+place_of_data_address source (address.Area letters.Db w) byte rest = option_map (λ bit. (w, byte, bit)) (place_bit source w rest)
+place_of_data_address source _ byte rest = None
 
 -- the same, behind the block and the `.`
 unfoldable pub block_place : List ℕ → List Token → Option (Width × ℕ × ℕ)
-block_place source tokens = option_and_then (λ r. place_of source r.0 r.1 r.2) (address_at source tokens)
+block_place source tokens = option_and_then (λ r. place_of_data_address source r.0 r.1 r.2) (address_at source tokens)
 
 -- a component of a data block, behind the block and the `.`
 unfoldable pub block_path : List ℕ → BlockName → List Token → Option Operand
 block_path source name [] = None
 block_path source name (w ∷ rest) =
     if has_kind w kind.Word
-    then option_map (λ steps. operand.Named (head.InBlock name) steps) (whole (steps_from source (step.Named (text_of source w) ∷ []) rest))
+    then option_map (λ steps. operand.Named (head.InBlock name) steps) (complete_reading (steps_from source (step.Named (text_of source w) ∷ []) rest))
     else None
 
 -- what stands in a data block, behind the block and the `.`: an address, else a component
-unfoldable pub in_block : List ℕ → BlockName → List Token → Option Operand
-in_block source name tokens =
+unfoldable pub operand_in_block : List ℕ → BlockName → List Token → Option Operand
+operand_in_block source name tokens =
     option_or (option_map (λ p. operand.Direct (Some name) letters.Db p.0 p.1 p.2) (block_place source tokens))
     (block_path source name tokens)
 
 -- `.` and what stands in a data block
-unfoldable pub behind_block : List ℕ → BlockName → List Token → Option Operand
-behind_block source name [] = None
-behind_block source name (dot ∷ rest) = if is_mark source dot mark.Dot then in_block source name rest else None
+unfoldable pub operand_behind_block : List ℕ → BlockName → List Token → Option Operand
+operand_behind_block source name [] = None
+operand_behind_block source name (dot ∷ rest) = if is_mark source dot mark.Dot then operand_in_block source name rest else None
 
 -- the data block with this number
 abbrev pub data_block_name : ℕ → BlockName
 data_block_name n = block.Number (record { kind = kinds.Db; number = n })
 
 -- a data block by number: alone, for OPN, or with what stands in it
-unfoldable pub data_block : List ℕ → ℕ → List Token → Option Operand
-data_block source n [] = Some (operand.OpenBlock false (data_block_name n))
-data_block source n (t ∷ rest) = behind_block source (data_block_name n) (t ∷ rest)
+unfoldable pub data_block_operand : List ℕ → ℕ → List Token → Option Operand
+data_block_operand source n [] = Some (operand.OpenBlock false (data_block_name n))
+data_block_operand source n (t ∷ rest) = operand_behind_block source (data_block_name n) (t ∷ rest)
 
 -- an operand that is letters and a number
-unfoldable pub direct_of : List ℕ → Address → ℕ → List Token → Option Operand
-direct_of source (address.Area area w) n rest = area_of source area w n rest
-direct_of source address.Timer n [] = Some (operand.Timer n)
-direct_of source address.Timer n (t ∷ rest) = None
-direct_of source address.Counter n [] = Some (operand.Counter n)
-direct_of source address.Counter n (t ∷ rest) = None
-direct_of source (address.Block false) n rest = data_block source n rest
-direct_of source (address.Block true) n [] = Some (operand.OpenBlock true (data_block_name n))
-direct_of source (address.Block true) n (t ∷ rest) = None
+unfoldable pub direct_address_operand : List ℕ → Address → ℕ → List Token → Option Operand
+direct_address_operand source (address.Area area w) n rest = area_operand source area w n rest
+direct_address_operand source address.Timer n [] = Some (operand.Timer n)
+direct_address_operand source address.Timer n (t ∷ rest) = None
+direct_address_operand source address.Counter n [] = Some (operand.Counter n)
+direct_address_operand source address.Counter n (t ∷ rest) = None
+direct_address_operand source (address.Block false) n rest = data_block_operand source n rest
+direct_address_operand source (address.Block true) n [] = Some (operand.OpenBlock true (data_block_name n))
+direct_address_operand source (address.Block true) n (t ∷ rest) = None
 
 -- the number of an address register
 unfoldable pub register_of : List ℕ → Token → Option ℕ
@@ -139,8 +139,8 @@ register_pointer source (open_ ∷ r ∷ comma ∷ prefix ∷ n ∷ dot ∷ b �
 register_pointer source _ = None
 
 -- an operand by an address register; `area` is None where the register has the area
-unfoldable pub by_register : List ℕ → Option Letters → Width → List Token → Option Operand
-by_register source area w tokens = option_map (λ p. operand.ByRegister area w p.0 p.1) (register_pointer source tokens)
+unfoldable pub operand_by_register : List ℕ → Option Letters → Width → List Token → Option Operand
+operand_by_register source area w tokens = option_map (λ p. operand.ByRegister area w p.0 p.1) (register_pointer source tokens)
 
 -- the places that may hold a pointer: a word or a double word of M, L, DB or DI
 unfoldable pub holds_pointer : Letters → Bool
@@ -171,22 +171,22 @@ memory_pointer source pointer (t ∷ rest) =
     else None
 
 -- a timer, a counter or a data block whose number stands in memory
-unfoldable pub number_by : List ℕ → Numbered → List Token → Option Operand
-number_by source what tokens = option_map (λ p. operand.NumberBy what p.0 p.1) (memory_pointer source false tokens)
+unfoldable pub operand_by_memory_number : List ℕ → Numbered → List Token → Option Operand
+operand_by_memory_number source what tokens = option_map (λ p. operand.NumberBy what p.0 p.1) (memory_pointer source false tokens)
 
 -- an area with a pointer, in memory or in a register
-unfoldable pub area_by : List ℕ → Letters → Width → List Token → Option Operand
-area_by source area w tokens =
+unfoldable pub operand_by_pointer : List ℕ → Letters → Width → List Token → Option Operand
+operand_by_pointer source area w tokens =
     option_or (option_map (λ p. operand.ByMemory area w p.0 p.1) (memory_pointer source true tokens))
-    (by_register source (Some area) w tokens)
+    (operand_by_register source (Some area) w tokens)
 
 -- an operand that is letters and a pointer in brackets
-unfoldable pub indirect_of : List ℕ → Address → List Token → Option Operand
-indirect_of source (address.Area area w) tokens = area_by source area w tokens
-indirect_of source address.Timer tokens = number_by source numbered.Timer tokens
-indirect_of source address.Counter tokens = number_by source numbered.Counter tokens
-indirect_of source (address.Block false) tokens = number_by source numbered.Db tokens
-indirect_of source (address.Block true) tokens = number_by source numbered.Di tokens
+unfoldable pub indirect_operand : List ℕ → Address → List Token → Option Operand
+indirect_operand source (address.Area area w) tokens = operand_by_pointer source area w tokens
+indirect_operand source address.Timer tokens = operand_by_memory_number source numbered.Timer tokens
+indirect_operand source address.Counter tokens = operand_by_memory_number source numbered.Counter tokens
+indirect_operand source (address.Block false) tokens = operand_by_memory_number source numbered.Db tokens
+indirect_operand source (address.Block true) tokens = operand_by_memory_number source numbered.Di tokens
 
 -- a pointer constant with an area, behind `P#`
 unfoldable pub area_pointer : List ℕ → Address → ℕ → List Token → Option Operand
@@ -201,8 +201,8 @@ plain_pointer source (n ∷ rest) =
     option_and_then (λ byte. option_map (λ bit. operand.Pointer None byte bit) (bit_of source rest)) (number_of source n)
 
 -- a pointer constant, behind `P#`
-unfoldable pub pointer_of : List ℕ → List Token → Option Operand
-pointer_of source tokens =
+unfoldable pub pointer_constant_operand : List ℕ → List Token → Option Operand
+pointer_constant_operand source tokens =
     option_or (plain_pointer source tokens)
     (option_and_then (λ r. area_pointer source r.0 r.1 r.2) (address_at source tokens))
 
@@ -211,19 +211,19 @@ unfoldable pub condition_of : List ℕ → Token → Option Operand
 condition_of source t = option_map operand.OfStatus (look_up flags (text_of source t))
 
 -- a name of the table of registers as an operand; AR1 is there, but no instruction has it as one
-abbrev pub other_if : List ℕ → Option Bool → Option Operand
-other_if name (Some true) = Some (operand.Other name)
-other_if name (Some false) = None
-other_if name None = None
+abbrev pub register_name_operand_if : List ℕ → Option Bool → Option Operand
+register_name_operand_if name (Some true) = Some (operand.Other name)
+register_name_operand_if name (Some false) = None
+register_name_operand_if name None = None
 
 -- a register that an instruction has as an operand
-unfoldable pub other_of : List ℕ → Token → Option Operand
-other_of source t = other_if (text_of source t) (look_up registers (text_of source t))
+unfoldable pub register_name_operand : List ℕ → Token → Option Operand
+register_name_operand source t = register_name_operand_if (text_of source t) (look_up registers (text_of source t))
 
 -- a word that stands alone as an operand: a condition of the status word or a register
-unfoldable pub alone_of : List ℕ → Token → List Token → Option Operand
-alone_of source t [] = option_or (condition_of source t) (other_of source t)
-alone_of source t (u ∷ rest) = None
+unfoldable pub lone_word_operand : List ℕ → Token → List Token → Option Operand
+lone_word_operand source t [] = option_or (condition_of source t) (register_name_operand source t)
+lone_word_operand source t (u ∷ rest) = None
 
 -- a word that means something as an operand, so that no path begins with it
 unfoldable pub is_operand_word : List ℕ → Token → Bool
@@ -239,34 +239,34 @@ plain_path source t rest =
 -- B, W or D before a pointer in a register that has the area
 unfoldable pub sized_by_register : List ℕ → Token → List Token → Option Operand
 sized_by_register source t rest =
-    if is_key source t key.B then by_register source None width.Byte rest
-    else (if is_key source t key.W then by_register source None width.Word rest
-    else (if is_key source t key.D then by_register source None width.Dword rest else None))
+    if is_key source t key.B then operand_by_register source None width.Byte rest
+    else (if is_key source t key.W then operand_by_register source None width.Word rest
+    else (if is_key source t key.D then operand_by_register source None width.Dword rest else None))
 
 -- letters of an address with their number
-unfoldable pub with_number : List ℕ → List Token → Option Operand
-with_number source tokens = option_and_then (λ r. direct_of source r.0 r.1 r.2) (address_at source tokens)
+unfoldable pub operand_with_number : List ℕ → List Token → Option Operand
+operand_with_number source tokens = option_and_then (λ r. direct_address_operand source r.0 r.1 r.2) (address_at source tokens)
 
 -- letters of an address with a pointer in brackets
-unfoldable pub with_pointer : List ℕ → Token → List Token → Option Operand
-with_pointer source t rest = option_and_then (λ a. indirect_of source a rest) (look_up addresses (text_of source t))
+unfoldable pub operand_with_pointer : List ℕ → Token → List Token → Option Operand
+operand_with_pointer source t rest = option_and_then (λ a. indirect_operand source a rest) (look_up addresses (text_of source t))
 
 -- an operand that begins with a word; `tokens` are the word and the rest
 unfoldable pub word_operand : List ℕ → Token → List Token → List Token → Option Operand
 word_operand source t rest tokens =
-    option_or (alone_of source t rest)
-    (option_or (with_number source tokens)
-    (option_or (with_pointer source t rest) (option_or (sized_by_register source t rest) (plain_path source t rest))))
+    option_or (lone_word_operand source t rest)
+    (option_or (operand_with_number source tokens)
+    (option_or (operand_with_pointer source t rest) (option_or (sized_by_register source t rest) (plain_path source t rest))))
 
 -- an operand that begins with a quoted name: a symbol, or what stands in a data block
 unfoldable pub quoted_operand : List ℕ → Token → List Token → Option Operand
-quoted_operand source t [] = Some (operand.Named (head.Symbol (unquoted (text_of source t))) [])
-quoted_operand source t (u ∷ rest) = behind_block source (block.Quoted (unquoted (text_of source t))) (u ∷ rest)
+quoted_operand source t [] = Some (operand.Named (head.Symbol (text_between_quotes (text_of source t))) [])
+quoted_operand source t (u ∷ rest) = operand_behind_block source (block.Quoted (text_between_quotes (text_of source t))) (u ∷ rest)
 
 -- an operand that begins with a mark: a pointer constant, or a bit by a register that has the area
 unfoldable pub mark_operand : List ℕ → Token → List Token → List Token → Option Operand
 mark_operand source t rest tokens =
-    if is_mark source t mark.Pointer then pointer_of source rest else by_register source None width.Bit tokens
+    if is_mark source t mark.Pointer then pointer_constant_operand source rest else operand_by_register source None width.Bit tokens
 
 -- a sign word that stands alone as an operand
 unfoldable pub sign_operand : List ℕ → Token → List Token → Option Operand

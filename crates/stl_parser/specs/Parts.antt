@@ -12,11 +12,11 @@ parts_from end part read (suc n) tokens =
     (option_and_then (λ p. parts_from end part (read ++ p.0 ∷ []) n p.1) (part tokens))
 
 -- a value that was read, or none where tokens are left
-abbrev pub nothing_left : {X : Type 0} → X → List Token → Option X
-nothing_left x [] = Some x
-nothing_left x (t ∷ ts) = None
+abbrev pub value_if_nothing_left : {X : Type 0} → X → List Token → Option X
+value_if_nothing_left x [] = Some x
+value_if_nothing_left x (t ∷ ts) = None
 
 -- what was read, where nothing is left behind it
-abbrev pub whole : {X : Type 0} → Option (X × List Token) → Option X
-whole None = None
-whole (Some r) = nothing_left r.0 r.1
+abbrev pub complete_reading : {X : Type 0} → Option (X × List Token) → Option X
+complete_reading None = None
+complete_reading (Some r) = value_if_nothing_left r.0 r.1

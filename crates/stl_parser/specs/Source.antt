@@ -9,43 +9,43 @@ use Rattle.stl_lexer.specs.declared.kinds.Token.{Token}
 use Rattle.stl_parser.specs.declared.clauses.Clause.{Clause}
 use Rattle.stl_parser.specs.declared.places.ClausePlace.{ClausePlace}
 use Rattle.stl_parser.specs.declared.places.ClausePlace.TheVariants as place
-use Rattle.stl_parser.specs.Spelling.{is_kept, spelled_block}
-use Rattle.stl_parser.specs.Clauses.{Read, clause_at}
-use Rattle.stl_parser.specs.Frame.{follow}
+use Rattle.stl_parser.specs.Spelling.{is_kept_by_tree, spelled_block}
+use Rattle.stl_parser.specs.Clauses.{ClauseReading, clause_at}
+use Rattle.stl_parser.specs.Frame.{next_place}
 
 -- a clause that is right, what follows it, and where that stands
-abbrev pub Step : Type 0
-Step = Clause × List Token × ClausePlace
+abbrev pub ClauseStep : Type 0
+ClauseStep = Clause × List Token × ClausePlace
 
 -- where the clauses behind one of the grammar stand, or the rule that it breaks: rule 11 where its kind
 -- may not stand here, else rule 12 where a label is too long
-abbrev pub place_of : Bool → Option ClausePlace → Result ClausePlace ℕ
-place_of long None = Err 11
-place_of true (Some next) = Err 12
-place_of false (Some next) = Ok next
+abbrev pub place_or_rule : Bool → Option ClausePlace → Result ClausePlace ℕ
+place_or_rule long None = Err 11
+place_or_rule true (Some next) = Err 12
+place_or_rule false (Some next) = Ok next
 
 -- a clause of the grammar, with that place or rule
-abbrev pub placed : Clause → List Token → Result ClausePlace ℕ → Result Step ℕ
-placed c rest (Ok next) = Ok (c, rest, next)
-placed c rest (Err rule) = Err rule
+abbrev pub step_or_rule : Clause → List Token → Result ClausePlace ℕ → Result ClauseStep ℕ
+step_or_rule c rest (Ok next) = Ok (c, rest, next)
+step_or_rule c rest (Err rule) = Err rule
 
 -- a clause that isn't in the grammar breaks rule 10, whatever else it breaks
-abbrev pub judged : ClausePlace → Read → Result Step ℕ
-judged p None = Err 10
-judged p (Some r) = placed r.0 r.1 (place_of r.2 (follow p r.0))
+abbrev pub step_of_reading : ClausePlace → ClauseReading → Result ClauseStep ℕ
+step_of_reading p None = Err 10
+step_of_reading p (Some r) = step_or_rule r.0 r.1 (place_or_rule r.2 (next_place p r.0))
 
 -- the clause at the front of the tokens, or the rule that it breaks
-unfoldable pub step_of : List ℕ → ClausePlace → List Token → Result Step ℕ
-step_of source p tokens = judged p (clause_at source p tokens)
+unfoldable pub step_of : List ℕ → ClausePlace → List Token → Result ClauseStep ℕ
+step_of source p tokens = step_of_reading p (clause_at source p tokens)
 
 -- these clauses, all right, follow one another from the front of the tokens, and behind them stand
 -- the tokens `rest` at the place `q`
-abbrev pub Reads :
+abbrev pub ReadsClauses :
     List ℕ → ClausePlace → List Token → List Clause → ClausePlace → List Token → Type 0
-Reads source p tokens [] q rest = (p ≡ q) × (tokens ≡ rest)
-Reads source p tokens (c ∷ cs) q rest =
+ReadsClauses source p tokens [] q rest = (p ≡ q) × (tokens ≡ rest)
+ReadsClauses source p tokens (c ∷ cs) q rest =
     (behind : List Token) × (next : ClausePlace) × (step_of source p tokens ≡ Ok (c, behind, next))
-    × Reads source next behind cs q rest
+    × ReadsClauses source next behind cs q rest
 
 -- the line of the last token
 abbrev pub last_line : ℕ → List Token → ℕ
@@ -59,57 +59,57 @@ is_outside _ = false
 
 -- at this place the clause at the front breaks the rule; where no token is left, the source ends
 -- inside a block
-abbrev pub Breaks : List ℕ → ClausePlace → List Token → ℕ → ℕ → ℕ → Type 0
-Breaks source p [] last line rule = (is_outside p ≡ false) × (line ≡ last) × (rule ≡ 13)
-Breaks source p (t ∷ ts) last line rule = (line ≡ t.line) × (step_of source p (t ∷ ts) ≡ Err rule)
+abbrev pub BreaksClauseRule : List ℕ → ClausePlace → List Token → ℕ → ℕ → ℕ → Type 0
+BreaksClauseRule source p [] last line rule = (is_outside p ≡ false) × (line ≡ last) × (rule ≡ 13)
+BreaksClauseRule source p (t ∷ ts) last line rule = (line ≡ t.line) × (step_of source p (t ∷ ts) ≡ Err rule)
 
 -- the same of what a refusal says; nothing is said of want of memory
 abbrev pub IsBrokenAt : List ℕ → ClausePlace → List Token → ℕ → SourceFault → Type 0
 IsBrokenAt source p tokens last (fault.Refused refusal) =
-    Breaks source p tokens last refusal.line refusal.rule
+    BreaksClauseRule source p tokens last refusal.line refusal.rule
 IsBrokenAt source p tokens last fault.NoMemory = Unit {0}
 
 -- from the front of the tokens, at the place `p`, on: the first clause that breaks a rule; all the
 -- clauses before it are right
-pub record BreaksBehind (source : List ℕ) (p : ClausePlace) (tokens : List Token)
+pub record BreaksClauseRuleBehind (source : List ℕ) (p : ClausePlace) (tokens : List Token)
     (last line rule : ℕ) : Type 0 where
   pub before : List Clause
   pub at : ClausePlace
   pub rest : List Token
-  pub reads : Reads source p tokens before at rest
-  pub breaks : Breaks source at rest last line rule
+  pub reads : ReadsClauses source p tokens before at rest
+  pub breaks : BreaksClauseRule source at rest last line rule
 
 -- the same of what a refusal says; nothing is said of want of memory
 abbrev pub IsBrokenBehind : List ℕ → ClausePlace → List Token → ℕ → SourceFault → Type 0
 IsBrokenBehind source p tokens last (fault.Refused refusal) =
-    BreaksBehind source p tokens last refusal.line refusal.rule
+    BreaksClauseRuleBehind source p tokens last refusal.line refusal.rule
 IsBrokenBehind source p tokens last fault.NoMemory = Unit {0}
 
 -- the first violation of a source by its clauses
-abbrev pub IsViolation : List ℕ → List Token → ℕ → ℕ → Type 0
-IsViolation source tokens line rule =
-    BreaksBehind source place.Outside tokens (last_line 0 tokens) line rule
+abbrev pub IsClauseViolation : List ℕ → List Token → ℕ → ℕ → Type 0
+IsClauseViolation source tokens line rule =
+    BreaksClauseRuleBehind source place.Outside tokens (last_line 0 tokens) line rule
 
 -- the clauses of a source without violation: they are all right, no token is left behind them, and
 -- no block is open
 abbrev pub AreClauses : List ℕ → List Token → List Clause → Type 0
-AreClauses source tokens clauses = Reads source place.Outside tokens clauses place.Outside []
+AreClauses source tokens clauses = ReadsClauses source place.Outside tokens clauses place.Outside []
 
 -- right clauses lead from the front of the tokens, at the place `p`, to the tokens `rest` at the
 -- place `q`, and `kept` are those of them that a tree keeps
-pub record ReadsKept (source : List ℕ) (p : ClausePlace) (tokens : List Token)
+pub record ReadsKeptClauses (source : List ℕ) (p : ClausePlace) (tokens : List Token)
     (kept : List Clause) (q : ClausePlace) (rest : List Token) : Type 0 where
   pub clauses : List Clause
-  pub reads : Reads source p tokens clauses q rest
-  pub those : kept ≡ filter is_kept clauses
+  pub reads : ReadsClauses source p tokens clauses q rest
+  pub those : kept ≡ filter is_kept_by_tree clauses
 
 -- the clauses of the source are right, and `kept` are those of them that a tree keeps
-abbrev pub AreKept : List ℕ → List Token → List Clause → Type 0
-AreKept source tokens kept = ReadsKept source place.Outside tokens kept place.Outside []
+abbrev pub AreKeptClauses : List ℕ → List Token → List Clause → Type 0
+AreKeptClauses source tokens kept = ReadsKeptClauses source place.Outside tokens kept place.Outside []
 
 -- the tree of a source: the clauses that it keeps are those that spell it
 abbrev pub IsTree : List ℕ → List Token → Tree → Type 0
-IsTree source tokens tree = AreKept source tokens (flat_map spelled_block tree.blocks)
+IsTree source tokens tree = AreKeptClauses source tokens (flat_map spelled_block tree.blocks)
 
 -- the source is refused by its first violation
 abbrev pub IsRefusedBy : List ℕ → List Token → SourceFault → Type 0
@@ -123,16 +123,16 @@ AreClausesUnique =
     AreClauses source tokens ds → cs ≡ ds
 
 -- a source whose clauses are all right, with no block open at the end, has no violation
-abbrev pub ExcludesViolation : Type 0
-ExcludesViolation =
+abbrev pub ClausesExcludeViolation : Type 0
+ClausesExcludeViolation =
     (source : List ℕ) (tokens : List Token) (cs : List Clause) (line rule : ℕ) →
-    AreClauses source tokens cs → IsViolation source tokens line rule → ⊥
+    AreClauses source tokens cs → IsClauseViolation source tokens line rule → ⊥
 
 -- a source has at most one violation: two have the same line and the same rule
-abbrev pub IsViolationUnique : Type 0
-IsViolationUnique =
+abbrev pub IsClauseViolationUnique : Type 0
+IsClauseViolationUnique =
     (source : List ℕ) (tokens : List Token) (line rule line' rule' : ℕ) →
-    IsViolation source tokens line rule → IsViolation source tokens line' rule' →
+    IsClauseViolation source tokens line rule → IsClauseViolation source tokens line' rule' →
     (line ≡ line') × (rule ≡ rule')
 
 -- there is a tree where all clauses are right, and it is well-formed
@@ -145,11 +145,11 @@ ClausesHaveTree =
 abbrev pub HasTreeOrViolation : List ℕ → List Token → Type 0
 HasTreeOrViolation source tokens =
     ((t : Tree) × IsTree source tokens t × IsWellFormed t)
-    ⊎ ((line : ℕ) × (rule : ℕ) × IsViolation source tokens line rule)
+    ⊎ ((line : ℕ) × (rule : ℕ) × IsClauseViolation source tokens line rule)
 
 -- each source has such a tree or a violation, whatever its tokens are
-abbrev pub IsTotal : Type 0
-IsTotal = (source : List ℕ) (tokens : List Token) → HasTreeOrViolation source tokens
+abbrev pub IsParsingTotal : Type 0
+IsParsingTotal = (source : List ℕ) (tokens : List Token) → HasTreeOrViolation source tokens
 
 -- there is at most one tree
 abbrev pub IsTreeUnique : Type 0
@@ -161,4 +161,4 @@ IsTreeUnique =
 abbrev pub TreeExcludesViolation : Type 0
 TreeExcludesViolation =
     (source : List ℕ) (tokens : List Token) (t : Tree) (line rule : ℕ) → IsTree source tokens t →
-    IsViolation source tokens line rule → ⊥
+    IsClauseViolation source tokens line rule → ⊥

@@ -16,21 +16,21 @@ use Rattle.stl_parser.specs.declared.clauses.Clause.TheVariants as clause
 
 -- the clauses that a tree keeps; the others only say where a section, a structure or a network ends
 -- or begins, or are read and ignored
-abbrev pub is_kept : Clause → Bool
-is_kept (clause.Head line k name result) = true
-is_kept (clause.Ends line k) = true
-is_kept (clause.Section line k) = true
-is_kept clause.EndSection = false
-is_kept clause.Begins = false
-is_kept clause.Network = false
-is_kept clause.Structure = true
-is_kept clause.EndStructure = false
-is_kept (clause.Based name) = true
-is_kept clause.Note = false
-is_kept clause.Title = false
-is_kept (clause.Declares d) = true
-is_kept (clause.Sets s) = true
-is_kept (clause.Runs s) = true
+abbrev pub is_kept_by_tree : Clause → Bool
+is_kept_by_tree (clause.Head line k name result) = true
+is_kept_by_tree (clause.Ends line k) = true
+is_kept_by_tree (clause.Section line k) = true
+is_kept_by_tree clause.EndSection = false
+is_kept_by_tree clause.Begins = false
+is_kept_by_tree clause.Network = false
+is_kept_by_tree clause.Structure = true
+is_kept_by_tree clause.EndStructure = false
+is_kept_by_tree (clause.Based name) = true
+is_kept_by_tree clause.Note = false
+is_kept_by_tree clause.Title = false
+is_kept_by_tree (clause.Declares d) = true
+is_kept_by_tree (clause.Sets s) = true
+is_kept_by_tree (clause.Runs s) = true
 
 -- a section: its first clause and its declarations
 abbrev pub spelled_part : Part → List Clause
@@ -42,23 +42,23 @@ is_udt (block.Number id) = is_data_type id.kind
 is_udt (block.Quoted name) = false
 
 -- what no block spells: a clause that no tree keeps
-abbrev pub nowhere : List Clause
-nowhere = clause.EndSection ∷ []
+abbrev pub unspelled_clauses : List Clause
+unspelled_clauses = clause.EndSection ∷ []
 
 -- the type of a data block or of a TYPE block: a structure with its components, or a user-defined
 -- data type
 abbrev pub spelled_type : List Bounds → ElementType → List Declaration → List Clause
 spelled_type [] element.Structure components = clause.Structure ∷ map clause.Declares components
-spelled_type [] (element.Udt name) [] = if is_udt name then clause.Based name ∷ [] else nowhere
-spelled_type _ _ _ = nowhere
+spelled_type [] (element.Udt name) [] = if is_udt name then clause.Based name ∷ [] else unspelled_clauses
+spelled_type _ _ _ = unspelled_clauses
 
 -- the shape of a data block or of a TYPE block with its components, or the function block of an
 -- instance; a quoted name is taken for that of a function block
 abbrev pub spelled_shape : Option TypeTree → Option BlockName → List Declaration → List Clause
 spelled_shape None None [] = []
-spelled_shape None (Some name) [] = if is_udt name then nowhere else clause.Based name ∷ []
+spelled_shape None (Some name) [] = if is_udt name then unspelled_clauses else clause.Based name ∷ []
 spelled_shape (Some of_) None components = spelled_type of_.arrays of_.of components
-spelled_shape _ _ _ = nowhere
+spelled_shape _ _ _ = unspelled_clauses
 
 -- a block behind its first clause: its sections, its shape, its settings, its statements, its END
 -- clause

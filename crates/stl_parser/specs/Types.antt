@@ -19,7 +19,7 @@ use Rattle.stl_parser.specs.declared.keywords.Key.TheVariants as key
 use Rattle.stl_parser.specs.Terminals.{has_kind, is_mark, is_key}
 use Rattle.stl_parser.specs.Tables.{look_up, simple_types}
 use Rattle.stl_parser.specs.Numbers.{number_of, int_at}
-use Rattle.stl_parser.specs.Parts.{parts_from, whole}
+use Rattle.stl_parser.specs.Parts.{parts_from, complete_reading}
 use Rattle.stl_parser.specs.Literals.{literal_at, literal_of}
 use Rattle.stl_parser.specs.Addresses.{block_at}
 
@@ -57,13 +57,13 @@ unfoldable pub arrays_at : List ℕ → List Token → Option (List Bounds × Li
 arrays_at source tokens = parts_from (arrays_end source) (array_at source) [] (length tokens) tokens
 
 -- UDT and its number as the name of a data type; a block of another kind is none
-abbrev pub udt_numbered : BlockId → BlockKind → Option BlockName
-udt_numbered id kinds.Udt = Some (block.Number id)
-udt_numbered id _ = None
+abbrev pub udt_name_of_id : BlockId → BlockKind → Option BlockName
+udt_name_of_id id kinds.Udt = Some (block.Number id)
+udt_name_of_id id _ = None
 
 -- the name of a user-defined data type: UDT and its number, or a quoted name
 unfoldable pub udt_of : BlockName → Option BlockName
-udt_of (block.Number id) = udt_numbered id id.kind
+udt_of (block.Number id) = udt_name_of_id id id.kind
 udt_of (block.Quoted name) = Some (block.Quoted name)
 
 -- an elementary type or DATE_AND_TIME, and what follows
@@ -84,23 +84,23 @@ element_at source [] = None
 element_at source (t ∷ rest) = option_or (simple_at source t rest) (udt_at source (t ∷ rest))
 
 -- `)` behind the value of `n (value)`
-unfoldable pub counted_end : List ℕ → ℕ → Literal → List Token → Option (Init × List Token)
-counted_end source count value [] = None
-counted_end source count value (t ∷ rest) =
+unfoldable pub counted_init_end : List ℕ → ℕ → Literal → List Token → Option (Init × List Token)
+counted_init_end source count value [] = None
+counted_init_end source count value (t ∷ rest) =
     if is_mark source t mark.CloseParen then Some (record { count = Some count; value = value }, rest) else None
 
 -- `n (value)`, and what follows
-unfoldable pub counted_at : List ℕ → List Token → Option (Init × List Token)
-counted_at source (n ∷ open_ ∷ rest) =
+unfoldable pub counted_init_at : List ℕ → List Token → Option (Init × List Token)
+counted_init_at source (n ∷ open_ ∷ rest) =
     if is_mark source open_ mark.OpenParen
-    then option_and_then (λ count. option_and_then (λ r. counted_end source count r.0 r.1) (literal_at source rest)) (number_of source n)
+    then option_and_then (λ count. option_and_then (λ r. counted_init_end source count r.0 r.1) (literal_at source rest)) (number_of source n)
     else None
-counted_at source _ = None
+counted_init_at source _ = None
 
 -- an initial value, `n (value)` or a value, and what follows
 unfoldable pub init_at : List ℕ → List Token → Option (Init × List Token)
 init_at source tokens =
-    option_or (counted_at source tokens) (option_map (λ r. (record { count = None; value = r.0 }, r.1)) (literal_at source tokens))
+    option_or (counted_init_at source tokens) (option_map (λ r. (record { count = None; value = r.0 }, r.1)) (literal_at source tokens))
 
 -- a further initial value, behind its comma
 unfoldable pub next_init : List ℕ → List Token → Option (Init × List Token)
@@ -108,14 +108,14 @@ next_init source [] = None
 next_init source (t ∷ rest) = if is_mark source t mark.Comma then init_at source rest else None
 
 -- nothing is left
-unfoldable pub at_end : List Token → Option (List Token)
-at_end [] = Some []
-at_end (t ∷ rest) = None
+unfoldable pub end_of_tokens : List Token → Option (List Token)
+end_of_tokens [] = Some []
+end_of_tokens (t ∷ rest) = None
 
 -- a list of initial values that is all of the tokens
 unfoldable pub init_list : List ℕ → List Token → Option (List Init)
 init_list source tokens =
-    option_and_then (λ r. whole (parts_from at_end (next_init source) (r.0 ∷ []) (length r.1) r.1)) (init_at source tokens)
+    option_and_then (λ r. complete_reading (parts_from end_of_tokens (next_init source) (r.0 ∷ []) (length r.1) r.1)) (init_at source tokens)
 
 -- the one initial value that is all of the tokens
 unfoldable pub single_init : List ℕ → List Token → Option (List Init)

@@ -3,10 +3,10 @@ use Rattle.std.specs.Prelude.{ℕ, ◌+◌, ◌-◌, ◌*◌, ◌^◌, nat_lt, n
 use Rattle.std.specs.Option.{option_map}
 use Rattle.std.specs.Char.{digit_value}
 use Rattle.plc_base.specs.Decimal.{decimal_up_to}
-use Rattle.stl_lexer.specs.Bytes.{underscore, minus_sign, plus, two_digit, letter_b, letter_c, letter_s, letter_w}
+use Rattle.stl_lexer.specs.Bytes.{underscore, minus_sign, plus_sign, two_digit, letter_b, letter_c, letter_s, letter_w}
 use Rattle.stl_lexer.specs.Limits.{greatest_long, greatest_count, greatest_s5time}
-use Rattle.stl_lexer.specs.Rules.{first_letter, behind_prefix, within}
-use Rattle.stl_lexer.specs.TimeLiteral.{milliseconds, units}
+use Rattle.stl_lexer.specs.Rules.{first_letter, behind_prefix, value_up_to}
+use Rattle.stl_lexer.specs.TimeLiteral.{milliseconds, time_units}
 use Rattle.stl_ast.specs.declared.literals.Literal.{Literal}
 use Rattle.stl_ast.specs.declared.literals.Literal.TheVariants as literal
 
@@ -35,7 +35,7 @@ unfoldable pub long_value : List ℕ → Option ℤ
 long_value [] = None
 long_value (b ∷ bs) =
     if b == minus_sign then option_map (λ n. pos 0 -ℤ pos n) (decimal_up_to (greatest_long true) bs)
-    else (if b == plus then option_map pos (decimal_up_to (greatest_long false) bs)
+    else (if b == plus_sign then option_map pos (decimal_up_to (greatest_long false) bs)
     else option_map pos (decimal_up_to (greatest_long false) (b ∷ bs)))
 
 -- `C#` or `L#` and a number
@@ -48,11 +48,11 @@ long_or_count text =
 unfoldable pub time_value : List ℕ → Option ℤ
 time_value [] = None
 time_value (b ∷ bs) =
-    if b == minus_sign then option_map (λ n. pos 0 -ℤ pos n) (within (greatest_long true) (milliseconds units bs))
-    else option_map pos (within (greatest_long false) (milliseconds units (b ∷ bs)))
+    if b == minus_sign then option_map (λ n. pos 0 -ℤ pos n) (value_up_to (greatest_long true) (milliseconds time_units bs))
+    else option_map pos (value_up_to (greatest_long false) (milliseconds time_units (b ∷ bs)))
 
 -- `S5T#` or `T#` and the parts of a time
-unfoldable pub duration : List ℕ → Option Literal
-duration text =
-    if first_letter text == letter_s then option_map literal.S5time (within greatest_s5time (milliseconds units (behind_prefix text)))
+unfoldable pub duration_literal : List ℕ → Option Literal
+duration_literal text =
+    if first_letter text == letter_s then option_map literal.S5time (value_up_to greatest_s5time (milliseconds time_units (behind_prefix text)))
     else option_map literal.Time (time_value (behind_prefix text))

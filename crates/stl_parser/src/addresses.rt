@@ -2,12 +2,12 @@ ghost use Rattle.std.specs.Prelude.{◌≡◌, ◌≤◌, map, length, not, IfOk
 ghost use Rattle.std.specs.List.{prefix_len};
 ghost use Rattle.std.specs.Char.{is_ascii_digit};
 ghost use Rattle.stl_parser.specs.Addresses.{
-  glued_at,
-  separate_at,
-  numbered_at,
+  glued_letters_and_number,
+  separate_letters_and_number,
+  letters_and_number_at,
   address_at,
   block_number_at,
-  quoted_at,
+  quoted_block_at,
   block_at,
   bit_of,
   is_address_word,
@@ -33,13 +33,13 @@ fn letter_count(text: &[u8]) -> usize
 }
 
 /// Letters and number in one word.
-#[tactic(auto, unfolding(crate::specs::Addresses::glued_at))]
+#[tactic(auto, unfolding(crate::specs::Addresses::glued_letters_and_number))]
 fn glued<'a, X: Copy + Drop>(
     table: &[(&[u8], X)],
     text: &[u8],
     rest: &'a [Token],
 ) -> Option<ParsedNumbered<'a, X>>
-    ensures { result ≡ glued_at (map (λ e. (e.0.now, e.1)) table.now) text.now rest.now }
+    ensures { result ≡ glued_letters_and_number (map (λ e. (e.0.now, e.1)) table.now) text.now rest.now }
 {
     let count = letter_count(text);
     let (letters, digits) = text.split_at(count);
@@ -49,7 +49,7 @@ fn glued<'a, X: Copy + Drop>(
 }
 
 /// Letters and number in two tokens.
-#[tactic(auto, unfolding(crate::specs::Addresses::separate_at))]
+#[tactic(auto, unfolding(crate::specs::Addresses::separate_letters_and_number))]
 fn separate<'a, X: Copy + Drop>(
     table: &[(&[u8], X)],
     source: &[u8],
@@ -57,7 +57,7 @@ fn separate<'a, X: Copy + Drop>(
     tokens: &'a [Token],
 ) -> Option<ParsedNumbered<'a, X>>
     ensures { result
-        ≡ separate_at (map (λ e. (e.0.now, e.1)) table.now) source.now text.now tokens.now }
+        ≡ separate_letters_and_number (map (λ e. (e.0.now, e.1)) table.now) source.now text.now tokens.now }
 {
     let [token, rest @ ..] = tokens else {
         return None;
@@ -68,13 +68,13 @@ fn separate<'a, X: Copy + Drop>(
 }
 
 /// What the letters name, the number behind them, and what follows.
-#[tactic(auto, unfolding(crate::specs::Addresses::numbered_at))]
+#[tactic(auto, unfolding(crate::specs::Addresses::letters_and_number_at))]
 fn numbered<'a, X: Copy + Drop>(
     table: &[(&[u8], X)],
     source: &[u8],
     tokens: &'a [Token],
 ) -> Option<ParsedNumbered<'a, X>>
-    ensures { result ≡ numbered_at (map (λ e. (e.0.now, e.1)) table.now) source.now tokens.now }
+    ensures { result ≡ letters_and_number_at (map (λ e. (e.0.now, e.1)) table.now) source.now tokens.now }
 {
     let [token, rest @ ..] = tokens else {
         return None;
@@ -106,13 +106,13 @@ fn block_number<'a>(source: &[u8], tokens: &'a [Token]) -> Option<ParsedNumbered
 }
 
 /// A quoted name as the name of a block.
-#[tactic(auto, unfolding(crate::specs::Addresses::quoted_at))]
+#[tactic(auto, unfolding(crate::specs::Addresses::quoted_block_at))]
 pub(crate) fn quoted<'a>(
     alloc: Global,
     source: &[u8],
     tokens: &'a [Token],
 ) -> Result<Option<Parsed<'a, BlockName>>, AllocError>
-    ensures { IfOk result (λ found. found ≡ quoted_at source.now tokens.now) }
+    ensures { IfOk result (λ found. found ≡ quoted_block_at source.now tokens.now) }
 {
     let [token, rest @ ..] = tokens else {
         return Ok(None);

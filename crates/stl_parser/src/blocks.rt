@@ -8,20 +8,20 @@ ghost use Rattle.stl_parser.specs.BlockReading.{
   ReadsContent,
   ReadsShape,
   behind_inside,
-  declared_by,
+  declarations_of_clause,
   is_inside,
   opened_place,
   opens_content,
   opens_part,
   opens_shape,
-  set_by,
+  settings_of_clause,
   spelled_content,
   spelled_opened,
-  stated_by,
+  statements_of_clause,
 };
-ghost use Rattle.stl_parser.specs.Source.{ReadsKept, IsBrokenBehind};
+ghost use Rattle.stl_parser.specs.Source.{ReadsKeptClauses, IsBrokenBehind};
 ghost use Rattle.stl_parser.specs.Spelling.{
-  is_kept,
+  is_kept_by_tree,
   is_udt,
   spelled_block,
   spelled_behind_head,
@@ -57,7 +57,7 @@ fn is_inside(at: ClausePlace) -> bool
 
 /// Keeps a declaration, where the clause is one.
 fn keep_declaration(items: &mut Vec<Declaration>, clause: Clause) -> Result<(), AllocError>
-    ensures { IfOk result (λ _. items.new.items ≡ items.old.items ++ declared_by clause) }
+    ensures { IfOk result (λ _. items.new.items ≡ items.old.items ++ declarations_of_clause clause) }
 {
     match clause {
         Clause::Declares { declaration } => {
@@ -70,7 +70,7 @@ fn keep_declaration(items: &mut Vec<Declaration>, clause: Clause) -> Result<(), 
 
 /// Keeps a setting, where the clause is one.
 fn keep_setting(settings: &mut Vec<Setting>, clause: Clause) -> Result<(), AllocError>
-    ensures { IfOk result (λ _. settings.new.items ≡ settings.old.items ++ set_by clause) }
+    ensures { IfOk result (λ _. settings.new.items ≡ settings.old.items ++ settings_of_clause clause) }
 {
     match clause {
         Clause::Sets { setting } => {
@@ -83,7 +83,7 @@ fn keep_setting(settings: &mut Vec<Setting>, clause: Clause) -> Result<(), Alloc
 
 /// Keeps a statement, where the clause is one.
 fn keep_statement(body: &mut Vec<Statement>, clause: Clause) -> Result<(), AllocError>
-    ensures { IfOk result (λ _. body.new.items ≡ body.old.items ++ stated_by clause) }
+    ensures { IfOk result (λ _. body.new.items ≡ body.old.items ++ statements_of_clause clause) }
 {
     match clause {
         Clause::Runs { statement } => {
@@ -105,7 +105,7 @@ fn declarations<'a>(
     requires inside { is_inside from ≡ true }
     requires outer { level_at from ≡ 0 }
     requires few { length tokens.now ≤ source_limit }
-    ensures read { IfOk result (λ r. ReadsKept source.now from tokens.now
+    ensures read { IfOk result (λ r. ReadsKeptClauses source.now from tokens.now
         (map spelled.Declares r.0) (behind_inside from) r.1.now) }
     ensures broken { IfErr result (IsBrokenBehind source.now from tokens.now last) }
 {
@@ -131,7 +131,7 @@ fn body<'a>(
     kind: BlockKind,
     tokens: &'a [Token],
 ) -> Result<(Sequence<Statement>, u32, &'a [Token]), SourceFault>
-    ensures read { IfOk result (λ r. ReadsKept source.now (place.Body kind) tokens.now
+    ensures read { IfOk result (λ r. ReadsKeptClauses source.now (place.Body kind) tokens.now
         (map spelled.Runs r.0 ++ spelled.Ends r.1 kind ∷ []) place.Outside r.2.now) }
     ensures broken { IfErr result (IsBrokenBehind source.now (place.Body kind) tokens.now last) }
 {
@@ -165,7 +165,7 @@ fn settings<'a>(
     kind: BlockKind,
     tokens: &'a [Token],
 ) -> Result<(Sequence<Setting>, u32, &'a [Token]), SourceFault>
-    ensures read { IfOk result (λ r. ReadsKept source.now (place.Shaped kind) tokens.now
+    ensures read { IfOk result (λ r. ReadsKeptClauses source.now (place.Shaped kind) tokens.now
         (map spelled.Sets r.0 ++ spelled.Ends r.1 kind ∷ []) place.Outside r.2.now) }
     ensures broken { IfErr result (IsBrokenBehind source.now (place.Shaped kind) tokens.now last) }
 {
@@ -196,8 +196,8 @@ fn opening<'a>(
     kind: BlockKind,
     tokens: &'a [Token],
 ) -> Result<(Clause, &'a [Token]), SourceFault>
-    ensures read { IfOk result (λ r. ReadsKept source.now (place.Head kind) tokens.now
-        (filter is_kept (r.0 ∷ [])) (opened_place kind r.0) r.1.now) }
+    ensures read { IfOk result (λ r. ReadsKeptClauses source.now (place.Head kind) tokens.now
+        (filter is_kept_by_tree (r.0 ∷ [])) (opened_place kind r.0) r.1.now) }
     ensures opens { IfOk result (λ r. opens_part r.0 ≡ true) }
     ensures broken { IfErr result (IsBrokenBehind source.now (place.Head kind) tokens.now last) }
 {
@@ -227,8 +227,8 @@ fn sections<'a>(
     tokens: &'a [Token],
 ) -> Result<(Sequence<Part>, Clause, &'a [Token]), SourceFault>
     requires few { length tokens.now ≤ source_limit }
-    ensures read { IfOk result (λ r. ReadsKept source.now (place.Head kind) tokens.now
-        (flat_map spelled_part r.0 ++ filter is_kept (r.1 ∷ [])) (opened_place kind r.1) r.2.now) }
+    ensures read { IfOk result (λ r. ReadsKeptClauses source.now (place.Head kind) tokens.now
+        (flat_map spelled_part r.0 ++ filter is_kept_by_tree (r.1 ∷ [])) (opened_place kind r.1) r.2.now) }
     ensures opens { IfOk result (λ r. opens_content r.1 ≡ true) }
     ensures few { IfOk result (λ r. length r.2.now ≤ source_limit) }
     ensures broken { IfErr result (IsBrokenBehind source.now (place.Head kind) tokens.now last) }
@@ -510,7 +510,7 @@ fn block<'a>(
     requires few { length tokens.now ≤ source_limit }
     ensures head { IfOk result (λ r. spelled_block r.0
         ≡ spelled.Head head.line head.kind head.name head.result ∷ spelled_behind_head r.0) }
-    ensures read { IfOk result (λ r. ReadsKept source.now (place.Head head.kind) tokens.now
+    ensures read { IfOk result (λ r. ReadsKeptClauses source.now (place.Head head.kind) tokens.now
         (spelled_behind_head r.0) place.Outside r.1.now) }
     ensures broken { IfErr result
         (IsBrokenBehind source.now (place.Head head.kind) tokens.now last) }
@@ -529,7 +529,7 @@ pub(crate) fn source_blocks(
     tokens: &[Token],
 ) -> Result<Vec<Block>, SourceFault>
     requires few { length tokens.now ≤ source_limit }
-    ensures read { IfOk result (λ blocks. ReadsKept source.now place.Outside tokens.now
+    ensures read { IfOk result (λ blocks. ReadsKeptClauses source.now place.Outside tokens.now
         (flat_map spelled_block blocks.items) place.Outside []) }
     ensures broken { IfErr result (IsBrokenBehind source.now place.Outside tokens.now last) }
 {

@@ -1,7 +1,7 @@
 ghost use Rattle.std.specs.Prelude.{◌≡◌, ◌<◌, length, IfOk, IfSome};
 ghost use Rattle.std.specs.Option.{option_map};
 ghost use Rattle.stl_lexer.specs.Tokens.{text_of};
-ghost use Rattle.stl_ast.specs.Declarations.{is_plain, is_elementary};
+ghost use Rattle.stl_ast.specs.Declarations.{is_elementary_type, is_elementary};
 ghost use Rattle.stl_parser.specs.Tables.{look_up, keywords, head_words};
 ghost use Rattle.stl_parser.specs.Clauses.{
   semicolon_place,
@@ -200,7 +200,7 @@ fn structure_clause<'a>(
 
 /// Whether the type is an elementary one.
 fn is_plain(arrays: &[Bounds], of: &ElementType) -> bool
-    ensures { result ≡ is_plain arrays.now of.now }
+    ensures { result ≡ is_elementary_type arrays.now of.now }
 {
     match arrays {
         [] => matches!(of, ElementType::Plain { kind: _ }),

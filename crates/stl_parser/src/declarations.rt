@@ -3,9 +3,9 @@ ghost use Rattle.std.specs.Option.{option_map};
 ghost use Rattle.stl_parser.specs.Declarations.{
   after_attribute,
   after_colon,
-  declared_at,
+  declared_name_at,
   after_struct,
-  declared,
+  declaration_from_parts,
   structure_at,
   init_behind,
   declaration_of,
@@ -51,9 +51,9 @@ pub(crate) fn after_colon<'a>(source: &[u8], tokens: &'a [Token]) -> Option<&'a 
 }
 
 /// A declared name, `word [attribute] :`, and the tokens of its type.
-#[tactic(auto, unfolding(crate::specs::Declarations::declared_at))]
+#[tactic(auto, unfolding(crate::specs::Declarations::declared_name_at))]
 fn declared_name<'a>(source: &[u8], tokens: &'a [Token]) -> Option<Parsed<'a, Token>>
-    ensures { result ≡ declared_at source.now tokens.now }
+    ensures { result ≡ declared_name_at source.now tokens.now }
 {
     let [token, rest @ ..] = tokens else {
         return None;
@@ -90,7 +90,7 @@ fn declared(
     of: ElementType,
     init: Sequence<Init>,
 ) -> Result<Declaration, AllocError>
-    ensures { IfOk result (λ d. d ≡ declared source.now level word.now arrays of init) }
+    ensures { IfOk result (λ d. d ≡ declaration_from_parts source.now level word.now arrays of init) }
 {
     let name = Name::new(alloc, word.text(source))?;
     Ok(Declaration {

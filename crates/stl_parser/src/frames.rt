@@ -31,9 +31,9 @@ fn part_rank(part: PartKind) -> u8
 
 /// Whether a block of this kind has such a section: an organization block VAR_TEMP alone, a
 /// function all but VAR.
-#[tactic(auto, unfolding(stl_ast::specs::Blocks::may_have))]
+#[tactic(auto, unfolding(stl_ast::specs::Blocks::may_have_section))]
 fn may_have(kind: BlockKind, part: PartKind) -> bool
-    ensures { result ≡ blocks.may_have kind part }
+    ensures { result ≡ blocks.may_have_section kind part }
 {
     match kind {
         BlockKind::Ob => part_rank(part) == 4,
@@ -62,7 +62,7 @@ fn is_date_and_time(of: &ElementType) -> bool
 
 /// Whether a type is no array.
 fn is_single(arrays: &[Bounds]) -> bool
-    ensures { result ≡ blocks.is_single arrays.now }
+    ensures { result ≡ blocks.has_no_bounds arrays.now }
 {
     match arrays {
         [] => true,
@@ -71,9 +71,9 @@ fn is_single(arrays: &[Bounds]) -> bool
 }
 
 /// Whether initial values may stand in this section: in those of a function block but VAR_TEMP.
-#[tactic(auto, unfolding(stl_ast::specs::Blocks::may_init))]
+#[tactic(auto, unfolding(stl_ast::specs::Blocks::may_have_init))]
 fn may_init(kind: BlockKind, part: PartKind) -> bool
-    ensures { result ≡ blocks.may_init kind part }
+    ensures { result ≡ blocks.may_have_init kind part }
 {
     match kind {
         BlockKind::Fb => !matches!(part, PartKind::Temp),
@@ -82,9 +82,9 @@ fn may_init(kind: BlockKind, part: PartKind) -> bool
 }
 
 /// Whether DATE_AND_TIME may stand here: directly in VAR_TEMP, in no array and no structure.
-#[tactic(auto, unfolding(stl_ast::specs::Blocks::may_date))]
+#[tactic(auto, unfolding(stl_ast::specs::Blocks::may_have_date_and_time))]
 fn may_date(part: PartKind, level: u32, arrays: &[Bounds]) -> bool
-    ensures { result ≡ blocks.may_date part level arrays.now }
+    ensures { result ≡ blocks.may_have_date_and_time part level arrays.now }
 {
     match part {
         PartKind::Temp => level == 0 && is_single(arrays),
@@ -143,9 +143,9 @@ fn shape_behind(kind: BlockKind, level: u32) -> Option<ClausePlace>
 }
 
 /// What may stand in the head of a block.
-#[tactic(auto, unfolding(crate::specs::Frame::follow_head))]
+#[tactic(auto, unfolding(crate::specs::Frame::next_place_in_head))]
 fn follow_head(kind: BlockKind, clause: &Clause) -> Option<ClausePlace>
-    ensures { result ≡ frame.follow_head kind clause.now }
+    ensures { result ≡ frame.next_place_in_head kind clause.now }
 {
     match clause {
         Clause::Note => Some(ClausePlace::Head { kind }),
@@ -190,7 +190,7 @@ fn follow_head(kind: BlockKind, clause: &Clause) -> Option<ClausePlace>
 }
 
 /// What may stand in a section.
-#[tactic(auto, unfolding(crate::specs::Frame::follow_section))]
+#[tactic(auto, unfolding(crate::specs::Frame::next_place_in_section))]
 fn follow_section(
     kind: BlockKind,
     part: PartKind,
@@ -198,7 +198,7 @@ fn follow_section(
     clause: &Clause,
 ) -> Option<ClausePlace>
     requires { level < 4294967295 }
-    ensures { result ≡ frame.follow_section kind part level clause.now }
+    ensures { result ≡ frame.next_place_in_section kind part level clause.now }
 {
     match clause {
         Clause::EndSection => {
@@ -222,9 +222,9 @@ fn follow_section(
 }
 
 /// What may stand behind a section: a later section, or the body.
-#[tactic(auto, unfolding(crate::specs::Frame::follow_between))]
+#[tactic(auto, unfolding(crate::specs::Frame::next_place_between))]
 fn follow_between(kind: BlockKind, last: PartKind, clause: &Clause) -> Option<ClausePlace>
-    ensures { result ≡ frame.follow_between kind last clause.now }
+    ensures { result ≡ frame.next_place_between kind last clause.now }
 {
     match clause {
         Clause::Section {
@@ -247,10 +247,10 @@ fn follow_between(kind: BlockKind, last: PartKind, clause: &Clause) -> Option<Cl
 }
 
 /// What may stand in the structure of a data block or of a `TYPE` block.
-#[tactic(auto, unfolding(crate::specs::Frame::follow_shape))]
+#[tactic(auto, unfolding(crate::specs::Frame::next_place_in_shape))]
 fn follow_shape(kind: BlockKind, level: u32, clause: &Clause) -> Option<ClausePlace>
     requires { level < 4294967295 }
-    ensures { result ≡ frame.follow_shape kind level clause.now }
+    ensures { result ≡ frame.next_place_in_shape kind level clause.now }
 {
     match clause {
         Clause::Declares { declaration } => {
@@ -267,9 +267,9 @@ fn follow_shape(kind: BlockKind, level: u32, clause: &Clause) -> Option<ClausePl
 }
 
 /// What may stand behind it: the settings of a data block, or the end of a `TYPE` block.
-#[tactic(auto, unfolding(crate::specs::Frame::follow_shaped))]
+#[tactic(auto, unfolding(crate::specs::Frame::next_place_behind_shape))]
 fn follow_shaped(kind: BlockKind, clause: &Clause) -> Option<ClausePlace>
-    ensures { result ≡ frame.follow_shaped kind clause.now }
+    ensures { result ≡ frame.next_place_behind_shape kind clause.now }
 {
     match kind {
         BlockKind::Db => match clause {
@@ -288,9 +288,9 @@ fn follow_shaped(kind: BlockKind, clause: &Clause) -> Option<ClausePlace>
 }
 
 /// What may stand in a body.
-#[tactic(auto, unfolding(crate::specs::Frame::follow_body))]
+#[tactic(auto, unfolding(crate::specs::Frame::next_place_in_body))]
 fn follow_body(kind: BlockKind, clause: &Clause) -> Option<ClausePlace>
-    ensures { result ≡ frame.follow_body kind clause.now }
+    ensures { result ≡ frame.next_place_in_body kind clause.now }
 {
     match clause {
         Clause::Runs { statement: _ } => Some(ClausePlace::Body { kind }),
@@ -311,9 +311,9 @@ fn follow_body(kind: BlockKind, clause: &Clause) -> Option<ClausePlace>
 }
 
 /// What may stand in the BEGIN part of a data block.
-#[tactic(auto, unfolding(crate::specs::Frame::follow_settings))]
+#[tactic(auto, unfolding(crate::specs::Frame::next_place_in_settings))]
 fn follow_settings(clause: &Clause) -> Option<ClausePlace>
-    ensures { result ≡ frame.follow_settings clause.now }
+    ensures { result ≡ frame.next_place_in_settings clause.now }
 {
     match clause {
         Clause::Sets { setting: _ } => Some(ClausePlace::Settings),
@@ -326,9 +326,9 @@ fn follow_settings(clause: &Clause) -> Option<ClausePlace>
 }
 
 /// What may stand between blocks.
-#[tactic(auto, unfolding(crate::specs::Frame::follow_outside))]
+#[tactic(auto, unfolding(crate::specs::Frame::next_place_outside))]
 fn follow_outside(clause: &Clause) -> Option<ClausePlace>
-    ensures { result ≡ frame.follow_outside clause.now }
+    ensures { result ≡ frame.next_place_outside clause.now }
 {
     match clause {
         Clause::Head {
@@ -342,10 +342,10 @@ fn follow_outside(clause: &Clause) -> Option<ClausePlace>
 }
 
 /// Where the next clause stands, or None where such a clause may not stand here.
-#[tactic(auto, unfolding(crate::specs::Frame::follow))]
+#[tactic(auto, unfolding(crate::specs::Frame::next_place))]
 pub(crate) fn follow(at: ClausePlace, clause: &Clause) -> Option<ClausePlace>
     requires { level_at at < 4294967295 }
-    ensures { result ≡ frame.follow at clause.now }
+    ensures { result ≡ frame.next_place at clause.now }
 {
     match at {
         ClausePlace::Outside => follow_outside(clause),

@@ -5,16 +5,16 @@ ghost use Rattle.stl_parser.specs.Clauses.{
   skip_semicolon,
   behind_note,
   is_of_kind,
-  named_at,
+  block_of_kind_at,
   result_type,
   result_at,
-  head_of,
+  head_clause,
   version_at,
-  word_at,
+  colon_and_word_at,
   head_word_at,
   head_word_clause,
-  is_base,
-  based_at,
+  is_base_block,
+  base_block_at,
 };
 
 use crate::addresses::block;
@@ -71,14 +71,14 @@ fn is_of_kind(kind: BlockKind, name: &BlockName) -> bool
 }
 
 /// The name of a block of this kind, and what follows.
-#[tactic(auto, unfolding(crate::specs::Clauses::named_at))]
+#[tactic(auto, unfolding(crate::specs::Clauses::block_of_kind_at))]
 fn named<'a>(
     alloc: Global,
     source: &[u8],
     kind: BlockKind,
     tokens: &'a [Token],
 ) -> Result<Option<Parsed<'a, BlockName>>, AllocError>
-    ensures { IfOk result (λ found. found ≡ named_at source.now kind tokens.now) }
+    ensures { IfOk result (λ found. found ≡ block_of_kind_at source.now kind tokens.now) }
 {
     let Some(Parsed(name, rest)) = block(alloc, source, tokens)? else {
         return Ok(None);
@@ -131,7 +131,7 @@ fn result_of<'a>(
 }
 
 /// The first clause of a block, behind its keyword.
-#[tactic(auto, unfolding(crate::specs::Clauses::head_of))]
+#[tactic(auto, unfolding(crate::specs::Clauses::head_clause))]
 pub(crate) fn head<'a>(
     alloc: Global,
     source: &[u8],
@@ -139,7 +139,7 @@ pub(crate) fn head<'a>(
     kind: BlockKind,
     tokens: &'a [Token],
 ) -> Result<Option<ReadClause<'a>>, AllocError>
-    ensures { IfOk result (λ found. found ≡ head_of source.now line kind tokens.now) }
+    ensures { IfOk result (λ found. found ≡ head_clause source.now line kind tokens.now) }
 {
     let Some(Parsed(name, rest)) = named(alloc, source, kind, tokens)? else {
         return Ok(None);
@@ -176,9 +176,9 @@ fn version<'a>(source: &[u8], tokens: &'a [Token]) -> Option<&'a [Token]>
 }
 
 /// `: word`, and what follows.
-#[tactic(auto, unfolding(crate::specs::Clauses::word_at))]
+#[tactic(auto, unfolding(crate::specs::Clauses::colon_and_word_at))]
 fn named_word<'a>(source: &[u8], tokens: &'a [Token]) -> Option<&'a [Token]>
-    ensures { option_map (λ r. r.now) result ≡ word_at source.now tokens.now }
+    ensures { option_map (λ r. r.now) result ≡ colon_and_word_at source.now tokens.now }
 {
     let [colon, word, rest @ ..] = tokens else {
         return None;
@@ -218,7 +218,7 @@ pub(crate) fn head_word_clause<'a>(
 
 /// Whether a data block may be based on this: a function block, or a user-defined data type.
 fn is_base(name: &BlockName) -> bool
-    ensures { result ≡ is_base name.now }
+    ensures { result ≡ is_base_block name.now }
 {
     match name {
         BlockName::Number { id } => matches!(id.kind, BlockKind::Fb | BlockKind::Udt),
@@ -227,13 +227,13 @@ fn is_base(name: &BlockName) -> bool
 }
 
 /// What a data block is based on.
-#[tactic(auto, unfolding(crate::specs::Clauses::based_at))]
+#[tactic(auto, unfolding(crate::specs::Clauses::base_block_at))]
 pub(crate) fn based<'a>(
     alloc: Global,
     source: &[u8],
     tokens: &'a [Token],
 ) -> Result<Option<ReadClause<'a>>, AllocError>
-    ensures { IfOk result (λ found. found ≡ based_at source.now tokens.now) }
+    ensures { IfOk result (λ found. found ≡ base_block_at source.now tokens.now) }
 {
     let Some(Parsed(name, rest)) = block(alloc, source, tokens)? else {
         return Ok(None);

@@ -1,7 +1,7 @@
 ghost use Rattle.std.specs.Prelude.{◌≡◌, ◌≤◌, length};
 ghost use Rattle.stl_ast.specs.declared.literals.Literal.TheVariants as literals;
 ghost use Rattle.stl_parser.specs.Literals.{
-  unquoted,
+  text_between_quotes,
   characters_of,
   truth_of,
   literal_token,
@@ -23,9 +23,9 @@ use stl_ast::{Characters, Literal};
 use stl_lexer::{Mark, Token, TokenKind};
 
 /// A token without its first and its last byte.
-#[tactic(auto, unfolding(crate::specs::Literals::unquoted))]
+#[tactic(auto, unfolding(crate::specs::Literals::text_between_quotes))]
 pub(crate) fn unquoted(text: &[u8]) -> &[u8]
-    ensures { result.now ≡ unquoted text.now }
+    ensures { result.now ≡ text_between_quotes text.now }
 {
     let end = text.len().saturating_sub(1);
     text.get(1..end).unwrap_or(&[])

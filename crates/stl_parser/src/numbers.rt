@@ -1,7 +1,7 @@
 ghost use Rattle.std.specs.Prelude.{◌≡◌, ◌≤◌, true, false};
 ghost use Rattle.plc_base.specs.Decimal.{decimal_up_to};
 ghost use Rattle.stl_lexer.specs.Limits.{greatest_number};
-ghost use Rattle.stl_parser.specs.Numbers.{number_up_to, number_of, signed_at, int_at};
+ghost use Rattle.stl_parser.specs.Numbers.{number_up_to, number_of, signed_number_at, int_at};
 
 use crate::keywords::{has_kind, is_mark};
 use crate::parsed::Parsed;
@@ -46,13 +46,13 @@ pub(crate) fn number(source: &[u8], token: &Token) -> Option<u16>
 }
 
 /// A number behind its sign, and what follows.
-#[tactic(auto, unfolding(crate::specs::Numbers::signed_at))]
+#[tactic(auto, unfolding(crate::specs::Numbers::signed_number_at))]
 pub(crate) fn signed<'a>(
     source: &[u8],
     sign: &Token,
     tokens: &'a [Token],
 ) -> Option<Parsed<'a, i32>>
-    ensures { result ≡ signed_at source.now sign.now tokens.now }
+    ensures { result ≡ signed_number_at source.now sign.now tokens.now }
 {
     let [token, rest @ ..] = tokens else {
         return None;

@@ -1,17 +1,17 @@
 ghost use Rattle.std.specs.Prelude.{◌≡◌, IfOk, drop};
 ghost use Rattle.stl_parser.specs.Operands.{
   place_bit,
-  area_of,
-  place_of,
+  area_operand,
+  place_of_data_address,
   block_place,
   block_path,
-  in_block,
-  behind_block,
+  operand_in_block,
+  operand_behind_block,
   data_block_name,
-  data_block,
-  direct_of,
+  data_block_operand,
+  direct_address_operand,
   condition_of,
-  alone_of,
+  lone_word_operand,
   is_operand_word,
   plain_path,
   sized_by_register,
@@ -22,9 +22,9 @@ ghost use Rattle.stl_parser.specs.Operands.{
   local_path,
   operand_by_kind,
   operand_of,
-  other_of,
-  with_number,
-  with_pointer,
+  register_name_operand,
+  operand_with_number,
+  operand_with_pointer,
 };
 ghost use Rattle.stl_lexer.specs.Tokens.{text_of};
 
@@ -57,9 +57,9 @@ fn place_bit(source: &[u8], width: Width, rest: &[Token]) -> Option<u8>
 }
 
 /// An address in an area.
-#[tactic(auto, unfolding(crate::specs::Operands::area_of))]
+#[tactic(auto, unfolding(crate::specs::Operands::area_operand))]
 fn area(source: &[u8], area: Letters, width: Width, byte: u16, rest: &[Token]) -> Option<Operand>
-    ensures { result ≡ area_of source.now area width byte rest.now }
+    ensures { result ≡ area_operand source.now area width byte rest.now }
 {
     let bit = place_bit(source, width, rest)?;
     Some(Operand::Direct {
@@ -72,9 +72,9 @@ fn area(source: &[u8], area: Letters, width: Width, byte: u16, rest: &[Token]) -
 }
 
 /// Width, byte and bit of an address of a data block, as `DBW 2`.
-#[tactic(auto, unfolding(crate::specs::Operands::place_of))]
+#[tactic(auto, unfolding(crate::specs::Operands::place_of_data_address))]
 fn place(source: &[u8], address: Address, byte: u16, rest: &[Token]) -> Option<(Width, u16, u8)>
-    ensures { result ≡ place_of source.now address byte rest.now }
+    ensures { result ≡ place_of_data_address source.now address byte rest.now }
 {
     match address {
         Address::Area {
@@ -127,14 +127,14 @@ fn block_path(
 }
 
 /// What stands in a data block, behind the block and the `.`: an address, else a component.
-#[tactic(auto, unfolding(crate::specs::Operands::in_block))]
+#[tactic(auto, unfolding(crate::specs::Operands::operand_in_block))]
 fn in_block(
     alloc: Global,
     source: &[u8],
     name: BlockName,
     tokens: &[Token],
 ) -> Result<Option<Operand>, AllocError>
-    ensures { IfOk result (λ found. found ≡ in_block source.now name tokens.now) }
+    ensures { IfOk result (λ found. found ≡ operand_in_block source.now name tokens.now) }
 {
     match block_place(source, tokens) {
         Some((width, byte, bit)) => {
@@ -152,14 +152,14 @@ fn in_block(
 }
 
 /// `.` and what stands in a data block.
-#[tactic(auto, unfolding(crate::specs::Operands::behind_block))]
+#[tactic(auto, unfolding(crate::specs::Operands::operand_behind_block))]
 fn behind_block(
     alloc: Global,
     source: &[u8],
     name: BlockName,
     tokens: &[Token],
 ) -> Result<Option<Operand>, AllocError>
-    ensures { IfOk result (λ found. found ≡ behind_block source.now name tokens.now) }
+    ensures { IfOk result (λ found. found ≡ operand_behind_block source.now name tokens.now) }
 {
     let [dot, rest @ ..] = tokens else {
         return Ok(None);
@@ -183,14 +183,14 @@ fn data_block_name(number: u16) -> BlockName
 }
 
 /// A data block by number: alone, for OPN, or with what stands in it.
-#[tactic(auto, unfolding(crate::specs::Operands::data_block))]
+#[tactic(auto, unfolding(crate::specs::Operands::data_block_operand))]
 fn data_block(
     alloc: Global,
     source: &[u8],
     number: u16,
     tokens: &[Token],
 ) -> Result<Option<Operand>, AllocError>
-    ensures { IfOk result (λ found. found ≡ data_block source.now number tokens.now) }
+    ensures { IfOk result (λ found. found ≡ data_block_operand source.now number tokens.now) }
 {
     let name = data_block_name(number);
     match tokens {
@@ -200,7 +200,7 @@ fn data_block(
 }
 
 /// An operand that is letters and a number.
-#[tactic(auto, unfolding(crate::specs::Operands::direct_of))]
+#[tactic(auto, unfolding(crate::specs::Operands::direct_address_operand))]
 fn direct(
     alloc: Global,
     source: &[u8],
@@ -208,7 +208,7 @@ fn direct(
     number: u16,
     rest: &[Token],
 ) -> Result<Option<Operand>, AllocError>
-    ensures { IfOk result (λ found. found ≡ direct_of source.now address number rest.now) }
+    ensures { IfOk result (λ found. found ≡ direct_address_operand source.now address number rest.now) }
 {
     match address {
         Address::Area { letters, width } => Ok(area(source, letters, width, number, rest)),
@@ -241,9 +241,9 @@ fn condition(source: &[u8], token: &Token) -> Option<Operand>
 }
 
 /// A register that an instruction has as an operand.
-#[tactic(auto, unfolding(crate::specs::Operands::other_of))]
+#[tactic(auto, unfolding(crate::specs::Operands::register_name_operand))]
 fn other(alloc: Global, source: &[u8], token: &Token) -> Result<Option<Operand>, AllocError>
-    ensures { IfOk result (λ found. found ≡ other_of source.now token.now) }
+    ensures { IfOk result (λ found. found ≡ register_name_operand source.now token.now) }
 {
     match register_of(token.text(source)) {
         Some(true) => {
@@ -255,14 +255,14 @@ fn other(alloc: Global, source: &[u8], token: &Token) -> Result<Option<Operand>,
 }
 
 /// A word that stands alone as an operand: a condition of the status word or a register.
-#[tactic(auto, unfolding(crate::specs::Operands::alone_of))]
+#[tactic(auto, unfolding(crate::specs::Operands::lone_word_operand))]
 fn alone(
     alloc: Global,
     source: &[u8],
     token: &Token,
     rest: &[Token],
 ) -> Result<Option<Operand>, AllocError>
-    ensures { IfOk result (λ found. found ≡ alone_of source.now token.now rest.now) }
+    ensures { IfOk result (λ found. found ≡ lone_word_operand source.now token.now rest.now) }
 {
     let [] = rest else {
         return Ok(None);
@@ -320,13 +320,13 @@ fn sized_by_register(source: &[u8], token: &Token, rest: &[Token]) -> Option<Ope
 }
 
 /// Letters of an address with their number. `tokens` begin with the letters.
-#[tactic(auto, unfolding(crate::specs::Operands::with_number))]
+#[tactic(auto, unfolding(crate::specs::Operands::operand_with_number))]
 fn with_number(
     alloc: Global,
     source: &[u8],
     tokens: &[Token],
 ) -> Result<Option<Operand>, AllocError>
-    ensures { IfOk result (λ found. found ≡ with_number source.now tokens.now) }
+    ensures { IfOk result (λ found. found ≡ operand_with_number source.now tokens.now) }
 {
     match address(source, tokens) {
         Some(ParsedNumbered(address, number, rest)) => direct(alloc, source, address, number, rest),
@@ -335,9 +335,9 @@ fn with_number(
 }
 
 /// Letters of an address with a pointer in brackets.
-#[tactic(auto, unfolding(crate::specs::Operands::with_pointer))]
+#[tactic(auto, unfolding(crate::specs::Operands::operand_with_pointer))]
 fn with_pointer(source: &[u8], token: &Token, rest: &[Token]) -> Option<Operand>
-    ensures { result ≡ with_pointer source.now token.now rest.now }
+    ensures { result ≡ operand_with_pointer source.now token.now rest.now }
 {
     let address = address_of(token.text(source))?;
     indirect(source, address, rest)

@@ -2,7 +2,7 @@ ghost use Rattle.std.specs.Prelude.{◌≡◌, IfOk, []};
 ghost use Rattle.std.specs.Option.{option_map, option_and_then};
 ghost use Rattle.stl_parser.specs.Numbers.{int_at};
 ghost use Rattle.stl_parser.specs.Operands.{index_end, name_step, step_at, path_end, steps_from, path_of};
-ghost use Rattle.stl_parser.specs.Parts.{whole};
+ghost use Rattle.stl_parser.specs.Parts.{complete_reading};
 
 use crate::keywords::{has_kind, is_mark};
 use crate::numbers::int;
@@ -127,7 +127,7 @@ pub(crate) fn all_steps(
     first: Vec<PathStep>,
     tokens: &[Token],
 ) -> Result<Option<Sequence<PathStep>>, AllocError>
-    ensures { IfOk result (λ found. found ≡ whole (steps_from source.now first.items tokens.now)) }
+    ensures { IfOk result (λ found. found ≡ complete_reading (steps_from source.now first.items tokens.now)) }
 {
     match steps(alloc, source, first, tokens)? {
         Some(Parsed(steps, [])) => Ok(Some(steps)),

@@ -5,17 +5,17 @@ ghost use Rattle.stl_parser.specs.Operands.{
   register_of as register_number,
   offset_of,
   register_pointer,
-  by_register,
+  operand_by_register,
   holds_pointer,
   pointer_close,
   pointer_end,
   memory_pointer,
-  number_by,
-  area_by,
-  indirect_of,
+  operand_by_memory_number,
+  operand_by_pointer,
+  indirect_operand,
   area_pointer,
   plain_pointer,
-  pointer_of,
+  pointer_constant_operand,
 };
 
 use crate::addresses::{address, bit};
@@ -75,14 +75,14 @@ fn register_pointer(source: &[u8], tokens: &[Token]) -> Option<(u8, u32)>
 }
 
 /// An operand by an address register; `area` is None where the register has the area.
-#[tactic(auto, unfolding(crate::specs::Operands::by_register))]
+#[tactic(auto, unfolding(crate::specs::Operands::operand_by_register))]
 pub(crate) fn by_register(
     source: &[u8],
     area: Option<Letters>,
     width: Width,
     tokens: &[Token],
 ) -> Option<Operand>
-    ensures { result ≡ by_register source.now area width tokens.now }
+    ensures { result ≡ operand_by_register source.now area width tokens.now }
 {
     let (register, bits) = register_pointer(source, tokens)?;
     Some(Operand::ByRegister {
@@ -173,18 +173,18 @@ fn memory_pointer(source: &[u8], pointer: bool, tokens: &[Token]) -> Option<(Let
 }
 
 /// A timer, a counter or a data block whose number stands in memory.
-#[tactic(auto, unfolding(crate::specs::Operands::number_by))]
+#[tactic(auto, unfolding(crate::specs::Operands::operand_by_memory_number))]
 fn number_by(source: &[u8], what: Numbered, tokens: &[Token]) -> Option<Operand>
-    ensures { result ≡ number_by source.now what tokens.now }
+    ensures { result ≡ operand_by_memory_number source.now what tokens.now }
 {
     let (from, byte) = memory_pointer(source, false, tokens)?;
     Some(Operand::NumberBy { what, from, byte })
 }
 
 /// An area with a pointer, in memory or in a register.
-#[tactic(auto, unfolding(crate::specs::Operands::area_by))]
+#[tactic(auto, unfolding(crate::specs::Operands::operand_by_pointer))]
 fn area_by(source: &[u8], area: Letters, width: Width, tokens: &[Token]) -> Option<Operand>
-    ensures { result ≡ area_by source.now area width tokens.now }
+    ensures { result ≡ operand_by_pointer source.now area width tokens.now }
 {
     match memory_pointer(source, true, tokens) {
         Some((from, byte)) => Some(Operand::ByMemory {
@@ -198,9 +198,9 @@ fn area_by(source: &[u8], area: Letters, width: Width, tokens: &[Token]) -> Opti
 }
 
 /// An operand that is letters and a pointer in brackets.
-#[tactic(auto, unfolding(crate::specs::Operands::indirect_of))]
+#[tactic(auto, unfolding(crate::specs::Operands::indirect_operand))]
 pub(crate) fn indirect(source: &[u8], address: Address, tokens: &[Token]) -> Option<Operand>
-    ensures { result ≡ indirect_of source.now address tokens.now }
+    ensures { result ≡ indirect_operand source.now address tokens.now }
 {
     match address {
         Address::Area { letters, width } => area_by(source, letters, width, tokens),
@@ -256,9 +256,9 @@ fn address_pointer(source: &[u8], tokens: &[Token]) -> Option<Operand>
 }
 
 /// A pointer constant, behind `P#`.
-#[tactic(auto, unfolding(crate::specs::Operands::pointer_of))]
+#[tactic(auto, unfolding(crate::specs::Operands::pointer_constant_operand))]
 pub(crate) fn pointer(source: &[u8], tokens: &[Token]) -> Option<Operand>
-    ensures { result ≡ pointer_of source.now tokens.now }
+    ensures { result ≡ pointer_constant_operand source.now tokens.now }
 {
     match plain_pointer(source, tokens) {
         Some(pointer) => Some(pointer),

@@ -7,10 +7,10 @@ ghost use Rattle.stl_parser.specs.Source.{
   IsTree,
   IsRefusedBy,
   AreClausesUnique,
-  ExcludesViolation,
-  IsViolationUnique,
+  ClausesExcludeViolation,
+  IsClauseViolationUnique,
   ClausesHaveTree,
-  IsTotal,
+  IsParsingTotal,
   IsTreeUnique,
   TreeExcludesViolation,
 };
@@ -40,10 +40,10 @@ fn last_line(tokens: &[Token]) -> u32
 /// `parse` answers the tree, refuses with the violation, or wants memory.
 pub fn law_of_clauses()
     ensures one_list { AreClausesUnique }
-    ensures list_or_violation { ExcludesViolation }
-    ensures one_violation { IsViolationUnique }
+    ensures list_or_violation { ClausesExcludeViolation }
+    ensures one_violation { IsClauseViolationUnique }
     ensures tree_there { ClausesHaveTree }
-    ensures total { IsTotal }
+    ensures total { IsParsingTotal }
     ensures one_tree { IsTreeUnique }
     ensures tree_or_violation { TreeExcludesViolation }
 {}

@@ -2,25 +2,25 @@ ghost use Rattle.std.specs.Prelude.{◌≡◌, ◌≤◌, ◌||◌, IfOk};
 ghost use Rattle.std.specs.Option.{option_map};
 ghost use Rattle.plc_base.specs.Kinds.{is_data_block, is_function_block};
 ghost use Rattle.stl_parser.specs.Statements.{
-  may_be,
+  may_be_of_kind,
   data_block_at,
   instance_at,
-  plain,
+  statement_without_actuals,
   call_of,
   block_call_of,
-  with_operand,
-  is_long,
+  statement_with_operand,
+  is_long_label,
   jump_of,
   open_of,
   behind_word,
   after_paren,
-  opening_of,
+  opening_instruction,
   zone_end_of,
-  closed_of,
+  one_token_instruction,
   instruction_of,
-  statement,
-  labelled,
-  unlabelled,
+  statement_with_label,
+  labelled_statement,
+  unlabelled_statement,
   statement_of,
 };
 
@@ -50,7 +50,7 @@ pub struct BareStatement {
 
 /// Whether the name may be that of a function block.
 fn may_be_fb(name: &BlockName) -> bool
-    ensures { result ≡ may_be name.now is_function_block }
+    ensures { result ≡ may_be_of_kind name.now is_function_block }
 {
     match name {
         BlockName::Number { id } => id.kind.is_function_block(),
@@ -60,7 +60,7 @@ fn may_be_fb(name: &BlockName) -> bool
 
 /// Whether the name may be that of a data block.
 fn may_be_db(name: &BlockName) -> bool
-    ensures { result ≡ may_be name.now is_data_block }
+    ensures { result ≡ may_be_of_kind name.now is_data_block }
 {
     match name {
         BlockName::Number { id } => id.kind.is_data_block(),
@@ -114,7 +114,7 @@ fn instance<'a>(
 
 /// An instruction without actual parameters and without a label that is too long.
 fn plain(alloc: Global, code: Mnemonic, operand: Operand) -> BareStatement
-    ensures { result ≡ plain code operand }
+    ensures { result ≡ statement_without_actuals code operand }
 {
     BareStatement {
         code,
@@ -175,14 +175,14 @@ fn block_call(
 }
 
 /// An instruction with an operand of any form, behind the word.
-#[tactic(auto, unfolding(crate::specs::Statements::with_operand))]
+#[tactic(auto, unfolding(crate::specs::Statements::statement_with_operand))]
 fn with_operand(
     alloc: Global,
     source: &[u8],
     code: Mnemonic,
     tokens: &[Token],
 ) -> Result<Option<BareStatement>, AllocError>
-    ensures { IfOk result (λ found. found ≡ with_operand source.now code tokens.now) }
+    ensures { IfOk result (λ found. found ≡ statement_with_operand source.now code tokens.now) }
 {
     let Some(operand) = operand(alloc, source, tokens)? else {
         return Ok(None);
@@ -191,9 +191,9 @@ fn with_operand(
 }
 
 /// Whether a label is too long.
-#[tactic(auto, unfolding(crate::specs::Statements::is_long))]
+#[tactic(auto, unfolding(crate::specs::Statements::is_long_label))]
 fn is_long(source: &[u8], token: &Token) -> bool
-    ensures { result ≡ is_long source.now token.now }
+    ensures { result ≡ is_long_label source.now token.now }
 {
     token.text(source).len() > LABEL_LENGTH
 }
@@ -281,14 +281,14 @@ fn after_paren<'a>(source: &[u8], tokens: &'a [Token]) -> Option<&'a [Token]>
 }
 
 /// An instruction word that opens a bracket or a zone: the word and a `(`.
-#[tactic(auto, unfolding(crate::specs::Statements::opening_of))]
+#[tactic(auto, unfolding(crate::specs::Statements::opening_instruction))]
 fn opening(
     alloc: Global,
     source: &[u8],
     token: &Token,
     rest: &[Token],
 ) -> Result<Option<BareStatement>, AllocError>
-    ensures { IfOk result (λ found. found ≡ opening_of source.now token.now rest.now) }
+    ensures { IfOk result (λ found. found ≡ opening_instruction source.now token.now rest.now) }
 {
     let Some(code) = opening_mnemonic_of(token.text(source)) else {
         return Ok(None);
@@ -319,14 +319,14 @@ fn zone_end(
 }
 
 /// An instruction whose word is one token.
-#[tactic(auto, unfolding(crate::specs::Statements::closed_of))]
+#[tactic(auto, unfolding(crate::specs::Statements::one_token_instruction))]
 fn closed(
     alloc: Global,
     source: &[u8],
     token: &Token,
     rest: &[Token],
 ) -> Result<Option<BareStatement>, AllocError>
-    ensures { IfOk result (λ found. found ≡ closed_of source.now token.now rest.now) }
+    ensures { IfOk result (λ found. found ≡ one_token_instruction source.now token.now rest.now) }
 {
     let Some((code, form)) = mnemonic_of(token.text(source)) else {
         return Ok(None);
@@ -357,7 +357,7 @@ fn whole_instruction(
 
 /// The statement of an instruction.
 fn statement_with(line: u32, label: Option<Name>, instruction: BareStatement) -> Statement
-    ensures { result ≡ statement line label instruction }
+    ensures { result ≡ statement_with_label line label instruction }
 {
     let BareStatement {
         code,
@@ -375,7 +375,7 @@ fn statement_with(line: u32, label: Option<Name>, instruction: BareStatement) ->
 }
 
 /// A statement with a label, behind the `:`, and whether a label in it is too long.
-#[tactic(auto, unfolding(crate::specs::Statements::labelled))]
+#[tactic(auto, unfolding(crate::specs::Statements::labelled_statement))]
 fn labelled(
     alloc: Global,
     source: &[u8],
@@ -383,7 +383,7 @@ fn labelled(
     word: &Token,
     tokens: &[Token],
 ) -> Result<Option<(Statement, bool)>, AllocError>
-    ensures { IfOk result (λ found. found ≡ labelled source.now line word.now tokens.now) }
+    ensures { IfOk result (λ found. found ≡ labelled_statement source.now line word.now tokens.now) }
 {
     let Some(instruction) = whole_instruction(alloc, source, tokens)? else {
         return Ok(None);
@@ -394,14 +394,14 @@ fn labelled(
 }
 
 /// A statement without a label, and whether a label in it is too long.
-#[tactic(auto, unfolding(crate::specs::Statements::unlabelled))]
+#[tactic(auto, unfolding(crate::specs::Statements::unlabelled_statement))]
 fn unlabelled(
     alloc: Global,
     source: &[u8],
     line: u32,
     tokens: &[Token],
 ) -> Result<Option<(Statement, bool)>, AllocError>
-    ensures { IfOk result (λ found. found ≡ unlabelled source.now line tokens.now) }
+    ensures { IfOk result (λ found. found ≡ unlabelled_statement source.now line tokens.now) }
 {
     let Some(instruction) = whole_instruction(alloc, source, tokens)? else {
         return Ok(None);

@@ -1,8 +1,8 @@
 ghost use Rattle.std.specs.Prelude.{◌≡◌, ◌<◌, [], length, false, IfOk, IfErr, Ok};
 ghost use Rattle.plc_base.specs.declared.refusals.SourceFault.TheVariants as fault;
 ghost use Rattle.stl_parser.specs.Clauses.{level_at};
-ghost use Rattle.stl_parser.specs.Frame.{follow};
-ghost use Rattle.stl_parser.specs.Source.{step_of, place_of, is_outside, IsBrokenAt};
+ghost use Rattle.stl_parser.specs.Frame.{next_place};
+ghost use Rattle.stl_parser.specs.Source.{step_of, place_or_rule, is_outside, IsBrokenAt};
 
 use crate::clauses::{Clause, ReadClause, clause_at};
 use crate::frames::follow;
@@ -35,7 +35,7 @@ fn refused(line: u32, rule: u16) -> SourceFault
 /// Where the clauses behind one of the grammar stand, or the rule that it breaks.
 fn place_behind(at: ClausePlace, clause: &Clause, is_long: bool) -> Result<ClausePlace, u16>
     requires level { level_at at < 4294967295 }
-    ensures value { result ≡ place_of is_long (follow at clause.now) }
+    ensures value { result ≡ place_or_rule is_long (next_place at clause.now) }
 {
     match follow(at, clause) {
         None => Err(MISPLACED),

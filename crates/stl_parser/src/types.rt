@@ -2,7 +2,7 @@ ghost use Rattle.std.specs.Prelude.{◌≡◌, IfOk, [], ◌∷◌, length};
 ghost use Rattle.std.specs.Option.{option_map, option_and_then};
 ghost use Rattle.stl_parser.specs.Numbers.{int_at};
 ghost use Rattle.stl_parser.specs.Literals.{literal_at};
-ghost use Rattle.stl_parser.specs.Parts.{parts_from, whole};
+ghost use Rattle.stl_parser.specs.Parts.{parts_from, complete_reading};
 ghost use Rattle.stl_parser.specs.Types.{
   array_end,
   array_high,
@@ -13,11 +13,11 @@ ghost use Rattle.stl_parser.specs.Types.{
   simple_at,
   udt_at,
   element_at,
-  counted_end,
-  counted_at,
+  counted_init_end,
+  counted_init_at,
   init_at,
   next_init,
-  at_end,
+  end_of_tokens,
   init_list,
   single_init,
   init_of,
@@ -207,14 +207,14 @@ pub(crate) fn element<'a>(
 }
 
 /// `)` behind the value of `n (value)`.
-#[tactic(auto, unfolding(crate::specs::Types::counted_end))]
+#[tactic(auto, unfolding(crate::specs::Types::counted_init_end))]
 fn counted_end<'a>(
     source: &[u8],
     count: u16,
     value: Literal,
     tokens: &'a [Token],
 ) -> Option<Parsed<'a, Init>>
-    ensures { result ≡ counted_end source.now count value tokens.now }
+    ensures { result ≡ counted_init_end source.now count value tokens.now }
 {
     let [token, rest @ ..] = tokens else {
         return None;
@@ -228,9 +228,9 @@ fn counted_end<'a>(
 }
 
 /// `n (value)`, and what follows.
-#[tactic(auto, unfolding(crate::specs::Types::counted_at))]
+#[tactic(auto, unfolding(crate::specs::Types::counted_init_at))]
 fn counted<'a>(source: &[u8], tokens: &'a [Token]) -> Option<Parsed<'a, Init>>
-    ensures { result ≡ counted_at source.now tokens.now }
+    ensures { result ≡ counted_init_at source.now tokens.now }
 {
     let [token, open, rest @ ..] = tokens else {
         return None;
@@ -273,9 +273,9 @@ fn next_init<'a>(source: &[u8], tokens: &'a [Token]) -> Option<Parsed<'a, Init>>
 }
 
 /// Nothing is left.
-#[tactic(auto, unfolding(crate::specs::Types::at_end))]
+#[tactic(auto, unfolding(crate::specs::Types::end_of_tokens))]
 fn at_end(tokens: &[Token]) -> Option<&[Token]>
-    ensures { option_map (λ r. r.now) result ≡ at_end tokens.now }
+    ensures { option_map (λ r. r.now) result ≡ end_of_tokens tokens.now }
 {
     match tokens {
         [] => Some(tokens),
@@ -291,7 +291,7 @@ fn further_inits<'a>(
     tokens: &'a [Token],
 ) -> Result<Option<Parsed<'a, Sequence<Init>>>, AllocError>
     ensures { IfOk result (λ found. found
-        ≡ parts_from at_end (next_init source.now) first.items (length tokens.now) tokens.now) }
+        ≡ parts_from end_of_tokens (next_init source.now) first.items (length tokens.now) tokens.now) }
 {
     let mut read = first;
     let mut rest = tokens;

@@ -7,7 +7,7 @@ ghost use Rattle.stl_parser.specs.Values.{
   long_value,
   long_or_count,
   time_value,
-  duration,
+  duration_literal,
 };
 
 use plc_base::decimal_up_to;
@@ -166,9 +166,9 @@ fn time(text: &[u8]) -> Option<i32>
 }
 
 /// `S5T#` or `T#` and the parts of a time.
-#[tactic(auto, unfolding(crate::specs::Values::duration))]
+#[tactic(auto, unfolding(crate::specs::Values::duration_literal))]
 pub(crate) fn duration(text: &[u8]) -> Option<Literal>
-    ensures { result ≡ duration text.now }
+    ensures { result ≡ duration_literal text.now }
 {
     if first_letter(text) == b's' {
         let ms = milliseconds_within(GREATEST_S5TIME, behind_prefix(text))?;

@@ -2,19 +2,19 @@
 use Rattle.std.proofs.Common.{◌≡◌, ◌<◌, ◌≤◌, sym, ◌∙◌, ap, ℕ, suc, ◌+◌, ◌-◌, ◌*◌, ◌/◌, ◌%◌, ◌^◌, List, [], ◌∷◌, ◌++◌, append_assoc, arith}
 use Rattle.std.proofs.Math.Nat.{div-div-eq-div-mul}
 use Rattle.std.proofs.lemmas.Nat.{pow-add}
-use Rattle.stl_print.specs.Digits.{digit, digits}
+use Rattle.stl_print.specs.Digits.{digit_character, digits_in_base}
 
 -- one more digit of a base, behind those above it: n without the digits below the next place, and m without that at it
 pub digits-next : (front text : List ℕ) (base n m count place d : ℕ) → 0 < place → place ≤ count
-    → n ≡ m / base → text ≡ front ++ digits base (count - place) n → d ≡ digit (m % base)
-    → text ++ d ∷ [] ≡ front ++ digits base (count - (place - 1)) m
-unfolding digits
+    → n ≡ m / base → text ≡ front ++ digits_in_base base (count - place) n → d ≡ digit_character (m % base)
+    → text ++ d ∷ [] ≡ front ++ digits_in_base base (count - (place - 1)) m
+unfolding digits_in_base
 digits-next front text base n m count place d some within above before is =
     ap (λ (l : List ℕ). l ++ d ∷ []) before
-    ∙ append_assoc front (digits base (count - place) n) (d ∷ [])
-    ∙ ap (λ (k : ℕ). front ++ (digits base (count - place) k ++ d ∷ [])) above
-    ∙ ap (λ (e : ℕ). front ++ (digits base (count - place) (m / base) ++ e ∷ [])) is
-    ∙ ap (λ (k : ℕ). front ++ digits base k m) more
+    ∙ append_assoc front (digits_in_base base (count - place) n) (d ∷ [])
+    ∙ ap (λ (k : ℕ). front ++ (digits_in_base base (count - place) k ++ d ∷ [])) above
+    ∙ ap (λ (e : ℕ). front ++ (digits_in_base base (count - place) (m / base) ++ e ∷ [])) is
+    ∙ ap (λ (k : ℕ). front ++ digits_in_base base k m) more
   where
     more : suc (count - place) ≡ count - (place - 1)
     more = omega (arith, some, within)

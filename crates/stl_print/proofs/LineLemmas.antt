@@ -5,11 +5,11 @@ use Rattle.stl_parser.specs.declared.clauses.Clause.{Clause}
 use Rattle.std.specs.List.{flat_map}
 use Rattle.stl_ast.specs.declared.blocks.Block.{Block}
 use Rattle.stl_ast.specs.declared.blocks.Tree.{Tree}
-use Rattle.stl_lexer.specs.Pieces.{spelled}
+use Rattle.stl_lexer.specs.Pieces.{text_of_pieces}
 use Rattle.stl_print.specs.Clauses.{clause_pieces, line_of, pieces_from, with_clause, with_clauses}
 use Rattle.stl_print.specs.Gaps.{clause_gap, line_behind}
 use Rattle.stl_print.specs.Pieces.{with_piece, with_pieces}
-use Rattle.stl_print.specs.Trees.{block_clauses, end_of, pieces, printed, structure_ends}
+use Rattle.stl_print.specs.Trees.{block_clauses, end_of_text, pieces_of_tree, printed_text, structure_ends}
 use Rattle.stl_print.proofs.PieceLemmas.{spelled-behind}
 
 -- a text with clauses behind it has their pieces behind it
@@ -48,7 +48,7 @@ clauses_then t u v cs ds first rest =
 -- the whole text, with the gap behind its last piece
 pub text_done :
     (line : ℕ) (text end : List ℕ) (cs : List Clause) → (line, text) ≡ with_clauses (0, []) cs
-    → text ++ end ≡ spelled (pieces_from 0 cs) end
+    → text ++ end ≡ text_of_pieces (pieces_from 0 cs) end
 text_done line text end cs printed =
     ap (λ (t : ℕ × List ℕ). t.1 ++ end) printed
     ∙ ap (λ (s : List ℕ). s ++ end) (clauses-pieces 0 [] cs)
@@ -57,12 +57,12 @@ text_done line text end cs printed =
 -- the text of a tree, written behind nothing
 pub tree_done :
     (t : Tree) (blocks : List Block) (before text whole : List ℕ) (line : ℕ) → before ≡ [] → blocks ≡ t.blocks
-    → (line, text) ≡ with_clauses (0, before) (flat_map block_clauses blocks) → whole ≡ text ++ end_of blocks → whole ≡ printed t
-unfolding printed pieces
+    → (line, text) ≡ with_clauses (0, before) (flat_map block_clauses blocks) → whole ≡ text ++ end_of_text blocks → whole ≡ printed_text t
+unfolding printed_text pieces_of_tree
 tree_done t blocks before text whole line empty all written last =
     let from_nothing : (line, text) ≡ with_clauses (0, []) (flat_map block_clauses t.blocks) =
     written ∙ ap (λ (s : List ℕ). with_clauses (0, s) (flat_map block_clauses blocks)) empty
     ∙ ap (λ (bs : List Block). with_clauses (0, []) (flat_map block_clauses bs)) all
     in
-    last ∙ ap (λ (bs : List Block). text ++ end_of bs) all
-    ∙ text_done line text (end_of t.blocks) (flat_map block_clauses t.blocks) from_nothing
+    last ∙ ap (λ (bs : List Block). text ++ end_of_text bs) all
+    ∙ text_done line text (end_of_text t.blocks) (flat_map block_clauses t.blocks) from_nothing

@@ -5,10 +5,10 @@ use Rattle.std.proofs.lemmas.List.{append-nil}
 use Rattle.std.specs.Prelude.{ℤ, pos, negsuc, decimal}
 use Rattle.std.specs.Fmt.{signed_decimal}
 use Rattle.stl_lexer.specs.Marks.{mark_text}
-use Rattle.stl_lexer.specs.Pieces.{Piece, spelled}
+use Rattle.stl_lexer.specs.Pieces.{Piece, text_of_pieces}
 use Rattle.stl_print.specs.Gaps.{gap_text}
 use Rattle.stl_print.specs.Mnemonics.{Spelling, one, two, spelling_pieces, spelling_text}
-use Rattle.stl_print.specs.Pieces.{signed_number, with_piece, with_pieces}
+use Rattle.stl_print.specs.Pieces.{signed_number_pieces, with_piece, with_pieces}
 use Rattle.stl_print.specs.declared.gaps.Gap.{Gap}
 
 -- a token in two parts
@@ -16,11 +16,11 @@ pub parts_joined : (text gap front behind : List ℕ) → ((text ++ gap) ++ fron
 parts_joined text gap front behind = append_assoc (text ++ gap) front behind
 
 -- what pieces spell behind a text, and the gap behind the last one
-pub spelled-behind : (text : List ℕ) (ps : List Piece) (end : List ℕ) → text ++ spelled ps end ≡ with_pieces text ps ++ end
+pub spelled-behind : (text : List ℕ) (ps : List Piece) (end : List ℕ) → text ++ text_of_pieces ps end ≡ with_pieces text ps ++ end
 spelled-behind text [] end = refl
 spelled-behind text (p ∷ ps) end =
-    sym (append_assoc text p.gap (p.text ++ spelled ps end))
-    ∙ sym (append_assoc (text ++ p.gap) p.text (spelled ps end))
+    sym (append_assoc text p.gap (p.text ++ text_of_pieces ps end))
+    ∙ sym (append_assoc (text ++ p.gap) p.text (text_of_pieces ps end))
     ∙ spelled-behind ((text ++ p.gap) ++ p.text) ps end
 
 -- an instruction word behind a text
@@ -33,7 +33,7 @@ spelling_piece text g (two k word j behind) =
 
 -- a number with its sign behind a text
 pub signed_piece :
-    (text : List ℕ) (g : Gap) (n : ℤ) → with_pieces text (signed_number g n) ≡ (text ++ gap_text g) ++ signed_decimal n
+    (text : List ℕ) (g : Gap) (n : ℤ) → with_pieces text (signed_number_pieces g n) ≡ (text ++ gap_text g) ++ signed_decimal n
 unfolding mark_text
 signed_piece text g (pos n) = refl
 signed_piece text g (negsuc n) =

@@ -9,8 +9,8 @@ use Rattle.stl_parser.specs.declared.clauses.Clause.{Clause}
 use Rattle.stl_parser.specs.declared.clauses.Clause.TheVariants as clause
 use Rattle.stl_print.specs.Declarations.{declaration_pieces, setting_pieces}
 use Rattle.stl_print.specs.Gaps.{clause_gap, line_behind}
-use Rattle.stl_print.specs.Names.{block_name}
-use Rattle.stl_print.specs.Pieces.{mark, with_pieces, word}
+use Rattle.stl_print.specs.Names.{block_name_pieces}
+use Rattle.stl_print.specs.Pieces.{mark_piece, with_pieces, word_piece}
 use Rattle.stl_print.specs.Statements.{statement_pieces}
 use Rattle.stl_print.specs.Words.{end_word, head_word, result_word, section_word}
 use Rattle.stl_print.specs.declared.gaps.Gap.{Gap}
@@ -18,20 +18,20 @@ use Rattle.stl_print.specs.declared.gaps.Gap.TheVariants as gap
 
 -- the type of a function's return value
 unfoldable pub result_pieces : BlockKind → Option Simple → List Piece
-result_pieces kinds.Fc result = mark gap.Blank mark_of.Colon ∷ word gap.Blank (result_word result) ∷ []
+result_pieces kinds.Fc result = mark_piece gap.Blank mark_of.Colon ∷ word_piece gap.Blank (result_word result) ∷ []
 result_pieces _ result = []
 
 -- a clause; attributes, titles and what a head notes are in no tree
 unfoldable pub clause_pieces : Gap → Clause → List Piece
-clause_pieces g (clause.Head line k name result) = word g (head_word k) ∷ (block_name gap.Blank name ++ result_pieces k result)
-clause_pieces g (clause.Ends line k) = word g (end_word k) ∷ []
-clause_pieces g (clause.Section line p) = word g (section_word p) ∷ []
-clause_pieces g clause.EndSection = word g (codes "END_VAR") ∷ []
-clause_pieces g clause.Begins = word g (codes "BEGIN") ∷ []
-clause_pieces g clause.Network = word g (codes "NETWORK") ∷ []
-clause_pieces g clause.Structure = word g (codes "STRUCT") ∷ []
-clause_pieces g clause.EndStructure = word g (codes "END_STRUCT") ∷ mark gap.Nothing mark_of.Semicolon ∷ []
-clause_pieces g (clause.Based name) = block_name g name
+clause_pieces g (clause.Head line k name result) = word_piece g (head_word k) ∷ (block_name_pieces gap.Blank name ++ result_pieces k result)
+clause_pieces g (clause.Ends line k) = word_piece g (end_word k) ∷ []
+clause_pieces g (clause.Section line p) = word_piece g (section_word p) ∷ []
+clause_pieces g clause.EndSection = word_piece g (codes "END_VAR") ∷ []
+clause_pieces g clause.Begins = word_piece g (codes "BEGIN") ∷ []
+clause_pieces g clause.Network = word_piece g (codes "NETWORK") ∷ []
+clause_pieces g clause.Structure = word_piece g (codes "STRUCT") ∷ []
+clause_pieces g clause.EndStructure = word_piece g (codes "END_STRUCT") ∷ mark_piece gap.Nothing mark_of.Semicolon ∷ []
+clause_pieces g (clause.Based name) = block_name_pieces g name
 clause_pieces g clause.Note = []
 clause_pieces g clause.Title = []
 clause_pieces g (clause.Declares d) = declaration_pieces g d

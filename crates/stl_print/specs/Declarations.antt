@@ -11,8 +11,8 @@ use Rattle.stl_ast.specs.declared.literals.Literal.{Literal}
 use Rattle.stl_lexer.specs.Pieces.{Piece}
 use Rattle.stl_lexer.specs.declared.marks.Mark.TheVariants as mark_of
 use Rattle.stl_print.specs.Literals.{literal_pieces}
-use Rattle.stl_print.specs.Names.{block_name, path_pieces}
-use Rattle.stl_print.specs.Pieces.{mark, number, signed_number, word}
+use Rattle.stl_print.specs.Names.{block_name_pieces, path_pieces}
+use Rattle.stl_print.specs.Pieces.{mark_piece, number_piece, signed_number_pieces, word_piece}
 use Rattle.stl_print.specs.Words.{type_word}
 use Rattle.stl_print.specs.declared.gaps.Gap.{Gap}
 use Rattle.stl_print.specs.declared.gaps.Gap.TheVariants as gap
@@ -20,23 +20,23 @@ use Rattle.stl_print.specs.declared.gaps.Gap.TheVariants as gap
 -- an array of what stands behind it, `ARRAY [0..9] OF`
 unfoldable pub array_pieces : Bounds → List Piece
 array_pieces b =
-    word gap.Blank (codes "ARRAY") ∷ mark gap.Blank mark_of.OpenBracket
-    ∷ (signed_number gap.Nothing b.low ++ (mark gap.Nothing mark_of.DotDot
-    ∷ (signed_number gap.Nothing b.high ++ (mark gap.Nothing mark_of.CloseBracket ∷ word gap.Blank (codes "OF") ∷ []))))
+    word_piece gap.Blank (codes "ARRAY") ∷ mark_piece gap.Blank mark_of.OpenBracket
+    ∷ (signed_number_pieces gap.Nothing b.low ++ (mark_piece gap.Nothing mark_of.DotDot
+    ∷ (signed_number_pieces gap.Nothing b.high ++ (mark_piece gap.Nothing mark_of.CloseBracket ∷ word_piece gap.Blank (codes "OF") ∷ []))))
 
 -- a type that is no array
 unfoldable pub element_pieces : Gap → ElementType → List Piece
-element_pieces g (element.Plain k) = word g (type_word k) ∷ []
-element_pieces g element.Structure = word g (codes "STRUCT") ∷ []
-element_pieces g (element.Udt name) = block_name g name
-element_pieces g element.DateAndTime = word g (codes "DATE_AND_TIME") ∷ []
+element_pieces g (element.Plain k) = word_piece g (type_word k) ∷ []
+element_pieces g element.Structure = word_piece g (codes "STRUCT") ∷ []
+element_pieces g (element.Udt name) = block_name_pieces g name
+element_pieces g element.DateAndTime = word_piece g (codes "DATE_AND_TIME") ∷ []
 
 -- an initial value, `B#16#FF`, or one that stands for some elements, `4 (B#16#00)`
 abbrev pub value_pieces : Gap → Option ℕ → Literal → List Piece
 value_pieces g None value = literal_pieces g value
 value_pieces g (Some count) value =
-    number g count ∷ mark gap.Blank mark_of.OpenParen
-    ∷ (literal_pieces gap.Nothing value ++ mark gap.Nothing mark_of.CloseParen ∷ [])
+    number_piece g count ∷ mark_piece gap.Blank mark_of.OpenParen
+    ∷ (literal_pieces gap.Nothing value ++ mark_piece gap.Nothing mark_of.CloseParen ∷ [])
 
 -- an initial value
 unfoldable pub init_pieces : Gap → Init → List Piece
@@ -45,26 +45,26 @@ init_pieces g i = value_pieces g i.count i.value
 -- further initial values, each behind a comma
 abbrev pub further_inits : List Init → List Piece
 further_inits [] = []
-further_inits (i ∷ is) = mark gap.Nothing mark_of.Comma ∷ (init_pieces gap.Blank i ++ further_inits is)
+further_inits (i ∷ is) = mark_piece gap.Nothing mark_of.Comma ∷ (init_pieces gap.Blank i ++ further_inits is)
 
 -- the initial values, where there are some
 abbrev pub inits_pieces : List Init → List Piece
 inits_pieces [] = []
-inits_pieces (i ∷ is) = mark gap.Blank mark_of.Assign ∷ (init_pieces gap.Blank i ++ further_inits is)
+inits_pieces (i ∷ is) = mark_piece gap.Blank mark_of.Assign ∷ (init_pieces gap.Blank i ++ further_inits is)
 
 -- what stands behind the type: behind a structure its components, which are declarations of their own
 unfoldable pub behind_type : ElementType → List Init → List Piece
 behind_type element.Structure is = []
-behind_type _ is = inits_pieces is ++ mark gap.Nothing mark_of.Semicolon ∷ []
+behind_type _ is = inits_pieces is ++ mark_piece gap.Nothing mark_of.Semicolon ∷ []
 
 -- a declaration, `t : ARRAY [0..19] OF BYTE;`, of a structure up to its `STRUCT`
 unfoldable pub declaration_pieces : Gap → Declaration → List Piece
 declaration_pieces g d =
-    word g d.name ∷ mark gap.Blank mark_of.Colon
+    word_piece g d.name ∷ mark_piece gap.Blank mark_of.Colon
     ∷ (flat_map array_pieces d.of.arrays ++ (element_pieces gap.Blank d.of.of ++ behind_type d.of.of d.init))
 
 -- a setting, `p0 := TRUE;`
 unfoldable pub setting_pieces : Gap → Setting → List Piece
 setting_pieces g s =
     path_pieces g s.path
-    ++ (mark gap.Blank mark_of.Assign ∷ (literal_pieces gap.Blank s.value ++ mark gap.Nothing mark_of.Semicolon ∷ []))
+    ++ (mark_piece gap.Blank mark_of.Assign ∷ (literal_pieces gap.Blank s.value ++ mark_piece gap.Nothing mark_of.Semicolon ∷ []))

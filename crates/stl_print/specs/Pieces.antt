@@ -20,30 +20,30 @@ abbrev pub with_pieces : List ℕ → List Piece → List ℕ
 with_pieces text ps = fold with_piece text ps
 
 -- a token behind a gap
-abbrev pub token : Gap → TokenKind → List ℕ → Piece
-token g k text = record { gap = gap_text g; kind = k; text = text }
+abbrev pub token_piece : Gap → TokenKind → List ℕ → Piece
+token_piece g k text = record { gap = gap_text g; kind = k; text = text }
 
 -- a word
-abbrev pub word : Gap → List ℕ → Piece
-word g text = token g kind.Word text
+abbrev pub word_piece : Gap → List ℕ → Piece
+word_piece g text = token_piece g kind.Word text
 
 -- a mark
-abbrev pub mark : Gap → Mark → Piece
-mark g m = token g kind.Mark (mark_text m)
+abbrev pub mark_piece : Gap → Mark → Piece
+mark_piece g m = token_piece g kind.Mark (mark_text m)
 
 -- a number in decimal digits
-abbrev pub number : Gap → ℕ → Piece
-number g n = token g kind.Number (decimal n)
+abbrev pub number_piece : Gap → ℕ → Piece
+number_piece g n = token_piece g kind.Number (decimal n)
 
 -- a number with a sign where it is below 0: the sign is a token of its own
-abbrev pub signed_number : Gap → ℤ → List Piece
-signed_number g (pos n) = number g n ∷ []
-signed_number g (negsuc n) = mark g mark_of.Minus ∷ number gap.Nothing (suc n) ∷ []
+abbrev pub signed_number_pieces : Gap → ℤ → List Piece
+signed_number_pieces g (pos n) = number_piece g n ∷ []
+signed_number_pieces g (negsuc n) = mark_piece g mark_of.Minus ∷ number_piece gap.Nothing (suc n) ∷ []
 
 -- a name in double quotes
-abbrev pub quoted : Gap → List ℕ → Piece
-quoted g name = token g kind.Quoted (double_quote ∷ (name ++ double_quote ∷ []))
+abbrev pub quoted_piece : Gap → List ℕ → Piece
+quoted_piece g name = token_piece g kind.Quoted (double_quote ∷ (name ++ double_quote ∷ []))
 
 -- a name of the block's own, behind `#`
-abbrev pub local : Gap → List ℕ → Piece
-local g name = token g kind.Local (hash ∷ name)
+abbrev pub local_piece : Gap → List ℕ → Piece
+local_piece g name = token_piece g kind.Local (hash ∷ name)

@@ -13,7 +13,7 @@ use Rattle.stl_ast.specs.declared.declarations.ElementType.TheVariants as elemen
 use Rattle.stl_ast.specs.declared.declarations.TypeTree.{TypeTree}
 use Rattle.stl_ast.specs.declared.names.BlockName.{BlockName}
 use Rattle.stl_lexer.specs.Bytes.{newline}
-use Rattle.stl_lexer.specs.Pieces.{Piece, spelled}
+use Rattle.stl_lexer.specs.Pieces.{Piece, text_of_pieces}
 use Rattle.stl_parser.specs.declared.clauses.Clause.{Clause}
 use Rattle.stl_parser.specs.declared.clauses.Clause.TheVariants as clause
 use Rattle.stl_print.specs.Clauses.{pieces_from}
@@ -23,18 +23,18 @@ abbrev pub structure_ends : ℕ → List Clause
 structure_ends count = replicate count clause.EndStructure
 
 -- declarations, where so many structures are open: each closes those that it doesn't stand in, and the last one all
-abbrev pub declared_from : (level : ℕ) → List Declaration → List Clause
-declared_from level [] = structure_ends level
-declared_from level (d ∷ ds) =
-    structure_ends (level - d.level) ++ (clause.Declares d ∷ declared_from (level_behind d.level d.of.of) ds)
+abbrev pub declaration_clauses_from : (level : ℕ) → List Declaration → List Clause
+declaration_clauses_from level [] = structure_ends level
+declaration_clauses_from level (d ∷ ds) =
+    structure_ends (level - d.level) ++ (clause.Declares d ∷ declaration_clauses_from (level_behind d.level d.of.of) ds)
 
 -- a section, from its word to END_VAR
 unfoldable pub part_clauses : Part → List Clause
-part_clauses p = clause.Section p.line p.kind ∷ (declared_from 0 p.items ++ clause.EndSection ∷ [])
+part_clauses p = clause.Section p.line p.kind ∷ (declaration_clauses_from 0 p.items ++ clause.EndSection ∷ [])
 
 -- the type of a block: a structure with its components, or a user-defined data type; a block has no other
 unfoldable pub type_clauses : ElementType → List Declaration → List Clause
-type_clauses element.Structure components = clause.Structure ∷ (declared_from 0 components ++ clause.EndStructure ∷ [])
+type_clauses element.Structure components = clause.Structure ∷ (declaration_clauses_from 0 components ++ clause.EndStructure ∷ [])
 type_clauses (element.Udt name) components = clause.Based name ∷ []
 type_clauses _ components = []
 
@@ -62,14 +62,14 @@ block_clauses b =
     ++ clause.Ends b.end_line b.kind ∷ []))))))
 
 -- the tokens of a tree, each with its gap
-unfoldable pub pieces : Tree → List Piece
-pieces t = pieces_from 0 (flat_map block_clauses t.blocks)
+unfoldable pub pieces_of_tree : Tree → List Piece
+pieces_of_tree t = pieces_from 0 (flat_map block_clauses t.blocks)
 
 -- what stands behind the last token: the end of its line, where there is one
-abbrev pub end_of : List Block → List ℕ
-end_of [] = []
-end_of (b ∷ bs) = newline ∷ []
+abbrev pub end_of_text : List Block → List ℕ
+end_of_text [] = []
+end_of_text (b ∷ bs) = newline ∷ []
 
 -- a tree as text
-unfoldable pub printed : Tree → List ℕ
-printed t = spelled (pieces t) (end_of t.blocks)
+unfoldable pub printed_text : Tree → List ℕ
+printed_text t = text_of_pieces (pieces_of_tree t) (end_of_text t.blocks)

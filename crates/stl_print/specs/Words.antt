@@ -99,8 +99,8 @@ size_letter area width.Bit = bit_letter area
 size_letter area w = width_letter w
 
 -- the letters of an address
-abbrev pub address_letters : Letters → Width → List ℕ
-address_letters area w = area_letters area ++ size_letter area w
+abbrev pub letters_of_address : Letters → Width → List ℕ
+letters_of_address area w = area_letters area ++ size_letter area w
 
 -- the letters of what has a number that memory can give
 unfoldable pub numbered_letters : Numbered → List ℕ

@@ -7,7 +7,7 @@ ghost use Rattle.stl_print.specs.Clauses.{with_clauses};
 ghost use Rattle.stl_print.specs.Trees.{
   begin_clauses,
   block_clauses,
-  declared_from,
+  declaration_clauses_from,
   instance_clauses,
   part_clauses,
   shape_clauses,
@@ -39,7 +39,7 @@ fn append_declarations(
     out: &mut Vec<u8>,
 ) -> Result<u32, NoMemory>
     ensures { IfOk result (λ behind. (behind, out.new.items)
-        ≡ with_clauses (reached, out.old.items) (declared_from 0 declarations.now)) }
+        ≡ with_clauses (reached, out.old.items) (declaration_clauses_from 0 declarations.now)) }
 {
     let mut line = reached;
     let mut level: u64 = 0;
@@ -84,7 +84,7 @@ fn append_components(
     out: &mut Vec<u8>,
 ) -> Result<u32, NoMemory>
     ensures { IfOk result (λ behind. (behind, out.new.items)
-        ≡ with_clauses (reached, out.old.items) (clause.Structure ∷ (declared_from 0 components.now ++ clause.EndStructure ∷ []))) }
+        ≡ with_clauses (reached, out.old.items) (clause.Structure ∷ (declaration_clauses_from 0 components.now ++ clause.EndStructure ∷ []))) }
 {
     let line = append_structure(reached, out)?;
     let line = append_declarations(components, line, out)?;

@@ -1,7 +1,7 @@
 ghost use Rattle.std.specs.Prelude.{◌≡◌, ◌≤◌, ◌++◌, ◌∷◌, [], codes, decimal, OnOk};
 ghost use Rattle.std.specs.Fmt.{signed_decimal};
 ghost use Rattle.stl_lexer.specs.Bytes.{single_quote};
-ghost use Rattle.stl_print.specs.Digits.{digits};
+ghost use Rattle.stl_print.specs.Digits.{digits_in_base};
 ghost use Rattle.stl_print.specs.Gaps.{gap_text};
 ghost use Rattle.stl_print.specs.Literals.{further_bytes, listed_bytes, literal_pieces};
 ghost use Rattle.stl_print.specs.Pieces.{with_pieces};
@@ -27,7 +27,7 @@ fn append_hexadecimal(
 ) -> Result<(), NoMemory>
     requires { count ≤ 8 }
     ensures { OnOk result (out.new.items
-        ≡ (out.old.items ++ gap_text gap) ++ (prefix.now ++ digits 16 count value)) }
+        ≡ (out.old.items ++ gap_text gap) ++ (prefix.now ++ digits_in_base 16 count value)) }
 {
     append_token(gap, prefix, out)?;
     append_hex_digits(count, value, out)
@@ -35,7 +35,7 @@ fn append_hexadecimal(
 
 fn append_binary(gap: Gap, value: u32, out: &mut Vec<u8>) -> Result<(), NoMemory>
     ensures { OnOk result (out.new.items
-        ≡ (out.old.items ++ gap_text gap) ++ (codes "2#" ++ digits 2 32 value)) }
+        ≡ (out.old.items ++ gap_text gap) ++ (codes "2#" ++ digits_in_base 2 32 value)) }
 {
     append_token(gap, b"2#", out)?;
     append_binary_digits(32, value, out)

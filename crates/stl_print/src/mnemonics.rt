@@ -1,5 +1,5 @@
 ghost use Rattle.std.specs.Prelude.{◌≡◌, ◌++◌, OnOk};
-ghost use Rattle.stl_print.specs.Mnemonics.{spelling, spelling_pieces, spelling_text};
+ghost use Rattle.stl_print.specs.Mnemonics.{mnemonic_spelling, spelling_pieces, spelling_text};
 ghost use Rattle.stl_print.specs.Pieces.{with_pieces};
 
 use crate::gaps::Gap;
@@ -8,9 +8,9 @@ use plc_base::NoMemory;
 use stl_ast::Mnemonic;
 
 /// An instruction word as it is written.
-#[tactic(auto, unfolding(crate::specs::Mnemonics::spelling, stl_lexer::specs::Marks::mark_text))]
+#[tactic(auto, unfolding(crate::specs::Mnemonics::mnemonic_spelling, stl_lexer::specs::Marks::mark_text))]
 fn mnemonic_text(code: Mnemonic) -> &'static [u8]
-    ensures { result.now ≡ spelling_text (spelling code) }
+    ensures { result.now ≡ spelling_text (mnemonic_spelling code) }
 {
     match code {
         Mnemonic::Empty => b";",
@@ -147,7 +147,7 @@ fn mnemonic_text(code: Mnemonic) -> &'static [u8]
 #[tactic(auto, using(crate::proofs::PieceLemmas::spelling_piece))]
 pub(crate) fn append_mnemonic(gap: Gap, code: Mnemonic, out: &mut Vec<u8>) -> Result<(), NoMemory>
     ensures { OnOk result (out.new.items
-        ≡ with_pieces out.old.items (spelling_pieces gap (spelling code))) }
+        ≡ with_pieces out.old.items (spelling_pieces gap (mnemonic_spelling code))) }
 {
     append_token(gap, mnemonic_text(code), out)
 }

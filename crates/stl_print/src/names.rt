@@ -1,5 +1,5 @@
 ghost use Rattle.std.specs.Prelude.{◌≡◌, ◌++◌, OnOk};
-ghost use Rattle.stl_print.specs.Names.{block_name, first_step, index, path_pieces, step_pieces, steps_pieces};
+ghost use Rattle.stl_print.specs.Names.{block_name_pieces, first_step_pieces, index_pieces, path_pieces, step_pieces, steps_pieces};
 ghost use Rattle.stl_print.specs.Pieces.{with_pieces};
 
 use crate::gaps::Gap;
@@ -12,13 +12,13 @@ use stl_ast::{BlockName, PathStep};
 use stl_lexer::Mark;
 
 /// Appends the name of a block behind a gap.
-#[tactic(auto, unfolding(crate::specs::Names::block_name))]
+#[tactic(auto, unfolding(crate::specs::Names::block_name_pieces))]
 pub(crate) fn append_block_name(
     gap: Gap,
     name: &BlockName,
     out: &mut Vec<u8>,
 ) -> Result<(), NoMemory>
-    ensures { OnOk result (out.new.items ≡ with_pieces out.old.items (block_name gap name.now)) }
+    ensures { OnOk result (out.new.items ≡ with_pieces out.old.items (block_name_pieces gap name.now)) }
 {
     match name {
         BlockName::Number { id } => {
@@ -30,7 +30,7 @@ pub(crate) fn append_block_name(
 }
 
 fn append_index(gap: Gap, at: i32, out: &mut Vec<u8>) -> Result<(), NoMemory>
-    ensures { OnOk result (out.new.items ≡ with_pieces out.old.items (index gap at)) }
+    ensures { OnOk result (out.new.items ≡ with_pieces out.old.items (index_pieces gap at)) }
 {
     append_mark(gap, Mark::OpenBracket, out)?;
     append_signed_number(Gap::Nothing, at, out)?;
@@ -62,9 +62,9 @@ pub(crate) fn append_steps(steps: &[PathStep], out: &mut Vec<u8>) -> Result<(), 
     Ok(())
 }
 
-#[tactic(auto, unfolding(crate::specs::Names::first_step))]
+#[tactic(auto, unfolding(crate::specs::Names::first_step_pieces))]
 fn append_first_step(gap: Gap, step: &PathStep, out: &mut Vec<u8>) -> Result<(), NoMemory>
-    ensures { OnOk result (out.new.items ≡ with_pieces out.old.items (first_step gap step.now)) }
+    ensures { OnOk result (out.new.items ≡ with_pieces out.old.items (first_step_pieces gap step.now)) }
 {
     match step {
         PathStep::Named { name } => append_token(gap, name.as_bytes(), out),

@@ -1,22 +1,22 @@
 ghost use Rattle.std.specs.Prelude.{◌≡◌, ◌++◌, ◌∷◌, [], codes, decimal, OnOk};
 ghost use Rattle.stl_print.specs.Gaps.{gap_text};
 ghost use Rattle.stl_print.specs.Operands.{
-  address,
+  address_pieces,
   bit_pieces,
-  by_register,
-  direct,
-  in_memory,
-  in_register,
+  register_operand_pieces,
+  direct_pieces,
+  memory_pointer_pieces,
+  register_pointer_pieces,
   instance_pieces,
-  numbered,
-  opened,
+  numbered_pieces,
+  opened_block_pieces,
   operand_pieces,
-  path_head,
-  pointer,
-  pointer_byte,
+  path_head_pieces,
+  pointer_pieces,
+  pointer_byte_pieces,
 };
 ghost use Rattle.stl_print.specs.Pieces.{with_pieces};
-ghost use Rattle.stl_print.specs.Words.{address_letters};
+ghost use Rattle.stl_print.specs.Words.{letters_of_address};
 
 use crate::gaps::Gap;
 use crate::literals::append_literal;
@@ -32,14 +32,14 @@ use stl_lexer::Mark;
 
 fn append_letters(gap: Gap, area: Letters, width: Width, out: &mut Vec<u8>) -> Result<(), NoMemory>
     ensures { OnOk result (out.new.items
-        ≡ (out.old.items ++ gap_text gap) ++ (address_letters area width)) }
+        ≡ (out.old.items ++ gap_text gap) ++ (letters_of_address area width)) }
 {
     append_prefixed(gap, area_letters(area), size_letter(area, width), out)
 }
 
 fn append_numbered(gap: Gap, letters: &[u8], number: u16, out: &mut Vec<u8>) -> Result<(), NoMemory>
     ensures { OnOk result (out.new.items
-        ≡ with_pieces out.old.items (numbered gap letters.now number)) }
+        ≡ with_pieces out.old.items (numbered_pieces gap letters.now number)) }
 {
     append_token(gap, letters, out)?;
     append_number(Gap::Blank, u32::from(number), out)
@@ -53,7 +53,7 @@ fn append_byte_address(
     out: &mut Vec<u8>,
 ) -> Result<(), NoMemory>
     ensures { OnOk result (out.new.items
-        ≡ with_pieces out.old.items (numbered gap (address_letters area width) byte)) }
+        ≡ with_pieces out.old.items (numbered_pieces gap (letters_of_address area width) byte)) }
 {
     append_letters(gap, area, width, out)?;
     append_number(Gap::Blank, u32::from(byte), out)
@@ -82,15 +82,15 @@ pub fn append_address(
     out: &mut Vec<u8>,
 ) -> Result<(), NoMemory>
     ensures { OnOk result (out.new.items
-        ≡ with_pieces out.old.items (address gap area width byte bit)) }
+        ≡ with_pieces out.old.items (address_pieces gap area width byte bit)) }
 {
     append_byte_address(gap, area, width, byte, out)?;
     append_bit(width, bit, out)
 }
 
-#[tactic(auto, unfolding(crate::specs::Operands::path_head))]
+#[tactic(auto, unfolding(crate::specs::Operands::path_head_pieces))]
 fn append_path_head(gap: Gap, head: &PathHead, out: &mut Vec<u8>) -> Result<(), NoMemory>
-    ensures { OnOk result (out.new.items ≡ with_pieces out.old.items (path_head gap head.now)) }
+    ensures { OnOk result (out.new.items ≡ with_pieces out.old.items (path_head_pieces gap head.now)) }
 {
     match head {
         PathHead::Local { name } => append_local(gap, name.as_bytes(), out),
@@ -105,7 +105,7 @@ fn append_in_memory(
     byte: u16,
     out: &mut Vec<u8>,
 ) -> Result<(), NoMemory>
-    ensures { OnOk result (out.new.items ≡ with_pieces out.old.items (in_memory from width byte)) }
+    ensures { OnOk result (out.new.items ≡ with_pieces out.old.items (memory_pointer_pieces from width byte)) }
 {
     append_mark(Gap::Blank, Mark::OpenBracket, out)?;
     append_byte_address(Gap::Nothing, from, width, byte, out)?;
@@ -122,7 +122,7 @@ fn append_register(register: u8, out: &mut Vec<u8>) -> Result<(), NoMemory>
 
 fn append_in_register(gap: Gap, register: u8, bits: u32, out: &mut Vec<u8>) -> Result<(), NoMemory>
     ensures { OnOk result (out.new.items
-        ≡ with_pieces out.old.items (in_register gap register bits)) }
+        ≡ with_pieces out.old.items (register_pointer_pieces gap register bits)) }
 {
     append_mark(gap, Mark::OpenBracket, out)?;
     append_register(register, out)?;
@@ -134,7 +134,7 @@ fn append_in_register(gap: Gap, register: u8, bits: u32, out: &mut Vec<u8>) -> R
     append_mark(Gap::Nothing, Mark::CloseBracket, out)
 }
 
-#[tactic(auto, unfolding(crate::specs::Operands::by_register))]
+#[tactic(auto, unfolding(crate::specs::Operands::register_operand_pieces))]
 fn append_by_register(
     gap: Gap,
     area: Option<Letters>,
@@ -144,7 +144,7 @@ fn append_by_register(
     out: &mut Vec<u8>,
 ) -> Result<(), NoMemory>
     ensures { OnOk result (out.new.items
-        ≡ with_pieces out.old.items (by_register gap area width register bits)) }
+        ≡ with_pieces out.old.items (register_operand_pieces gap area width register bits)) }
 {
     match (area, width) {
         (Some(area), _) => append_letters(gap, area, width, out)?,
@@ -154,9 +154,9 @@ fn append_by_register(
     append_in_register(Gap::Blank, register, bits, out)
 }
 
-#[tactic(auto, unfolding(crate::specs::Operands::pointer_byte))]
+#[tactic(auto, unfolding(crate::specs::Operands::pointer_byte_pieces))]
 fn append_pointer_byte(area: Option<Letters>, byte: u16, out: &mut Vec<u8>) -> Result<(), NoMemory>
-    ensures { OnOk result (out.new.items ≡ with_pieces out.old.items (pointer_byte area byte)) }
+    ensures { OnOk result (out.new.items ≡ with_pieces out.old.items (pointer_byte_pieces area byte)) }
 {
     match area {
         None => append_number(Gap::Nothing, u32::from(byte), out),
@@ -171,7 +171,7 @@ fn append_pointer(
     bit: u8,
     out: &mut Vec<u8>,
 ) -> Result<(), NoMemory>
-    ensures { OnOk result (out.new.items ≡ with_pieces out.old.items (pointer gap area byte bit)) }
+    ensures { OnOk result (out.new.items ≡ with_pieces out.old.items (pointer_pieces gap area byte bit)) }
 {
     append_mark(gap, Mark::Pointer, out)?;
     append_pointer_byte(area, byte, out)?;
@@ -179,7 +179,7 @@ fn append_pointer(
     append_number(Gap::Nothing, u32::from(bit), out)
 }
 
-#[tactic(auto, unfolding(crate::specs::Operands::direct))]
+#[tactic(auto, unfolding(crate::specs::Operands::direct_pieces))]
 fn append_direct(
     gap: Gap,
     block: &Option<BlockName>,
@@ -190,7 +190,7 @@ fn append_direct(
     out: &mut Vec<u8>,
 ) -> Result<(), NoMemory>
     ensures { OnOk result (out.new.items
-        ≡ with_pieces out.old.items (direct gap block.now area width byte bit)) }
+        ≡ with_pieces out.old.items (direct_pieces gap block.now area width byte bit)) }
 {
     match block {
         None => append_address(gap, area, width, byte, bit, out),
@@ -202,9 +202,9 @@ fn append_direct(
     }
 }
 
-#[tactic(auto, unfolding(crate::specs::Operands::opened))]
+#[tactic(auto, unfolding(crate::specs::Operands::opened_block_pieces))]
 fn append_opened(gap: Gap, di: bool, name: &BlockName, out: &mut Vec<u8>) -> Result<(), NoMemory>
-    ensures { OnOk result (out.new.items ≡ with_pieces out.old.items (opened gap di name.now)) }
+    ensures { OnOk result (out.new.items ≡ with_pieces out.old.items (opened_block_pieces gap di name.now)) }
 {
     if !di {
         return append_block_name(gap, name, out);

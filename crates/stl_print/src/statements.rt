@@ -1,5 +1,5 @@
 ghost use Rattle.std.specs.Prelude.{◌≡◌, ◌++◌, OnOk};
-ghost use Rattle.stl_ast.specs.Statements.{is_empty};
+ghost use Rattle.stl_ast.specs.Statements.{is_empty_statement};
 ghost use Rattle.stl_print.specs.Pieces.{with_pieces};
 ghost use Rattle.stl_print.specs.Statements.{
   actual_pieces,
@@ -56,7 +56,7 @@ fn append_actuals(actuals: &[Actual], out: &mut Vec<u8>) -> Result<(), NoMemory>
 }
 
 fn is_empty(code: Mnemonic) -> bool
-    ensures { result ≡ is_empty code }
+    ensures { result ≡ is_empty_statement code }
 {
     matches!(code, Mnemonic::Empty)
 }

@@ -2,7 +2,7 @@ ghost use Rattle.std.specs.Prelude.{◌≡◌, ◌++◌, ◌∷◌, [], decimal,
 ghost use Rattle.stl_lexer.specs.Bytes.{double_quote, hash};
 ghost use Rattle.stl_lexer.specs.Marks.{mark_text as text_of_mark};
 ghost use Rattle.stl_print.specs.Gaps.{gap_text};
-ghost use Rattle.stl_print.specs.Pieces.{signed_number, with_pieces};
+ghost use Rattle.stl_print.specs.Pieces.{signed_number_pieces, with_pieces};
 
 use crate::gaps::{Gap, append_gap};
 use itoa::Buffer;
@@ -66,7 +66,7 @@ pub(crate) fn append_number(gap: Gap, number: u32, out: &mut Vec<u8>) -> Result<
 #[tactic(auto, using(crate::proofs::PieceLemmas::signed_piece))]
 pub(crate) fn append_signed_number(gap: Gap, number: i32, out: &mut Vec<u8>) -> Result<(), NoMemory>
     ensures { OnOk result (out.new.items
-        ≡ with_pieces out.old.items (signed_number gap number)) }
+        ≡ with_pieces out.old.items (signed_number_pieces gap number)) }
 {
     let mut buffer = Buffer::new();
     append_token(gap, buffer.format(number).as_bytes(), out)

@@ -1,5 +1,5 @@
 ghost use Rattle.std.specs.Prelude.{◌≡◌, ◌++◌, IfOk, OnOk};
-ghost use Rattle.stl_print.specs.Trees.{end_of, printed};
+ghost use Rattle.stl_print.specs.Trees.{end_of_text, printed_text};
 
 use crate::blocks::append_blocks;
 use plc_base::NoMemory;
@@ -8,7 +8,7 @@ use stl_ast::{Block, Tree};
 
 /// Appends the end of the last line, where there is one.
 fn append_last_end(blocks: &[Block], out: &mut Vec<u8>) -> Result<(), NoMemory>
-    ensures { OnOk result (out.new.items ≡ out.old.items ++ end_of blocks.now) }
+    ensures { OnOk result (out.new.items ≡ out.old.items ++ end_of_text blocks.now) }
 {
     match blocks {
         [] => Ok(()),
@@ -24,7 +24,7 @@ fn append_last_end(blocks: &[Block], out: &mut Vec<u8>) -> Result<(), NoMemory>
 ///
 /// `NoMemory` for want of memory.
 pub fn print(alloc: Global, tree: &Tree) -> Result<Vec<u8>, NoMemory>
-    ensures { IfOk result (λ text. text.items ≡ printed tree.now) }
+    ensures { IfOk result (λ text. text.items ≡ printed_text tree.now) }
 {
     let blocks = tree.blocks.as_slice();
     let mut text = Vec::new(alloc);

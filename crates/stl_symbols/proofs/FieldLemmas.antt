@@ -10,7 +10,7 @@ use Rattle.csv.specs.declared.parser.State.{State}
 use Rattle.csv.specs.declared.parser.State.TheVariants as state
 use Rattle.csv.specs.declared.parser.Action.{Action}
 use Rattle.csv.specs.declared.parser.Action.TheVariants as action
-use Rattle.stl_symbols.specs.Line.{alone, columns_of}
+use Rattle.stl_symbols.specs.Line.{lone_record, columns_of}
 use Rattle.stl_symbols.specs.Fields.{is_line_end, machine_step, record_at_start, record_before, record_from, state_of}
 use Rattle.stl_symbols.specs.declared.fields.Spot.{Spot}
 use Rattle.stl_symbols.specs.declared.fields.Spot.TheVariants as spot
@@ -125,14 +125,14 @@ either true v fields is = rw is refl
 either false v fields is = rw is refl
 
 alone-is : (fields : List (List ℕ)) (s : State) (rest : List ℕ) → is_some (next_record default_config s [] [] rest) ≡ not (list_all is_line_end rest) →
-    alone (Some (fields, s, rest)) ≡ record_before fields rest
+    lone_record (Some (fields, s, rest)) ≡ record_before fields rest
 alone-is fields s rest is = either (list_all is_line_end rest) (is_some (next_record default_config s [] [] rest)) fields is
 
 -- the end of a record
 pub record-ends : (at : Spot) (fields : List (List ℕ)) (field : List ℕ) (c : ℕ) (rest : List ℕ) → csv_step default_config (state_of at) c ≡ machine_step step.EndsRecord c →
     record_from (state_of at) fields field (c ∷ rest) ≡ record_before (fields ++ field ∷ []) rest
 record-ends at fields field c rest is =
-    ap alone (next_record-step (state_of at) fields field c rest (machine_step step.EndsRecord c) is)
+    ap lone_record (next_record-step (state_of at) fields field c rest (machine_step step.EndsRecord c) is)
     ∙ ⊎_elim
     (λ y. rw y (alone-is (fields ++ field ∷ []) state.AfterCr rest (none_behind_return rest)))
     (λ n. rw n (alone-is (fields ++ field ∷ []) state.StartRecord rest (none_behind rest)))
@@ -154,10 +154,10 @@ record_from_start (c ∷ rest) =
     ⊎_elim
     (λ y.
     let len : prefix_len is_line_end (c ∷ rest) ≡ suc (prefix_len is_line_end rest) = grind (arith, y) in
-    ap alone (line_end-passed [] [] c rest y) ∙ record_from_start rest ∙ ap (λ (n : ℕ). record_at_start (drop n (c ∷ rest))) (sym len))
+    ap lone_record (line_end-passed [] [] c rest y) ∙ record_from_start rest ∙ ap (λ (n : ℕ). record_at_start (drop n (c ∷ rest))) (sym len))
     (λ n.
     let len : prefix_len is_line_end (c ∷ rest) ≡ 0 = grind (arith, n) in
-    ap alone (record-starts [] [] c rest n) ∙ ap (λ (k : ℕ). record_at_start (drop k (c ∷ rest))) (sym len))
+    ap lone_record (record-starts [] [] c rest n) ∙ ap (λ (k : ℕ). record_at_start (drop k (c ∷ rest))) (sym len))
     (cases_Bool (is_line_end c))
 
 columns_of-many : (fields : List (List ℕ)) → 4 < length fields → columns_of fields ≡ None
@@ -168,7 +168,7 @@ columns_of-many (a ∷ b ∷ c ∷ []) many = refl
 columns_of-many (a ∷ b ∷ c ∷ d ∷ []) many = absurd (omega (arith, many))
 columns_of-many (a ∷ b ∷ c ∷ d ∷ e ∷ more) many = refl
 
-columns_of-alone : (fields : List (List ℕ)) (o : Option Read) → length fields ≡ 4 → IsLonger fields o → option_and_then columns_of (alone o) ≡ None
+columns_of-alone : (fields : List (List ℕ)) (o : Option Read) → length fields ≡ 4 → IsLonger fields o → option_and_then columns_of (lone_record o) ≡ None
 columns_of-alone fields None four longer = refl
 columns_of-alone fields (Some read) four longer =
     ⊎_elim

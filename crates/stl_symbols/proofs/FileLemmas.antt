@@ -24,11 +24,11 @@ use Rattle.plc_base.specs.declared.places.Width.TheVariants as width
 use Rattle.plc_base.specs.declared.refusals.Refusal.{Refusal}
 use Rattle.plc_base.proofs.DecimalLemmas.{decimal_range}
 use Rattle.plc_base.proofs.ListLemmas.{all_append}
-use Rattle.stl_symbols.specs.Address.{address_letters, address_of, bit_address, bit_behind, has_type, look_up, number_of, numbered, spelled, variable}
-use Rattle.stl_symbols.specs.Laws.{AreApart, AreSymbols, Passes, SymbolsAreRight}
-use Rattle.stl_symbols.specs.Line.{Columns, alone, columns, columns_of, only_record}
-use Rattle.stl_symbols.specs.Symbol.{IsFirstBit, IsSymbol, IsTarget, IsVariable, Symbol, has_symbols, symbol_named}
-use Rattle.stl_symbols.specs.Symbols.{and_then_lines, declaration, declaration_of, declared, is_name, most_symbols, symbols_in, with_columns, with_declaration, with_line, with_lines, with_symbol, without_blanks, without_last_blanks}
+use Rattle.stl_symbols.specs.Address.{address_letters, address_of, bit_address, bit_behind, has_type, letters_spelled_as, number_of_address, numbered_address, letters_in_language, variable_address}
+use Rattle.stl_symbols.specs.Laws.{SymbolNamesDiffer, AreSymbols, EachBytePasses, SymbolsAreRight}
+use Rattle.stl_symbols.specs.Line.{Columns, lone_record, columns_of_line, columns_of, only_record}
+use Rattle.stl_symbols.specs.Symbol.{IsFirstBit, IsSymbol, IsSymbolTarget, IsVariable, Symbol, has_symbols, symbol_named}
+use Rattle.stl_symbols.specs.Symbols.{and_then_lines, symbol_declaration, declaration_in_columns, declared_symbol, is_name, most_symbols, symbols_in, with_columns, with_declaration, with_line, with_lines, with_symbol, without_blanks, without_last_blanks}
 use Rattle.stl_symbols.specs.declared.addresses.Letters.{Letters}
 use Rattle.stl_symbols.specs.declared.addresses.Letters.TheVariants as letters
 use Rattle.stl_symbols.specs.declared.languages.Language.{Language}
@@ -38,24 +38,24 @@ use Rattle.stl_symbols.proofs.FoundLemmas.{chained, found, mapped, passed}
 
 -- what an address declares with a name, if anything
 abbrev Declares : {A : Type 0} → List ℕ → (A → Option Symbol) → A → Type 0
-Declares name view a = IfSome (view a) (λ s. (s.name ≡ name) × IsTarget s.target)
+Declares name view a = IfSome (view a) (λ s. (s.name ≡ name) × IsSymbolTarget s.target)
 
-number_within : (text : List ℕ) → IfSome (number_of text) (λ n. n ≤ 65535)
-number_within text = found (number_of text) (λ n. n ≤ 65535) (decimal_range 65535 text)
+number_within : (text : List ℕ) → IfSome (number_of_address text) (λ n. n ≤ 65535)
+number_within text = found (number_of_address text) (λ n. n ≤ 65535) (decimal_range 65535 text)
 
 bit_within : (text : List ℕ) → IfSome (bit_behind text) (λ bit. bit ≤ 7)
 bit_within [] = tt
 bit_within (point ∷ digits) = found (bit_behind (point ∷ digits)) (λ bit. bit ≤ 7) (decimal_range 7 digits)
 
 bit_named : (name : List ℕ) (a : Area) (text : List ℕ) → has_symbols a ≡ true
-    → IfSome (bit_address a text) (Declares name (declared name))
+    → IfSome (bit_address a text) (Declares name (declared_symbol name))
 unfolding bit_address
 bit_named name a text has =
     let point = prefix_len (λ b. not (b == 46)) text in
-    chained (number_of (take point text)) _ (λ byte. byte ≤ 65535) (Declares name (declared name))
+    chained (number_of_address (take point text)) _ (λ byte. byte ≤ 65535) (Declares name (declared_symbol name))
     (number_within (take point text))
     (λ byte low.
-    mapped (bit_behind (drop point text)) _ (λ bit. bit ≤ 7) (Declares name (declared name))
+    mapped (bit_behind (drop point text)) _ (λ bit. bit ≤ 7) (Declares name (declared_symbol name))
     (bit_within (drop point text))
     (λ bit few. (refl, record { area = has; number = refl; byte = low; bit = few })))
 
@@ -66,9 +66,9 @@ first_bit width.Word = refl
 first_bit width.Dword = refl
 
 byte_named : (name : List ℕ) (a : Area) (w : Width) (text : List ℕ) → has_symbols a ≡ true
-    → IfSome (option_map (λ n. variable a w n 0) (number_of text)) (Declares name (declared name))
+    → IfSome (option_map (λ n. variable_address a w n 0) (number_of_address text)) (Declares name (declared_symbol name))
 byte_named name a w text has =
-    mapped (number_of text) _ (λ n. n ≤ 65535) (Declares name (declared name)) (number_within text)
+    mapped (number_of_address text) _ (λ n. n ≤ 65535) (Declares name (declared_symbol name)) (number_within text)
     (λ n low. (refl, record { area = has; number = refl; byte = low; bit = first_bit w }))
 
 -- the area of letters is one of those that have symbols
@@ -77,33 +77,33 @@ is_right (letters.Variable a w) = has_symbols a
 is_right _ = true
 
 letters_name : (name : List ℕ) (l : Letters) (text : List ℕ) → is_right l ≡ true
-    → IfSome (numbered l text) (Declares name (declared name))
+    → IfSome (numbered_address l text) (Declares name (declared_symbol name))
 letters_name name (letters.Variable a width.Bit) text right = bit_named name a text right
 letters_name name (letters.Variable a width.Byte) text right = byte_named name a width.Byte text right
 letters_name name (letters.Variable a width.Word) text right = byte_named name a width.Word text right
 letters_name name (letters.Variable a width.Dword) text right = byte_named name a width.Dword text right
 letters_name name letters.Timer text right =
-    mapped (number_of text) _ (λ n. n ≤ 65535) (Declares name (declared name)) (number_within text) (λ n low. (refl, low))
+    mapped (number_of_address text) _ (λ n. n ≤ 65535) (Declares name (declared_symbol name)) (number_within text) (λ n low. (refl, low))
 letters_name name letters.Counter text right =
-    mapped (number_of text) _ (λ n. n ≤ 65535) (Declares name (declared name)) (number_within text) (λ n low. (refl, low))
+    mapped (number_of_address text) _ (λ n. n ≤ 65535) (Declares name (declared_symbol name)) (number_within text) (λ n low. (refl, low))
 letters_name name (letters.Block kind) text right =
-    mapped (number_of text) _ (λ n. n ≤ 65535) (Declares name (declared name)) (number_within text) (λ n low. (refl, low))
+    mapped (number_of_address text) _ (λ n. n ≤ 65535) (Declares name (declared_symbol name)) (number_within text) (λ n low. (refl, low))
 letters_name name letters.NoSymbol text right =
-    mapped (number_of text) _ (λ n. n ≤ 65535) (Declares name (declared name)) (number_within text) (λ n low. tt)
+    mapped (number_of_address text) _ (λ n. n ≤ 65535) (Declares name (declared_symbol name)) (number_within text) (λ n low. tt)
 
 -- letters of a table are right where all of them are
 found_right : (language : Language) (table : List (List ℕ × List ℕ × Letters)) (word : List ℕ)
     → AllByRecursion (λ e. is_right e.2 ≡ true) table
-    → IfSome (look_up language table word) (λ l. is_right l ≡ true)
-unfolding look_up
+    → IfSome (letters_spelled_as language table word) (λ l. is_right l ≡ true)
+unfolding letters_spelled_as
 found_right language [] word h = tt
 found_right language (e ∷ es) word h =
-    by (bytes_eq word (spelled language e.0 e.1)) (found_right language es word h.1)
+    by (bytes_eq word (letters_in_language language e.0 e.1)) (found_right language es word h.1)
   where
     by : (t : Bool)
-        → IfSome (option_map (λ f. f.2) (find (λ f. bytes_eq word (spelled language f.0 f.1)) es)) (λ l. is_right l ≡ true)
+        → IfSome (option_map (λ f. f.2) (find (λ f. bytes_eq word (letters_in_language language f.0 f.1)) es)) (λ l. is_right l ≡ true)
         → IfSome (option_map {T = List ℕ × List ℕ × Letters} (λ f. f.2)
-        (cond t (Some e) (find (λ f. bytes_eq word (spelled language f.0 f.1)) es))) (λ l. is_right l ≡ true)
+        (cond t (Some e) (find (λ f. bytes_eq word (letters_in_language language f.0 f.1)) es))) (λ l. is_right l ≡ true)
     by true more = h.0
     by false more = more
 
@@ -114,12 +114,12 @@ all_right =
     (y, (y, (y, (y, (y, (y, (y, (y, (y, (y, (y, (y, (y, (y, (y, (y, (y, (y, (y, (y, (y, (y, (y, (y, (y, (y, (y, (y, (y, tt)))))))))))))))))))))))))))))
 
 address_named : (language : Language) (name text : List ℕ)
-    → IfSome (address_of language text) (Declares name (declared name))
+    → IfSome (address_of language text) (Declares name (declared_symbol name))
 unfolding address_of
 address_named language name text =
     let digits = prefix_len (λ b. not (is_ascii_digit b)) text in
-    chained (look_up language address_letters (take digits text)) _ (λ l. is_right l ≡ true)
-    (Declares name (declared name)) (found_right language address_letters (take digits text) all_right)
+    chained (letters_spelled_as language address_letters (take digits text)) _ (λ l. is_right l ≡ true)
+    (Declares name (declared_symbol name)) (found_right language address_letters (take digits text) all_right)
     (λ l right. letters_name name l (drop digits text) right)
 
 -- ---- what a line declares
@@ -167,7 +167,7 @@ taken P (suc n) (x ∷ xs) h = (h.0, taken P n xs h.1)
 
 symbol_named_by : (P : ℕ → Type 0) (field : List ℕ) (o : Option Symbol)
     → is_name (without_last_blanks field) ≡ true → AllByRecursion P field
-    → IfSome o (λ s. (s.name ≡ without_last_blanks field) × IsTarget s.target)
+    → IfSome o (λ s. (s.name ≡ without_last_blanks field) × IsSymbolTarget s.target)
     → IfSome o (IsLineSymbol P)
 unfolding without_last_blanks
 symbol_named_by P field None named bytes at = tt
@@ -190,19 +190,19 @@ symbol_named_by P field (Some s) named bytes at =
     }
 
 line_named : (language : Language) (P : ℕ → Type 0) (line : Columns) → AllByRecursion P line.name
-    → IfSome (declaration_of language line) (λ d. IfSome d (IsLineSymbol P))
-unfolding declaration_of
+    → IfSome (declaration_in_columns language line) (λ d. IfSome d (IsLineSymbol P))
+unfolding declaration_in_columns
 line_named language P line bytes =
     let name = without_last_blanks line.name in
     let address = without_blanks line.address in
     let kind = without_last_blanks line.kind in
     passed (is_name name) _ (λ d. IfSome d (IsLineSymbol P))
     (λ named.
-    chained (address_of language address) _ (Declares name (declared name))
+    chained (address_of language address) _ (Declares name (declared_symbol name))
     (λ d. IfSome d (IsLineSymbol P)) (address_named language name address)
     (λ a at.
-    passed (has_type a kind) (Some (declared name a)) (λ d. IfSome d (IsLineSymbol P))
-    (λ typed. symbol_named_by P line.name (declared name a) named bytes at)))
+    passed (has_type a kind) (Some (declared_symbol name a)) (λ d. IfSome d (IsLineSymbol P))
+    (λ typed. symbol_named_by P line.name (declared_symbol name a) named bytes at)))
 
 -- ---- the bytes of lines and of their fields
 
@@ -302,7 +302,7 @@ bare P (a ∷ b ∷ c ∷ rest) h = by (is_bom a b c)
     by false = h
 
 alone_keeps : (P : ℕ → Type 0) (o : Option Read) → IfSome o (λ r. AllByRecursion (AllByRecursion P) r.0)
-    → IfSome (alone o) (λ fields. AllByRecursion (AllByRecursion P) fields)
+    → IfSome (lone_record o) (λ fields. AllByRecursion (AllByRecursion P) fields)
 alone_keeps P None h = tt
 alone_keeps P (Some r) h = by (is_some (next_record default_config r.1 [] [] r.2))
   where
@@ -320,8 +320,8 @@ columns_keep P (name ∷ place ∷ kind ∷ comment ∷ []) h = h.0
 columns_keep P (name ∷ place ∷ kind ∷ comment ∷ other ∷ more) h = tt
 
 name_column : (P : ℕ → Type 0) (line : List ℕ) → AllByRecursion P line
-    → IfSome (columns line) (λ c. AllByRecursion P c.name)
-unfolding columns only_record
+    → IfSome (columns_of_line line) (λ c. AllByRecursion P c.name)
+unfolding columns_of_line only_record
 name_column P line h =
     chained (only_record line) columns_of (λ fields. AllByRecursion (AllByRecursion P) fields)
     (λ c. AllByRecursion P c.name)
@@ -334,10 +334,10 @@ name_column P line h =
 record AreFileSymbols (P : ℕ → Type 0) (symbols : List Symbol) : Type 0 where
   few : length symbols ≤ 65535
   each : AllByRecursion (IsLineSymbol P) symbols
-  apart : AreApart symbols
+  apart : SymbolNamesDiffer symbols
 
-apart_push : (xs : List Symbol) (y : Symbol) → AreApart xs
-    → AllByRecursion (λ x. is_same_name y.name x.name ≡ false) xs → AreApart (xs ++ y ∷ [])
+apart_push : (xs : List Symbol) (y : Symbol) → SymbolNamesDiffer xs
+    → AllByRecursion (λ x. is_same_name y.name x.name ≡ false) xs → SymbolNamesDiffer (xs ++ y ∷ [])
 apart_push [] y h k = (tt, tt)
 apart_push (x ∷ xs) y h k =
     (all_append (λ z. is_same_name z.name x.name ≡ false) xs (y ∷ []) h.0 (k.0, tt), apart_push xs y h.1 k.1)
@@ -387,14 +387,14 @@ columns_added : (language : Language) (P : ℕ → Type 0) (xs : List Symbol) (o
     → IfSome o (λ c. AllByRecursion P c.name) → IfOk (with_columns language xs o) (AreFileSymbols P)
 columns_added language P xs None are h = tt
 columns_added language P xs (Some c) are h =
-    declaration_added P xs (declaration_of language c) are (line_named language P c h)
+    declaration_added P xs (declaration_in_columns language c) are (line_named language P c h)
 
 line_added : (language : Language) (P : ℕ → Type 0) (xs : List Symbol) (line : List ℕ) → AreFileSymbols P xs
     → AllByRecursion P line → IfOk (with_line language xs line) (AreFileSymbols P)
 unfolding with_line
 line_added language P xs [] are h = are
 line_added language P xs (b ∷ line) are h =
-    columns_added language P xs (columns (b ∷ line)) are (name_column P (b ∷ line) h)
+    columns_added language P xs (columns_of_line (b ∷ line)) are (name_column P (b ∷ line) h)
 
 then_added : (P : ℕ → Type 0) (number : ℕ) (more : List Symbol → Result (List Symbol) Refusal)
     (r : Result (List Symbol) ℕ) → IfOk r (AreFileSymbols P)
@@ -443,7 +443,7 @@ symbols_right language file symbols are =
       each = all_are (IsLineSymbol (λ b. Unit {0})) IsSymbol symbols (λ s h. h.right) kept.each;
       apart = kept.apart;
       bytes = λ test h.
-          all_are (IsLineSymbol (λ b. test b ≡ true)) (λ s. Passes test s.name) symbols (λ s k. k.bytes)
+          all_are (IsLineSymbol (λ b. test b ≡ true)) (λ s. EachBytePasses test s.name) symbols (λ s k. k.bytes)
           (ok_holds (symbols_in language file) symbols (AreFileSymbols (λ b. test b ≡ true)) are
           (file_keeps language (λ b. test b ≡ true) file h)).each;
     }

@@ -12,10 +12,10 @@ use Rattle.std.proofs.lemmas.Cmp.{nat_list_cmp_total, nat_list_eq_equiv}
 use Rattle.std.proofs.lemmas.Map.Text.{is_eq-slice_cmp}
 use Rattle.std.proofs.lemmas.Slice.Eq.{bytes_eq-Decides}
 use Rattle.std.proofs.lemmas.Bool.{cases_Bool, cond-true, cond-false}
-use Rattle.stl_symbols.specs.Names.{place_of}
+use Rattle.stl_symbols.specs.Names.{name_place}
 
 -- a name behind the others
-pub place_more : (q : List ℕ) (ns : List (List ℕ)) (n : List ℕ) → place_of q (ns ++ n ∷ []) ≡ option_or (place_of q ns) (if bytes_eq q n then Some (length ns) else None)
+pub place_more : (q : List ℕ) (ns : List (List ℕ)) (n : List ℕ) → name_place q (ns ++ n ∷ []) ≡ option_or (name_place q ns) (if bytes_eq q n then Some (length ns) else None)
 place_more q [] n = grind arith
 place_more q (m ∷ ns) n = let later = place_more q ns n in grind arith
 
@@ -42,37 +42,37 @@ vec_updates bs m n w h cs =
     (cases_Bool (bytes_eq bs cs))
 
 -- the first place of each name, with a name behind that was there
-pub place_known : (ns : List (List ℕ)) (n : List ℕ) → IsSome (place_of n ns) → (q : List ℕ) → place_of q ns ≡ place_of q (ns ++ n ∷ [])
+pub place_known : (ns : List (List ℕ)) (n : List ℕ) → IsSome (name_place n ns) → (q : List ℕ) → name_place q ns ≡ name_place q (ns ++ n ∷ [])
 place_known ns n known q =
     let more = place_more q ns n in
     ⊎_elim
-    (λ y. let same = (bytes_eq-Decides q n).0 y in let here : IsSome (place_of q ns) = subst (λ (l : List ℕ). IsSome (place_of l ns)) (sym same) known in grind (arith, here, more))
+    (λ y. let same = (bytes_eq-Decides q n).0 y in let here : IsSome (name_place q ns) = subst (λ (l : List ℕ). IsSome (name_place l ns)) (sym same) known in grind (arith, here, more))
     (λ d. grind (arith, more, d))
     (cases_Bool (bytes_eq q n))
 
 -- and with a new one
-pub place_new : (ns : List (List ℕ)) (n : List ℕ) → place_of n ns ≡ None → (q : List ℕ) → cond (bytes_eq n q) (Some (length ns)) (place_of q ns) ≡ place_of q (ns ++ n ∷ [])
+pub place_new : (ns : List (List ℕ)) (n : List ℕ) → name_place n ns ≡ None → (q : List ℕ) → cond (bytes_eq n q) (Some (length ns)) (name_place q ns) ≡ name_place q (ns ++ n ∷ [])
 place_new ns n unknown q =
     let more = place_more q ns n in
     let turned = bytes_symmetric n q in
     ⊎_elim
-    (λ y. let same = (bytes_eq-Decides q n).0 y in let none : place_of q ns ≡ None = subst (λ (l : List ℕ). place_of l ns ≡ None) (sym same) unknown in grind (arith, none, more, turned, y))
+    (λ y. let same = (bytes_eq-Decides q n).0 y in let none : name_place q ns ≡ None = subst (λ (l : List ℕ). name_place l ns ≡ None) (sym same) unknown in grind (arith, none, more, turned, y))
     (λ d. grind (arith, more, d, turned))
     (cases_Bool (bytes_eq q n))
 
 pub known_names : {Y : Type 0} (before : List ℕ → Option ℕ) (old new : List (Vec ℕ Y)) (own : Vec ℕ Y) (name : List ℕ) →
-    ((q : List ℕ) → before q ≡ place_of q (map (λ v. v.items) old)) → IsSome (before name) → own.items ≡ name → new ≡ old ++ own ∷ [] →
-    (q : List ℕ) → before q ≡ place_of q (map (λ v. v.items) new)
+    ((q : List ℕ) → before q ≡ name_place q (map (λ v. v.items) old)) → IsSome (before name) → own.items ≡ name → new ≡ old ++ own ∷ [] →
+    (q : List ℕ) → before q ≡ name_place q (map (λ v. v.items) new)
 known_names before old new own name is_index known own_is new_is q =
     is_index q ∙ place_known (map (λ v. v.items) old) name (subst (λ (o : Option ℕ). IsSome o) (is_index name) known) q
-    ∙ ap (λ (l : List (List ℕ)). place_of q l) (sym (ap (λ (l : List (Vec ℕ _)). map (λ v. v.items) l) new_is ∙ map-append (λ v. v.items) old (own ∷ []) ∙ ap (λ (n : List ℕ). map (λ v. v.items) old ++ n ∷ []) own_is))
+    ∙ ap (λ (l : List (List ℕ)). name_place q l) (sym (ap (λ (l : List (Vec ℕ _)). map (λ v. v.items) l) new_is ∙ map-append (λ v. v.items) old (own ∷ []) ∙ ap (λ (n : List ℕ). map (λ v. v.items) old ++ n ∷ []) own_is))
 
 pub new_names : {Y : Type 0} (before after : List ℕ → Option ℕ) (old new : List (Vec ℕ Y)) (own : Vec ℕ Y) (name : List ℕ) →
-    ((q : List ℕ) → before q ≡ place_of q (map (λ v. v.items) old)) → before name ≡ None → own.items ≡ name → new ≡ old ++ own ∷ [] →
+    ((q : List ℕ) → before q ≡ name_place q (map (λ v. v.items) old)) → before name ≡ None → own.items ≡ name → new ≡ old ++ own ∷ [] →
     ((q : List ℕ) → after q ≡ cond (bytes_eq name q) (Some (length old)) (before q)) →
-    (q : List ℕ) → after q ≡ place_of q (map (λ v. v.items) new)
+    (q : List ℕ) → after q ≡ name_place q (map (λ v. v.items) new)
 new_names before after old new own name is_index unknown own_is new_is updates q =
     updates q ∙ ap (λ (o : Option ℕ). cond (bytes_eq name q) (Some (length old)) o) (is_index q)
-    ∙ ap (λ (n : ℕ). cond (bytes_eq name q) (Some n) (place_of q (map (λ v. v.items) old))) (sym (length-map old (λ v. v.items)))
+    ∙ ap (λ (n : ℕ). cond (bytes_eq name q) (Some n) (name_place q (map (λ v. v.items) old))) (sym (length-map old (λ v. v.items)))
     ∙ place_new (map (λ v. v.items) old) name (sym (is_index name) ∙ unknown) q
-    ∙ ap (λ (l : List (List ℕ)). place_of q l) (sym (ap (λ (l : List (Vec ℕ _)). map (λ v. v.items) l) new_is ∙ map-append (λ v. v.items) old (own ∷ []) ∙ ap (λ (n : List ℕ). map (λ v. v.items) old ++ n ∷ []) own_is))
+    ∙ ap (λ (l : List (List ℕ)). name_place q l) (sym (ap (λ (l : List (Vec ℕ _)). map (λ v. v.items) l) new_is ∙ map-append (λ v. v.items) old (own ∷ []) ∙ ap (λ (n : List ℕ). map (λ v. v.items) old ++ n ∷ []) own_is))

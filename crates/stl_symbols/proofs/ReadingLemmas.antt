@@ -7,17 +7,17 @@ use Rattle.std.proofs.lemmas.Bool.Decides.{nat_tests}
 use Rattle.stl_symbols.specs.Address.{address_of, has_type}
 use Rattle.stl_symbols.specs.Line.{Columns}
 use Rattle.stl_symbols.specs.Symbol.{Symbol}
-use Rattle.stl_symbols.specs.Symbols.{and_then_lines, declaration, declaration_of, declared, is_name, with_line, with_lines, without_blanks, without_last_blanks}
+use Rattle.stl_symbols.specs.Symbols.{and_then_lines, symbol_declaration, declaration_in_columns, declared_symbol, is_name, with_line, with_lines, without_blanks, without_last_blanks}
 use Rattle.stl_symbols.specs.declared.addresses.Address.{Address}
 use Rattle.stl_symbols.specs.declared.addresses.Address.TheVariants.{Names, NoSymbol}
 use Rattle.stl_symbols.specs.declared.languages.Language.{Language}
 
-declared_name : (name : List ℕ) (a : Address) (symbol : Symbol) → declared name a ≡ Some symbol → symbol.name ≡ name
+declared_name : (name : List ℕ) (a : Address) (symbol : Symbol) → declared_symbol name a ≡ Some symbol → symbol.name ≡ name
 declared_name name (Names target) symbol is = cc
 declared_name name NoSymbol symbol is = cc
 
 declaration_name : (name kind : List ℕ) (o : Option Address) (symbol : Symbol) →
-    option_and_then (λ a. if has_type a kind then Some (declared name a) else None) o ≡ Some (Some symbol) → symbol.name ≡ name
+    option_and_then (λ a. if has_type a kind then Some (declared_symbol name a) else None) o ≡ Some (Some symbol) → symbol.name ≡ name
 declaration_name name kind None symbol is = cc
 declaration_name name kind (Some a) symbol is =
     ⊎_elim
@@ -26,7 +26,7 @@ declaration_name name kind (Some a) symbol is =
     (cases_Bool (has_type a kind))
 
 declaration_within : (language : Language) (name address kind : List ℕ) (symbol : Symbol)
-    → declaration language name address kind ≡ Some (Some symbol) → length symbol.name ≤ 24
+    → symbol_declaration language name address kind ≡ Some (Some symbol) → length symbol.name ≤ 24
 declaration_within language name address kind symbol is =
     ⊎_elim
     (λ y. let same = declaration_name name kind (address_of language address) symbol (let h = rw y at is in h) in let len = ap (λ (l : List ℕ). length l) same in grind (arith, nat_tests, y, len))
@@ -34,8 +34,8 @@ declaration_within language name address kind symbol is =
     (cases_Bool (is_name name))
 
 -- the name of a symbol that a line declares is at most so long
-pub short_name : (language : Language) (line : Columns) (symbol : Symbol) → declaration_of language line ≡ Some (Some symbol) → length symbol.name ≤ 24
-unfolding declaration_of
+pub short_name : (language : Language) (line : Columns) (symbol : Symbol) → declaration_in_columns language line ≡ Some (Some symbol) → length symbol.name ≤ 24
+unfolding declaration_in_columns
 short_name language line symbol is = declaration_within language (without_last_blanks line.name) (without_blanks line.address) (without_last_blanks line.kind) symbol is
 
 -- a line that is read

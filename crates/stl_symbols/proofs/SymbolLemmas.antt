@@ -6,7 +6,7 @@ use Rattle.std.proofs.lemmas.Bool.{cases_Bool, false_from_ne_true}
 use Rattle.std.proofs.lemmas.List.{length-map}
 use Rattle.std.proofs.lemmas.Slice.Eq.{bytes_eq-Decides}
 use Rattle.plc_base.specs.Folding.{upper_case_name, is_same_name}
-use Rattle.stl_symbols.specs.Names.{place_of}
+use Rattle.stl_symbols.specs.Names.{name_place}
 use Rattle.stl_symbols.specs.Symbol.{Symbol, symbol_named}
 
 next : (s : Symbol) (list : List Symbol) (o : Option ℕ) → option_and_then (λ k. slice_get list k) o ≡ option_and_then (λ k. slice_get (s ∷ list) k) (option_map (λ k. suc k) o)
@@ -14,13 +14,13 @@ next s list None = refl
 next s list (Some k) = refl
 
 -- the first symbol of a name stands at the first place of its folded name
-pub symbol_placed : (name : List ℕ) (list : List Symbol) → symbol_named name list ≡ option_and_then (λ k. slice_get list k) (place_of (upper_case_name name) (map (λ s. upper_case_name s.name) list))
+pub symbol_placed : (name : List ℕ) (list : List Symbol) → symbol_named name list ≡ option_and_then (λ k. slice_get list k) (name_place (upper_case_name name) (map (λ s. upper_case_name s.name) list))
 unfolding symbol_named
 symbol_placed name [] = refl
 symbol_placed name (s ∷ list) =
     ⊎_elim
     (λ y. rw y refl)
-    (λ n. rw n (symbol_placed name list ∙ next s list (place_of (upper_case_name name) (map (λ t. upper_case_name t.name) list))))
+    (λ n. rw n (symbol_placed name list ∙ next s list (name_place (upper_case_name name) (map (λ t. upper_case_name t.name) list))))
     (cases_Bool (is_same_name name s.name))
 
 same_length : (a b : List ℕ) → is_same_name a b ≡ true → length a ≡ length b

@@ -55,22 +55,22 @@ address_letters =
 
 -- what stands beside the first text of a table that is this word
 -- the letters as a language spells them
-abbrev pub spelled : Language → (english german : List ℕ) → List ℕ
-spelled English english german = english
-spelled German english german = german
+abbrev pub letters_in_language : Language → (english german : List ℕ) → List ℕ
+letters_in_language English english german = english
+letters_in_language German english german = german
 
 -- what stands beside the first letters of a table that a language spells as this word
-unfoldable pub look_up : Language → List (List ℕ × List ℕ × Letters) → List ℕ → Option Letters
-look_up language table word =
-    option_map (λ e. e.2) (find (λ e. bytes_eq word (spelled language e.0 e.1)) table)
+unfoldable pub letters_spelled_as : Language → List (List ℕ × List ℕ × Letters) → List ℕ → Option Letters
+letters_spelled_as language table word =
+    option_map (λ e. e.2) (find (λ e. bytes_eq word (letters_in_language language e.0 e.1)) table)
 
 -- the number of an address, 0 to 65,535
-abbrev pub number_of : List ℕ → Option ℕ
-number_of text = decimal_up_to 65535 text
+abbrev pub number_of_address : List ℕ → Option ℕ
+number_of_address text = decimal_up_to 65535 text
 
 -- a variable of an area, not of a data block
-abbrev pub variable : Area → Width → (byte bit : ℕ) → Address
-variable area width byte bit =
+abbrev pub variable_address : Area → Width → (byte bit : ℕ) → Address
+variable_address area width byte bit =
     Names (Variable (record { area = area; number = 0; byte = byte; bit = bit }) width)
 
 -- the number of a bit, 0 to 7, behind a point
@@ -83,43 +83,43 @@ unfoldable pub bit_address : Area → List ℕ → Option Address
 bit_address area text =
     let point = prefix_len (λ b. not (b == 46)) text in
     option_and_then
-    (λ byte. option_map (λ bit. variable area Bit byte bit) (bit_behind (drop point text)))
-    (number_of (take point text))
+    (λ byte. option_map (λ bit. variable_address area Bit byte bit) (bit_behind (drop point text)))
+    (number_of_address (take point text))
 
 -- the address of letters and what stands behind them
-abbrev pub numbered : Letters → List ℕ → Option Address
-numbered (letters.Variable area Bit) text = bit_address area text
-numbered (letters.Variable area width) text =
-    option_map (λ n. variable area width n 0) (number_of text)
-numbered letters.Timer text = option_map (λ n. Names (Timer n)) (number_of text)
-numbered letters.Counter text = option_map (λ n. Names (Counter n)) (number_of text)
-numbered (letters.Block kind) text =
-    option_map (λ n. Names (Block (record { kind = kind; number = n }))) (number_of text)
-numbered letters.NoSymbol text = option_map (λ n. NoSymbol) (number_of text)
+abbrev pub numbered_address : Letters → List ℕ → Option Address
+numbered_address (letters.Variable area Bit) text = bit_address area text
+numbered_address (letters.Variable area width) text =
+    option_map (λ n. variable_address area width n 0) (number_of_address text)
+numbered_address letters.Timer text = option_map (λ n. Names (Timer n)) (number_of_address text)
+numbered_address letters.Counter text = option_map (λ n. Names (Counter n)) (number_of_address text)
+numbered_address (letters.Block kind) text =
+    option_map (λ n. Names (Block (record { kind = kind; number = n }))) (number_of_address text)
+numbered_address letters.NoSymbol text = option_map (λ n. NoSymbol) (number_of_address text)
 
 -- the address that a text without blanks is in a language
 unfoldable pub address_of : Language → List ℕ → Option Address
 address_of language text =
     let digits = prefix_len (λ b. not (is_ascii_digit b)) text in
-    option_and_then (λ l. numbered l (drop digits text))
-    (look_up language address_letters (take digits text))
+    option_and_then (λ l. numbered_address l (drop digits text))
+    (letters_spelled_as language address_letters (take digits text))
 
 -- the types of a variable, by its width
-unfoldable pub types_of : Width → List (List ℕ)
-types_of Bit = codes "BOOL" ∷ []
-types_of Byte = codes "BYTE" ∷ codes "CHAR" ∷ []
-types_of Word = codes "WORD" ∷ codes "INT" ∷ codes "S5TIME" ∷ codes "DATE" ∷ []
-types_of Dword =
+unfoldable pub type_names_of_width : Width → List (List ℕ)
+type_names_of_width Bit = codes "BOOL" ∷ []
+type_names_of_width Byte = codes "BYTE" ∷ codes "CHAR" ∷ []
+type_names_of_width Word = codes "WORD" ∷ codes "INT" ∷ codes "S5TIME" ∷ codes "DATE" ∷ []
+type_names_of_width Dword =
     codes "DWORD" ∷ codes "DINT" ∷ codes "TIME" ∷ codes "REAL" ∷ codes "TIME_OF_DAY" ∷ []
 
 -- whether a text names one of these types
-abbrev pub is_among : List (List ℕ) → List ℕ → Bool
-is_among types kind = list_any (λ t. bytes_eq kind t) types
+abbrev pub names_type_among : List (List ℕ) → List ℕ → Bool
+names_type_among types kind = list_any (λ t. bytes_eq kind t) types
 
 -- whether an address may have the type of this name; a block's is any text
 unfoldable pub has_type : Address → List ℕ → Bool
-has_type (Names (Variable place width)) kind = is_among (types_of width) kind
-has_type (Names (Timer number)) kind = is_among (codes "TIMER" ∷ []) kind
-has_type (Names (Counter number)) kind = is_among (codes "COUNTER" ∷ []) kind
+has_type (Names (Variable place width)) kind = names_type_among (type_names_of_width width) kind
+has_type (Names (Timer number)) kind = names_type_among (codes "TIMER" ∷ []) kind
+has_type (Names (Counter number)) kind = names_type_among (codes "COUNTER" ∷ []) kind
 has_type (Names (Block id)) kind = true
 has_type NoSymbol kind = true

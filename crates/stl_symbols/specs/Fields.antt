@@ -9,7 +9,7 @@ use Rattle.csv.specs.declared.parser.State.TheVariants as state
 use Rattle.csv.specs.declared.parser.Action.{Action}
 use Rattle.csv.specs.declared.parser.Action.TheVariants as action
 use Rattle.csv.specs.declared.parser.Terminator.TheVariants as terminator
-use Rattle.stl_symbols.specs.Line.{alone}
+use Rattle.stl_symbols.specs.Line.{lone_record}
 use Rattle.stl_symbols.specs.declared.fields.Spot.{Spot}
 use Rattle.stl_symbols.specs.declared.fields.Spot.TheVariants as spot
 use Rattle.stl_symbols.specs.declared.fields.Step.{Step}
@@ -40,7 +40,7 @@ is_line_end byte = byte == 13 || byte == 10
 -- the only record of what is left of a line, with the fields before, and the bytes so far of the
 -- field at hand
 abbrev pub record_from : State → List (List ℕ) → List ℕ → List ℕ → Option (List (List ℕ))
-record_from s fields field left = alone (next_record default_config s fields field left)
+record_from s fields field left = lone_record (next_record default_config s fields field left)
 
 -- the same where the record has these fields, and this is behind it
 abbrev pub record_before : List (List ℕ) → List ℕ → Option (List (List ℕ))

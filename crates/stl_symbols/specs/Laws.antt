@@ -7,22 +7,22 @@ use Rattle.stl_symbols.specs.Symbols.{most_symbols, symbols_in}
 use Rattle.stl_symbols.specs.declared.languages.Language.{Language}
 
 -- no two symbols have one name, whatever the case of its letters
-abbrev pub AreApart : List Symbol → Type 0
-AreApart [] = Unit {0}
-AreApart (x ∷ xs) =
-    AllByRecursion (λ (y : Symbol). is_same_name y.name x.name ≡ false) xs × AreApart xs
+abbrev pub SymbolNamesDiffer : List Symbol → Type 0
+SymbolNamesDiffer [] = Unit {0}
+SymbolNamesDiffer (x ∷ xs) =
+    AllByRecursion (λ (y : Symbol). is_same_name y.name x.name ≡ false) xs × SymbolNamesDiffer xs
 
 -- each byte of a text passes a test
-abbrev pub Passes : (ℕ → Bool) → List ℕ → Type 0
-Passes test text = AllByRecursion (λ b. test b ≡ true) text
+abbrev pub EachBytePasses : (ℕ → Bool) → List ℕ → Type 0
+EachBytePasses test text = AllByRecursion (λ b. test b ≡ true) text
 
 -- these may be the symbols of a file: at most so many, each as a line declares it, no two of one
 -- name, and in their names no byte that the file hasn't
 pub record AreSymbols (file : List ℕ) (symbols : List Symbol) : Type 0 where
   pub few : length symbols ≤ most_symbols
   pub each : AllByRecursion IsSymbol symbols
-  pub apart : AreApart symbols
-  pub bytes : (test : ℕ → Bool) → Passes test file → AllByRecursion (λ s. Passes test s.name) symbols
+  pub apart : SymbolNamesDiffer symbols
+  pub bytes : (test : ℕ → Bool) → EachBytePasses test file → AllByRecursion (λ s. EachBytePasses test s.name) symbols
 
 -- the symbols of a file are such
 abbrev pub SymbolsAreRight : Type 0

@@ -6,14 +6,14 @@ use Rattle.csv.specs.Reading.{default_config, strip_bom}
 use Rattle.csv.specs.declared.parser.State.TheVariants as state
 
 -- the fields of a record behind which no other record stands
-abbrev pub alone : Option Read → Option (List (List ℕ))
-alone None = None
-alone (Some read) =
+abbrev pub lone_record : Option Read → Option (List (List ℕ))
+lone_record None = None
+lone_record (Some read) =
     if is_some (next_record default_config read.1 [] [] read.2) then None else Some read.0
 
 -- the fields of a line that is one record, and not none or two
 unfoldable pub only_record : List ℕ → Option (List (List ℕ))
-only_record line = alone (next_record default_config state.StartRecord [] [] (strip_bom line))
+only_record line = lone_record (next_record default_config state.StartRecord [] [] (strip_bom line))
 
 -- what a symbols file says of a symbol; the fourth field is a comment
 pub record Columns : Type 0 where
@@ -28,5 +28,5 @@ columns_of (name ∷ address ∷ kind ∷ comment ∷ []) =
 columns_of fields = None
 
 -- the columns of a line that is one record of four fields
-unfoldable pub columns : List ℕ → Option Columns
-columns line = option_and_then columns_of (only_record line)
+unfoldable pub columns_of_line : List ℕ → Option Columns
+columns_of_line line = option_and_then columns_of (only_record line)

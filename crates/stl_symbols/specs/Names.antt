@@ -4,7 +4,7 @@ use Rattle.std.specs.Option.{option_map}
 use Rattle.std.specs.Str.{bytes_eq}
 
 -- the first place of a name, counted from 0
-abbrev pub place_of : List ℕ → List (List ℕ) → Option ℕ
-place_of name [] = None
-place_of name (n ∷ ns) =
-    if bytes_eq name n then Some 0 else option_map (λ k. suc k) (place_of name ns)
+abbrev pub name_place : List ℕ → List (List ℕ) → Option ℕ
+name_place name [] = None
+name_place name (n ∷ ns) =
+    if bytes_eq name n then Some 0 else option_map (λ k. suc k) (name_place name ns)

@@ -40,15 +40,15 @@ pub record IsVariable (place : Place) (width : Width) : Type 0 where
   pub bit : IsFirstBit width place.bit
 
 -- what an address names
-abbrev pub IsTarget : Target → Type 0
-IsTarget (Variable place width) = IsVariable place width
-IsTarget (Timer number) = number ≤ 65535
-IsTarget (Counter number) = number ≤ 65535
-IsTarget (Block id) = id.number ≤ 65535
+abbrev pub IsSymbolTarget : Target → Type 0
+IsSymbolTarget (Variable place width) = IsVariable place width
+IsSymbolTarget (Timer number) = number ≤ 65535
+IsSymbolTarget (Counter number) = number ≤ 65535
+IsSymbolTarget (Block id) = id.number ≤ 65535
 
 -- a symbol that a line declares: its name has one to 24 bytes, the last of which is no blank
 pub record IsSymbol (s : Symbol) : Type 0 where
   pub some : 1 ≤ length s.name
   pub short : length s.name ≤ 24
   pub ends : is_blank (slice_index s.name (length s.name - 1)) ≡ false
-  pub target : IsTarget s.target
+  pub target : IsSymbolTarget s.target

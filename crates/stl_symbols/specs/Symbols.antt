@@ -9,7 +9,7 @@ use Rattle.plc_base.specs.declared.refusals.Refusal.{Refusal}
 use Rattle.plc_base.specs.declared.refusals.SourceFault.{SourceFault}
 use Rattle.plc_base.specs.declared.refusals.SourceFault.TheVariants.{Refused, NoMemory}
 use Rattle.stl_symbols.specs.Address.{address_of, has_type}
-use Rattle.stl_symbols.specs.Line.{Columns, columns}
+use Rattle.stl_symbols.specs.Line.{Columns, columns_of_line}
 use Rattle.stl_symbols.specs.Symbol.{Symbol, symbol_named}
 use Rattle.stl_symbols.specs.declared.addresses.Address.{Address}
 use Rattle.stl_symbols.specs.declared.addresses.Address.TheVariants.{Names, NoSymbol}
@@ -37,23 +37,23 @@ abbrev pub is_name : List ℕ → Bool
 is_name name = nat_le 1 (length name) && nat_le (length name) 24
 
 -- what a line declares: a symbol, or nothing
-abbrev pub declared : List ℕ → Address → Option Symbol
-declared name (Names target) = Some (record { name = name; target = target })
-declared name NoSymbol = None
+abbrev pub declared_symbol : List ℕ → Address → Option Symbol
+declared_symbol name (Names target) = Some (record { name = name; target = target })
+declared_symbol name NoSymbol = None
 
 -- the declaration of three columns, the address in a language, if name, address and type are right
-abbrev pub declaration : Language → (name address kind : List ℕ) → Option (Option Symbol)
-declaration language name address kind =
+abbrev pub symbol_declaration : Language → (name address kind : List ℕ) → Option (Option Symbol)
+symbol_declaration language name address kind =
     if is_name name
-    then option_and_then (λ a. if has_type a kind then Some (declared name a) else None)
+    then option_and_then (λ a. if has_type a kind then Some (declared_symbol name a) else None)
     (address_of language address)
     else None
 
 -- the same of the columns of a line: blanks and tabs at the end of name and type are dropped, and
 -- all those of the address
-unfoldable pub declaration_of : Language → Columns → Option (Option Symbol)
-declaration_of language line =
-    declaration language (without_last_blanks line.name) (without_blanks line.address)
+unfoldable pub declaration_in_columns : Language → Columns → Option (Option Symbol)
+declaration_in_columns language line =
+    symbol_declaration language (without_last_blanks line.name) (without_blanks line.address)
     (without_last_blanks line.kind)
 
 -- the symbols with one more, or the rule that it breaks: 15 where there are too many, 16 where its
@@ -75,12 +75,12 @@ with_declaration symbols (Some (Some symbol)) = with_symbol symbols symbol
 abbrev pub with_columns : Language → List Symbol → Option Columns → Result (List Symbol) ℕ
 with_columns language symbols None = Err 14
 with_columns language symbols (Some line) =
-    with_declaration symbols (declaration_of language line)
+    with_declaration symbols (declaration_in_columns language line)
 
 -- the same of a line; an empty one declares nothing
 unfoldable pub with_line : Language → List Symbol → List ℕ → Result (List Symbol) ℕ
 with_line language symbols [] = Ok symbols
-with_line language symbols (byte ∷ line) = with_columns language symbols (columns (byte ∷ line))
+with_line language symbols (byte ∷ line) = with_columns language symbols (columns_of_line (byte ∷ line))
 
 -- what the lines behind one with this number make of the symbols up to it, or its refusal
 abbrev pub and_then_lines : (number : ℕ) → (more : List Symbol → Result (List Symbol) Refusal)
@@ -107,16 +107,16 @@ abbrev pub symbols_of : List ℕ → Result (List Symbol) Refusal
 symbols_of bytes = symbols_in English bytes
 
 -- what a reader answers: the symbols, or the refusal, or that memory is wanting
-abbrev pub Reads : Result (List Symbol) Refusal → Result (List Symbol) SourceFault → Type 0
-Reads found (Ok symbols) = found ≡ Ok symbols
-Reads found (Err (Refused refusal)) = found ≡ Err refusal
-Reads found (Err NoMemory) = Unit
+abbrev pub ReadsSymbols : Result (List Symbol) Refusal → Result (List Symbol) SourceFault → Type 0
+ReadsSymbols found (Ok symbols) = found ≡ Ok symbols
+ReadsSymbols found (Err (Refused refusal)) = found ≡ Err refusal
+ReadsSymbols found (Err NoMemory) = Unit
 
 -- what a reader leaves that adds what one line declares: the symbols, or the refusal of this line,
 -- or that memory is wanting
-abbrev pub Adds : (number : ℕ) → Result (List Symbol) ℕ → (left : List Symbol)
+abbrev pub AddsDeclaration : (number : ℕ) → Result (List Symbol) ℕ → (left : List Symbol)
     → Result (Unit {0}) SourceFault → Type 0
-Adds number found left (Ok done) = found ≡ Ok left
-Adds number found left (Err (Refused refusal)) =
+AddsDeclaration number found left (Ok done) = found ≡ Ok left
+AddsDeclaration number found left (Err (Refused refusal)) =
     (found ≡ Err refusal.rule) × (refusal.line ≡ number)
-Adds number found left (Err NoMemory) = Unit
+AddsDeclaration number found left (Err NoMemory) = Unit

@@ -8,13 +8,13 @@ ghost use Rattle.stl_symbols.specs.Address.{
   bit_address,
   bit_behind,
   has_type,
-  is_among,
-  look_up,
-  number_of,
-  numbered,
-  spelled,
-  types_of,
-  variable,
+  names_type_among,
+  letters_spelled_as,
+  number_of_address,
+  numbered_address,
+  letters_in_language,
+  type_names_of_width,
+  variable_address,
 };
 
 use crate::languages::Language;
@@ -242,7 +242,7 @@ pub static LETTERS: [(&[u8], &[u8], Letters); 29] = [
 
 /// The letters as a language spells them.
 fn spelled<'a>(language: Language, english: &'a [u8], german: &'a [u8]) -> &'a [u8]
-    ensures { result.now ≡ spelled language english.now german.now }
+    ensures { result.now ≡ letters_in_language language english.now german.now }
 {
     match language {
         Language::English => english,
@@ -253,7 +253,7 @@ fn spelled<'a>(language: Language, english: &'a [u8], german: &'a [u8]) -> &'a [
 /// What stands beside letters in a table.
 fn entry_of(language: Language, table: &[(&[u8], &[u8], Letters)], word: &[u8]) -> Option<Letters>
     ensures { result ≡ option_map (λ e. e.2) (find
-        (λ e. bytes_eq word.now (spelled language e.0.now e.1.now)) table.now) }
+        (λ e. bytes_eq word.now (letters_in_language language e.0.now e.1.now)) table.now) }
 {
     table
         .iter()
@@ -264,7 +264,7 @@ fn entry_of(language: Language, table: &[(&[u8], &[u8], Letters)], word: &[u8]) 
 /// The same, where the table is seen with its letters as bytes.
 fn look_up(language: Language, table: &[(&[u8], &[u8], Letters)], word: &[u8]) -> Option<Letters>
     ensures { result
-        ≡ look_up language (map (λ e. (e.0.now, e.1.now, e.2)) table.now) word.now }
+        ≡ letters_spelled_as language (map (λ e. (e.0.now, e.1.now, e.2)) table.now) word.now }
 {
     entry_of(language, table, word)
 }
@@ -272,7 +272,7 @@ fn look_up(language: Language, table: &[(&[u8], &[u8], Letters)], word: &[u8]) -
 /// What the letters of an address stand for.
 #[tactic(auto, unfolding(crate::specs::Address::address_letters))]
 fn letters_of(language: Language, word: &[u8]) -> Option<Letters>
-    ensures { result ≡ look_up language address_letters word.now }
+    ensures { result ≡ letters_spelled_as language address_letters word.now }
 {
     look_up(language, &LETTERS, word)
 }
@@ -280,7 +280,7 @@ fn letters_of(language: Language, word: &[u8]) -> Option<Letters>
 /// The number of an address.
 #[tactic(auto, using(plc_base::proofs::DecimalLemmas::decimal_range))]
 fn number_of(text: &[u8]) -> Option<u16>
-    ensures { result ≡ number_of text.now }
+    ensures { result ≡ number_of_address text.now }
 {
     let number = decimal_up_to(text, LAST_NUMBER)?;
     Some(number as u16)
@@ -288,7 +288,7 @@ fn number_of(text: &[u8]) -> Option<u16>
 
 /// The address of a variable that isn't in a data block.
 fn variable(area: Area, width: Width, byte: u16, bit: u8) -> Address
-    ensures { result ≡ variable area width byte bit }
+    ensures { result ≡ variable_address area width byte bit }
 {
     let place = Place {
         area,
@@ -336,7 +336,7 @@ fn bit_address(area: Area, text: &[u8]) -> Option<Address>
 
 /// The address of letters and what stands behind them.
 fn numbered(letters: Letters, text: &[u8]) -> Option<Address>
-    ensures { result ≡ numbered letters text.now }
+    ensures { result ≡ numbered_address letters text.now }
 {
     let target = match letters {
         Letters::Variable {
@@ -396,9 +396,9 @@ fn is_among(types: &[&[u8]], kind: &[u8]) -> bool
 }
 
 /// Whether a text names a type of a variable of this width.
-#[tactic(auto, unfolding(crate::specs::Address::types_of))]
+#[tactic(auto, unfolding(crate::specs::Address::type_names_of_width))]
 fn is_variable_type(width: Width, kind: &[u8]) -> bool
-    ensures { result ≡ is_among (types_of width) kind.now }
+    ensures { result ≡ names_type_among (type_names_of_width width) kind.now }
 {
     match width {
         Width::Bit => is_among(&[b"BOOL"], kind),

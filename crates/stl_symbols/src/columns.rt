@@ -4,7 +4,7 @@ ghost use Rattle.std.specs.Option.{option_map};
 ghost use Rattle.csv.specs.Reading.{strip_bom};
 ghost use Rattle.csv.specs.declared.parser.State.TheVariants as state;
 ghost use Rattle.stl_symbols.specs.Fields.{is_line_end, record_at_start, record_from};
-ghost use Rattle.stl_symbols.specs.Line.{columns};
+ghost use Rattle.stl_symbols.specs.Line.{columns_of_line};
 
 use crate::fields::{Behind, is_line_end, read_field};
 use std::alloc::{AllocError, Global};
@@ -60,9 +60,9 @@ fn from_record(line: &[u8]) -> &[u8]
 }
 
 /// The columns of a line that is one record of four fields; the fourth is a comment.
-#[tactic(auto, unfolding(crate::specs::Line::only_record, crate::specs::Line::columns), using(crate::proofs::FieldLemmas::fifth_field))]
+#[tactic(auto, unfolding(crate::specs::Line::only_record, crate::specs::Line::columns_of_line), using(crate::proofs::FieldLemmas::fifth_field))]
 pub(crate) fn read_columns(alloc: Global, line: &[u8]) -> Result<Option<Columns>, AllocError>
-    ensures { IfOk result (λ read. read ≡ columns line.now) }
+    ensures { IfOk result (λ read. read ≡ columns_of_line line.now) }
 {
     let left = from_record(without_mark(line));
     if left.is_empty() {

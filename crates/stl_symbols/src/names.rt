@@ -1,5 +1,5 @@
 ghost use Rattle.std.specs.Prelude.{◌≡◌, ℕ, List, [], ◌∷◌, ◌++◌, OnOk, OnErr};
-ghost use Rattle.stl_symbols.specs.Names.{place_of};
+ghost use Rattle.stl_symbols.specs.Names.{name_place};
 
 use std::alloc::{AllocError, Global};
 use std::collections::BTreeMap;
@@ -18,7 +18,7 @@ impl Model for Names {
     ghost use Rattle.std.specs.BTreeMap.{get_by};
     ghost use Rattle.std.specs.Cmp.Lexicographic.{slice_cmp};
     ghost use Rattle.std.specs.Ordering.{nat_cmp};
-    ghost use Rattle.stl_symbols.specs.Names.{place_of};
+    ghost use Rattle.stl_symbols.specs.Names.{name_place};
 
     ghost Value = { List (List ℕ) };
 
@@ -26,7 +26,7 @@ impl Model for Names {
 
     ghost invariant = { λ names. (q : List ℕ)
         → get_by (λ k. slice_cmp nat_cmp q k.items) names.places
-        ≡ place_of q (map (λ v. v.items) names.list.items) };
+        ≡ name_place q (map (λ v. v.items) names.list.items) };
 }
 
 impl Names {
@@ -42,7 +42,7 @@ impl Names {
 
     /// The first place of a name, counted from 0; none where it isn't among the names.
     pub fn place(&self, name: &[u8]) -> Option<usize>
-        ensures { result ≡ place_of name.now self.now }
+        ensures { result ≡ name_place name.now self.now }
     {
         self.places.get(name).copied()
     }

@@ -2,13 +2,13 @@ ghost use Rattle.std.specs.Prelude.{◌≡◌, ◌≤◌, ◌-◌, ℕ, List, le
 ghost use Rattle.std.specs.List.{suffix_len};
 ghost use Rattle.plc_base.specs.Texts.{is_blank};
 ghost use Rattle.plc_base.specs.declared.refusals.SourceFault.TheVariants.{Refused};
-ghost use Rattle.stl_symbols.specs.Line.{columns};
+ghost use Rattle.stl_symbols.specs.Line.{columns_of_line};
 ghost use Rattle.stl_symbols.specs.declared.languages.Language.TheVariants.{German};
 ghost use Rattle.stl_symbols.specs.Symbols.{
-  Adds,
-  Reads,
-  declaration,
-  declaration_of,
+  AddsDeclaration,
+  ReadsSymbols,
+  symbol_declaration,
+  declaration_in_columns,
   is_name,
   symbols_in,
   symbols_limit,
@@ -87,7 +87,7 @@ fn declaration(
     address: &[u8],
     kind: &[u8],
 ) -> Option<Option<Symbol>>
-    ensures { result ≡ declaration language name.items address.now kind.now }
+    ensures { result ≡ symbol_declaration language name.items address.now kind.now }
 {
     if !is_name(name.as_slice()) {
         return None;
@@ -103,9 +103,9 @@ fn declaration(
 }
 
 /// What a line with these columns declares.
-#[tactic(auto, unfolding(crate::specs::Symbols::declaration_of))]
+#[tactic(auto, unfolding(crate::specs::Symbols::declaration_in_columns))]
 fn declaration_of(language: Language, columns: Columns) -> Option<Option<Symbol>>
-    ensures { result ≡ declaration_of language columns }
+    ensures { result ≡ declaration_in_columns language columns }
 {
     let Columns {
         name,
@@ -136,7 +136,7 @@ fn add_symbol(
     symbol: Symbol,
 ) -> Result<(), SourceFault>
     requires { length symbol.name ≤ 24 }
-    ensures { Adds line (with_symbol symbols.old symbol) symbols.new result }
+    ensures { AddsDeclaration line (with_symbol symbols.old symbol) symbols.new result }
 {
     if symbols.list().len() == MOST_SYMBOLS {
         return Err(refused(line, NO_DECLARATION));
@@ -157,7 +157,7 @@ fn add_line(
     line: u32,
     text: &[u8],
 ) -> Result<(), SourceFault>
-    ensures { Adds line (with_line language symbols.old text.now) symbols.new result }
+    ensures { AddsDeclaration line (with_line language symbols.old text.now) symbols.new result }
 {
     if text.is_empty() {
         return Ok(());
@@ -177,7 +177,7 @@ fn add_line(
 #[tactic(auto, unfolding(crate::specs::Symbols::symbols_in), using(crate::proofs::ReadingLemmas::line_added, crate::proofs::ReadingLemmas::line_refused, crate::proofs::ReadingLemmas::no_line))]
 fn symbols_in(alloc: Global, language: Language, bytes: &[u8]) -> Result<Symbols, SourceFault>
     requires { length bytes.now ≤ symbols_limit }
-    ensures { Reads (symbols_in language bytes.now) result }
+    ensures { ReadsSymbols (symbols_in language bytes.now) result }
 {
     let mut symbols = Symbols::new(alloc);
     let mut left = bytes;
@@ -199,7 +199,7 @@ fn symbols_in(alloc: Global, language: Language, bytes: &[u8]) -> Result<Symbols
 /// is such a line; or want of memory.
 pub fn read_symbols(alloc: Global, bytes: &[u8]) -> Result<Symbols, SourceFault>
     requires { length bytes.now ≤ symbols_limit }
-    ensures { Reads (symbols_of bytes.now) result }
+    ensures { ReadsSymbols (symbols_of bytes.now) result }
 {
     symbols_in(alloc, Language::English, bytes)
 }
@@ -211,7 +211,7 @@ pub fn read_symbols(alloc: Global, bytes: &[u8]) -> Result<Symbols, SourceFault>
 /// Those of `read_symbols`.
 pub fn read_symbols_german(alloc: Global, bytes: &[u8]) -> Result<Symbols, SourceFault>
     requires { length bytes.now ≤ symbols_limit }
-    ensures { Reads (symbols_in German bytes.now) result }
+    ensures { ReadsSymbols (symbols_in German bytes.now) result }
 {
     symbols_in(alloc, Language::German, bytes)
 }

@@ -11,8 +11,8 @@ use Rattle.plc_base.specs.Least.{broken_if, least, lesser}
 use Rattle.plc_base.proofs.LeastLemmas.{least-append, lesser_assoc, lesser_nothing}
 use Rattle.stl_types.specs.Joined.{broken_call, broken_statement, dates_of, in_statements, rules_of_calls, rules_of_jumps, rules_of_zones}
 use Rattle.stl_types.specs.Actuals.{formal_named}
-use Rattle.stl_types.specs.Calls.{by_callee, call_37, calls_unknown, has_wrong_instance, is_bare_call, lacks_actual, misfits, rule_24_of_actuals, rule_34, rule_35, rule_36, rule_37, rule_38, rule_40, rule_46, sees_date, supplied_twice, unnamed}
-use Rattle.stl_types.specs.Resolution.{seen}
+use Rattle.stl_types.specs.Calls.{by_callee, call_37, calls_unknown, has_wrong_instance, is_bare_call, lacks_actual, misfits_formal, rule_24_of_actuals, rule_34, rule_35, rule_36, rule_37, rule_38, rule_40, rule_46, sees_date, actuals_supplied_twice, actuals_without_formal}
+use Rattle.stl_types.specs.Resolution.{resolution_of}
 use Rattle.stl_types.specs.declared.parameters.Formal.{Formal}
 use Rattle.stl_types.specs.Context.{Context}
 use Rattle.stl_types.specs.Brackets.{rule_29, rule_30, rule_31}
@@ -20,7 +20,7 @@ use Rattle.stl_types.specs.Labels.{rule_26, rule_27}
 use Rattle.stl_types.specs.Landings.{rule_33}
 use Rattle.stl_types.specs.Lists.{rule_32}
 use Rattle.stl_types.specs.Operands.{rules_24_25_39}
-use Rattle.stl_types.specs.Table.{refusals_by}
+use Rattle.stl_types.specs.Table.{statement_refusals_by}
 use Rattle.stl_types.specs.Unknown.{rule_20}
 use Rattle.block_layout.proofs.HeadLemmas.{two_lists}
 use Rattle.stl_types.specs.Parameters.{Callee, callee_of}
@@ -66,10 +66,10 @@ module _ (f g h : Context → Statement → List Refusal) (parts : (c : Context)
 
 -- what a statement breaks by one of the rules
 by_34 : Context → Statement → List Refusal
-by_34 c s = by_callee (λ callee s. unnamed callee.formals s.actuals) s (callee_of c s.operand)
+by_34 c s = by_callee (λ callee s. actuals_without_formal callee.formals s.actuals) s (callee_of c s.operand)
 
 by_35 : Context → Statement → List Refusal
-by_35 c s = by_callee (λ callee s. supplied_twice callee.formals [] s.actuals) s (callee_of c s.operand)
+by_35 c s = by_callee (λ callee s. actuals_supplied_twice callee.formals [] s.actuals) s (callee_of c s.operand)
 
 by_36 : Context → Statement → List Refusal
 by_36 c s = by_callee (λ callee s. broken_if (lacks_actual callee s) s.line 36) s (callee_of c s.operand)
@@ -87,7 +87,7 @@ by_46 : Context → Statement → List Refusal
 by_46 c s = broken_if (calls_unknown c s.operand) s.line 46
 
 call_spread : (c : Context) (s : Statement) (o : Option Callee) → by_callee (broken_call c) s o
-    ≡ by_callee (λ callee s. unnamed callee.formals s.actuals) s o ++ by_callee (λ callee s. supplied_twice callee.formals [] s.actuals) s o
+    ≡ by_callee (λ callee s. actuals_without_formal callee.formals s.actuals) s o ++ by_callee (λ callee s. actuals_supplied_twice callee.formals [] s.actuals) s o
     ++ by_callee (λ callee s. broken_if (lacks_actual callee s) s.line 36) s o ++ by_callee (call_37 c) s o
     ++ by_callee (λ callee s. broken_if (has_wrong_instance c callee s.operand) s.line 38) s o ++ by_callee (λ callee s. broken_if (is_bare_call callee s) s.line 40) s o
 unfolding broken_call
@@ -150,25 +150,25 @@ contexts_end broken c blocks i found whole over so_far =
 -- what a call breaks, by the block that is called
 pub call_joined : (x : Context) (callee : Callee) (s : Statement) (formals : List Formal) (actuals : List Actual) (lacks wrong is_bare : Bool)
     (one two missing misfit instance bare first second third fourth whole : Option Refusal) → formals ≡ callee.formals → actuals ≡ s.actuals →
-    one ≡ least (unnamed formals actuals) → two ≡ least (supplied_twice formals [] actuals) → lacks ≡ lacks_actual callee s → missing ≡ least (broken_if lacks s.line 36) →
-    misfit ≡ least (flat_map (λ a. broken_if (misfits x a (formal_named formals a.name)) a.line 37) actuals) →
+    one ≡ least (actuals_without_formal formals actuals) → two ≡ least (actuals_supplied_twice formals [] actuals) → lacks ≡ lacks_actual callee s → missing ≡ least (broken_if lacks s.line 36) →
+    misfit ≡ least (flat_map (λ a. broken_if (misfits_formal x a (formal_named formals a.name)) a.line 37) actuals) →
     wrong ≡ has_wrong_instance x callee s.operand → instance ≡ least (broken_if wrong s.line 38) → is_bare ≡ is_bare_call callee s → bare ≡ least (broken_if is_bare s.line 40) →
     first ≡ lesser one two → second ≡ lesser first missing → third ≡ lesser second misfit → fourth ≡ lesser third instance → whole ≡ lesser fourth bare →
     whole ≡ least (broken_call x callee s)
 unfolding broken_call
 call_joined x callee s formals actuals lacks wrong is_bare one two missing misfit instance bare first second third fourth whole are_formals are_actuals is_one is_two is_lacks is_missing is_misfit
     is_wrong is_instance bare_is is_bare' is_first is_second is_third is_fourth is_whole =
-    let named : one ≡ least (unnamed callee.formals s.actuals) =
-    is_one ∙ ap (λ (l : List Formal). least (unnamed l actuals)) are_formals ∙ ap (λ (l : List Actual). least (unnamed callee.formals l)) are_actuals in
-    let twice : two ≡ least (supplied_twice callee.formals [] s.actuals) =
-    is_two ∙ ap (λ (l : List Formal). least (supplied_twice l [] actuals)) are_formals ∙ ap (λ (l : List Actual). least (supplied_twice callee.formals [] l)) are_actuals in
+    let named : one ≡ least (actuals_without_formal callee.formals s.actuals) =
+    is_one ∙ ap (λ (l : List Formal). least (actuals_without_formal l actuals)) are_formals ∙ ap (λ (l : List Actual). least (actuals_without_formal callee.formals l)) are_actuals in
+    let twice : two ≡ least (actuals_supplied_twice callee.formals [] s.actuals) =
+    is_two ∙ ap (λ (l : List Formal). least (actuals_supplied_twice l [] actuals)) are_formals ∙ ap (λ (l : List Actual). least (actuals_supplied_twice callee.formals [] l)) are_actuals in
     let lacking : missing ≡ least (broken_if (lacks_actual callee s) s.line 36) = is_missing ∙ ap (λ (b : Bool). least (broken_if b s.line 36)) is_lacks in
     let unfit : misfit ≡ least (call_37 x callee s) =
-    is_misfit ∙ ap (λ (l : List Formal). least (flat_map (λ a. broken_if (misfits x a (formal_named l a.name)) a.line 37) actuals)) are_formals
-    ∙ ap (λ (l : List Actual). least (flat_map (λ a. broken_if (misfits x a (formal_named callee.formals a.name)) a.line 37) l)) are_actuals in
+    is_misfit ∙ ap (λ (l : List Formal). least (flat_map (λ a. broken_if (misfits_formal x a (formal_named l a.name)) a.line 37) actuals)) are_formals
+    ∙ ap (λ (l : List Actual). least (flat_map (λ a. broken_if (misfits_formal x a (formal_named callee.formals a.name)) a.line 37) l)) are_actuals in
     let of_other : instance ≡ least (broken_if (has_wrong_instance x callee s.operand) s.line 38) = is_instance ∙ ap (λ (b : Bool). least (broken_if b s.line 38)) is_wrong in
     let alone : bare ≡ least (broken_if (is_bare_call callee s) s.line 40) = is_bare' ∙ ap (λ (b : Bool). least (broken_if b s.line 40)) bare_is in
-    let a = two_lists (unnamed callee.formals s.actuals) (supplied_twice callee.formals [] s.actuals) one two first named twice is_first in
+    let a = two_lists (actuals_without_formal callee.formals s.actuals) (actuals_supplied_twice callee.formals [] s.actuals) one two first named twice is_first in
     let b = two_lists _ (broken_if (lacks_actual callee s) s.line 36) first missing second a lacking is_second in
     let d = two_lists _ (call_37 x callee s) second misfit third b unfit is_third in
     let e = two_lists _ (broken_if (has_wrong_instance x callee s.operand) s.line 38) third instance fourth d of_other is_fourth in
@@ -177,13 +177,13 @@ call_joined x callee s formals actuals lacks wrong is_bare one two missing misfi
 -- what a statement breaks
 pub statement_joined : (x : Context) (s : Statement) (o : Option Callee) (actuals : List Actual) (calls : Bool) (called unknown date first whole : Option Refusal) →
     o ≡ callee_of x s.operand → called ≡ least (by_callee (broken_call x) s o) → calls ≡ calls_unknown x s.operand → unknown ≡ least (broken_if calls s.line 46) → actuals ≡ s.actuals →
-    date ≡ least (flat_map (λ a. broken_if (sees_date (seen x a.value)) a.line 24) actuals) → first ≡ lesser called unknown → whole ≡ lesser first date →
+    date ≡ least (flat_map (λ a. broken_if (sees_date (resolution_of x a.value)) a.line 24) actuals) → first ≡ lesser called unknown → whole ≡ lesser first date →
     whole ≡ least (broken_statement x s)
 unfolding broken_statement
 statement_joined x s o actuals calls called unknown date first whole is_o is_called is_calls is_unknown are_actuals is_date is_first is_whole =
     let by : called ≡ least (by_callee (broken_call x) s (callee_of x s.operand)) = is_called ∙ ap (λ (k : Option Callee). least (by_callee (broken_call x) s k)) is_o in
     let none : unknown ≡ least (broken_if (calls_unknown x s.operand) s.line 46) = is_unknown ∙ ap (λ (b : Bool). least (broken_if b s.line 46)) is_calls in
-    let dates : date ≡ least (dates_of x s) = is_date ∙ ap (λ (l : List Actual). least (flat_map (λ a. broken_if (sees_date (seen x a.value)) a.line 24) l)) are_actuals in
+    let dates : date ≡ least (dates_of x s) = is_date ∙ ap (λ (l : List Actual). least (flat_map (λ a. broken_if (sees_date (resolution_of x a.value)) a.line 24) l)) are_actuals in
     let two = two_lists (by_callee (broken_call x) s (callee_of x s.operand)) (broken_if (calls_unknown x s.operand) s.line 46) called unknown first by none is_first in
     two_lists _ (dates_of x s) first date whole two dates is_whole
 
@@ -204,15 +204,15 @@ jumps_joined blocks a b c d e f g labels closed left eighth list whole is_a is_b
 -- all rules of statements
 pub table_joined : (c : Context) (blocks : List Block) (unknown operand jump call zone first second third whole : Option Refusal) → unknown ≡ least (rule_20 c blocks) →
     operand ≡ least (rules_24_25_39 c blocks) → jump ≡ least (rules_of_jumps blocks) → call ≡ least (rules_of_calls c blocks) → zone ≡ least (rules_of_zones blocks) →
-    first ≡ lesser unknown operand → second ≡ lesser first jump → third ≡ lesser second call → whole ≡ lesser third zone → whole ≡ least (refusals_by c blocks)
-unfolding rules_of_jumps rules_of_calls rules_of_zones refusals_by
+    first ≡ lesser unknown operand → second ≡ lesser first jump → third ≡ lesser second call → whole ≡ lesser third zone → whole ≡ least (statement_refusals_by c blocks)
+unfolding rules_of_jumps rules_of_calls rules_of_zones statement_refusals_by
 table_joined c blocks unknown operand jump call zone first second third whole is_unknown is_operand is_jump is_call is_zone is_first is_second is_third is_whole =
     let heads : List Refusal = rule_20 c blocks ++ rules_24_25_39 c blocks in
     let jumps : List Refusal = rules_of_jumps blocks in
     let dates : List Refusal = rule_24_of_actuals c blocks in
     let others : List Refusal = rule_34 c blocks ++ rule_35 c blocks ++ rule_36 c blocks ++ rule_37 c blocks ++ rule_38 c blocks ++ rule_40 c blocks ++ rule_46 c blocks in
     let zones : List Refusal = rules_of_zones blocks in
-    let table : ((heads ++ dates) ++ (jumps ++ others)) ++ zones ≡ refusals_by c blocks = simp (append_assoc) refl in
+    let table : ((heads ++ dates) ++ (jumps ++ others)) ++ zones ≡ statement_refusals_by c blocks = simp (append_assoc) refl in
     let head : first ≡ least heads = two_lists (rule_20 c blocks) (rules_24_25_39 c blocks) unknown operand first is_unknown is_operand is_first in
     let without_zones : third ≡ least ((heads ++ dates) ++ (jumps ++ others)) =
     is_third ∙ ap (λ (o : Option Refusal). lesser o call) (is_second ∙ ap (λ (o : Option Refusal). lesser o jump) head ∙ ap (λ (o : Option Refusal). lesser (least heads) o) is_jump)

@@ -6,7 +6,7 @@ use Rattle.plc_base.specs.declared.refusals.Refusal.{Refusal}
 use Rattle.stl_ast.specs.declared.statements.Statement.{Statement}
 use Rattle.plc_base.specs.Least.{broken_if, least, lesser}
 use Rattle.plc_base.proofs.LeastLemmas.{least-append, lesser_assoc, lesser_nothing}
-use Rattle.stl_types.specs.Brackets.{behind, behind_all}
+use Rattle.stl_types.specs.Brackets.{brackets_behind, brackets_behind_all}
 use Rattle.stl_types.specs.Labels.{label_of}
 use Rattle.stl_types.specs.Landings.{Landing, Nesting, landing_here, landings_at_labels, nesting_behind}
 use Rattle.stl_types.specs.Lists.{is_wrong_list, lists_from}
@@ -14,14 +14,14 @@ use Rattle.stl_types.specs.Zones.{zones_behind, zones_behind_all}
 use Rattle.stl_types.specs.declared.brackets.Bracket.{Bracket}
 
 -- one statement more
-pub behind_turn : (brackets after whole : List Bracket) (body : List Statement) (i : ℕ) (s : Statement) → i < length body → s ≡ get_or body i s → after ≡ behind brackets s →
-    behind_all brackets (drop i body) ≡ whole → behind_all after (drop (i + 1) body) ≡ whole
+pub behind_turn : (brackets after whole : List Bracket) (body : List Statement) (i : ℕ) (s : Statement) → i < length body → s ≡ get_or body i s → after ≡ brackets_behind brackets s →
+    brackets_behind_all brackets (drop i body) ≡ whole → brackets_behind_all after (drop (i + 1) body) ≡ whole
 behind_turn brackets after whole body i s within is_s is_after so_far =
     let split : drop i body ≡ s ∷ drop (i + 1) body = drop_more body i s within ∙ ap (λ (y : Statement). y ∷ drop (i + 1) body) (sym is_s) in
-    ap (λ (b : List Bracket). behind_all b (drop (i + 1) body)) is_after ∙ ap (λ (l : List Statement). behind_all brackets l) (sym split) ∙ so_far
+    ap (λ (b : List Bracket). brackets_behind_all b (drop (i + 1) body)) is_after ∙ ap (λ (l : List Statement). brackets_behind_all brackets l) (sym split) ∙ so_far
 
-pub behind_end : (brackets whole : List Bracket) (body : List Statement) (i : ℕ) → length body ≤ i → behind_all brackets (drop i body) ≡ whole → brackets ≡ whole
-behind_end brackets whole body i over so_far = ap (λ (l : List Statement). behind_all brackets l) (sym (drop_of_length-le body over)) ∙ so_far
+pub behind_end : (brackets whole : List Bracket) (body : List Statement) (i : ℕ) → length body ≤ i → brackets_behind_all brackets (drop i body) ≡ whole → brackets ≡ whole
+behind_end brackets whole body i over so_far = ap (λ (l : List Statement). brackets_behind_all brackets l) (sym (drop_of_length-le body over)) ∙ so_far
 
 -- the same of zones
 pub zones_turn : (zones after whole : List ℕ) (body : List Statement) (i : ℕ) (s : Statement) → i < length body → s ≡ get_or body i s → after ≡ zones_behind zones s →

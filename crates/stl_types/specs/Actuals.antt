@@ -11,10 +11,10 @@ use Rattle.stl_ast.specs.declared.declarations.Simple.TheVariants as simple
 use Rattle.stl_ast.specs.declared.operands.Operand.{Operand}
 use Rattle.stl_ast.specs.declared.operands.Operand.TheVariants as operand
 use Rattle.plc_base.specs.Folding.{upper_case_name}
-use Rattle.block_layout.specs.Fits.{fits}
+use Rattle.block_layout.specs.Fits.{fits_elementary_type}
 use Rattle.block_layout.specs.Offsets.{width_of}
 use Rattle.stl_types.specs.Context.{Context}
-use Rattle.stl_types.specs.Resolution.{seen}
+use Rattle.stl_types.specs.Resolution.{resolution_of}
 use Rattle.stl_types.specs.declared.parameters.Formal.{Formal}
 use Rattle.stl_types.specs.declared.views.Resolution.{Resolution}
 use Rattle.stl_types.specs.declared.views.Resolution.TheVariants.{Resolved, Unknown, Unjudged}
@@ -83,5 +83,5 @@ fits_seen f Unjudged = true
 
 -- a constant fits an IN parameter by its type
 unfoldable pub fits_operand : Context → Formal → Operand → Bool
-fits_operand c f (operand.Constant value) = is_input_section f.section && fits value f.kind
-fits_operand c f o = fits_seen f (seen c o)
+fits_operand c f (operand.Constant value) = is_input_section f.section && fits_elementary_type value f.kind
+fits_operand c f o = fits_seen f (resolution_of c o)

@@ -14,15 +14,15 @@ use Rattle.stl_types.specs.declared.views.ResolvedOperand.{ResolvedOperand}
 use Rattle.stl_types.specs.declared.views.ResolvedOperand.TheVariants as view
 
 -- the area that letters name: PI and PQ are one
-abbrev pub area_of : Letters → Area
-area_of letters.I = area.I
-area_of letters.Q = area.Q
-area_of letters.M = area.M
-area_of letters.Db = area.Db
-area_of letters.Di = area.Di
-area_of letters.L = area.L
-area_of letters.Pi = area.P
-area_of letters.Pq = area.P
+abbrev pub area_for_letters : Letters → Area
+area_for_letters letters.I = area.I
+area_for_letters letters.Q = area.Q
+area_for_letters letters.M = area.M
+area_for_letters letters.Db = area.Db
+area_for_letters letters.Di = area.Di
+area_for_letters letters.L = area.L
+area_for_letters letters.Pi = area.P
+area_for_letters letters.Pq = area.P
 
 -- and which way they name it
 abbrev pub side_of : Letters → Side
@@ -32,15 +32,15 @@ side_of _ = side.Both
 
 -- the area of a pointer, where it has one
 abbrev pub area_left : Option Letters → Option Area
-area_left a = option_map area_of a
+area_left a = option_map area_for_letters a
 
 -- an address; `number` is that of the data block before it, else 0
-abbrev pub address : (number : ℕ) → Letters → Width → (byte bit : ℕ) → ResolvedOperand
-address number a width byte bit =
-    view.Direct (record { area = area_of a; number = number; byte = byte; bit = bit }) width
+abbrev pub resolved_address : (number : ℕ) → Letters → Width → (byte bit : ℕ) → ResolvedOperand
+resolved_address number a width byte bit =
+    view.Direct (record { area = area_for_letters a; number = number; byte = byte; bit = bit }) width
     (side_of a) None
 
 -- an address in a data block, where that doesn't break a rule itself
-abbrev pub address_in : Option ℕ → Letters → Width → (byte bit : ℕ) → Resolution
-address_in None a width byte bit = Unjudged
-address_in (Some number) a width byte bit = Resolved (address number a width byte bit)
+abbrev pub address_in_block : Option ℕ → Letters → Width → (byte bit : ℕ) → Resolution
+address_in_block None a width byte bit = Unjudged
+address_in_block (Some number) a width byte bit = Resolved (resolved_address number a width byte bit)

@@ -12,66 +12,66 @@ use Rattle.stl_types.specs.Bodies.{in_bodies}
 use Rattle.stl_types.specs.declared.brackets.Bracket.{Bracket}
 
 -- the function code of an opening bracket: 0 to 5 for A( AN( O( ON( X( XN(
-unfoldable pub opening : Mnemonic → Option ℕ
-opening code.AOpen = Some 0
-opening code.AnOpen = Some 1
-opening code.OOpen = Some 2
-opening code.OnOpen = Some 3
-opening code.XOpen = Some 4
-opening code.XnOpen = Some 5
-opening _ = None
+unfoldable pub bracket_function : Mnemonic → Option ℕ
+bracket_function code.AOpen = Some 0
+bracket_function code.AnOpen = Some 1
+bracket_function code.OOpen = Some 2
+bracket_function code.OnOpen = Some 3
+bracket_function code.XOpen = Some 4
+bracket_function code.XnOpen = Some 5
+bracket_function _ = None
 
 -- an instruction that closes a bracket
-unfoldable pub closes : Mnemonic → Bool
-closes code.Close = true
-closes _ = false
+unfoldable pub is_closing_bracket : Mnemonic → Bool
+is_closing_bracket code.Close = true
+is_closing_bracket _ = false
 
 -- the brackets that are open behind a statement, the outermost first. A ) without open bracket leaves none
-abbrev pub closed : List Bracket → Mnemonic → List Bracket
-closed brackets m = if closes m then take (length brackets - 1) brackets else brackets
+abbrev pub brackets_after_closing : List Bracket → Mnemonic → List Bracket
+brackets_after_closing brackets m = if is_closing_bracket m then take (length brackets - 1) brackets else brackets
 
 -- an opening bracket stands behind those that are open
-abbrev pub opened : List Bracket → Statement → Option ℕ → List Bracket
-opened brackets s None = closed brackets s.code
-opened brackets s (Some function) =
+abbrev pub brackets_after_opening : List Bracket → Statement → Option ℕ → List Bracket
+brackets_after_opening brackets s None = brackets_after_closing brackets s.code
+brackets_after_opening brackets s (Some function) =
     brackets ++ record { function = function; line = s.line } ∷ []
 
 -- the brackets that are open behind a statement
-abbrev pub behind : List Bracket → Statement → List Bracket
-behind brackets s = opened brackets s (opening s.code)
+abbrev pub brackets_behind : List Bracket → Statement → List Bracket
+brackets_behind brackets s = brackets_after_opening brackets s (bracket_function s.code)
 
 -- and behind all statements of a list
-abbrev pub behind_all : List Bracket → List Statement → List Bracket
-behind_all brackets [] = brackets
-behind_all brackets (s ∷ ss) = behind_all (behind brackets s) ss
+abbrev pub brackets_behind_all : List Bracket → List Statement → List Bracket
+brackets_behind_all brackets [] = brackets
+brackets_behind_all brackets (s ∷ ss) = brackets_behind_all (brackets_behind brackets s) ss
 
 -- a walk with the brackets that are open
 abbrev pub with_brackets : (List Bracket → Statement → List Refusal) → List Bracket
     → List Statement → List Refusal
-with_brackets broken brackets body = refusals_along (λ s. false) broken behind brackets body
+with_brackets broken brackets body = refusals_along (λ s. false) broken brackets_behind brackets body
 
 -- a bracket closes where none is open
-abbrev pub closes_none : List Bracket → Statement → Bool
-closes_none brackets s = closes s.code && nat_eq (length brackets) 0
+abbrev pub closes_no_bracket : List Bracket → Statement → Bool
+closes_no_bracket brackets s = is_closing_bracket s.code && nat_eq (length brackets) 0
 
 -- the nesting stack has seven entries
-abbrev pub is_eighth : List Bracket → Statement → Bool
-is_eighth brackets s = is_some (opening s.code) && nat_le 7 (length brackets)
+abbrev pub is_eighth_bracket : List Bracket → Statement → Bool
+is_eighth_bracket brackets s = is_some (bracket_function s.code) && nat_le 7 (length brackets)
 
 -- the line is that of the )
 unfoldable pub rule_29 : List Block → List Refusal
 rule_29 blocks =
-    in_bodies (with_brackets (λ brackets s. broken_if (closes_none brackets s) s.line 29) []) blocks
+    in_bodies (with_brackets (λ brackets s. broken_if (closes_no_bracket brackets s) s.line 29) []) blocks
 
 -- a bracket that is open at the block's end: the line is that of the bracket
-abbrev pub left_open : List Statement → List Refusal
-left_open body = flat_map (λ b. broken_if true b.line 30) (behind_all [] body)
+abbrev pub brackets_left_open : List Statement → List Refusal
+brackets_left_open body = flat_map (λ b. broken_if true b.line 30) (brackets_behind_all [] body)
 
 -- rule 30, in all bodies
 unfoldable pub rule_30 : List Block → List Refusal
-rule_30 blocks = in_bodies left_open blocks
+rule_30 blocks = in_bodies brackets_left_open blocks
 
 -- the eighth open bracket, and each one inside it
 unfoldable pub rule_31 : List Block → List Refusal
 rule_31 blocks =
-    in_bodies (with_brackets (λ brackets s. broken_if (is_eighth brackets s) s.line 31) []) blocks
+    in_bodies (with_brackets (λ brackets s. broken_if (is_eighth_bracket brackets s) s.line 31) []) blocks

@@ -16,7 +16,7 @@ use Rattle.stl_ast.specs.Statements.{has_actuals}
 use Rattle.plc_base.specs.Folding.{upper_case_name}
 use Rattle.plc_base.specs.Gathered.{refusals_along}
 use Rattle.plc_base.specs.Least.{broken_if}
-use Rattle.stl_symbols.specs.Names.{place_of}
+use Rattle.stl_symbols.specs.Names.{name_place}
 use Rattle.block_layout.specs.Blocks.{named_block}
 use Rattle.block_layout.specs.declared.blocks.BlockLayout.{BlockLayout}
 use Rattle.block_layout.specs.declared.blocks.Shape.{Shape}
@@ -26,7 +26,7 @@ use Rattle.stl_types.specs.Bodies.{in_contexts}
 use Rattle.stl_types.specs.Context.{Context, whole_data_place}
 use Rattle.stl_types.specs.Kinds.{is_date}
 use Rattle.stl_types.specs.Parameters.{Callee, callee_of, system_formals}
-use Rattle.stl_types.specs.Resolution.{seen}
+use Rattle.stl_types.specs.Resolution.{resolution_of}
 use Rattle.stl_types.specs.declared.parameters.Formal.{Formal}
 use Rattle.stl_types.specs.declared.views.Resolution.{Resolution}
 use Rattle.stl_types.specs.declared.views.Resolution.TheVariants.{Resolved}
@@ -49,46 +49,46 @@ abbrev pub has_formal : List Formal → List ℕ → Bool
 has_formal formals name = list_any (λ f. bytes_eq name f.name) formals
 
 -- 34: the call names no such parameter
-abbrev pub names_none : List Formal → Actual → Bool
-names_none formals a = not (has_formal formals (upper_case_name a.name))
+abbrev pub names_no_formal : List Formal → Actual → Bool
+names_no_formal formals a = not (has_formal formals (upper_case_name a.name))
 
 -- 34 in a call, for each of its actual parameters
-abbrev pub unnamed : List Formal → List Actual → List Refusal
-unnamed formals actuals = flat_map (λ a. broken_if (names_none formals a) a.line 34) actuals
+abbrev pub actuals_without_formal : List Formal → List Actual → List Refusal
+actuals_without_formal formals actuals = flat_map (λ a. broken_if (names_no_formal formals a) a.line 34) actuals
 
 -- 34, in all bodies
 unfoldable pub rule_34 : Context → List Block → List Refusal
-rule_34 c blocks = in_calls (λ c callee s. unnamed callee.formals s.actuals) c blocks
+rule_34 c blocks = in_calls (λ c callee s. actuals_without_formal callee.formals s.actuals) c blocks
 
 -- 35: a parameter is supplied twice; the second one, and each later one
 abbrev pub is_supplied_twice : List Formal → (before : List (List ℕ)) → Actual → Bool
 is_supplied_twice formals before a =
-    not (names_none formals a) && is_some (place_of (upper_case_name a.name) before)
+    not (names_no_formal formals a) && is_some (name_place (upper_case_name a.name) before)
 
 -- 35 in a call, with the names before
-abbrev pub supplied_twice : List Formal → (before : List (List ℕ)) → List Actual → List Refusal
-supplied_twice formals before actuals =
+abbrev pub actuals_supplied_twice : List Formal → (before : List (List ℕ)) → List Actual → List Refusal
+actuals_supplied_twice formals before actuals =
     refusals_along (λ a. false) (λ before a. broken_if (is_supplied_twice formals before a) a.line 35)
     (λ before a. before ++ upper_case_name a.name ∷ []) before actuals
 
 -- 35, in all bodies
 unfoldable pub rule_35 : Context → List Block → List Refusal
 rule_35 c blocks =
-    in_calls (λ c callee s. supplied_twice callee.formals [] s.actuals) c blocks
+    in_calls (λ c callee s. actuals_supplied_twice callee.formals [] s.actuals) c blocks
 
 -- the names that a call supplies, in upper case
-abbrev pub supplied : List Actual → List (List ℕ)
-supplied actuals = map (λ a. upper_case_name a.name) actuals
+abbrev pub supplied_names : List Actual → List (List ℕ)
+supplied_names actuals = map (λ a. upper_case_name a.name) actuals
 
 -- 36: a parameter of a function or system function isn't supplied by CALL
 abbrev pub is_supplied : (names : List (List ℕ)) → Formal → Bool
-is_supplied names f = is_some (place_of f.name names)
+is_supplied names f = is_some (name_place f.name names)
 
 -- 36 in a call
 abbrev pub lacks_actual : Callee → Statement → Bool
 lacks_actual callee s =
     has_actuals s.code && not (is_function_block callee.id.kind)
-    && not (list_all (is_supplied (supplied s.actuals)) callee.formals)
+    && not (list_all (is_supplied (supplied_names s.actuals)) callee.formals)
 
 -- 36, in all bodies
 unfoldable pub rule_36 : Context → List Block → List Refusal
@@ -96,14 +96,14 @@ rule_36 c blocks =
     in_calls (λ c callee s. broken_if (lacks_actual callee s) s.line 36) c blocks
 
 -- 37: an actual parameter doesn't fit
-abbrev pub misfits : Context → Actual → Option Formal → Bool
-misfits c a None = false
-misfits c a (Some f) = not (fits_operand c f a.value)
+abbrev pub misfits_formal : Context → Actual → Option Formal → Bool
+misfits_formal c a None = false
+misfits_formal c a (Some f) = not (fits_operand c f a.value)
 
 -- 37 in a call, for each of its actual parameters
 abbrev pub call_37 : Context → Callee → Statement → List Refusal
 call_37 c callee s =
-    flat_map (λ a. broken_if (misfits c a (formal_named callee.formals a.name)) a.line 37) s.actuals
+    flat_map (λ a. broken_if (misfits_formal c a (formal_named callee.formals a.name)) a.line 37) s.actuals
 
 -- 37, in all bodies
 unfoldable pub rule_37 : Context → List Block → List Refusal
@@ -117,7 +117,7 @@ sees_date _ = false
 -- the actual parameters of a body
 abbrev pub dates_in : Context → List Statement → List Refusal
 dates_in c body =
-    flat_map (λ s. flat_map (λ a. broken_if (sees_date (seen c a.value)) a.line 24) s.actuals) body
+    flat_map (λ s. flat_map (λ a. broken_if (sees_date (resolution_of c a.value)) a.line 24) s.actuals) body
 
 -- 24, in all bodies
 unfoldable pub rule_24_of_actuals : Context → List Block → List Refusal

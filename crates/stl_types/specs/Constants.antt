@@ -2,7 +2,7 @@
 use Rattle.std.specs.Prelude.{ℕ, ℤ, pos, negsuc, nat_le, Bool, true, false, not}
 use Rattle.stl_ast.specs.declared.literals.Literal.{Literal}
 use Rattle.stl_ast.specs.declared.literals.Literal.TheVariants as literal
-use Rattle.block_layout.specs.Fits.{fits}
+use Rattle.block_layout.specs.Fits.{fits_elementary_type}
 use Rattle.stl_types.specs.declared.forms.OperandRule.{OperandRule}
 use Rattle.stl_types.specs.declared.forms.OperandRule.TheVariants as form
 
@@ -17,10 +17,10 @@ is_count most (literal.Number value) = is_up_to most value
 is_count most _ = false
 
 -- a decimal number or L#
-abbrev pub is_added : Literal → Bool
-is_added (literal.Number value) = true
-is_added (literal.Long value) = true
-is_added _ = false
+abbrev pub is_addend : Literal → Bool
+is_addend (literal.Number value) = true
+is_addend (literal.Long value) = true
+is_addend _ = false
 
 -- TRUE or FALSE
 abbrev pub is_truth : Literal → Bool
@@ -33,6 +33,6 @@ unfoldable pub takes_constant : OperandRule → Literal → Bool
 takes_constant form.Loads value = not (is_truth value)
 takes_constant (form.Counts most) value = is_count most value
 takes_constant (form.Shifts most) value = is_count most value
-takes_constant form.Adds value = is_added value
-takes_constant (form.Combines kind) value = fits value kind
+takes_constant form.Adds value = is_addend value
+takes_constant (form.Combines kind) value = fits_elementary_type value kind
 takes_constant _ value = false

@@ -19,29 +19,29 @@ pub record Context : Type 0 where
   pub block : ℕ
 
 -- the blocks of the source in order, by kind and number
-abbrev pub ids : Context → List (Option BlockId)
-ids c = map (λ b. b.id) c.layouts
+abbrev pub source_block_ids : Context → List (Option BlockId)
+source_block_ids c = map (λ b. b.id) c.layouts
 
 -- the place of a block, where it doesn't break a rule itself
 abbrev pub whole_place : Context → BlockId → Option ℕ
-whole_place c id = option_and_then (if_whole c.layouts) (known_block id (ids c))
+whole_place c id = option_and_then (if_whole c.layouts) (known_block id (source_block_ids c))
 
 -- the place of the data block that a name means
 abbrev pub data_place : Context → BlockName → Option ℕ
-data_place c name = found_block c.symbols (ids c) is_data_block name
+data_place c name = found_block c.symbols (source_block_ids c) is_data_block name
 
 -- the same, where it doesn't break a rule itself
 abbrev pub whole_data_place : Context → BlockName → Option ℕ
 whole_data_place c name = option_and_then (if_whole c.layouts) (data_place c name)
 
 -- the number of a block
-abbrev pub number_of : Option BlockId → Option ℕ
-number_of id = option_map (λ i. i.number) id
+abbrev pub number_of_block : Option BlockId → Option ℕ
+number_of_block id = option_map (λ i. i.number) id
 
 -- the number of the data block that a name means, where it doesn't break a rule itself
 abbrev pub data_number : Context → BlockName → Option ℕ
 data_number c name =
-    option_and_then (λ b. number_of b.id)
+    option_and_then (λ b. number_of_block b.id)
     (option_and_then (whole_at c.layouts) (data_place c name))
 
 -- a block is a function

@@ -13,9 +13,9 @@ use Rattle.stl_types.specs.declared.views.ResolvedOperand.{ResolvedOperand}
 use Rattle.stl_types.specs.declared.views.ResolvedOperand.TheVariants as view
 
 -- no operand
-abbrev pub is_nothing : ResolvedOperand → Bool
-is_nothing view.Nothing = true
-is_nothing _ = false
+abbrev pub names_nothing : ResolvedOperand → Bool
+names_nothing view.Nothing = true
+names_nothing _ = false
 
 -- a place with an address of its own
 abbrev pub is_direct : ResolvedOperand → Bool
@@ -55,14 +55,14 @@ is_condition (view.OfStatus flag) = true
 is_condition _ = false
 
 -- a pointer constant
-abbrev pub is_pointer : ResolvedOperand → Bool
-is_pointer (view.Pointer a byte bit) = true
-is_pointer _ = false
+abbrev pub is_pointer_constant : ResolvedOperand → Bool
+is_pointer_constant (view.Pointer a byte bit) = true
+is_pointer_constant _ = false
 
 -- a label
-abbrev pub is_label : ResolvedOperand → Bool
-is_label view.Label = true
-is_label _ = false
+abbrev pub is_label_operand : ResolvedOperand → Bool
+is_label_operand view.Label = true
+is_label_operand _ = false
 
 -- STW
 abbrev pub is_status_word : ResolvedOperand → Bool
@@ -75,16 +75,16 @@ is_second_register (view.Register register.Ar2) = true
 is_second_register _ = false
 
 -- a register that can be loaded: the status word, numbers and lengths of the open data blocks
-abbrev pub is_loaded : ResolvedOperand → Bool
-is_loaded (view.Register register.Ar2) = false
-is_loaded (view.Register which) = true
-is_loaded _ = false
+abbrev pub is_loadable_register : ResolvedOperand → Bool
+is_loadable_register (view.Register register.Ar2) = false
+is_loadable_register (view.Register which) = true
+is_loadable_register _ = false
 
 -- a function, a function block or a system function; only a function block has an instance
-abbrev pub is_called : ResolvedOperand → Bool
-is_called (view.Called id None) = is_callable id.kind
-is_called (view.Called id (Some instance)) = is_function_block id.kind
-is_called _ = false
+abbrev pub is_operand_of_call : ResolvedOperand → Bool
+is_operand_of_call (view.Called id None) = is_callable id.kind
+is_operand_of_call (view.Called id (Some instance)) = is_function_block id.kind
+is_operand_of_call _ = false
 
 -- a structure, an array or a DATE_AND_TIME
 abbrev pub is_composite : ResolvedOperand → Bool

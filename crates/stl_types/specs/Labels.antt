@@ -9,7 +9,7 @@ use Rattle.stl_ast.specs.declared.operands.Operand.TheVariants as operand
 use Rattle.stl_ast.specs.declared.statements.Statement.{Statement}
 use Rattle.plc_base.specs.Gathered.{refusals_along}
 use Rattle.plc_base.specs.Least.{broken_if}
-use Rattle.stl_symbols.specs.Names.{place_of}
+use Rattle.stl_symbols.specs.Names.{name_place}
 use Rattle.stl_types.specs.Bodies.{in_bodies}
 
 -- the label of a statement, in a list
@@ -22,13 +22,13 @@ abbrev pub labels_of : List Statement → List (List ℕ)
 labels_of body = flat_map (λ s. label_of s.label) body
 
 -- the label stands among those before it
-abbrev pub is_twice : (before : List (List ℕ)) → Option (List ℕ) → Bool
-is_twice before None = false
-is_twice before (Some name) = is_some (place_of name before)
+abbrev pub is_repeated_label : (before : List (List ℕ)) → Option (List ℕ) → Bool
+is_repeated_label before None = false
+is_repeated_label before (Some name) = is_some (name_place name before)
 
 -- a jump to a label that no statement has
 abbrev pub is_unknown_label : (labels : List (List ℕ)) → Operand → Bool
-is_unknown_label labels (operand.Label name) = is_none (place_of name labels)
+is_unknown_label labels (operand.Label name) = is_none (name_place name labels)
 is_unknown_label labels _ = false
 
 -- rule 26 in a body: the line is that of the jump
@@ -39,7 +39,7 @@ unknown_labels labels body =
 -- rule 27 in a body: the second statement of a label, and each later one
 abbrev pub labels_twice : (before : List (List ℕ)) → List Statement → List Refusal
 labels_twice before body =
-    refusals_along (λ s. false) (λ before s. broken_if (is_twice before s.label) s.line 27)
+    refusals_along (λ s. false) (λ before s. broken_if (is_repeated_label before s.label) s.line 27)
     (λ before s. before ++ label_of s.label) before body
 
 -- rule 26, in all bodies

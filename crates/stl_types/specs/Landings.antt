@@ -11,9 +11,9 @@ use Rattle.stl_ast.specs.declared.operands.Operand.TheVariants as operand
 use Rattle.stl_ast.specs.declared.statements.Statement.{Statement}
 use Rattle.plc_base.specs.Gathered.{refusals_along}
 use Rattle.plc_base.specs.Least.{broken_if}
-use Rattle.stl_symbols.specs.Names.{place_of}
+use Rattle.stl_symbols.specs.Names.{name_place}
 use Rattle.stl_types.specs.Bodies.{in_bodies}
-use Rattle.stl_types.specs.Brackets.{behind}
+use Rattle.stl_types.specs.Brackets.{brackets_behind}
 use Rattle.stl_types.specs.Labels.{labels_of}
 use Rattle.stl_types.specs.Zones.{zones_behind}
 use Rattle.stl_types.specs.declared.brackets.Bracket.{Bracket}
@@ -26,13 +26,13 @@ pub record Nesting : Type 0 where
 -- and behind it
 abbrev pub nesting_behind : Nesting → Statement → Nesting
 nesting_behind n s = record {
-  brackets = behind n.brackets s;
+  brackets = brackets_behind n.brackets s;
   zones = zones_behind n.zones s;
 }
 
 -- what is open before the first statement of a body
-abbrev pub outside : Nesting
-outside = record { brackets = []; zones = [] }
+abbrev pub empty_nesting : Nesting
+empty_nesting = record { brackets = []; zones = [] }
 
 -- what a jump and its label have alike: the function codes of the open brackets, and how many zones
 -- are open
@@ -61,7 +61,7 @@ landings_at_labels n (s ∷ ss) =
 
 -- what is open at a label: of one that stands twice the first is meant
 abbrev pub landing_at : (labels : List (List ℕ)) → List Landing → List ℕ → Option Landing
-landing_at labels landings name = option_and_then (slice_get landings) (place_of name labels)
+landing_at labels landings name = option_and_then (slice_get landings) (name_place name labels)
 
 -- lists that aren't equal; two of more than seven brackets aren't compared
 abbrev pub are_unequal : (here there : List ℕ) → Bool
@@ -69,30 +69,30 @@ are_unequal here there =
     not (nat_eq (length here) 8 && nat_eq (length there) 8) && not (bytes_eq here there)
 
 -- other brackets, or another number of zones
-abbrev pub differ : (here there : Landing) → Bool
-differ here there =
+abbrev pub landings_differ : (here there : Landing) → Bool
+landings_differ here there =
     are_unequal here.functions there.functions || not (nat_eq here.zones there.zones)
 
 -- a jump goes elsewhere than where such brackets and zones are open
 abbrev pub lands_elsewhere : (here : Landing) → Option Landing → Bool
 lands_elsewhere here None = false
-lands_elsewhere here (Some there) = differ here there
+lands_elsewhere here (Some there) = landings_differ here there
 
 -- an operand is a label at which others are open
-abbrev pub crosses : (labels : List (List ℕ)) → List Landing → Nesting → Operand → Bool
-crosses labels landings n (operand.Label name) =
+abbrev pub crosses_nesting : (labels : List (List ℕ)) → List Landing → Nesting → Operand → Bool
+crosses_nesting labels landings n (operand.Label name) =
     lands_elsewhere (landing_of n) (landing_at labels landings name)
-crosses labels landings n _ = false
+crosses_nesting labels landings n _ = false
 
 -- rule 33 in a body
 abbrev pub crossing_jumps : (labels : List (List ℕ)) → List Landing → List Statement
     → List Refusal
 crossing_jumps labels landings body =
-    refusals_along (λ s. false) (λ n s. broken_if (crosses labels landings n s.operand) s.line 33)
-    nesting_behind outside body
+    refusals_along (λ s. false) (λ n s. broken_if (crosses_nesting labels landings n s.operand) s.line 33)
+    nesting_behind empty_nesting body
 
 -- rule 33, in all bodies
 unfoldable pub rule_33 : List Block → List Refusal
 rule_33 blocks =
-    in_bodies (λ body. crossing_jumps (labels_of body) (landings_at_labels outside body) body)
+    in_bodies (λ body. crossing_jumps (labels_of body) (landings_at_labels empty_nesting body) body)
     blocks

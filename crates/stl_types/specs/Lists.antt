@@ -9,9 +9,9 @@ use Rattle.stl_ast.specs.declared.mnemonics.Mnemonic.TheVariants as code
 use Rattle.stl_ast.specs.declared.operands.Operand.{Operand}
 use Rattle.stl_ast.specs.declared.operands.Operand.TheVariants as operand
 use Rattle.stl_ast.specs.declared.statements.Statement.{Statement}
-use Rattle.stl_ast.specs.Statements.{is_empty}
+use Rattle.stl_ast.specs.Statements.{is_empty_statement}
 use Rattle.plc_base.specs.Least.{broken_if}
-use Rattle.stl_symbols.specs.Names.{place_of}
+use Rattle.stl_symbols.specs.Names.{name_place}
 use Rattle.stl_types.specs.Bodies.{in_bodies}
 use Rattle.stl_types.specs.Labels.{label_of}
 
@@ -21,9 +21,9 @@ is_list_jump code.Jl = true
 is_list_jump _ = false
 
 -- JU
-abbrev pub is_plain_jump : Mnemonic → Bool
-is_plain_jump code.Ju = true
-is_plain_jump _ = false
+abbrev pub is_unconditional_jump : Mnemonic → Bool
+is_unconditional_jump code.Ju = true
+is_unconditional_jump _ = false
 
 -- a statement has this label
 abbrev pub has_label : List ℕ → Option (List ℕ) → Bool
@@ -33,24 +33,24 @@ has_label name (Some label) = bytes_eq name label
 -- how many jumps a list may still have behind a statement; none where it isn't of the list
 abbrev pub left_behind : (left : ℕ) → Mnemonic → Option ℕ
 left_behind left m =
-    if is_empty m then Some left
-    else if is_plain_jump m && nat_lt 0 left then Some (left - 1) else None
+    if is_empty_statement m then Some left
+    else if is_unconditional_jump m && nat_lt 0 left then Some (left - 1) else None
 
 -- the list goes on with so many jumps left
-abbrev pub goes_on : Option ℕ → (ℕ → Bool) → Bool
-goes_on None next = false
-goes_on (Some left) next = next left
+abbrev pub list_goes_on : Option ℕ → (ℕ → Bool) → Bool
+list_goes_on None next = false
+list_goes_on (Some left) next = next left
 
 -- the statements from here on are a jump list of at most `left` jumps, up to the label
 abbrev pub is_list_to : (left : ℕ) → List ℕ → List Statement → Bool
 is_list_to left name [] = false
 is_list_to left name (s ∷ ss) =
     if has_label name s.label then true
-    else goes_on (left_behind left s.code) (λ next. is_list_to next name ss)
+    else list_goes_on (left_behind left s.code) (λ next. is_list_to next name ss)
 
 -- the label is that of no statement before, and a list leads to it
 abbrev pub has_list : (before : List (List ℕ)) → List ℕ → (behind : List Statement) → Bool
-has_list before name rest = not (is_some (place_of name before)) && is_list_to 255 name rest
+has_list before name rest = not (is_some (name_place name before)) && is_list_to 255 name rest
 
 -- a JL without a label breaks another rule
 abbrev pub lacks_list : (before : List (List ℕ)) → Operand → (behind : List Statement) → Bool

@@ -13,8 +13,8 @@ use Rattle.stl_types.specs.Bodies.{in_contexts}
 use Rattle.stl_types.specs.Constants.{takes_constant}
 use Rattle.stl_types.specs.Context.{Context}
 use Rattle.stl_types.specs.Forms.{form_of}
-use Rattle.stl_types.specs.Kinds.{is_nothing, is_direct, is_in_memory, is_timer, is_counter, is_opened, is_condition, is_pointer, is_label, is_status_word, is_second_register, is_loaded, is_called, is_composite, is_date, width_in, is_bit, is_double_word, is_peripheral, is_peripheral_area}
-use Rattle.stl_types.specs.Resolution.{seen}
+use Rattle.stl_types.specs.Kinds.{names_nothing, is_direct, is_in_memory, is_timer, is_counter, is_opened, is_condition, is_pointer_constant, is_label_operand, is_status_word, is_second_register, is_loadable_register, is_operand_of_call, is_composite, is_date, width_in, is_bit, is_double_word, is_peripheral, is_peripheral_area}
+use Rattle.stl_types.specs.Resolution.{resolution_of}
 use Rattle.stl_types.specs.declared.forms.OperandRule.{OperandRule}
 use Rattle.stl_types.specs.declared.forms.OperandRule.TheVariants as form
 use Rattle.stl_types.specs.declared.views.Resolution.{Resolution}
@@ -24,32 +24,32 @@ use Rattle.stl_types.specs.declared.views.ResolvedOperand.{ResolvedOperand}
 use Rattle.stl_types.specs.declared.views.ResolvedOperand.TheVariants as view
 
 -- the operands but constants that a form takes, whatever their width
-unfoldable pub takes : OperandRule → ResolvedOperand → Bool
-takes form.Bare v = is_nothing v
-takes form.ReadsBit v = is_in_memory v || is_timer v || is_counter v || is_condition v
-takes form.ReadsBitOrBare v =
-    is_nothing v || is_in_memory v || is_timer v || is_counter v || is_condition v
-takes form.WritesBit v = is_in_memory v
-takes form.Sets v = is_in_memory v || is_counter v
-takes form.Resets v = is_in_memory v || is_timer v || is_counter v
-takes form.Loads v = is_in_memory v || is_timer v || is_counter v || is_pointer v || is_loaded v
-takes form.Transfers v = is_in_memory v || is_status_word v
-takes form.LoadsBcd v = is_timer v || is_counter v
-takes form.LoadsAr1 v = is_nothing v || is_pointer v || is_direct v || is_second_register v
-takes form.LoadsAr2 v = is_nothing v || is_pointer v || is_direct v
-takes form.StoresAr1 v = is_nothing v || is_direct v || is_second_register v
-takes form.StoresAr2 v = is_nothing v || is_direct v
-takes form.AddsToAr v = is_nothing v || is_pointer v
-takes (form.Counts most) v = false
-takes (form.Shifts most) v = is_nothing v
-takes form.Adds v = false
-takes (form.Combines kind) v = is_nothing v
-takes form.Jumps v = is_label v
-takes form.StartsTimer v = is_timer v
-takes form.Enables v = is_timer v || is_counter v
-takes form.StepsCounter v = is_counter v
-takes form.Calls v = is_called v
-takes form.Opens v = is_opened v
+unfoldable pub takes_operand : OperandRule → ResolvedOperand → Bool
+takes_operand form.Bare v = names_nothing v
+takes_operand form.ReadsBit v = is_in_memory v || is_timer v || is_counter v || is_condition v
+takes_operand form.ReadsBitOrBare v =
+    names_nothing v || is_in_memory v || is_timer v || is_counter v || is_condition v
+takes_operand form.WritesBit v = is_in_memory v
+takes_operand form.Sets v = is_in_memory v || is_counter v
+takes_operand form.Resets v = is_in_memory v || is_timer v || is_counter v
+takes_operand form.Loads v = is_in_memory v || is_timer v || is_counter v || is_pointer_constant v || is_loadable_register v
+takes_operand form.Transfers v = is_in_memory v || is_status_word v
+takes_operand form.LoadsBcd v = is_timer v || is_counter v
+takes_operand form.LoadsAr1 v = names_nothing v || is_pointer_constant v || is_direct v || is_second_register v
+takes_operand form.LoadsAr2 v = names_nothing v || is_pointer_constant v || is_direct v
+takes_operand form.StoresAr1 v = names_nothing v || is_direct v || is_second_register v
+takes_operand form.StoresAr2 v = names_nothing v || is_direct v
+takes_operand form.AddsToAr v = names_nothing v || is_pointer_constant v
+takes_operand (form.Counts most) v = false
+takes_operand (form.Shifts most) v = names_nothing v
+takes_operand form.Adds v = false
+takes_operand (form.Combines kind) v = names_nothing v
+takes_operand form.Jumps v = is_label_operand v
+takes_operand form.StartsTimer v = is_timer v
+takes_operand form.Enables v = is_timer v || is_counter v
+takes_operand form.StepsCounter v = is_counter v
+takes_operand form.Calls v = is_operand_of_call v
+takes_operand form.Opens v = is_opened v
 
 -- what takes a place in memory, of whatever width
 unfoldable pub takes_places : OperandRule → Bool
@@ -87,19 +87,19 @@ has_width f None = true
 has_width f (Some w) = takes_width f (Some w)
 
 -- what writes its operand
-abbrev pub writes : OperandRule → Bool
-writes form.WritesBit = true
-writes form.Sets = true
-writes form.Resets = true
-writes form.Transfers = true
-writes form.StoresAr1 = true
-writes form.StoresAr2 = true
-writes _ = false
+abbrev pub form_writes_operand : OperandRule → Bool
+form_writes_operand form.WritesBit = true
+form_writes_operand form.Sets = true
+form_writes_operand form.Resets = true
+form_writes_operand form.Transfers = true
+form_writes_operand form.StoresAr1 = true
+form_writes_operand form.StoresAr2 = true
+form_writes_operand _ = false
 
 -- the peripheral area has inputs to read and outputs to write, and no pointer leads there by an area of its own
 abbrev pub is_on_wrong_side : OperandRule → ResolvedOperand → Bool
-is_on_wrong_side f (view.Direct place width side.Inputs declared) = writes f
-is_on_wrong_side f (view.Direct place width side.Outputs declared) = not (writes f)
+is_on_wrong_side f (view.Direct place width side.Inputs declared) = form_writes_operand f
+is_on_wrong_side f (view.Direct place width side.Outputs declared) = not (form_writes_operand f)
 is_on_wrong_side f (view.ByMemory a width from byte) = is_peripheral a
 is_on_wrong_side f (view.ByRegister a width register bits) = is_peripheral_area a
 is_on_wrong_side f _ = false
@@ -114,24 +114,24 @@ abbrev pub composite_rule : OperandRule → ResolvedOperand → ℕ
 composite_rule f v = if is_date v || takes_places f then 24 else 25
 
 -- the rule that an instruction breaks by its operand: of one that the form takes, the width comes before the side
-unfoldable pub rule_of : OperandRule → ResolvedOperand → Option ℕ
-rule_of f v =
+unfoldable pub rule_of_resolved_operand : OperandRule → ResolvedOperand → Option ℕ
+rule_of_resolved_operand f v =
     if is_composite v then Some (composite_rule f v)
-    else if not (takes f v) then Some 25
+    else if not (takes_operand f v) then Some 25
     else if not (has_width f (width_in v)) then Some 24
     else if is_on_wrong_side f v then Some 25
-    else if writes f && is_input v then Some 39
+    else if form_writes_operand f && is_input v then Some 39
     else None
 
 -- the same of what an operand comes to; a constant is checked by itself, and nothing where the operand isn't seen
 abbrev pub rule_seen : OperandRule → Resolution → Option ℕ
-rule_seen f (Resolved v) = rule_of f v
+rule_seen f (Resolved v) = rule_of_resolved_operand f v
 rule_seen f _ = None
 
 -- the rule that an operand breaks with an instruction of a form
 abbrev pub operand_rule : Context → OperandRule → Operand → Option ℕ
 operand_rule c f (operand.Constant value) = if takes_constant f value then None else Some 25
-operand_rule c f o = rule_seen f (seen c o)
+operand_rule c f o = rule_seen f (resolution_of c o)
 
 -- the refusal of a line by the rule that is broken, if one is
 abbrev pub at_line : (line : ℕ) → Option ℕ → List Refusal

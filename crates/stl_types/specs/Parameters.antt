@@ -25,24 +25,24 @@ abbrev pub formal : List ℕ → PartKind → Simple → Formal
 formal name section kind = record { name = name; section = section; kind = kind }
 
 -- the parameters of the nine system functions, in their order; of another one none are known
-abbrev pub ob_nr : Formal
-ob_nr = formal (codes "OB_NR") part.Input simple.Int
+abbrev pub ob_nr_formal : Formal
+ob_nr_formal = formal (codes "OB_NR") part.Input simple.Int
 
 -- the return value
-abbrev pub returns : Simple → Formal
-returns kind = formal (codes "RET_VAL") part.Output kind
+abbrev pub return_value_formal : Simple → Formal
+return_value_formal kind = formal (codes "RET_VAL") part.Output kind
 
 -- which interrupts are meant
-abbrev pub mode : Formal
-mode = formal (codes "MODE") part.Input simple.Byte
+abbrev pub mode_formal : Formal
+mode_formal = formal (codes "MODE") part.Input simple.Byte
 
 -- the delay
-abbrev pub dtime : Formal
-dtime = formal (codes "DTIME") part.Input simple.Time
+abbrev pub dtime_formal : Formal
+dtime_formal = formal (codes "DTIME") part.Input simple.Time
 
 -- the mark of the start
-abbrev pub sign : Formal
-sign = formal (codes "SIGN") part.Input simple.Word
+abbrev pub sign_formal : Formal
+sign_formal = formal (codes "SIGN") part.Input simple.Word
 
 -- a number is one of these
 abbrev pub is_one_of : List ℕ → ℕ → Bool
@@ -52,12 +52,12 @@ is_one_of (m ∷ ms) n = if nat_eq n m then true else is_one_of ms n
 -- the parameters of a system function by its number
 unfoldable pub system_formals : ℕ → Option (List Formal)
 system_formals n =
-    if nat_eq n 32 then Some (ob_nr ∷ dtime ∷ sign ∷ returns simple.Int ∷ [])
-    else if nat_eq n 33 then Some (ob_nr ∷ returns simple.Int ∷ [])
-    else if is_one_of (39 ∷ 40 ∷ []) n then Some (mode ∷ ob_nr ∷ returns simple.Int ∷ [])
-    else if is_one_of (41 ∷ 42 ∷ []) n then Some (returns simple.Int ∷ [])
+    if nat_eq n 32 then Some (ob_nr_formal ∷ dtime_formal ∷ sign_formal ∷ return_value_formal simple.Int ∷ [])
+    else if nat_eq n 33 then Some (ob_nr_formal ∷ return_value_formal simple.Int ∷ [])
+    else if is_one_of (39 ∷ 40 ∷ []) n then Some (mode_formal ∷ ob_nr_formal ∷ return_value_formal simple.Int ∷ [])
+    else if is_one_of (41 ∷ 42 ∷ []) n then Some (return_value_formal simple.Int ∷ [])
     else if is_one_of (43 ∷ 46 ∷ []) n then Some []
-    else if nat_eq n 64 then Some (returns simple.Time ∷ [])
+    else if nat_eq n 64 then Some (return_value_formal simple.Time ∷ [])
     else None
 
 -- the parameter that a component is; parameters are of elementary type

@@ -17,7 +17,7 @@ use Rattle.stl_symbols.specs.declared.targets.Target.TheVariants as target
 use Rattle.block_layout.specs.Blocks.{named_block}
 use Rattle.block_layout.specs.Paths.{folded_path}
 use Rattle.plc_base.specs.declared.places.Width.{Width}
-use Rattle.stl_types.specs.Addresses.{address, address_in, area_left, area_of}
+use Rattle.stl_types.specs.Addresses.{resolved_address, address_in_block, area_left, area_for_letters}
 use Rattle.stl_types.specs.Context.{Context, data_number, whole_place}
 use Rattle.stl_types.specs.Variables.{data_variable, own_variable}
 use Rattle.stl_types.specs.declared.views.Register.{Register}
@@ -48,12 +48,12 @@ path_seen c (head.Symbol name) steps = symbol_seen (symbol_named name c.symbols)
 
 -- an address, also behind a data block
 abbrev pub direct_seen : Context → Option BlockName → Letters → Width → (byte bit : ℕ) → Resolution
-direct_seen c None a width byte bit = Resolved (address 0 a width byte bit)
-direct_seen c (Some name) a width byte bit = address_in (data_number c name) a width byte bit
+direct_seen c None a width byte bit = Resolved (resolved_address 0 a width byte bit)
+direct_seen c (Some name) a width byte bit = address_in_block (data_number c name) a width byte bit
 
 -- a register by its word; the grammar has these six
-abbrev pub register_of : List ℕ → Register
-register_of name =
+abbrev pub register_for_word : List ℕ → Register
+register_for_word name =
     if is_same_name name (codes "STW") then register.Stw
     else if is_same_name name (codes "DBLG") then register.Dblg
     else if is_same_name name (codes "DBNO") then register.Dbno
@@ -78,9 +78,9 @@ abbrev pub id_at : BlockId → Option ℕ → Option BlockId
 id_at id place = option_map (λ p. id) place
 
 -- a called block, where it doesn't break a rule itself
-abbrev pub whole_block : Context → Option BlockId → Option BlockId
-whole_block c None = None
-whole_block c (Some id) =
+abbrev pub whole_called_block : Context → Option BlockId → Option BlockId
+whole_called_block c None = None
+whole_called_block c (Some id) =
     if is_system_function id.kind then Some id else id_at id (whole_place c id)
 
 -- the number of the instance, if one is named
@@ -89,22 +89,22 @@ instance_number c None = None
 instance_number c (Some name) = data_number c name
 
 -- an operand
-unfoldable pub seen : Context → Operand → Resolution
-seen c operand.Nothing = Resolved view.Nothing
-seen c (operand.Direct name a width byte bit) = direct_seen c name a width byte bit
-seen c (operand.Timer number) = Resolved (view.Timer number)
-seen c (operand.Counter number) = Resolved (view.Counter number)
-seen c (operand.Named path steps) = path_seen c path steps
-seen c (operand.ByMemory a width from byte) =
-    Resolved (view.ByMemory (area_of a) width (area_of from) byte)
-seen c (operand.NumberBy what from byte) = Resolved (view.NumberBy what (area_of from) byte)
-seen c (operand.ByRegister a width register bits) =
+unfoldable pub resolution_of : Context → Operand → Resolution
+resolution_of c operand.Nothing = Resolved view.Nothing
+resolution_of c (operand.Direct name a width byte bit) = direct_seen c name a width byte bit
+resolution_of c (operand.Timer number) = Resolved (view.Timer number)
+resolution_of c (operand.Counter number) = Resolved (view.Counter number)
+resolution_of c (operand.Named path steps) = path_seen c path steps
+resolution_of c (operand.ByMemory a width from byte) =
+    Resolved (view.ByMemory (area_for_letters a) width (area_for_letters from) byte)
+resolution_of c (operand.NumberBy what from byte) = Resolved (view.NumberBy what (area_for_letters from) byte)
+resolution_of c (operand.ByRegister a width register bits) =
     Resolved (view.ByRegister (area_left a) width register bits)
-seen c (operand.Pointer a byte bit) = Resolved (view.Pointer (area_left a) byte bit)
-seen c (operand.Constant value) = Resolved view.Constant
-seen c (operand.Label name) = Resolved view.Label
-seen c (operand.OfStatus flag) = Resolved (view.OfStatus flag)
-seen c (operand.Other name) = Resolved (view.Register (register_of name))
-seen c (operand.OpenBlock di name) = opened_seen di (data_number c name)
-seen c (operand.Called name instance) =
-    called_seen (whole_block c (named_block c.symbols name)) instance (instance_number c instance)
+resolution_of c (operand.Pointer a byte bit) = Resolved (view.Pointer (area_left a) byte bit)
+resolution_of c (operand.Constant value) = Resolved view.Constant
+resolution_of c (operand.Label name) = Resolved view.Label
+resolution_of c (operand.OfStatus flag) = Resolved (view.OfStatus flag)
+resolution_of c (operand.Other name) = Resolved (view.Register (register_for_word name))
+resolution_of c (operand.OpenBlock di name) = opened_seen di (data_number c name)
+resolution_of c (operand.Called name instance) =
+    called_seen (whole_called_block c (named_block c.symbols name)) instance (instance_number c instance)

@@ -4,7 +4,7 @@ use Rattle.std.specs.Option.{is_none}
 use Rattle.stl_ast.specs.declared.statements.Statement.{Statement}
 use Rattle.stl_types.specs.Context.{Context}
 use Rattle.stl_types.specs.Operands.{statement_rule}
-use Rattle.stl_types.specs.Resolution.{seen}
+use Rattle.stl_types.specs.Resolution.{resolution_of}
 use Rattle.stl_types.specs.declared.views.Resolution.{Resolution}
 use Rattle.stl_types.specs.declared.views.Resolution.TheVariants.{Resolved}
 use Rattle.stl_types.specs.declared.views.ResolvedOperand.{ResolvedOperand}
@@ -15,5 +15,5 @@ seen_view (Resolved v) = Some v
 seen_view _ = None
 
 -- what the operand of a statement names, where its instruction takes it
-unfoldable pub resolved : Context → Statement → Option ResolvedOperand
-resolved c s = if is_none (statement_rule c s) then seen_view (seen c s.operand) else None
+unfoldable pub resolved_operand : Context → Statement → Option ResolvedOperand
+resolved_operand c s = if is_none (statement_rule c s) then seen_view (resolution_of c s.operand) else None

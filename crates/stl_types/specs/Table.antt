@@ -19,8 +19,8 @@ use Rattle.stl_types.specs.Unknown.{rule_20}
 use Rattle.stl_types.specs.Zones.{rule_47, rule_48, rule_49}
 
 -- what all bodies and settings break
-unfoldable pub refusals_by : Context → List Block → List Refusal
-refusals_by c blocks =
+unfoldable pub statement_refusals_by : Context → List Block → List Refusal
+statement_refusals_by c blocks =
     rule_20 c blocks  -- an unknown name or component
     ++ rules_24_25_39 c blocks  -- a width, a form or a constant that isn't allowed; a written input
     ++ rule_24_of_actuals c blocks  -- a DATE_AND_TIME as an actual parameter
@@ -44,10 +44,10 @@ refusals_by c blocks =
 
 -- what a tree breaks, with its symbols and the layouts of its blocks
 unfoldable pub statement_refusals : Tree → List Symbol → List BlockLayout → List Refusal
-statement_refusals t symbols l = refusals_by (first_context symbols l t.blocks) t.blocks
+statement_refusals t symbols l = statement_refusals_by (first_context symbols l t.blocks) t.blocks
 
 -- the tree where no rule is broken, else the least refusal
-abbrev pub Checks : Option Refusal → Tree → Result Tree SourceFault → Type 0
-Checks least tree (Ok t) = (least ≡ None) × (t ≡ tree)
-Checks least tree (Err (Refused r)) = least ≡ Some r
-Checks least tree (Err NoMemory) = Unit {0}
+abbrev pub ChecksTree : Option Refusal → Tree → Result Tree SourceFault → Type 0
+ChecksTree least tree (Ok t) = (least ≡ None) × (t ≡ tree)
+ChecksTree least tree (Err (Refused r)) = least ≡ Some r
+ChecksTree least tree (Err NoMemory) = Unit {0}

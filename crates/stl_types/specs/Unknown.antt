@@ -4,15 +4,15 @@ use Rattle.plc_base.specs.declared.refusals.Refusal.{Refusal}
 use Rattle.stl_ast.specs.declared.blocks.Block.{Block}
 use Rattle.stl_ast.specs.declared.blocks.Setting.{Setting}
 use Rattle.plc_base.specs.Least.{broken_if}
-use Rattle.block_layout.specs.Operands.{Judged, in_body}
-use Rattle.block_layout.specs.Paths.{folded_path, walked_data}
+use Rattle.block_layout.specs.Operands.{OperandAtLine, in_body}
+use Rattle.block_layout.specs.Paths.{folded_path, path_end_in_data_block}
 use Rattle.block_layout.specs.Settings.{on_settings}
 use Rattle.block_layout.specs.declared.blocks.BlockLayout.{BlockLayout}
 use Rattle.block_layout.specs.declared.walks.PathEnd.{PathEnd}
 use Rattle.block_layout.specs.declared.walks.PathEnd.TheVariants as walk
 use Rattle.stl_types.specs.Bodies.{in_contexts}
 use Rattle.stl_types.specs.Context.{Context}
-use Rattle.stl_types.specs.Resolution.{seen}
+use Rattle.stl_types.specs.Resolution.{resolution_of}
 use Rattle.stl_types.specs.declared.views.Resolution.{Resolution}
 use Rattle.stl_types.specs.declared.views.Resolution.TheVariants.{Unknown}
 
@@ -22,8 +22,8 @@ is_unknown Unknown = true
 is_unknown _ = false
 
 -- an operand of a statement, or the value of an actual parameter
-abbrev pub operand_20 : Context → Judged → List Refusal
-operand_20 c o = broken_if (is_unknown (seen c o.operand)) o.line 20
+abbrev pub operand_20 : Context → OperandAtLine → List Refusal
+operand_20 c o = broken_if (is_unknown (resolution_of c o.operand)) o.line 20
 
 -- a path to a component that isn't there
 abbrev pub leads_nowhere : PathEnd → Bool
@@ -32,7 +32,7 @@ leads_nowhere _ = false
 
 -- the target of a setting, of a data block that doesn't break a rule itself
 abbrev pub sets_unknown : List BlockLayout → ℕ → Setting → Bool
-sets_unknown l block s = leads_nowhere (walked_data l block (folded_path s.path))
+sets_unknown l block s = leads_nowhere (path_end_in_data_block l block (folded_path s.path))
 
 -- rule 20, in all settings and bodies
 unfoldable pub rule_20 : Context → List Block → List Refusal

@@ -8,9 +8,9 @@ use Rattle.stl_ast.specs.declared.blocks.Block.{Block}
 use Rattle.stl_ast.specs.declared.blocks.PathStep.{PathStep}
 use Rattle.stl_ast.specs.declared.declarations.Simple.{Simple}
 use Rattle.stl_ast.specs.declared.names.BlockName.{BlockName}
-use Rattle.block_layout.specs.Members.{component}
-use Rattle.block_layout.specs.Offsets.{placed}
-use Rattle.block_layout.specs.Paths.{cells_at, elementary_at, walked_data, walked_local}
+use Rattle.block_layout.specs.Members.{component_of_name}
+use Rattle.block_layout.specs.Offsets.{elementary_place}
+use Rattle.block_layout.specs.Paths.{cells_at, elementary_at, path_end_in_data_block, walked_local}
 use Rattle.block_layout.specs.declared.cells.Cell.{Cell}
 use Rattle.block_layout.specs.declared.cells.Element.{Element}
 use Rattle.block_layout.specs.declared.cells.Element.TheVariants as element
@@ -30,14 +30,14 @@ date_or_composite element.DateAndTime = view.Date
 date_or_composite _ = view.Composite
 
 -- the same of the component at a spot
-abbrev pub composite : Option Cell → ResolvedOperand
-composite None = view.Composite
-composite (Some c) = date_or_composite c.of
+abbrev pub composite_operand : Option Cell → ResolvedOperand
+composite_operand None = view.Composite
+composite_operand (Some c) = date_or_composite c.of
 
 -- a variable in an area; none that is sound lies past the addresses
-abbrev pub in_area : Simple → Option (Place × Width) → Resolution
-in_area kind None = Unjudged
-in_area kind (Some p) = Resolved (view.Direct p.0 p.1 side.Both (Some kind))
+abbrev pub variable_in_area : Simple → Option (Place × Width) → Resolution
+variable_in_area kind None = Unjudged
+variable_in_area kind (Some p) = Resolved (view.Direct p.0 p.1 side.Both (Some kind))
 
 -- the place of a parameter in a call: those declared in their order, and the return value, which is the first of the
 -- components, behind them
@@ -51,35 +51,35 @@ parameter_index count place None = place
 parameter_index count place (Some b) = behind_others count place b.result
 
 -- a parameter of a function, which is the component at this place
-abbrev pub parameter : (index : ℕ) → Simple → Option Cell → Resolution
-parameter index kind None = Unjudged
-parameter index kind (Some c) = Resolved (view.Parameter index c.section kind)
+abbrev pub parameter_resolution : (index : ℕ) → Simple → Option Cell → Resolution
+parameter_resolution index kind None = Unjudged
+parameter_resolution index kind (Some c) = Resolved (view.Parameter index c.section kind)
 
 -- a parameter of the function that has the body
 abbrev pub parameter_at : Context → ComponentAt → Simple → Resolution
 parameter_at c spot kind =
-    parameter
+    parameter_resolution
     (parameter_index (length (cells_at c.layouts c.block false)) spot.place
     (slice_get c.blocks c.block))
     kind (slice_get (cells_at c.layouts c.block false) spot.place)
 
 -- the first name of a path is that of a temporary variable; the others are those of its components
-abbrev pub is_temporary : Context → List ℕ → Bool
-is_temporary c name =
-    not (is_some (component 0 0 0 name (cells_at c.layouts c.block false)))
+abbrev pub is_temporary_variable : Context → List ℕ → Bool
+is_temporary_variable c name =
+    not (is_some (component_of_name 0 0 0 name (cells_at c.layouts c.block false)))
 
 -- a variable of the block: a temporary one lies in the local data, a parameter of a function is bound at its call, and
 -- each variable of a function block lies in the data block of the DI register
 abbrev pub own_elementary : Context → (temporary : Bool) → ComponentAt → Simple → Resolution
 own_elementary c temporary spot kind =
-    if temporary then in_area kind (placed area.L 0 spot.offset (Some kind))
+    if temporary then variable_in_area kind (elementary_place area.L 0 spot.offset (Some kind))
     else if in_function c then parameter_at c spot kind
-    else in_area kind (placed area.Di 0 spot.offset (Some kind))
+    else variable_in_area kind (elementary_place area.Di 0 spot.offset (Some kind))
 
 -- the component at a spot in the block's own variables; of what isn't elementary no place is seen
 abbrev pub own_at : Context → (temporary : Bool) → ComponentAt → Option Simple → Resolution
 own_at c temporary spot None =
-    Resolved (composite (slice_get (cells_at c.layouts spot.block spot.temporary) spot.place))
+    Resolved (composite_operand (slice_get (cells_at c.layouts spot.block spot.temporary) spot.place))
 own_at c temporary spot (Some kind) = own_elementary c temporary spot kind
 
 -- and where a path in them leads, which may be unknown or rest on what breaks a rule itself
@@ -92,13 +92,13 @@ own_walked c temporary walk.Rests = Unjudged
 -- a path into the block's own variables
 abbrev pub own_variable : Context → List ℕ → List PathStep → Resolution
 own_variable c name steps =
-    own_walked c (is_temporary c name) (walked_local c.layouts c.block name steps)
+    own_walked c (is_temporary_variable c name) (walked_local c.layouts c.block name steps)
 
 -- a component of the data block with this number; of what isn't elementary no place is seen
 abbrev pub data_at : Context → (number : ℕ) → ComponentAt → Option Simple → Resolution
 data_at c number spot None =
-    Resolved (composite (slice_get (cells_at c.layouts spot.block spot.temporary) spot.place))
-data_at c number spot (Some kind) = in_area kind (placed area.Db number spot.offset (Some kind))
+    Resolved (composite_operand (slice_get (cells_at c.layouts spot.block spot.temporary) spot.place))
+data_at c number spot (Some kind) = variable_in_area kind (elementary_place area.Db number spot.offset (Some kind))
 
 -- and where a path in it leads
 abbrev pub data_walked : Context → (number : ℕ) → PathEnd → Resolution
@@ -109,7 +109,7 @@ data_walked c number walk.Rests = Unjudged
 -- a path into the data block with this number, at this place
 abbrev pub data_path : Context → List PathStep → Option ℕ → Option ℕ → Resolution
 data_path c steps (Some number) (Some block) =
-    data_walked c number (walked_data c.layouts block steps)
+    data_walked c number (path_end_in_data_block c.layouts block steps)
 data_path c steps _ _ = Unjudged
 
 -- a path into a data block, where that doesn't break a rule itself

@@ -40,17 +40,17 @@ abbrev pub with_zones : (List ℕ → Statement → List Refusal) → (zones : L
 with_zones broken zones body = refusals_along (λ s. false) broken zones_behind zones body
 
 -- a zone ends where none is open
-abbrev pub ends_none : (zones : List ℕ) → Statement → Bool
-ends_none zones s = ends_zone s.code && nat_eq (length zones) 0
+abbrev pub ends_no_zone : (zones : List ℕ) → Statement → Bool
+ends_no_zone zones s = ends_zone s.code && nat_eq (length zones) 0
 
 -- eight zones may be open
-abbrev pub is_ninth : (zones : List ℕ) → Statement → Bool
-is_ninth zones s = opens_zone s.code && nat_le 8 (length zones)
+abbrev pub is_ninth_zone : (zones : List ℕ) → Statement → Bool
+is_ninth_zone zones s = opens_zone s.code && nat_le 8 (length zones)
 
 -- the line is that of the )MCR
 unfoldable pub rule_47 : List Block → List Refusal
 rule_47 blocks =
-    in_bodies (with_zones (λ zones s. broken_if (ends_none zones s) s.line 47) []) blocks
+    in_bodies (with_zones (λ zones s. broken_if (ends_no_zone zones s) s.line 47) []) blocks
 
 -- a zone that is open at the block's end: the line is that of its MCR(
 abbrev pub zones_left_open : List Statement → List Refusal
@@ -63,4 +63,4 @@ rule_48 blocks = in_bodies zones_left_open blocks
 -- the ninth open zone, and each one inside it
 unfoldable pub rule_49 : List Block → List Refusal
 rule_49 blocks =
-    in_bodies (with_zones (λ zones s. broken_if (is_ninth zones s) s.line 49) []) blocks
+    in_bodies (with_zones (λ zones s. broken_if (is_ninth_zone zones s) s.line 49) []) blocks

@@ -1,13 +1,13 @@
 ghost use Rattle.std.specs.Prelude.{◌≡◌, [], IfOk};
 ghost use Rattle.plc_base.specs.Least.{broken_if, least};
 ghost use Rattle.stl_types.specs.Brackets.{
-  behind,
-  behind_all,
-  closes,
-  closes_none,
-  is_eighth,
-  left_open,
-  opening,
+  brackets_behind,
+  brackets_behind_all,
+  is_closing_bracket,
+  closes_no_bracket,
+  is_eighth_bracket,
+  brackets_left_open,
+  bracket_function,
   rule_29,
   rule_30,
   rule_31,
@@ -26,9 +26,9 @@ pub struct Bracket {
     pub line: u32,
 }
 
-#[tactic(auto, unfolding(crate::specs::Brackets::opening))]
+#[tactic(auto, unfolding(crate::specs::Brackets::bracket_function))]
 pub(crate) fn opening(code: Mnemonic) -> Option<u8>
-    ensures { result ≡ opening code }
+    ensures { result ≡ bracket_function code }
 {
     match code {
         Mnemonic::AOpen => Some(0),
@@ -41,16 +41,16 @@ pub(crate) fn opening(code: Mnemonic) -> Option<u8>
     }
 }
 
-#[tactic(auto, unfolding(crate::specs::Brackets::closes))]
+#[tactic(auto, unfolding(crate::specs::Brackets::is_closing_bracket))]
 fn closes(code: Mnemonic) -> bool
-    ensures { result ≡ closes code }
+    ensures { result ≡ is_closing_bracket code }
 {
     matches!(code, Mnemonic::Close)
 }
 
 /// Opens or closes a bracket by a statement.
 pub(crate) fn pass(brackets: &mut Vec<Bracket>, statement: &Statement) -> Result<(), AllocError>
-    ensures { IfOk result (λ _. brackets.new.items ≡ behind brackets.old.items statement.now) }
+    ensures { IfOk result (λ _. brackets.new.items ≡ brackets_behind brackets.old.items statement.now) }
 {
     if let Some(function) = opening(statement.code) {
         brackets.push(Bracket {
@@ -66,20 +66,20 @@ pub(crate) fn pass(brackets: &mut Vec<Bracket>, statement: &Statement) -> Result
 }
 
 fn closes_none(brackets: &[Bracket], statement: &Statement) -> bool
-    ensures { result ≡ closes_none brackets.now statement.now }
+    ensures { result ≡ closes_no_bracket brackets.now statement.now }
 {
     closes(statement.code) && brackets.is_empty()
 }
 
 fn is_eighth(brackets: &[Bracket], statement: &Statement) -> bool
-    ensures { result ≡ is_eighth brackets.now statement.now }
+    ensures { result ≡ is_eighth_bracket brackets.now statement.now }
 {
     opening(statement.code).is_some() && brackets.len() >= 7
 }
 
 fn closed_without(alloc: Global, body: &[Statement]) -> Result<Option<Refusal>, AllocError>
     ensures { IfOk result (λ found. found ≡ least
-        (with_brackets (λ brackets s. broken_if (closes_none brackets s) s.line 29) [] body.now)) }
+        (with_brackets (λ brackets s. broken_if (closes_no_bracket brackets s) s.line 29) [] body.now)) }
 {
     let mut brackets = Vec::new(alloc);
     let mut found = None;
@@ -104,7 +104,7 @@ pub(crate) fn least_closed_without(
 
 fn eighth(alloc: Global, body: &[Statement]) -> Result<Option<Refusal>, AllocError>
     ensures { IfOk result (λ found. found ≡ least
-        (with_brackets (λ brackets s. broken_if (is_eighth brackets s) s.line 31) [] body.now)) }
+        (with_brackets (λ brackets s. broken_if (is_eighth_bracket brackets s) s.line 31) [] body.now)) }
 {
     let mut brackets = Vec::new(alloc);
     let mut found = None;
@@ -125,7 +125,7 @@ pub(crate) fn least_eighth(alloc: Global, blocks: &[Block]) -> Result<Option<Ref
 }
 
 fn open_at_end(alloc: Global, body: &[Statement]) -> Result<Vec<Bracket>, AllocError>
-    ensures { IfOk result (λ brackets. brackets.items ≡ behind_all [] body.now) }
+    ensures { IfOk result (λ brackets. brackets.items ≡ brackets_behind_all [] body.now) }
 {
     let mut brackets = Vec::new(alloc);
     for statement in body {
@@ -135,7 +135,7 @@ fn open_at_end(alloc: Global, body: &[Statement]) -> Result<Vec<Bracket>, AllocE
 }
 
 fn left_open(alloc: Global, body: &[Statement]) -> Result<Option<Refusal>, AllocError>
-    ensures { IfOk result (λ found. found ≡ least (left_open body.now)) }
+    ensures { IfOk result (λ found. found ≡ least (brackets_left_open body.now)) }
 {
     let brackets = open_at_end(alloc, body)?;
     Ok(least_of(&brackets, |b: &Bracket| broken_if(true, b.line, 30)))

@@ -8,10 +8,10 @@ ghost use Rattle.stl_types.specs.Calls.{
   is_supplied,
   is_supplied_twice,
   lacks_actual,
-  names_none,
-  supplied,
-  supplied_twice,
-  unnamed,
+  names_no_formal,
+  supplied_names,
+  actuals_supplied_twice,
+  actuals_without_formal,
 };
 
 use crate::parameters::{Callee, Formal};
@@ -35,7 +35,7 @@ fn has_formal(formals: &[Formal], upper: &[u8]) -> bool
 
 /// Whether a call has no parameter of the name that an actual has.
 fn names_none(formals: &[Formal], alloc: Global, actual: &Actual) -> Result<bool, AllocError>
-    ensures { IfOk result (λ none. none ≡ names_none formals.now actual.now) }
+    ensures { IfOk result (λ none. none ≡ names_no_formal formals.now actual.now) }
 {
     let upper = actual.name.as_bytes().to_ascii_uppercase(alloc)?;
     Ok(!has_formal(formals, upper.as_slice()))
@@ -47,7 +47,7 @@ fn unnamed_here(
     actual: &Actual,
 ) -> Result<Option<Refusal>, AllocError>
     ensures { IfOk result (λ found. found
-        ≡ least (broken_if (names_none formals.now actual.now) actual.now.line 34)) }
+        ≡ least (broken_if (names_no_formal formals.now actual.now) actual.now.line 34)) }
 {
     let none = names_none(formals, alloc, actual)?;
     Ok(broken_if(none, actual.line, 34))
@@ -59,7 +59,7 @@ pub(crate) fn least_unnamed(
     alloc: Global,
     actuals: &[Actual],
 ) -> Result<Option<Refusal>, AllocError>
-    ensures { IfOk result (λ found. found ≡ least (unnamed formals.now actuals.now)) }
+    ensures { IfOk result (λ found. found ≡ least (actuals_without_formal formals.now actuals.now)) }
 {
     try_least_of(actuals, |a: &Actual| unnamed_here(formals, alloc, a))
 }
@@ -94,7 +94,7 @@ pub(crate) fn least_supplied_twice(
     alloc: Global,
     actuals: &[Actual],
 ) -> Result<Option<Refusal>, AllocError>
-    ensures { IfOk result (λ found. found ≡ least (supplied_twice formals.now [] actuals.now)) }
+    ensures { IfOk result (λ found. found ≡ least (actuals_supplied_twice formals.now [] actuals.now)) }
 {
     let mut before = Names::new(alloc);
     let mut found = None;
@@ -107,7 +107,7 @@ pub(crate) fn least_supplied_twice(
 }
 
 fn supplied(alloc: Global, actuals: &[Actual]) -> Result<Names, AllocError>
-    ensures { IfOk result (λ names. names ≡ supplied actuals.now) }
+    ensures { IfOk result (λ names. names ≡ supplied_names actuals.now) }
 {
     let mut names = Names::new(alloc);
     for actual in actuals {

@@ -1,7 +1,7 @@
 ghost use Rattle.std.specs.Prelude.{◌≡◌, IfOk};
 ghost use Rattle.plc_base.specs.Least.{least};
 ghost use Rattle.stl_types.specs.Joined.{rules_of_jumps, rules_of_zones};
-ghost use Rattle.stl_types.specs.Table.{Checks, statement_refusals};
+ghost use Rattle.stl_types.specs.Table.{ChecksTree, statement_refusals};
 
 use crate::brackets::{least_closed_without, least_eighth, least_left_open};
 use crate::call_walks::least_wrong_call;
@@ -97,7 +97,7 @@ pub fn check<'a>(
     symbols: &Symbols,
     layouts: &Layouts,
 ) -> Result<Checked<'a>, SourceFault>
-    ensures { Checks (least (statement_refusals tree.now symbols.now layouts.now)) tree.now
+    ensures { ChecksTree (least (statement_refusals tree.now symbols.now layouts.now)) tree.now
         result }
 {
     match least_refusal(alloc, tree, symbols, layouts)? {

@@ -1,6 +1,6 @@
 ghost use Rattle.std.specs.Prelude.{◌≡◌};
 ghost use Rattle.stl_types.specs.Constants.{
-  is_added,
+  is_addend,
   is_count,
   is_truth,
   is_up_to,
@@ -27,7 +27,7 @@ fn is_count(most: u16, value: &Literal) -> bool
 }
 
 fn is_added(value: &Literal) -> bool
-    ensures { result ≡ is_added value.now }
+    ensures { result ≡ is_addend value.now }
 {
     matches!(value, Literal::Number { .. } | Literal::Long { .. })
 }

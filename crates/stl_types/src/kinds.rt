@@ -3,7 +3,7 @@ ghost use Rattle.plc_base.specs.Kinds.{is_callable};
 ghost use Rattle.block_layout.specs.Offsets.{width_of};
 ghost use Rattle.stl_types.specs.Kinds.{
   is_bit,
-  is_called,
+  is_operand_of_call,
   is_composite,
   is_condition,
   is_counter,
@@ -11,11 +11,11 @@ ghost use Rattle.stl_types.specs.Kinds.{
   is_direct,
   is_double_word,
   is_in_memory,
-  is_label,
-  is_loaded,
-  is_nothing,
+  is_label_operand,
+  is_loadable_register,
+  names_nothing,
   is_opened,
-  is_pointer,
+  is_pointer_constant,
   is_second_register,
   is_status_word,
   is_timer,
@@ -28,7 +28,7 @@ use plc_base::{BlockKind, Width};
 use stl_ast::Numbered;
 
 pub(crate) fn is_nothing(view: ResolvedOperand) -> bool
-    ensures { result ≡ is_nothing view }
+    ensures { result ≡ names_nothing view }
 {
     matches!(view, ResolvedOperand::Nothing)
 }
@@ -91,13 +91,13 @@ pub(crate) fn is_condition(view: ResolvedOperand) -> bool
 }
 
 pub(crate) fn is_pointer(view: ResolvedOperand) -> bool
-    ensures { result ≡ is_pointer view }
+    ensures { result ≡ is_pointer_constant view }
 {
     matches!(view, ResolvedOperand::Pointer { .. })
 }
 
 pub(crate) fn is_label(view: ResolvedOperand) -> bool
-    ensures { result ≡ is_label view }
+    ensures { result ≡ is_label_operand view }
 {
     matches!(view, ResolvedOperand::Label)
 }
@@ -122,7 +122,7 @@ pub(crate) fn is_second_register(view: ResolvedOperand) -> bool
 
 /// Whether a register can be loaded by L.
 pub(crate) fn is_loaded(view: ResolvedOperand) -> bool
-    ensures { result ≡ is_loaded view }
+    ensures { result ≡ is_loadable_register view }
 {
     match view {
         ResolvedOperand::Register { which } => !matches!(which, Register::Ar2),
@@ -132,7 +132,7 @@ pub(crate) fn is_loaded(view: ResolvedOperand) -> bool
 
 /// Whether a block can be called so: only a function block has an instance.
 pub(crate) fn is_called(view: ResolvedOperand) -> bool
-    ensures { result ≡ is_called view }
+    ensures { result ≡ is_operand_of_call view }
 {
     match view {
         ResolvedOperand::Called { block, instance } => match instance {

@@ -1,7 +1,7 @@
 ghost use Rattle.std.specs.Prelude.{◌≡◌, ◌++◌, [], IfOk};
 ghost use Rattle.plc_base.specs.Least.{least};
 ghost use Rattle.stl_types.specs.Labels.{
-  is_twice,
+  is_repeated_label,
   is_unknown_label,
   label_of,
   labels_of,
@@ -72,7 +72,7 @@ pub(crate) fn least_unknown_label(
 }
 
 fn is_twice(before: &Names, label: &Option<Name>) -> bool
-    ensures { result ≡ is_twice before.now label.now }
+    ensures { result ≡ is_repeated_label before.now label.now }
 {
     match label {
         None => false,

@@ -3,9 +3,9 @@ ghost use Rattle.plc_base.specs.Least.{least};
 ghost use Rattle.stl_types.specs.Labels.{labels_of};
 ghost use Rattle.stl_types.specs.Landings.{
   are_unequal,
-  crosses,
+  crosses_nesting,
   crossing_jumps,
-  differ,
+  landings_differ,
   functions_of,
   landing_at,
   landing_here,
@@ -13,7 +13,7 @@ ghost use Rattle.stl_types.specs.Landings.{
   landings_at_labels,
   lands_elsewhere,
   nesting_behind,
-  outside,
+  empty_nesting,
   rule_33,
 };
 
@@ -47,7 +47,7 @@ impl Model for Nesting {
 impl Nesting {
     /// What is open before the first statement of a body.
     fn new(alloc: Global) -> Nesting
-        ensures { result ≡ outside }
+        ensures { result ≡ empty_nesting }
     {
         Nesting {
             brackets: Vec::new(alloc),
@@ -133,7 +133,7 @@ fn add_landing(
 
 fn targets_of(alloc: Global, body: &[Statement]) -> Result<Targets, AllocError>
     ensures labels { IfOk result (λ t. t.labels ≡ labels_of body.now) }
-    ensures landings { IfOk result (λ t. t.landings.items ≡ landings_at_labels outside body.now) }
+    ensures landings { IfOk result (λ t. t.landings.items ≡ landings_at_labels empty_nesting body.now) }
 {
     let mut labels = Names::new(alloc);
     let mut landings = Vec::new(alloc);
@@ -154,7 +154,7 @@ fn are_unequal(here: &[u8], there: &[u8]) -> bool
 }
 
 fn differ(here: &Landing, there: &Landing) -> bool
-    ensures { result ≡ differ here.now there.now }
+    ensures { result ≡ landings_differ here.now there.now }
 {
     are_unequal(here.functions.as_slice(), there.functions.as_slice()) || here.zones != there.zones
 }
@@ -185,7 +185,7 @@ fn crosses(
     nesting: &Nesting,
     operand: &Operand,
 ) -> Result<bool, AllocError>
-    ensures { IfOk result (λ wrong. wrong ≡ crosses targets.now.labels targets.now.landings.items
+    ensures { IfOk result (λ wrong. wrong ≡ crosses_nesting targets.now.labels targets.now.landings.items
         nesting.now operand.now) }
 {
     match operand {
@@ -214,7 +214,7 @@ fn crossing_jumps(
 
 fn crossing_in(alloc: Global, body: &[Statement]) -> Result<Option<Refusal>, AllocError>
     ensures { IfOk result (λ found. found ≡ least (crossing_jumps (labels_of body.now)
-        (landings_at_labels outside body.now) body.now)) }
+        (landings_at_labels empty_nesting body.now) body.now)) }
 {
     let targets = targets_of(alloc, body)?;
     crossing_jumps(&targets, alloc, body)

@@ -1,12 +1,12 @@
 ghost use Rattle.std.specs.Prelude.{◌≡◌, ◌<◌, ◌+◌, [], IfOk, length, drop};
-ghost use Rattle.stl_ast.specs.Statements.{is_empty};
+ghost use Rattle.stl_ast.specs.Statements.{is_empty_statement};
 ghost use Rattle.plc_base.specs.Least.{least};
 ghost use Rattle.stl_types.specs.Lists.{
   has_label,
   has_list,
   is_list_jump,
   is_list_to,
-  is_plain_jump,
+  is_unconditional_jump,
   is_wrong_list,
   lacks_list,
   left_behind,
@@ -30,13 +30,13 @@ fn is_list_jump(code: Mnemonic) -> bool
 }
 
 fn is_plain_jump(code: Mnemonic) -> bool
-    ensures { result ≡ is_plain_jump code }
+    ensures { result ≡ is_unconditional_jump code }
 {
     matches!(code, Mnemonic::Ju)
 }
 
 fn is_empty(code: Mnemonic) -> bool
-    ensures { result ≡ is_empty code }
+    ensures { result ≡ is_empty_statement code }
 {
     matches!(code, Mnemonic::Empty)
 }

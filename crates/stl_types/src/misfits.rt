@@ -4,8 +4,8 @@ ghost use Rattle.std.specs.Option.{option_copied};
 ghost use Rattle.std.specs.Str.{bytes_eq};
 ghost use Rattle.plc_base.specs.Least.{broken_if, least};
 ghost use Rattle.stl_types.specs.Actuals.{fits_operand, fits_seen, formal_named};
-ghost use Rattle.stl_types.specs.Calls.{misfits, sees_date};
-ghost use Rattle.stl_types.specs.Resolution.{seen};
+ghost use Rattle.stl_types.specs.Calls.{misfits_formal, sees_date};
+ghost use Rattle.stl_types.specs.Resolution.{resolution_of};
 
 use crate::actuals::{fits_view, is_input_section};
 use crate::calls::is_named;
@@ -60,7 +60,7 @@ fn misfits(
     actual: &Actual,
 ) -> Result<bool, AllocError>
     ensures { IfOk result (λ wrong. wrong
-        ≡ misfits scope.now actual.now (formal_named formals.now actual.now.name)) }
+        ≡ misfits_formal scope.now actual.now (formal_named formals.now actual.now.name)) }
 {
     let upper = actual.name.as_bytes().to_ascii_uppercase(alloc)?;
     match formal_named(formals, upper.as_slice()) {
@@ -77,7 +77,7 @@ fn misfit_here(
 ) -> Result<Option<Refusal>, AllocError>
     ensures { IfOk result (λ found. found
         ≡ least (broken_if
-        (misfits scope.now actual.now (formal_named formals.now actual.now.name))
+        (misfits_formal scope.now actual.now (formal_named formals.now actual.now.name))
         actual.now.line 37)) }
 {
     let wrong = misfits(scope, alloc, formals, actual)?;
@@ -92,7 +92,7 @@ pub(crate) fn least_misfit(
     actuals: &[Actual],
 ) -> Result<Option<Refusal>, AllocError>
     ensures { IfOk result (λ found. found ≡ least (flat_map
-        (λ a. broken_if (misfits scope.now a (formal_named formals.now a.name)) a.line 37)
+        (λ a. broken_if (misfits_formal scope.now a (formal_named formals.now a.name)) a.line 37)
         actuals.now)) }
 {
     try_least_of(actuals, |a: &Actual| misfit_here(scope, alloc, formals, a))
@@ -109,7 +109,7 @@ fn sees_date(seen: Resolution) -> bool
 
 fn date_here(scope: &Scope, alloc: Global, actual: &Actual) -> Result<Option<Refusal>, AllocError>
     ensures { IfOk result (λ found. found
-        ≡ least (broken_if (sees_date (seen scope.now actual.now.value)) actual.now.line 24)) }
+        ≡ least (broken_if (sees_date (resolution_of scope.now actual.now.value)) actual.now.line 24)) }
 {
     let date = sees_date(scope.seen(alloc, &actual.value)?);
     Ok(broken_if(date, actual.line, 24))
@@ -122,7 +122,7 @@ pub(crate) fn least_date(
     actuals: &[Actual],
 ) -> Result<Option<Refusal>, AllocError>
     ensures { IfOk result (λ found. found ≡ least (flat_map
-        (λ a. broken_if (sees_date (seen scope.now a.value)) a.line 24) actuals.now)) }
+        (λ a. broken_if (sees_date (resolution_of scope.now a.value)) a.line 24) actuals.now)) }
 {
     try_least_of(actuals, |a: &Actual| date_here(scope, alloc, a))
 }

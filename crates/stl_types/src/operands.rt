@@ -5,11 +5,11 @@ ghost use Rattle.stl_types.specs.Operands.{
   has_width,
   is_input,
   is_on_wrong_side,
-  rule_of,
-  takes,
+  rule_of_resolved_operand,
+  takes_operand,
   takes_places,
   takes_width,
-  writes,
+  form_writes_operand,
 };
 
 use crate::forms::OperandRule;
@@ -23,9 +23,9 @@ use plc_base::{Area, Width};
 use stl_ast::PartKind;
 
 /// Whether a form takes an operand that is no constant, whatever its width.
-#[tactic(auto, unfolding(crate::specs::Operands::takes))]
+#[tactic(auto, unfolding(crate::specs::Operands::takes_operand))]
 fn takes(form: OperandRule, view: ResolvedOperand) -> bool
-    ensures { result ≡ takes form view }
+    ensures { result ≡ takes_operand form view }
 {
     match form {
         OperandRule::Bare | OperandRule::Shifts { .. } | OperandRule::Combines { .. } => is_nothing(
@@ -121,7 +121,7 @@ fn has_width(form: OperandRule, width: Option<Width>) -> bool
 
 /// Whether instructions of a form write their operand.
 fn writes(form: OperandRule) -> bool
-    ensures { result ≡ writes form }
+    ensures { result ≡ form_writes_operand form }
 {
     matches!(
         form,
@@ -184,9 +184,9 @@ fn composite_rule(form: OperandRule, view: ResolvedOperand) -> u16
 }
 
 /// The rule that an instruction breaks by an operand that is no constant.
-#[tactic(auto, unfolding(crate::specs::Operands::rule_of))]
+#[tactic(auto, unfolding(crate::specs::Operands::rule_of_resolved_operand))]
 pub(crate) fn rule_of(form: OperandRule, view: ResolvedOperand) -> Option<u16>
-    ensures { result ≡ rule_of form view }
+    ensures { result ≡ rule_of_resolved_operand form view }
 {
     if is_composite(view) {
         return Some(composite_rule(form, view));

@@ -10,8 +10,8 @@ ghost use Rattle.stl_types.specs.Operands.{
   rules_24_25_39,
   statement_rule,
 };
-ghost use Rattle.stl_types.specs.Resolved.{resolved, seen_view};
-ghost use Rattle.stl_types.specs.Resolution.{seen};
+ghost use Rattle.stl_types.specs.Resolved.{resolved_operand, seen_view};
+ghost use Rattle.stl_types.specs.Resolution.{resolution_of};
 
 use crate::constants::takes_constant;
 use crate::forms::{OperandRule, form_of};
@@ -36,7 +36,7 @@ fn rule_seen(form: OperandRule, seen: Resolution) -> Option<u16>
 
 /// The rule that an instruction breaks by its operand, which comes to `found`.
 fn operand_rule(form: OperandRule, operand: &Operand, found: Resolution) -> Option<u16>
-    ensures { (c : Context) → found ≡ seen c operand.now
+    ensures { (c : Context) → found ≡ resolution_of c operand.now
         → result ≡ operand_rule c form operand.now }
 {
     match operand {
@@ -78,13 +78,13 @@ impl<'a> Scope<'a> {
     /// # Errors
     ///
     /// Want of memory.
-    #[tactic(auto, unfolding(crate::specs::Resolved::resolved))]
+    #[tactic(auto, unfolding(crate::specs::Resolved::resolved_operand))]
     pub fn resolved(
         &self,
         alloc: Global,
         statement: &Statement,
     ) -> Result<Option<ResolvedOperand>, AllocError>
-        ensures { IfOk result (λ v. v ≡ resolved self.now statement.now) }
+        ensures { IfOk result (λ v. v ≡ resolved_operand self.now statement.now) }
     {
         let seen = self.seen(alloc, &statement.operand)?;
         let rule = operand_rule(form_of(statement.code), &statement.operand, seen);

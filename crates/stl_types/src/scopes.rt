@@ -4,7 +4,7 @@ ghost use Rattle.stl_types.specs.Context.{
   data_number,
   data_place,
   in_function,
-  number_of,
+  number_of_block,
   whole_data_place,
   whole_place,
 };
@@ -39,7 +39,7 @@ impl<'a> Model for Scope<'a> {
 }
 
 fn number_of(id: Option<BlockId>) -> Option<u16>
-    ensures { result ≡ number_of id }
+    ensures { result ≡ number_of_block id }
 {
     match id {
         None => None,

@@ -3,7 +3,7 @@ ghost use Rattle.std.specs.Str.{bytes_eq};
 ghost use Rattle.plc_base.specs.Kinds.{is_system_function};
 ghost use Rattle.stl_symbols.specs.Symbol.{symbol_named};
 ghost use Rattle.block_layout.specs.Blocks.{named_block};
-ghost use Rattle.stl_types.specs.Addresses.{address, address_in, area_left, area_of, side_of};
+ghost use Rattle.stl_types.specs.Addresses.{resolved_address, address_in_block, area_left, area_for_letters, side_of};
 ghost use Rattle.stl_types.specs.Context.{data_number};
 ghost use Rattle.stl_types.specs.Resolution.{
   called_seen,
@@ -11,11 +11,11 @@ ghost use Rattle.stl_types.specs.Resolution.{
   instance_number,
   opened_seen,
   path_seen,
-  register_of,
-  seen,
+  register_for_word,
+  resolution_of,
   symbol_seen,
   target_view,
-  whole_block,
+  whole_called_block,
 };
 ghost use Rattle.stl_types.specs.declared.views.Resolution.TheVariants.{Resolved};
 ghost use Rattle.stl_types.specs.declared.views.ResolvedOperand.TheVariants as view;
@@ -29,7 +29,7 @@ use stl_ast::{BlockName, Letters, Name, Operand, PathHead, PathStep};
 use stl_symbols::Target;
 
 fn area_of(letters: Letters) -> Area
-    ensures { result ≡ area_of letters }
+    ensures { result ≡ area_for_letters letters }
 {
     match letters {
         Letters::I => Area::I,
@@ -64,7 +64,7 @@ fn area_left(letters: Option<Letters>) -> Option<Area>
 
 /// An address; `number` is that of the data block before it, else 0.
 fn address(number: u16, letters: Letters, width: Width, byte: u16, bit: u8) -> ResolvedOperand
-    ensures { result ≡ address number letters width byte bit }
+    ensures { result ≡ resolved_address number letters width byte bit }
 {
     ResolvedOperand::Direct {
         place: Place {
@@ -80,7 +80,7 @@ fn address(number: u16, letters: Letters, width: Width, byte: u16, bit: u8) -> R
 }
 
 fn address_in(number: Option<u16>, letters: Letters, width: Width, byte: u16, bit: u8) -> Resolution
-    ensures { result ≡ address_in number letters width byte bit }
+    ensures { result ≡ address_in_block number letters width byte bit }
 {
     match number {
         None => Resolution::Unjudged,
@@ -115,7 +115,7 @@ fn is_word(upper: &[u8], word: &[u8]) -> bool
 
 /// A register by its word.
 fn register_of(alloc: Global, name: &Name) -> Result<Register, AllocError>
-    ensures { IfOk result (λ r. r ≡ register_of name.now) }
+    ensures { IfOk result (λ r. r ≡ register_for_word name.now) }
 {
     let upper = name.as_bytes().to_ascii_uppercase(alloc)?;
     let upper = upper.as_slice();
@@ -144,7 +144,7 @@ fn sees(view: ResolvedOperand) -> Resolution
 }
 
 fn register_seen(alloc: Global, name: &Name) -> Result<Resolution, AllocError>
-    ensures { IfOk result (λ s. s ≡ Resolved (view.Register (register_of name.now))) }
+    ensures { IfOk result (λ s. s ≡ Resolved (view.Register (register_for_word name.now))) }
 {
     let which = register_of(alloc, name)?;
     Ok(sees(ResolvedOperand::Register { which }))
@@ -219,7 +219,7 @@ impl<'a> Scope<'a> {
 
     /// A called block, where it breaks no rule itself.
     fn whole_block(&self, id: Option<BlockId>) -> Option<BlockId>
-        ensures { result ≡ whole_block self.now id }
+        ensures { result ≡ whole_called_block self.now id }
     {
         let id = id?;
         if id.kind.is_system_function() {
@@ -262,9 +262,9 @@ impl<'a> Scope<'a> {
     /// # Errors
     ///
     /// Want of memory.
-    #[tactic(auto, unfolding(crate::specs::Resolution::seen))]
+    #[tactic(auto, unfolding(crate::specs::Resolution::resolution_of))]
     pub fn seen(&self, alloc: Global, operand: &Operand) -> Result<Resolution, AllocError>
-        ensures { IfOk result (λ s. s ≡ seen self.now operand.now) }
+        ensures { IfOk result (λ s. s ≡ resolution_of self.now operand.now) }
     {
         match operand {
             Operand::Nothing => Ok(sees(ResolvedOperand::Nothing)),

@@ -1,13 +1,13 @@
 ghost use Rattle.std.specs.Prelude.{◌≡◌, IfOk, [], ◌∷◌, is_some};
 ghost use Rattle.std.specs.Option.{option_map};
 ghost use Rattle.stl_types.specs.Parameters.{
-  dtime,
+  dtime_formal,
   formal,
   is_one_of,
-  mode,
-  ob_nr,
-  returns,
-  sign,
+  mode_formal,
+  ob_nr_formal,
+  return_value_formal,
+  sign_formal,
   system_formals,
 };
 
@@ -26,31 +26,31 @@ fn formal(alloc: Global, name: &[u8], section: PartKind, kind: Simple) -> Result
 }
 
 fn ob_nr(alloc: Global) -> Result<Formal, AllocError>
-    ensures { IfOk result (λ f. f ≡ ob_nr) }
+    ensures { IfOk result (λ f. f ≡ ob_nr_formal) }
 {
     formal(alloc, b"OB_NR", PartKind::Input, Simple::Int)
 }
 
 fn mode(alloc: Global) -> Result<Formal, AllocError>
-    ensures { IfOk result (λ f. f ≡ mode) }
+    ensures { IfOk result (λ f. f ≡ mode_formal) }
 {
     formal(alloc, b"MODE", PartKind::Input, Simple::Byte)
 }
 
 fn dtime(alloc: Global) -> Result<Formal, AllocError>
-    ensures { IfOk result (λ f. f ≡ dtime) }
+    ensures { IfOk result (λ f. f ≡ dtime_formal) }
 {
     formal(alloc, b"DTIME", PartKind::Input, Simple::Time)
 }
 
 fn sign(alloc: Global) -> Result<Formal, AllocError>
-    ensures { IfOk result (λ f. f ≡ sign) }
+    ensures { IfOk result (λ f. f ≡ sign_formal) }
 {
     formal(alloc, b"SIGN", PartKind::Input, Simple::Word)
 }
 
 fn returns(alloc: Global, kind: Simple) -> Result<Formal, AllocError>
-    ensures { IfOk result (λ f. f ≡ returns kind) }
+    ensures { IfOk result (λ f. f ≡ return_value_formal kind) }
 {
     formal(alloc, b"RET_VAL", PartKind::Output, kind)
 }
@@ -58,7 +58,7 @@ fn returns(alloc: Global, kind: Simple) -> Result<Formal, AllocError>
 /// The parameters of the start of a delay.
 fn of_start(alloc: Global) -> Result<Vec<Formal>, AllocError>
     ensures { IfOk result (λ v. v.items
-        ≡ ob_nr ∷ dtime ∷ sign ∷ returns Simple.Int ∷ []) }
+        ≡ ob_nr_formal ∷ dtime_formal ∷ sign_formal ∷ return_value_formal Simple.Int ∷ []) }
 {
     let mut formals = Vec::with_capacity(alloc, 4)?;
     formals.push(ob_nr(alloc)?)?;
@@ -70,7 +70,7 @@ fn of_start(alloc: Global) -> Result<Vec<Formal>, AllocError>
 
 /// Those of the cancelling of a delay.
 fn of_cancel(alloc: Global) -> Result<Vec<Formal>, AllocError>
-    ensures { IfOk result (λ v. v.items ≡ ob_nr ∷ returns Simple.Int ∷ []) }
+    ensures { IfOk result (λ v. v.items ≡ ob_nr_formal ∷ return_value_formal Simple.Int ∷ []) }
 {
     let mut formals = Vec::with_capacity(alloc, 2)?;
     formals.push(ob_nr(alloc)?)?;
@@ -80,7 +80,7 @@ fn of_cancel(alloc: Global) -> Result<Vec<Formal>, AllocError>
 
 /// Those of the switching off and on of interrupts.
 fn of_switch(alloc: Global) -> Result<Vec<Formal>, AllocError>
-    ensures { IfOk result (λ v. v.items ≡ mode ∷ ob_nr ∷ returns Simple.Int ∷ []) }
+    ensures { IfOk result (λ v. v.items ≡ mode_formal ∷ ob_nr_formal ∷ return_value_formal Simple.Int ∷ []) }
 {
     let mut formals = Vec::with_capacity(alloc, 3)?;
     formals.push(mode(alloc)?)?;
@@ -91,7 +91,7 @@ fn of_switch(alloc: Global) -> Result<Vec<Formal>, AllocError>
 
 /// A return value alone.
 fn returned(alloc: Global, kind: Simple) -> Result<Vec<Formal>, AllocError>
-    ensures { IfOk result (λ v. v.items ≡ returns kind ∷ []) }
+    ensures { IfOk result (λ v. v.items ≡ return_value_formal kind ∷ []) }
 {
     let mut formals = Vec::with_capacity(alloc, 1)?;
     formals.push(returns(alloc, kind)?)?;

@@ -3,13 +3,13 @@ ghost use Rattle.std.specs.List.{slice_get};
 ghost use Rattle.block_layout.specs.Paths.{cells_at, elementary_at};
 ghost use Rattle.stl_types.specs.Variables.{
   behind_others,
-  composite,
+  composite_operand,
   data_at,
   data_variable,
   data_walked,
   date_or_composite,
-  in_area,
-  is_temporary,
+  variable_in_area,
+  is_temporary_variable,
   own_at,
   own_elementary,
   own_variable,
@@ -36,7 +36,7 @@ fn date_or_composite(of: Element) -> ResolvedOperand
 
 /// A variable of a type in an area.
 fn in_area(kind: Simple, found: Option<(Place, Width)>) -> Resolution
-    ensures { result ≡ in_area kind found }
+    ensures { result ≡ variable_in_area kind found }
 {
     match found {
         None => Resolution::Unjudged,
@@ -71,7 +71,7 @@ fn behind_others(count: usize, place: usize, returned: Option<Simple>) -> usize
 impl<'a> Scope<'a> {
     /// The structure, the array or the DATE_AND_TIME at a spot.
     fn composite(&self, spot: ComponentAt) -> ResolvedOperand
-        ensures { result ≡ composite
+        ensures { result ≡ composite_operand
             (slice_get (cells_at self.now.layouts spot.block spot.temporary) spot.place) }
     {
         match self.layouts().cell_at(spot) {
@@ -111,7 +111,7 @@ impl<'a> Scope<'a> {
 
     /// Whether the first name of a path, in upper case, is that of a temporary variable.
     fn is_temporary(&self, name: &[u8]) -> bool
-        ensures { result ≡ is_temporary self.now name.now }
+        ensures { result ≡ is_temporary_variable self.now name.now }
     {
         !self.layouts().has_component(self.block(), name)
     }

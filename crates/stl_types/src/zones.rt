@@ -1,9 +1,9 @@
 ghost use Rattle.std.specs.Prelude.{◌≡◌, [], IfOk};
 ghost use Rattle.plc_base.specs.Least.{broken_if, least};
 ghost use Rattle.stl_types.specs.Zones.{
-  ends_none,
+  ends_no_zone,
   ends_zone,
-  is_ninth,
+  is_ninth_zone,
   opens_zone,
   rule_47,
   rule_48,
@@ -47,20 +47,20 @@ pub(crate) fn pass_zones(zones: &mut Vec<u32>, statement: &Statement) -> Result<
 }
 
 fn ends_none(zones: &[u32], statement: &Statement) -> bool
-    ensures { result ≡ ends_none zones.now statement.now }
+    ensures { result ≡ ends_no_zone zones.now statement.now }
 {
     ends_zone(statement.code) && zones.is_empty()
 }
 
 fn is_ninth(zones: &[u32], statement: &Statement) -> bool
-    ensures { result ≡ is_ninth zones.now statement.now }
+    ensures { result ≡ is_ninth_zone zones.now statement.now }
 {
     opens_zone(statement.code) && zones.len() >= 8
 }
 
 fn ended_without(alloc: Global, body: &[Statement]) -> Result<Option<Refusal>, AllocError>
     ensures { IfOk result (λ found. found ≡ least
-        (with_zones (λ zones s. broken_if (ends_none zones s) s.line 47) [] body.now)) }
+        (with_zones (λ zones s. broken_if (ends_no_zone zones s) s.line 47) [] body.now)) }
 {
     let mut zones = Vec::new(alloc);
     let mut found = None;
@@ -85,7 +85,7 @@ pub(crate) fn least_ended_without(
 
 fn ninth(alloc: Global, body: &[Statement]) -> Result<Option<Refusal>, AllocError>
     ensures { IfOk result (λ found. found ≡ least
-        (with_zones (λ zones s. broken_if (is_ninth zones s) s.line 49) [] body.now)) }
+        (with_zones (λ zones s. broken_if (is_ninth_zone zones s) s.line 49) [] body.now)) }
 {
     let mut zones = Vec::new(alloc);
     let mut found = None;

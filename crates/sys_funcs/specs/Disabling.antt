@@ -8,33 +8,33 @@ abbrev pub first_of_group : ℕ → ℕ
 first_of_group ob = ob / 10 * 10
 
 -- MODE 0 means all interrupts and doesn't look at OB_NR, MODE 1 the group whose first number is OB_NR, MODE 2 the one of OB_NR
-abbrev pub is_meant : (mode ob_nr ob : ℕ) → Bool
-is_meant mode ob_nr ob =
+abbrev pub is_interrupt_selected : (mode ob_nr ob : ℕ) → Bool
+is_interrupt_selected mode ob_nr ob =
     is_interrupt ob && (mode == 0 || (mode == 1 && first_of_group ob == ob_nr) || (mode == 2 && ob == ob_nr))
 
 -- OB_NR means interrupts: with MODE 0 always, with MODE 1 where it is the first number of a group,
 -- with MODE 2 where it is that of an interrupt; with another MODE none
-abbrev pub names_one : (mode ob_nr : ℕ) → Bool
-names_one mode ob_nr =
+abbrev pub selects_interrupts : (mode ob_nr : ℕ) → Bool
+selects_interrupts mode ob_nr =
     mode == 0 || (mode == 1 && is_interrupt ob_nr && first_of_group ob_nr == ob_nr) || (mode == 2 && is_interrupt ob_nr)
 
 -- the error code: 16#8091 for another MODE; after that 16#8090 for an OB_NR that means none
-abbrev pub refusal : (mode ob_nr : ℕ) → Option ℕ
-refusal mode ob_nr =
+abbrev pub selection_error_code : (mode ob_nr : ℕ) → Option ℕ
+selection_error_code mode ob_nr =
     if nat_lt 2 mode then Some 0x8091
-    else if names_one mode ob_nr then None
+    else if selects_interrupts mode ob_nr then None
     else Some 0x8090
 
 -- an organization block is disabled, or enabled, if it is meant
-abbrev pub set_if : Bool → Bool → ℕ → Scheduler → Scheduler
-set_if meant disabled ob s = if meant then disabled_as disabled ob s else s
+abbrev pub disabled_if_selected : Bool → Bool → ℕ → Scheduler → Scheduler
+disabled_if_selected meant disabled ob s = if meant then disabled_as disabled ob s else s
 
 -- each organization block that is meant is disabled, or enabled: of so many, from this number on
-abbrev pub each_set : (disabled : Bool) (mode ob_nr ob count : ℕ) → Scheduler → Scheduler
-each_set disabled mode ob_nr ob zero s = s
-each_set disabled mode ob_nr ob (suc n) s =
-    each_set disabled mode ob_nr (ob + 1) n (set_if (is_meant mode ob_nr ob) disabled ob s)
+abbrev pub selected_disabled_from : (disabled : Bool) (mode ob_nr ob count : ℕ) → Scheduler → Scheduler
+selected_disabled_from disabled mode ob_nr ob zero s = s
+selected_disabled_from disabled mode ob_nr ob (suc n) s =
+    selected_disabled_from disabled mode ob_nr (ob + 1) n (disabled_if_selected (is_interrupt_selected mode ob_nr ob) disabled ob s)
 
 -- the interrupts have the numbers 10 to 47
-unfoldable pub all_set : (disabled : Bool) (mode ob_nr : ℕ) → Scheduler → Scheduler
-all_set disabled mode ob_nr s = each_set disabled mode ob_nr 10 38 s
+unfoldable pub selected_disabled : (disabled : Bool) (mode ob_nr : ℕ) → Scheduler → Scheduler
+selected_disabled disabled mode ob_nr s = selected_disabled_from disabled mode ob_nr 10 38 s

@@ -4,7 +4,7 @@ use Rattle.frames.specs.declared.activation.Activation.{Activation}
 use Rattle.ob_sched.specs.Scheduler.{Scheduler}
 
 -- the scheduler, the running activation, and the return value RET_VAL
-pub record Returned : Type 0 where
+pub record SystemFunctionResult : Type 0 where
   pub sched : Scheduler
   pub activation : Activation
   pub value : ℕ
@@ -23,15 +23,15 @@ abbrev pub br_of : ℕ → Bool
 br_of value = not (nat_le 0x8080 value && nat_le value 0x80FF)
 
 -- an INT return value, with its BR
-abbrev pub returned : Scheduler → Activation → ℕ → Returned
-returned s a value = record { sched = s; activation = with_br (br_of value) a; value = value }
+abbrev pub int_result : Scheduler → Activation → ℕ → SystemFunctionResult
+int_result s a value = record { sched = s; activation = with_br (br_of value) a; value = value }
 
 -- without an error code BR is 1
-abbrev pub passed : Activation → Activation
-passed a = with_br true a
+abbrev pub with_br_set : Activation → Activation
+with_br_set a = with_br true a
 
 -- a call leaves and answers this
-pub record LeavesReturned (r : Returned) (s : Scheduler) (a : Activation) (answer : ℕ) : Type 0 where
+pub record LeavesSystemFunctionResult (r : SystemFunctionResult) (s : Scheduler) (a : Activation) (answer : ℕ) : Type 0 where
   pub sched : s ≡ r.sched
   pub activation : a ≡ r.activation
   pub value : answer ≡ r.value

@@ -1,6 +1,6 @@
 ghost use Rattle.std.specs.Prelude.{◌≡◌};
 ghost use Rattle.ob_sched.specs.Views.{scheduler_of};
-ghost use Rattle.sys_funcs.specs.Returned.{LeavesReturned};
+ghost use Rattle.sys_funcs.specs.Returned.{LeavesSystemFunctionResult};
 ghost use Rattle.sys_funcs.specs.Functions.{IsDelayOb, srt_dint as starts, can_dint as cancels};
 
 use crate::returns::returned;
@@ -31,7 +31,7 @@ fn delay_ob(ob_nr: u32) -> Option<u16>
 /// OB_NR is 16#8090; after that another DTIME is 16#8091. SIGN doesn't count.
 #[tactic(auto, unfolding(crate::specs::Functions::srt_dint))]
 pub fn srt_dint(s: &mut Sched, a: &mut Activation, ob_nr: u32, dtime: u32, sign: u32) -> u32
-    ensures { LeavesReturned (starts (scheduler_of s.old) a.old ob_nr dtime sign)
+    ensures { LeavesSystemFunctionResult (starts (scheduler_of s.old) a.old ob_nr dtime sign)
         (scheduler_of s.new) a.new result }
 {
     let _ = sign;
@@ -49,7 +49,7 @@ pub fn srt_dint(s: &mut Sched, a: &mut Activation, ob_nr: u32, dtime: u32, sign:
 /// where none is started.
 #[tactic(auto, unfolding(crate::specs::Functions::can_dint))]
 pub fn can_dint(s: &mut Sched, a: &mut Activation, ob_nr: u32) -> u32
-    ensures { LeavesReturned (cancels (scheduler_of s.old) a.old ob_nr)
+    ensures { LeavesSystemFunctionResult (cancels (scheduler_of s.old) a.old ob_nr)
         (scheduler_of s.new) a.new result }
 {
     let Some(ob) = delay_ob(ob_nr) else {

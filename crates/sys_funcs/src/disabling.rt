@@ -1,9 +1,9 @@
 ghost use Rattle.std.specs.Prelude.{◌≡◌, true, false};
 ghost use Rattle.ob_sched.specs.OrganizationBlock.{is_interrupt as interrupts};
 ghost use Rattle.ob_sched.specs.Views.{scheduler_of};
-ghost use Rattle.sys_funcs.specs.Disabling.{all_set, first_of_group, is_meant as means, refusal as refused, set_if};
-ghost use Rattle.sys_funcs.specs.Returned.{LeavesReturned};
-ghost use Rattle.sys_funcs.specs.Functions.{dis_irt as disables, en_irt as enables, set_unless};
+ghost use Rattle.sys_funcs.specs.Disabling.{selected_disabled, first_of_group, is_interrupt_selected as means, selection_error_code as refused, disabled_if_selected};
+ghost use Rattle.sys_funcs.specs.Returned.{LeavesSystemFunctionResult};
+ghost use Rattle.sys_funcs.specs.Functions.{dis_irt as disables, en_irt as enables, disabled_or_error};
 
 use crate::returns::returned;
 use frames::Activation;
@@ -56,7 +56,7 @@ fn refusal(mode: u32, ob_nr: u32) -> Option<u32>
 // Disables or enables one organization block, if it is meant.
 fn set_one(s: &mut Sched, mode: u32, ob_nr: u32, ob: u16, disabled: bool)
     ensures { scheduler_of s.new
-        ≡ set_if (means mode ob_nr ob) disabled ob (scheduler_of s.old) }
+        ≡ disabled_if_selected (means mode ob_nr ob) disabled ob (scheduler_of s.old) }
 {
     if !is_meant(mode, ob_nr, u32::from(ob)) {
         return;
@@ -69,9 +69,9 @@ fn set_one(s: &mut Sched, mode: u32, ob_nr: u32, ob: u16, disabled: bool)
 }
 
 // Disables or enables the organization blocks that are meant.
-#[tactic(auto, unfolding(crate::specs::Disabling::all_set))]
+#[tactic(auto, unfolding(crate::specs::Disabling::selected_disabled))]
 fn set_all(s: &mut Sched, mode: u32, ob_nr: u32, disabled: bool)
-    ensures { scheduler_of s.new ≡ all_set disabled mode ob_nr (scheduler_of s.old) }
+    ensures { scheduler_of s.new ≡ selected_disabled disabled mode ob_nr (scheduler_of s.old) }
 {
     for ob in 10..48 {
         set_one(s, mode, ob_nr, ob, disabled);
@@ -86,7 +86,7 @@ fn set_unless_refused(
     ob_nr: u32,
     disabled: bool,
 ) -> u32
-    ensures { LeavesReturned (set_unless (refused mode ob_nr) disabled mode ob_nr
+    ensures { LeavesSystemFunctionResult (disabled_or_error (refused mode ob_nr) disabled mode ob_nr
         (scheduler_of s.old) a.old)
         (scheduler_of s.new) a.new result }
 {
@@ -102,7 +102,7 @@ fn set_unless_refused(
 /// OB_NR is 16#8090.
 #[tactic(auto, unfolding(crate::specs::Functions::dis_irt))]
 pub fn dis_irt(s: &mut Sched, a: &mut Activation, mode: u32, ob_nr: u32) -> u32
-    ensures { LeavesReturned (disables (scheduler_of s.old) a.old mode ob_nr)
+    ensures { LeavesSystemFunctionResult (disables (scheduler_of s.old) a.old mode ob_nr)
         (scheduler_of s.new) a.new result }
 {
     set_unless_refused(s, a, mode, ob_nr, true)
@@ -111,7 +111,7 @@ pub fn dis_irt(s: &mut Sched, a: &mut Activation, mode: u32, ob_nr: u32) -> u32
 /// SFC 40 EN_IRT: enables interrupts, by MODE and OB_NR as DIS_IRT disables them.
 #[tactic(auto, unfolding(crate::specs::Functions::en_irt))]
 pub fn en_irt(s: &mut Sched, a: &mut Activation, mode: u32, ob_nr: u32) -> u32
-    ensures { LeavesReturned (enables (scheduler_of s.old) a.old mode ob_nr)
+    ensures { LeavesSystemFunctionResult (enables (scheduler_of s.old) a.old mode ob_nr)
         (scheduler_of s.new) a.new result }
 {
     set_unless_refused(s, a, mode, ob_nr, false)

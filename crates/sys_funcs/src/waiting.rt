@@ -1,6 +1,6 @@
 ghost use Rattle.std.specs.Prelude.{◌≡◌, ◌≤◌};
 ghost use Rattle.ob_sched.specs.Views.{scheduler_of};
-ghost use Rattle.sys_funcs.specs.Returned.{LeavesReturned};
+ghost use Rattle.sys_funcs.specs.Returned.{LeavesSystemFunctionResult};
 ghost use Rattle.sys_funcs.specs.Functions.{dis_airt as disables, en_airt as enables};
 
 use crate::returns::returned;
@@ -17,7 +17,7 @@ const NOT_DELAYED: u32 = 0x8080;
 /// returns how often they are delayed.
 #[tactic(auto, unfolding(crate::specs::Functions::dis_airt))]
 pub fn dis_airt(s: &mut Sched, a: &mut Activation) -> u32
-    ensures { LeavesReturned (disables (scheduler_of s.old) a.old)
+    ensures { LeavesSystemFunctionResult (disables (scheduler_of s.old) a.old)
         (scheduler_of s.new) a.new result }
 {
     let _ = s;
@@ -30,7 +30,7 @@ pub fn dis_airt(s: &mut Sched, a: &mut Activation) -> u32
 /// Where they aren't delayed it returns 16#8080, and changes nothing but BR.
 #[tactic(auto, unfolding(crate::specs::Functions::en_airt))]
 pub fn en_airt(s: &mut Sched, a: &mut Activation) -> u32
-    ensures { LeavesReturned (enables (scheduler_of s.old) a.old)
+    ensures { LeavesSystemFunctionResult (enables (scheduler_of s.old) a.old)
         (scheduler_of s.new) a.new result }
 {
     let _ = s;

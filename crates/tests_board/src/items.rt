@@ -1,6 +1,6 @@
 //! Items, and what the tests do with a board.
 ghost use Rattle.std.specs.Prelude.{◌≡◌, ◌<◌, Some, IfSome, OnOk};
-ghost use Rattle.watch_board.specs.BoardList.{last_of};
+ghost use Rattle.watch_board.specs.BoardList.{last_item_of};
 
 use plc_base::NoMemory;
 use std::sync::Wait;
@@ -26,11 +26,11 @@ pub(crate) fn publish_and_tell<R: Wait>(
     viewer: &mut Viewer,
     shown: Shown,
 ) -> Result<(), NoMemory>
-    requires rises { IfSome (last_of publisher.old.list) (λ last. last.length < shown.length) }
+    requires rises { IfSome (last_item_of publisher.old.list) (λ last. last.length < shown.length) }
     requires board { viewer.old.board ≡ publisher.old.board }
     ensures publisher { publisher.new.board ≡ publisher.old.board }
     ensures viewer { viewer.new.board ≡ viewer.old.board }
-    ensures last { OnOk result (last_of publisher.new.list ≡ Some shown) }
+    ensures last { OnOk result (last_item_of publisher.new.list ≡ Some shown) }
 {
     let note = publisher.publish(rt, shown)?;
     viewer.learn(note);

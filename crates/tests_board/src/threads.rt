@@ -1,6 +1,6 @@
 //! One thread that publishes beside one that views.
 ghost use Rattle.std.specs.Prelude.{◌≡◌, ◌∷◌, []};
-ghost use Rattle.watch_board.specs.BoardList.{opening};
+ghost use Rattle.watch_board.specs.BoardList.{initial_item};
 
 use crate::compare::same;
 use crate::items::one_value;
@@ -16,7 +16,7 @@ const VIEWED: u32 = 10_000;
 
 /// Publishes items of the lengths 1, 2, 3 and so on, each with its length as a value. The last one's note.
 fn publish_all<R: Wait>(rt: &R, publisher: &mut Publisher) -> Result<Option<Note>, NoMemory>
-    requires { publisher.old.list ≡ opening ∷ [] }
+    requires { publisher.old.list ≡ initial_item ∷ [] }
     ensures { publisher.new.board ≡ publisher.old.board }
 {
     let mut last = None;
@@ -56,14 +56,14 @@ fn publish_beside_views<R: Threads + Wait + Sync>(
     publisher: &mut Publisher,
     viewer: &mut Viewer,
 ) -> (Result<Option<Note>, NoMemory>, bool)
-    requires { publisher.old.list ≡ opening ∷ [] }
+    requires { publisher.old.list ≡ initial_item ∷ [] }
     ensures publisher { publisher.new.board ≡ publisher.old.board }
     ensures viewer { viewer.new.board ≡ viewer.old.board }
 {
     join_mut(
         rt,
         &mut || -> Result<Option<Note>, NoMemory>
-            requires { publisher.now.list ≡ opening ∷ [] }
+            requires { publisher.now.list ≡ initial_item ∷ [] }
             ensures { publisher.exit.now.board ≡ publisher.entry.now.board }
         { publish_all(rt, publisher) },
         &mut || -> bool

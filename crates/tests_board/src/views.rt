@@ -1,6 +1,6 @@
 //! One thread that publishes and views by turns.
 ghost use Rattle.std.specs.Prelude.{◌≡◌, ◌<◌, ◌∷◌, [], Some, IfSome};
-ghost use Rattle.watch_board.specs.BoardList.{last_of, opening};
+ghost use Rattle.watch_board.specs.BoardList.{last_item_of, initial_item};
 
 use crate::compare::same;
 use crate::items::{one_value, publish_and_tell};
@@ -36,7 +36,7 @@ fn publish_and_view<R: Wait + Abort>(
     publisher: &mut Publisher,
     viewer: &mut Viewer,
 ) -> Result<(), NoMemory>
-    requires list { publisher.old.list ≡ opening ∷ [] }
+    requires list { publisher.old.list ≡ initial_item ∷ [] }
     requires board { viewer.old.board ≡ publisher.old.board }
     ensures publisher { publisher.new.board ≡ publisher.old.board }
     ensures viewer { viewer.new.board ≡ viewer.old.board }
@@ -63,7 +63,7 @@ fn tell_and_view<R: Wait + Abort>(
     publisher: &mut Publisher,
     viewer: &mut Viewer,
 ) -> Result<(), NoMemory>
-    requires list { publisher.old.list ≡ opening ∷ [] }
+    requires list { publisher.old.list ≡ initial_item ∷ [] }
     requires board { viewer.old.board ≡ publisher.old.board }
     ensures publisher { publisher.new.board ≡ publisher.old.board }
     ensures viewer { viewer.new.board ≡ viewer.old.board }
@@ -93,7 +93,7 @@ fn tell_late<R: Wait + Abort>(
     publisher: &mut Publisher,
     viewer: &mut Viewer,
 ) -> Result<(), NoMemory>
-    requires list { publisher.old.list ≡ opening ∷ [] }
+    requires list { publisher.old.list ≡ initial_item ∷ [] }
     requires board { viewer.old.board ≡ publisher.old.board }
     ensures publisher { publisher.new.board ≡ publisher.old.board }
     ensures viewer { viewer.new.board ≡ viewer.old.board }
@@ -156,7 +156,7 @@ fn view_each_kind<R: Wait + Abort>(
     publisher: &mut Publisher,
     viewer: &mut Viewer,
 ) -> Result<(), NoMemory>
-    requires list { publisher.old.list ≡ opening ∷ [] }
+    requires list { publisher.old.list ≡ initial_item ∷ [] }
     requires board { viewer.old.board ≡ publisher.old.board }
     ensures publisher { publisher.new.board ≡ publisher.old.board }
     ensures viewer { viewer.new.board ≡ viewer.old.board }

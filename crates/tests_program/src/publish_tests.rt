@@ -1,6 +1,6 @@
 //! A read of a station's variables that is published on a board.
 ghost use Rattle.std.specs.Prelude.{◌≡◌, ◌∷◌, [], false};
-ghost use Rattle.watch_board.specs.BoardList.{opening};
+ghost use Rattle.watch_board.specs.BoardList.{initial_item};
 
 use crate::compare::same;
 use crate::images::EMPTY;
@@ -52,7 +52,7 @@ fn write_and_publish<R: Wait>(
     viewer: &mut Viewer,
 ) -> Result<Shown, StationFault>
     requires pass { (pass.old.lock ≡ station.now) × (pass.old.out ≡ false) }
-    requires list { publisher.old.list ≡ opening ∷ [] }
+    requires list { publisher.old.list ≡ initial_item ∷ [] }
     requires board { viewer.old.board ≡ publisher.old.board }
     ensures publisher { publisher.new.board ≡ publisher.old.board }
     ensures viewer { viewer.new.board ≡ viewer.old.board }

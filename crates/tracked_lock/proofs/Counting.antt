@@ -3,8 +3,8 @@ use Rattle.std.proofs.Common.{◌≡◌, ℕ, zero, suc, ◌+◌, ◌<◌, ◌�
 use mathlib.Core.Logic.{dite}
 use native.Mathlib.Decide.{ℕ_discrete}
 use Rattle.tracked_lock.specs.declared.views.Made.{Made}
-use Rattle.tracked_lock.specs.Views.{times, stands}
-use Rattle.tracked_lock.specs.Passes.{missing}
+use Rattle.tracked_lock.specs.Views.{times, one_if_number_of_pass}
+use Rattle.tracked_lock.specs.Passes.{missing_number_count}
 use Rattle.tracked_lock.proofs.Numbers.{flag, hit, miss, stands_range, stands_one}
 
 -- the values at the numbers from 1 to n, added up
@@ -28,17 +28,17 @@ up_to_one x (suc n) = let before = up_to_one x n in dite (ℕ_discrete x (suc n)
 
 module _ {E : Type 0} where
   -- the numbers of a pass are as many as stand from 1 to n, where no other is among them
-  all_counted : (n : ℕ) (made : List (Made E)) → ((k : ℕ) → times k made ≤ stands n k) → up_to (λ k. times k made) n ≡ length made
+  all_counted : (n : ℕ) (made : List (Made E)) → ((k : ℕ) → times k made ≤ one_if_number_of_pass n k) → up_to (λ k. times k made) n ≡ length made
   all_counted n [] h = up_to_zero n
   all_counted n (x ∷ ms) h =
       let r = stands_range n x.number (omega (arith, h x.number, hit x.number x.number refl)) in
       omega (arith, up_to_add (λ k. times k (x ∷ ms)) (λ k. flag (eqb x.number k)) (λ k. times k ms) n (λ k. refl), (up_to_one x.number n).1 r.0 r.1, all_counted n ms (λ k. omega (arith, h k)))
 
-  missing_rest : (n m : ℕ) (made : List (Made E)) → ((k : ℕ) → times k made ≤ stands m k) → missing n made + up_to (λ k. times k made) n ≡ n
+  missing_rest : (n m : ℕ) (made : List (Made E)) → ((k : ℕ) → times k made ≤ one_if_number_of_pass m k) → missing_number_count n made + up_to (λ k. times k made) n ≡ n
   missing_rest zero m made h = refl
   missing_rest (suc n) m made h = dite (ℕ_discrete (times (suc n) made) 0)
       (λ e. omega (arith, hit (times (suc n) made) 0 e, missing_rest n m made h))
       (λ ne. omega (arith, miss (times (suc n) made) 0 ne, missing_rest n m made h, h (suc n), stands_one m (suc n)))
 
-  pub missing_is : (n : ℕ) (made : List (Made E)) → ((k : ℕ) → times k made ≤ stands n k) → missing n made + length made ≡ n
+  pub missing_is : (n : ℕ) (made : List (Made E)) → ((k : ℕ) → times k made ≤ one_if_number_of_pass n k) → missing_number_count n made + length made ≡ n
   missing_is n made h = omega (arith, missing_rest n n made h, all_counted n made h)

@@ -2,7 +2,7 @@
 use Rattle.std.proofs.Common.{◌≡◌, ℕ, zero, suc, ◌-◌, ◌≤◌, false, List, [], ◌∷◌, ◌++◌, length, take, drop, sym, refl, ap, ◌∙◌, arith, length-append}
 use Rattle.tracked_lock.specs.declared.views.Made.{Made}
 use Rattle.tracked_lock.specs.declared.views.View.{View}
-use Rattle.tracked_lock.specs.Passes.{Locked, fresh_pass, fresh_passes}
+use Rattle.tracked_lock.specs.Passes.{LockView, fresh_pass, fresh_passes}
 use Rattle.tracked_lock.specs.Views.{fresh_to, view, without_last, only_last}
 
 module _ {A : Type 0} where
@@ -41,6 +41,6 @@ module _ {O E : Type 0} (origin : O) (n : ℕ) where
   pub cut_last : (v : View O E) (l : ℕ) → 1 ≤ l → v ≡ with_first l → only_last v ≡ view (origin ∷ []) n false [] [] (record { number = l; entries = [] } ∷ [])
   cut_last v l h e = ap only_last e ∙ ap (λ m. view (origin ∷ []) n false [] [] m) (fresh_last E l h)
 
-pub passes_more : {O E : Type 0} (lock : Locked O) (n l : ℕ) → 1 ≤ l → l ≤ n → fresh_pass {E = E} lock l ∷ fresh_passes lock l (n - l) ≡ fresh_passes lock (l - 1) (n - (l - 1))
+pub passes_more : {O E : Type 0} (lock : LockView O) (n l : ℕ) → 1 ≤ l → l ≤ n → fresh_pass {E = E} lock l ∷ fresh_passes lock l (n - l) ≡ fresh_passes lock (l - 1) (n - (l - 1))
 passes_more lock n l h k = let e : l ≡ suc (l - 1) = omega arith in let d : n - (l - 1) ≡ suc (n - l) = omega arith in
     ap (λ j. fresh_pass lock j ∷ fresh_passes lock j (n - l)) e ∙ ap (fresh_passes lock (l - 1)) (sym d)

@@ -9,9 +9,9 @@ use prog.Atomic.{either}
 use Rattle.atomic_table.specs.Table.{State, Me, Act, keeps, takes as taking, gives, Valid, carried_after, homes_after, rest, stepped, opening, Allows, Splits, Joins, Final, Seen}
 use Rattle.atomic_table.proofs.Lists.{at_set, at_snoc, set_here, set_else, exchanged}
 use Rattle.tracked_lock.specs.declared.views.View.{View}
-use Rattle.tracked_lock.specs.Views.{total, Each, IsMadeOf, times, stands, own_number, IsAdded, made_more, longer, turn_of, without_last, only_last, joined, spent, fresh_to}
+use Rattle.tracked_lock.specs.Views.{sum_of_values, HoldsForEach, IsMadeOf, times, one_if_number_of_pass, own_number, IsAdded, made_more, longer, turn_of, without_last, only_last, joined, spent, fresh_to}
 use Rattle.tracked_lock.specs.declared.views.Made.{Made}
-use Rattle.tracked_lock.specs.Rule.{Fits, Kept, starting}
+use Rattle.tracked_lock.specs.Rule.{Fits, Kept, starting_view}
 use Rattle.tracked_lock.specs.Plays.{Takes, Reads, Counts, Releases, with_turn, looked, grown, without_turn}
 use Rattle.tracked_lock.proofs.Prefixes.{prefix_self, prefix_trans, prefix_shorter, prefix_length, drop_prefix, longer_either}
 use Rattle.tracked_lock.proofs.Totals.{total-append, total-set, term_le, terms_le, totals_le}
@@ -23,8 +23,8 @@ some_same x y e = cc e
 one_same : {O : Type 0} (x y : O) → x ∷ [] ≡ y ∷ [] → x ≡ y
 one_same x y e = cc e
 
-in_range-append : {E : Type 0} (maker_of : E → ℕ) (passes : ℕ) (log added : List E) (k : ℕ) → (0 < k) × (k ≤ passes) → Each (λ e. (0 < maker_of e) × (maker_of e ≤ passes)) log → Each (λ e. maker_of e ≡ k) added
-    → Each (λ e. (0 < maker_of e) × (maker_of e ≤ passes)) (log ++ added)
+in_range-append : {E : Type 0} (maker_of : E → ℕ) (passes : ℕ) (log added : List E) (k : ℕ) → (0 < k) × (k ≤ passes) → HoldsForEach (λ e. (0 < maker_of e) × (maker_of e ≤ passes)) log → HoldsForEach (λ e. maker_of e ≡ k) added
+    → HoldsForEach (λ e. (0 < maker_of e) × (maker_of e ≤ passes)) (log ++ added)
 in_range-append maker_of passes [] [] k r h a = tt
 in_range-append maker_of passes [] (e ∷ es) k r h a = ((omega (arith, a.0, r.0), omega (arith, a.0, r.1)), in_range-append maker_of passes [] es k r tt a.1)
 in_range-append maker_of passes (e ∷ es) added k r h a = (h.0, in_range-append maker_of passes es added k r h.1 a)
@@ -60,7 +60,7 @@ module _ {T O E : Type 0} (origin_of : T → O) (story_of : T → List E) (maker
       → turn_of w + g.busy ≡ busy + turn_of v → busy < 2
       → ((k : ℕ) → times k w.made ≡ times k v.made) → length w.made ≡ length v.made
       → F log w → ((j : ℕ) (u : View O E) → j ≢ id → get_elem? s.views j ≡ some u → F log u)
-      → Each InRange log → K (record { words = ws; homes = hs; views = set s.views id w })
+      → HoldsForEach InRange log → K (record { words = ws; homes = hs; views = set s.views id w })
   moved s g id v w log busy ws hs me words home turn one numbers counted mine others makers = record {
     log = log;
     busy = busy;
@@ -137,7 +137,7 @@ module _ {T O E : Type 0} (origin_of : T → O) (story_of : T → List E) (maker
           this,
           that,
           made,
-          (λ k. subst (λ n. times k m.0.made ≤ stands n k) (sym (mine.passes_is has)) (omega (arith, term_le (λ (u : View O E). times k u.made) s.views id m.0 me, g.numbers k))),
+          (λ k. subst (λ n. times k m.0.made ≤ one_if_number_of_pass n k) (sym (mine.passes_is has)) (omega (arith, term_le (λ (u : View O E). times k u.made) s.views id m.0 me, g.numbers k))),
           (λ t. ap length (mine.whole t) ∙ sym found),
         ),
       )
@@ -188,7 +188,7 @@ module _ {T O E : Type 0} (origin_of : T → O) (story_of : T → List E) (maker
               known = theirs.known;
               maker = theirs.maker;
             })
-            (subst (Each InRange) now (in_range-append maker_of passes g.log added k range g.makers more.2)),
+            (subst (HoldsForEach InRange) now (in_range-append maker_of passes g.log added k range g.makers more.2)),
         (λ y e. same_slot story_of m x y slot e),
       )
 
@@ -235,7 +235,7 @@ module _ {T O E : Type 0} (origin_of : T → O) (story_of : T → List E) (maker
       → Joins K id v other w (joined v w) spent
   joins id v other w free alone has made_v made_w s g me apart them =
       let u : View O E = joined v w in let vs : List (View O E) = set s.views id u in
-      let both : (f : View O E → ℕ) → total f (set vs other spent) + f w + f v ≡ total f s.views + f u + f spent =
+      let both : (f : View O E → ℕ) → sum_of_values f (set vs other spent) + f w + f v ≡ sum_of_values f s.views + f u + f spent =
       λ f. omega (arith, total-set f s.views id v u me, total-set f vs other w spent them) in
       let there : get_elem? s.views other ≡ some w = sym (set_else s.views id other u apart) ∙ them in
       let mine = g.each id v me in let theirs = g.each other w there in
@@ -267,7 +267,7 @@ module _ {T O E : Type 0} (origin_of : T → O) (story_of : T → List E) (maker
   pub splits : (id : ℕ) (v : View O E) → 1 < length v.made → v.turn ≡ false → Splits K id v (without_last v) (only_last v)
   splits id v two free s g me =
       let l : View O E = without_last v in let r : View O E = only_last v in let vs : List (View O E) = set s.views id l in let n : ℕ = length v.made - 1 in
-      let both : (f : View O E → ℕ) → total f (vs ++ r ∷ []) + f v ≡ total f s.views + f l + f r =
+      let both : (f : View O E → ℕ) → sum_of_values f (vs ++ r ∷ []) + f v ≡ sum_of_values f s.views + f l + f r =
       λ f. omega (arith, total-set f s.views id v l me, total-append f vs (r ∷ [])) in
       let mine = g.each id v me in
       let left : F g.log l = record {
@@ -303,7 +303,7 @@ module _ {T O E : Type 0} (origin_of : T → O) (story_of : T → List E) (maker
         makers = g.makers;
       }
 
-  pub starts : (x : T) → origin_of x ≡ origin → story_of x ≡ [] → K (opening (0 ∷ 0 ∷ passes ∷ []) (Some x ∷ []) (starting origin passes))
+  pub starts : (x : T) → origin_of x ≡ origin → story_of x ≡ [] → K (opening (0 ∷ 0 ∷ passes ∷ []) (Some x ∷ []) (starting_view origin passes))
   starts x from empty = record {
     log = [];
     busy = 0;
@@ -320,23 +320,23 @@ module _ {T O E : Type 0} (origin_of : T → O) (story_of : T → List E) (maker
       made = made_fresh maker_of passes;
       known = known_first maker_of [] [] (fresh_to passes) (made_fresh maker_of passes);
       maker = λ t. absurd (true≢false (sym t));
-    }) (at_snoc [] (starting origin passes) v j e);
+    }) (at_snoc [] (starting_view origin passes) v j e);
     numbers = λ k. omega (arith, times_fresh E passes k);
     counted = omega (arith, length_fresh E passes);
     makers = tt;
   }
 
-  within : (log : List E) (made : List (Made E)) → ((k : ℕ) → stands passes k ≤ times k made) → Each InRange log → Each (λ e. 0 < times (maker_of e) made) log
+  within : (log : List E) (made : List (Made E)) → ((k : ℕ) → one_if_number_of_pass passes k ≤ times k made) → HoldsForEach InRange log → HoldsForEach (λ e. 0 < times (maker_of e) made) log
   within [] made h r = tt
   within (e ∷ es) made h r = (omega (arith, h (maker_of e), stands_in passes (maker_of e) r.0.0 r.0.1), within es made h r.1)
 
   pub closes : (id : ℕ) (v : View O E) (ws : List ℕ) (xs : List (Option T)) → Final (Seen K id v) ws xs → length v.made ≡ passes → v.turn ≡ false
-      → (x : T) × (get_elem? xs 0 ≡ some (Some x)) × (origin_of x ≡ origin) × IsPrefix v.seen (story_of x) × IsMadeOf maker_of (story_of x) v.made × Each (λ e. 0 < times (maker_of e) v.made) (story_of x)
+      → (x : T) × (get_elem? xs 0 ≡ some (Some x)) × (origin_of x ≡ origin) × IsPrefix v.seen (story_of x) × IsMadeOf maker_of (story_of x) v.made × HoldsForEach (λ e. 0 < times (maker_of e) v.made) (story_of x)
   closes id v ws xs f all free =
       let s : St = f.0 in let g : K s = f.1.0 in let me = f.1.1 in let mine = g.each id v me in
       let off : turn_of v ≡ 0 = ap flag free in
       let quiet = totals_le turn_of (λ (u : View O E). length u.made) s.views id v me (λ j u e. turn_le u (g.each j u e).maker) in
-      let mine_all : (k : ℕ) → stands passes k ≤ times k v.made = λ k.
+      let mine_all : (k : ℕ) → one_if_number_of_pass passes k ≤ times k v.made = λ k.
       omega (arith, totals_le (λ (u : View O E). times k u.made) (λ (u : View O E). length u.made) s.views id v me (λ j u e. times_le k u.made), g.numbers k, g.counted) in
       let t = g.home (omega (arith, g.turns, g.counted)) in let x : T = t.0 in (
         x,
@@ -344,7 +344,7 @@ module _ {T O E : Type 0} (origin_of : T → O) (story_of : T → List E) (maker
         t.2,
         subst (λ l. IsPrefix v.seen l) (sym t.3) mine.seen,
         subst (λ l. IsMadeOf maker_of l v.made) (sym t.3) mine.made,
-        subst (Each (λ e. 0 < times (maker_of e) v.made)) (sym t.3) (within g.log v.made mine_all g.makers),
+        subst (HoldsForEach (λ e. 0 < times (maker_of e) v.made)) (sym t.3) (within g.log v.made mine_all g.makers),
       )
 
 -- the seat, with the value in its slot

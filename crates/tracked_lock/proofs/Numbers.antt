@@ -5,7 +5,7 @@ use mathlib.Core.Logic.{dite}
 use mathlib.Core.List.{IsPrefix}
 use native.Mathlib.Decide.{ℕ_discrete, dec_le}
 use Rattle.tracked_lock.specs.declared.views.Made.{Made}
-use Rattle.tracked_lock.specs.Views.{Each, entries_by, IsMadeOf, IsKnownOf, times, fresh_to, made_more, own_number, stands}
+use Rattle.tracked_lock.specs.Views.{HoldsForEach, entries_by, IsMadeOf, IsKnownOf, times, fresh_to, made_more, own_number, one_if_number_of_pass}
 use Rattle.tracked_lock.proofs.Prefixes.{prefix_whole, prefix_length}
 
 abbrev pub flag : Bool → ℕ
@@ -68,15 +68,15 @@ module _ {E : Type 0} (maker : E → ℕ) where
   known-drop xs ys (suc n) (x ∷ a) h = known-drop xs ys n a h.1
 
   -- entries of one maker: all of them under its number, none under another
-  pub by_own : (k : ℕ) (es : List E) → Each (λ e. maker e ≡ k) es → entries_by maker k es ≡ es
+  pub by_own : (k : ℕ) (es : List E) → HoldsForEach (λ e. maker e ≡ k) es → entries_by maker k es ≡ es
   by_own k [] h = refl
   by_own k (e ∷ es) h = ap (λ b. cond b (e ∷ entries_by maker k es) (entries_by maker k es)) (eq-eqb (maker e) k h.0) ∙ ap (λ r. e ∷ r) (by_own k es h.1)
 
-  pub by_other : (k j : ℕ) (es : List E) → Each (λ e. maker e ≡ k) es → k ≢ j → entries_by maker j es ≡ []
+  pub by_other : (k j : ℕ) (es : List E) → HoldsForEach (λ e. maker e ≡ k) es → k ≢ j → entries_by maker j es ≡ []
   by_other k j [] h n = refl
   by_other k j (e ∷ es) h n = ap (λ b. cond b (e ∷ entries_by maker j es) (entries_by maker j es)) (ne_eqb (maker e) j (λ d. n (sym h.0 ∙ d))) ∙ by_other k j es h.1 n
 
-  pub made_unchanged : (k : ℕ) (log added : List E) (made : List (Made E)) → Each (λ e. maker e ≡ k) added → times k made ≡ 0 → IsMadeOf maker log made → IsMadeOf maker (log ++ added) made
+  pub made_unchanged : (k : ℕ) (log added : List E) (made : List (Made E)) → HoldsForEach (λ e. maker e ≡ k) added → times k made ≡ 0 → IsMadeOf maker log made → IsMadeOf maker (log ++ added) made
   made_unchanged k log added [] own none m = tt
   made_unchanged k log added (x ∷ ms) own none m =
       let ne : k ≢ x.number = λ e. absurd (omega (arith, hit x.number k (sym e))) in (
@@ -84,7 +84,7 @@ module _ {E : Type 0} (maker : E → ℕ) where
         made_unchanged k log added ms own (omega arith) m.1,
       )
 
-  pub made_grown : (log added : List E) (made : List (Made E)) → Each (λ e. maker e ≡ own_number made) added → times (own_number made) made ≤ 1 → IsMadeOf maker log made
+  pub made_grown : (log added : List E) (made : List (Made E)) → HoldsForEach (λ e. maker e ≡ own_number made) added → times (own_number made) made ≤ 1 → IsMadeOf maker log made
       → IsMadeOf maker (log ++ added) (made_more made added)
   made_grown log added [] own once m = tt
   made_grown log added (x ∷ ms) own once m = (
@@ -128,17 +128,17 @@ module _ {E : Type 0} where
   made_fresh maker zero = tt
   made_fresh maker (suc n) = made-append maker [] (fresh_to n) (record { number = suc n; entries = [] } ∷ []) (made_fresh maker n) (refl, tt)
 
-pub stands_in : (n k : ℕ) → 0 < k → k ≤ n → stands n k ≡ 1
+pub stands_in : (n k : ℕ) → 0 < k → k ≤ n → one_if_number_of_pass n k ≡ 1
 stands_in n k a b = ap {B = ℕ} (λ c. cond (c && ltb k (suc n)) 1 0) (lt-ltb 0 k a) ∙ ap {B = ℕ} (λ c. cond c 1 0) (lt-ltb k (suc n) (omega arith))
 
-pub stands_out : (n k : ℕ) → n < k → stands n k ≡ 0
+pub stands_out : (n k : ℕ) → n < k → one_if_number_of_pass n k ≡ 0
 stands_out n k b = ap {B = ℕ} (λ c. cond (c && ltb k (suc n)) 1 0) (lt-ltb 0 k (omega arith)) ∙ ap {B = ℕ} (λ c. cond c 1 0) (le-ltb k (suc n) (omega arith))
 
-pub stands_range : (n k : ℕ) → 0 < stands n k → (0 < k) × (k ≤ n)
+pub stands_range : (n k : ℕ) → 0 < one_if_number_of_pass n k → (0 < k) × (k ≤ n)
 stands_range n zero h = absurd (omega arith)
 stands_range n (suc k) h = dite (dec_le (suc k) n) (λ le. (omega arith, le)) (λ no. absurd (omega (arith, stands_out n (suc k) (omega arith))))
 
-pub stands_one : (n k : ℕ) → stands n k ≤ 1
+pub stands_one : (n k : ℕ) → one_if_number_of_pass n k ≤ 1
 stands_one n zero = omega arith
 stands_one n (suc k) = dite (dec_le (suc k) n) (λ le. omega (arith, stands_in n (suc k) (omega arith) le)) (λ no. omega (arith, stands_out n (suc k) (omega arith)))
 
@@ -146,13 +146,13 @@ pub length_fresh : (E : Type 0) (n : ℕ) → length (fresh_to {E = E} n) ≡ n
 length_fresh E zero = refl
 length_fresh E (suc n) = omega (arith, length-append (fresh_to {E = E} n) (record { number = suc n; entries = [] } ∷ []), length_fresh E n)
 
-pub times_fresh : (E : Type 0) (n k : ℕ) → times k (fresh_to {E = E} n) ≡ stands n k
+pub times_fresh : (E : Type 0) (n k : ℕ) → times k (fresh_to {E = E} n) ≡ one_if_number_of_pass n k
 times_fresh E zero zero = refl
 times_fresh E zero (suc k) = sym (stands_out zero (suc k) (omega arith))
 times_fresh E (suc n) k = dite (ℕ_discrete (suc n) k)
     (λ e. omega (arith, times-append k (fresh_to {E = E} n) (record { number = suc n; entries = [] } ∷ []), times_fresh E n k, hit (suc n) k e, stands_out n k (omega arith), stands_in (suc n) k (omega arith) (omega arith)))
     (λ ne. dite (dec_le k n)
     (λ le. dite (ℕ_discrete k 0)
-    (λ z. omega (arith, times-append k (fresh_to {E = E} n) (record { number = suc n; entries = [] } ∷ []), times_fresh E n k, miss (suc n) k ne, ap (stands n) z, ap (stands (suc n)) z))
+    (λ z. omega (arith, times-append k (fresh_to {E = E} n) (record { number = suc n; entries = [] } ∷ []), times_fresh E n k, miss (suc n) k ne, ap (one_if_number_of_pass n) z, ap (one_if_number_of_pass (suc n)) z))
     (λ nz. omega (arith, times-append k (fresh_to {E = E} n) (record { number = suc n; entries = [] } ∷ []), times_fresh E n k, miss (suc n) k ne, stands_in n k (omega arith) le, stands_in (suc n) k (omega arith) (omega arith))))
     (λ gt. omega (arith, times-append k (fresh_to {E = E} n) (record { number = suc n; entries = [] } ∷ []), times_fresh E n k, miss (suc n) k ne, stands_out n k (omega arith), stands_out (suc n) k (omega arith))))

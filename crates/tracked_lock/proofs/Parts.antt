@@ -4,7 +4,7 @@ use Rattle.atomic_table.specs.Table.{Me}
 use Rattle.std.proofs.Common.{Option}
 use Rattle.tracked_lock.specs.declared.views.View.{View}
 use Rattle.tracked_lock.specs.declared.views.Made.{Made}
-use Rattle.tracked_lock.specs.Views.{Each, IsMadeOf, IsAdded, own_number, made_more, longer}
+use Rattle.tracked_lock.specs.Views.{HoldsForEach, IsMadeOf, IsAdded, own_number, made_more, longer}
 use Rattle.tracked_lock.specs.Plays.{grown, without_turn}
 use Rattle.tracked_lock.specs.Passes.{IsPass, IsOneStep}
 use Rattle.tracked_lock.proofs.Prefixes.{drop_prefix, longer_either}
@@ -36,7 +36,7 @@ module _ {T O E : Type 0} (story_of : T → List E) (maker_of : E → ℕ) where
   is_given m n number seen numbers len x is more long e =
       let added : List E = more.0 in
       let rest : drop (length m.0.seen) (story_of x) ≡ added = ap (drop (length m.0.seen)) more.1 ∙ drop_prefix m.0.seen added in
-      let own : Each (λ y. maker_of y ≡ own_number m.0.made) added = subst (λ k. Each (λ y. maker_of y ≡ k) added) is.number_is more.2 in
+      let own : HoldsForEach (λ y. maker_of y ≡ own_number m.0.made) added = subst (λ k. HoldsForEach (λ y. maker_of y ≡ k) added) is.number_is more.2 in
       subst (λ t. Is t number len numbers) (sym e) record {
         slots = refl;
         other = is.other;

@@ -3,40 +3,40 @@ use Rattle.std.specs.Prelude.{◌≡◌, ◌⊎◌, ℕ, zero, suc, ◌+◌, ◌
 use mathlib.Core.List.{IsPrefix}
 use Rattle.atomic_table.specs.Seated.{TableId}
 use Rattle.tracked_lock.specs.declared.views.Made.{Made}
-use Rattle.tracked_lock.specs.Views.{IsMadeOf, times, stands, own_number, made_more, longer, Each}
+use Rattle.tracked_lock.specs.Views.{IsMadeOf, times, one_if_number_of_pass, own_number, made_more, longer, HoldsForEach}
 use Rattle.tracked_lock.specs.declared.views.View.{View}
 use Rattle.atomic_table.specs.Table.{Me}
 
 -- which table it is, what its value stems from, as a list of one, and how many passes it has
-pub record Locked (O : Type 0) : Type 0 where
+pub record LockView (O : Type 0) : Type 0 where
   pub table : TableId
   pub origin : List O
   pub passes : ℕ
 
 -- its lock, its number, whether a value is out with it, the list that it has seen, and the entries under each of its numbers, its own first
-pub record Passed (O E : Type 0) : Type 0 where
-  pub lock : Locked O
+pub record PassView (O E : Type 0) : Type 0 where
+  pub lock : LockView O
   pub number : ℕ
   pub out : Bool
   pub seen : List E
   pub made : List (Made E)
 
 -- how many of the numbers from 1 to n aren't among those of the pass
-abbrev pub missing : {E : Type 0} → ℕ → List (Made E) → ℕ
-missing zero made = 0
-missing (suc n) made = cond (nat_eq (times (suc n) made) 0) 1 0 + missing n made
+abbrev pub missing_number_count : {E : Type 0} → ℕ → List (Made E) → ℕ
+missing_number_count zero made = 0
+missing_number_count (suc n) made = cond (nat_eq (times (suc n) made) 0) 1 0 + missing_number_count n made
 
 -- a lock by its table, the origin of its first value and its number of passes
-abbrev pub lock_of : {O : Type 0} → TableId → O → (passes : ℕ) → Locked O
+abbrev pub lock_of : {O : Type 0} → TableId → O → (passes : ℕ) → LockView O
 lock_of table origin passes = record { table = table; origin = origin ∷ []; passes = passes }
 
 -- a value that is out, and the pass that it is out with, as the take left it
-pub record Lent (T O E : Type 0) : Type 0 where
+pub record LentValue (T O E : Type 0) : Type 0 where
   pub value : T
-  pub pass : Passed O E
+  pub pass : PassView O E
 
 -- another value in its place
-abbrev pub with_value : {T O E : Type 0} → Lent T O E → T → Lent T O E
+abbrev pub with_value : {T O E : Type 0} → LentValue T O E → T → LentValue T O E
 with_value lent value = record lent { value = value }
 
 -- the list, or the list with one entry more, of this maker
@@ -45,7 +45,7 @@ IsOneStep {E} maker k xs ys = (ys ≡ xs) ⊎ ((e : E) × (ys ≡ xs ++ e ∷ []
 
 module _ {O E : Type 0} where
   -- a pass as its seat at the table shows it
-  abbrev pub passed : TableId → View O E → (number : ℕ) → Passed O E
+  abbrev pub passed : TableId → View O E → (number : ℕ) → PassView O E
   passed table v number = record {
     lock = record { table = table; origin = v.origin; passes = v.passes };
     number = number;
@@ -55,35 +55,35 @@ module _ {O E : Type 0} where
   }
 
   -- what a put leaves of the pass: it has seen the list that was given back, and made the entries that are new in it
-  abbrev pub given_back : Passed O E → List E → Passed O E
+  abbrev pub given_back : PassView O E → List E → PassView O E
   given_back p list = record p { out = false; seen = list; made = made_more p.made (drop (length p.seen) list) }
 
   -- a pass that took over the numbers of another
-  abbrev pub joined_pass : Passed O E → Passed O E → Passed O E
+  abbrev pub joined_pass : PassView O E → PassView O E → PassView O E
   joined_pass p q = record p { seen = longer p.seen q.seen; made = p.made ++ q.made }
 
   -- so many of the lock's numbers aren't the pass's, and at least one
-  abbrev pub IsCountOut : Locked O → Passed O E → (count : ℕ) → Type 0
-  IsCountOut lock p count = (0 < count) × (count ≡ missing lock.passes p.made)
+  abbrev pub IsCountOut : LockView O → PassView O E → (count : ℕ) → Type 0
+  IsCountOut lock p count = (0 < count) × (count ≡ missing_number_count lock.passes p.made)
 
   -- a pass with one number, which has seen and made nothing
-  abbrev pub fresh_pass : Locked O → ℕ → Passed O E
+  abbrev pub fresh_pass : LockView O → ℕ → PassView O E
   fresh_pass lock n = record { lock = lock; number = n; out = false; seen = []; made = record { number = n; entries = [] } ∷ [] }
 
   -- the passes with the numbers after n, up to n + m
-  abbrev pub fresh_passes : Locked O → ℕ → ℕ → List (Passed O E)
+  abbrev pub fresh_passes : LockView O → ℕ → ℕ → List (PassView O E)
   fresh_passes lock n zero = []
   fresh_passes lock n (suc m) = fresh_pass lock (suc n) ∷ fresh_passes lock (suc n) m
 
 -- The value of a lock that a pass has closed: all numbers were the pass's, the value has the lock's origin, and its list continues
 -- what the pass had seen and is made of the entries made under these numbers.
 module _ {T O E : Type 0} (origin_of : T → O) (story_of : T → List E) (maker_of : E → ℕ) where
-  pub record IsClosed (lock : Locked O) (p : Passed O E) (value : T) : Type 0 where
-    pub numbers : missing lock.passes p.made ≡ 0
+  pub record IsClosed (lock : LockView O) (p : PassView O E) (value : T) : Type 0 where
+    pub numbers : missing_number_count lock.passes p.made ≡ 0
     pub origin : origin_of value ∷ [] ≡ lock.origin
     pub seen : IsPrefix p.seen (story_of value)
     pub made : IsMadeOf maker_of (story_of value) p.made
-    pub no_others : Each (λ e. 0 < times (maker_of e) p.made) (story_of value)
+    pub no_others : HoldsForEach (λ e. 0 < times (maker_of e) p.made) (story_of value)
 
 -- what is true of the parts of a pass between any two calls
 module _ {T O E : Type 0} (maker_of : E → ℕ) where
@@ -95,4 +95,4 @@ module _ {T O E : Type 0} (maker_of : E → ℕ) where
     pub numbers_is : numbers ≡ length m.0.made
     pub one_number : 0 < length m.0.made
     pub made : IsMadeOf maker_of m.0.seen m.0.made
-    pub once : (k : ℕ) → times k m.0.made ≤ stands m.0.passes k
+    pub once : (k : ℕ) → times k m.0.made ≤ one_if_number_of_pass m.0.passes k

@@ -3,7 +3,7 @@ use Rattle.std.specs.Prelude.{◌≡◌, ◌≢◌, ℕ, ◌<◌, ◌≤◌, tru
 use mathlib.Core.List.{IsPrefix}
 use Rattle.atomic_table.specs.Table.{Me, rest}
 use Rattle.tracked_lock.specs.declared.views.View.{View}
-use Rattle.tracked_lock.specs.Views.{IsMadeOf, IsAdded, times, stands, made_more, longer, own_number}
+use Rattle.tracked_lock.specs.Views.{IsMadeOf, IsAdded, times, one_if_number_of_pass, made_more, longer, own_number}
 
 module _ {O E : Type 0} where
   -- the view with the turn, which knows the whole list
@@ -37,7 +37,7 @@ module _ {T O E : Type 0} where
   abbrev pub Reads : (E → ℕ) → Me (Option T) (View O E) → ℕ → Me (Option T) (View O E) → Type 0
   Reads maker_of m found n =
       (n ≡ (looked m.0, m.1)) × IsPrefix m.0.seen (longer m.0.seen m.0.other) × IsPrefix m.0.other (longer m.0.seen m.0.other)
-      × IsMadeOf maker_of (longer m.0.seen m.0.other) m.0.made × ((k : ℕ) → times k m.0.made ≤ stands m.0.passes k)
+      × IsMadeOf maker_of (longer m.0.seen m.0.other) m.0.made × ((k : ℕ) → times k m.0.made ≤ one_if_number_of_pass m.0.passes k)
       × (m.0.turn ≡ true → length m.0.seen ≡ found)
 
   -- the list is counted: the seat whose value is out knows the whole list that it stands for, and what is new of it as its own

@@ -6,7 +6,7 @@ use lib.ListN.{get_elem?}
 use Rattle.atomic_table.specs.Table.{State, Me}
 use Rattle.atomic_table.specs.Seated.{TableId}
 use Rattle.tracked_lock.specs.declared.views.View.{View}
-use Rattle.tracked_lock.specs.Views.{total, Each, IsMadeOf, IsKnownOf, times, stands, fresh_to, view, turn_of}
+use Rattle.tracked_lock.specs.Views.{sum_of_values, HoldsForEach, IsMadeOf, IsKnownOf, times, one_if_number_of_pass, fresh_to, view, turn_of}
 
 module _ {T O E : Type 0} (origin_of : T → O) (story_of : T → List E) (maker_of : E → ℕ) (origin : O) (passes : ℕ) where
   -- what a view says is so of a lock with this list
@@ -27,16 +27,16 @@ module _ {T O E : Type 0} (origin_of : T → O) (story_of : T → List E) (maker
     pub busy : ℕ
     pub words : s.words ≡ length log ∷ busy ∷ passes ∷ []
     pub home : busy ≡ 0 → (x : T) × (get_elem? s.homes 0 ≡ maybe.some (maybe.some (Some x))) × (origin_of x ≡ origin) × (story_of x ≡ log)
-    pub turns : total turn_of s.views ≡ busy
+    pub turns : sum_of_values turn_of s.views ≡ busy
     pub one : busy < 2
     pub each : (id : ℕ) (v : View O E) → get_elem? s.views id ≡ maybe.some v → Fits log v
-    pub numbers : (k : ℕ) → total (λ v. times k v.made) s.views ≡ stands passes k
-    pub counted : total (λ v. length v.made) s.views ≡ passes
-    pub makers : Each (λ e. (0 < maker_of e) × (maker_of e ≤ passes)) log
+    pub numbers : (k : ℕ) → sum_of_values (λ v. times k v.made) s.views ≡ one_if_number_of_pass passes k
+    pub counted : sum_of_values (λ v. length v.made) s.views ≡ passes
+    pub makers : HoldsForEach (λ e. (0 < maker_of e) × (maker_of e ≤ passes)) log
 
 -- the first view has all numbers
-abbrev pub starting : {O E : Type 0} → O → ℕ → View O E
-starting origin passes = view (origin ∷ []) passes false [] [] (fresh_to passes)
+abbrev pub starting_view : {O E : Type 0} → O → ℕ → View O E
+starting_view origin passes = view (origin ∷ []) passes false [] [] (fresh_to passes)
 
 -- three words, and one slot
 abbrev pub IsLockTable : TableId → Type 0
@@ -49,4 +49,4 @@ IsFreshSeat origin passes number m =
 
 -- the first seat: all numbers, and no slot
 abbrev pub IsFirstSeat : {T O E : Type 0} → O → (passes : ℕ) → Me (Option T) (View O E) → Type 0
-IsFirstSeat origin passes m = m ≡ (starting origin passes, [])
+IsFirstSeat origin passes m = m ≡ (starting_view origin passes, [])

@@ -4,9 +4,9 @@ use Rattle.tracked_lock.specs.declared.views.Made.{Made}
 use Rattle.tracked_lock.specs.declared.views.View.{View}
 
 -- the fact of each of the list
-abbrev pub Each : {A : Type 0} → (A → Type 0) → List A → Type 0
-Each P [] = Unit {0}
-Each P (x ∷ xs) = P x × Each P xs
+abbrev pub HoldsForEach : {A : Type 0} → (A → Type 0) → List A → Type 0
+HoldsForEach P [] = Unit {0}
+HoldsForEach P (x ∷ xs) = P x × HoldsForEach P xs
 
 module _ {E : Type 0} where
   -- the entries of the list with this maker, in order
@@ -40,7 +40,7 @@ module _ {E : Type 0} where
 
   -- the list, or the list with more entries of this maker
   abbrev pub IsAdded : (E → ℕ) → ℕ → List E → List E → Type 0
-  IsAdded maker k xs ys = (added : List E) × (ys ≡ xs ++ added) × Each (λ e. maker e ≡ k) added
+  IsAdded maker k xs ys = (added : List E) × (ys ≡ xs ++ added) × HoldsForEach (λ e. maker e ≡ k) added
 
   -- the longer list
   abbrev pub longer : List E → List E → List E
@@ -52,8 +52,8 @@ module _ {E : Type 0} where
   own_number (x ∷ xs) = x.number
 
 -- 1 of a number of a pass, 0 of another
-abbrev pub stands : ℕ → ℕ → ℕ
-stands n k = cond (nat_lt 0 k && nat_lt k (suc n)) 1 0
+abbrev pub one_if_number_of_pass : ℕ → ℕ → ℕ
+one_if_number_of_pass n k = cond (nat_lt 0 k && nat_lt k (suc n)) 1 0
 
 module _ {O E : Type 0} where
   -- a view by its parts
@@ -81,6 +81,6 @@ module _ {O E : Type 0} where
   turn_of v = cond v.turn 1 0
 
 -- the values of a list, added up
-abbrev pub total : {A : Type 0} → (A → ℕ) → List A → ℕ
-total f [] = 0
-total f (x ∷ xs) = f x + total f xs
+abbrev pub sum_of_values : {A : Type 0} → (A → ℕ) → List A → ℕ
+sum_of_values f [] = 0
+sum_of_values f (x ∷ xs) = f x + sum_of_values f xs

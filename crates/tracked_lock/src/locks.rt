@@ -40,7 +40,7 @@ use std::snapshot::Snapshot;
 use std::sync::Wait;
 
 /// A lock on a value that stands for a growing list of entries. Contracts see which table it is, the
-/// origin of the value that it was made with, and the number of passes (`specs/Passes`, `Locked`).
+/// origin of the value that it was made with, and the number of passes (`specs/Passes`, `LockView`).
 #[derive(Drop)]
 pub struct TrackedLock<V: Storied + Drop> {
     table: LockTable<V>,
@@ -49,10 +49,10 @@ pub struct TrackedLock<V: Storied + Drop> {
 
 impl<V: Storied + Drop> Model for TrackedLock<V> {
     ghost use Rattle.std.specs.Prelude.{◌≡◌, ◌<◌};
-    ghost use Rattle.tracked_lock.specs.Passes.{Locked, lock_of};
+    ghost use Rattle.tracked_lock.specs.Passes.{LockView, lock_of};
     ghost use Rattle.tracked_lock.specs.Rule.{IsLockTable};
 
-    ghost Value = { Locked V.Origin };
+    ghost Value = { LockView V.Origin };
 
     ghost view = { λ l. lock_of l.table.shared.table_id
         (V.origin l.table.shared.key.first.value) l.table.shared.key.passes };

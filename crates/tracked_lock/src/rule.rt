@@ -30,11 +30,11 @@ pub struct OneList<V> {
 }
 
 impl<V: Storied> TableRule<Option<V>, View<V::Origin, V::Entry>, Key<V>> for OneList<V> {
-    ghost use Rattle.tracked_lock.specs.Rule.{Kept, starting};
+    ghost use Rattle.tracked_lock.specs.Rule.{Kept, starting_view};
 
     ghost holds = { λ key. Kept V.origin V.story V.maker (V.origin key.first.value) key.passes };
 
-    ghost first = { λ key. starting (V.origin key.first.value) key.passes };
+    ghost first = { λ key. starting_view (V.origin key.first.value) key.passes };
 }
 
 pub struct Take<V> {

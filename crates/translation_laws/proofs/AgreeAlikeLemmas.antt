@@ -3,7 +3,7 @@ use Rattle.std.proofs.Common.{ℕ, zero, suc, ◌≡◌, Bool, true, false, List
 use Rattle.std.specs.Prelude.{◌⊎◌, is_some}
 use Rattle.std.specs.Option.{option_map, option_or, option_and_then}
 use Rattle.stl_lexer.specs.declared.kinds.Token.{Token}
-use Rattle.stl_parser.specs.Parts.{parts_from, whole}
+use Rattle.stl_parser.specs.Parts.{parts_from, complete_reading}
 use Rattle.stl_lexer.specs.declared.kinds.TokenKind.TheVariants as kind
 use Rattle.stl_lexer.specs.declared.marks.Mark.TheVariants as mark
 use Rattle.stl_lexer.specs.Tokens.{text_of}
@@ -11,7 +11,7 @@ use Rattle.stl_symbols.specs.declared.languages.Language.TheVariants.{English}
 use Rattle.stl_parser.specs.Addresses.{letter_count}
 use Rattle.stl_parser.specs.Tables.{flags, look_up}
 use Rattle.stl_parser.specs.Terminals.{has_kind, is_mark}
-use Rattle.translation_laws.specs.Alike.{IsCased, IsNamed, IsSame}
+use Rattle.translation_laws.specs.Alike.{IsSameWordButForCase, IsOperandWordAsLocal, IsSameToken}
 use Rattle.de_mnemonics.specs.Words.{operand_partner}
 
 -- none in both, or values that agree
@@ -149,13 +149,13 @@ then_nothing = record { follows = tt }
 
 -- a name that got its `#`, which is no number's letters where it is a word of English
 pub record IsName (s e : List ℕ) (t u : Token) : Type 0 where
-  pub named : IsNamed s e t u
+  pub named : IsOperandWordAsLocal s e t u
   pub alone : (is_some (operand_partner English (text_of s t)) ≡ true)
       ⊎ ((drop (letter_count (text_of s t)) (text_of s t) ≡ []) × (look_up flags (text_of s t) ≡ None))
 
 -- two tokens come of one another
 abbrev pub Like : (s e : List ℕ) → Token → Token → Type 0
-Like s e t u = IsSame s e t u ⊎ (IsCased s e t u ⊎ IsName s e t u)
+Like s e t u = IsSameToken s e t u ⊎ (IsSameWordButForCase s e t u ⊎ IsName s e t u)
 
 -- a token of one source beside one of the other
 pub record Pair (s e : List ℕ) : Type 0 where
@@ -165,7 +165,7 @@ pub record Pair (s e : List ℕ) : Type 0 where
 
 -- the first of them is the same in both
 abbrev pub IsSamePair : {s e : List ℕ} → Pair s e → Type 0
-IsSamePair {s = s} {e = e} p = IsSame s e p.left p.right
+IsSamePair {s = s} {e = e} p = IsSameToken s e p.left p.right
 
 -- it is a name that got its `#`
 abbrev pub IsNamedPair : {s e : List ℕ} → Pair s e → Type 0
@@ -230,13 +230,13 @@ then_goes_on {o = Some (x, ts)} {o' = Some (y, us)} f g a h =
 then_goes_on {o = Some x} {o' = None} f g a h = absurd a.follows
 
 -- what is read to the end
-pub whole_same : {s e : List ℕ} {F : List (Pair s e) → Type 0} {X : Type 0} (o o' : Option (X × List Token)) → Agree (Behind s e F) o o' → whole o ≡ whole o'
+pub whole_same : {s e : List ℕ} {F : List (Pair s e) → Type 0} {X : Type 0} (o o' : Option (X × List Token)) → Agree (Behind s e F) o o' → complete_reading o ≡ complete_reading o'
 whole_same None None a = refl
 whole_same None (Some y) a = absurd a.agree
 whole_same (Some x) None a = absurd a.agree
 whole_same {s = s} {e = e} (Some (x, ts)) (Some (y, us)) a = rw (sym a.agree.0, sym a.agree.1.left, sym a.agree.1.right) (by a.agree.1.pairs)
   where
-    by : (ps : List (Pair s e)) → whole (Some (x, lefts ps)) ≡ whole (Some (x, rights ps))
+    by : (ps : List (Pair s e)) → complete_reading (Some (x, lefts ps)) ≡ complete_reading (Some (x, rights ps))
     by [] = refl
     by (p ∷ ps) = refl
 
@@ -271,11 +271,11 @@ parts_follow s e F Q end end' part part' ends parts read (suc n) ps h =
 
 -- what is read to the end
 pub whole_follows : {s e : List ℕ} {F : List (Pair s e) → Type 0} {X : Type 0} (o o' : Option (X × List Token)) → Follows (Behind s e F) o o'
-    → Follows Equal (whole o) (whole o')
+    → Follows Equal (complete_reading o) (complete_reading o')
 whole_follows None o' a = record { follows = tt }
 whole_follows (Some x) None a = absurd a.follows
 whole_follows {s = s} {e = e} (Some (x, ts)) (Some (y, us)) a = rw (sym a.follows.0, sym a.follows.1.left, sym a.follows.1.right) (by a.follows.1.pairs)
   where
-    by : (ps : List (Pair s e)) → Follows Equal (whole (Some (x, lefts ps))) (whole (Some (x, rights ps)))
+    by : (ps : List (Pair s e)) → Follows Equal (complete_reading (Some (x, lefts ps))) (complete_reading (Some (x, rights ps)))
     by [] = record { follows = refl }
     by (p ∷ ps) = record { follows = tt }

@@ -9,10 +9,10 @@ use Rattle.stl_lexer.specs.declared.kinds.TokenKind.TheVariants.{Word, Number, Q
 use Rattle.stl_lexer.specs.Forms as forms
 use Rattle.stl_lexer.specs.Bytes.{hash, slash, is_separator, is_word_byte, is_word_start}
 use Rattle.stl_lexer.specs.Forms.{has_form, is_word, is_number, begins_with, based_prefixes, long_prefixes, count_prefixes, time_prefixes, s5time_prefixes, sign_words, title_words}
-use Rattle.stl_lexer.specs.Longest.{IsLongest}
+use Rattle.stl_lexer.specs.Longest.{IsLongestToken}
 use Rattle.stl_lexer.specs.Marks.{marks, mark_text}
-use Rattle.stl_lexer.specs.Pieces.{Piece, AreStanding, spelled}
-use Rattle.translation_laws.specs.Rewritten.{IsRewritten, kind_anew}
+use Rattle.stl_lexer.specs.Pieces.{Piece, ArePiecesStanding, text_of_pieces}
+use Rattle.translation_laws.specs.Rewritten.{IsRewrittenText, kind_of_rewritten}
 use Rattle.translation_laws.proofs.GapsLemmas.{IsGapFront, end_front, gap_front}
 use Rattle.translation_laws.proofs.TextLemmas.{heads, start_word}
 
@@ -20,14 +20,14 @@ use Rattle.translation_laws.proofs.TextLemmas.{heads, start_word}
 abbrev pub anew : List Piece → List (List ℕ) → List Piece
 anew [] words = []
 anew (p ∷ ps) [] = []
-anew (p ∷ ps) (w ∷ ws) = record { gap = p.gap; kind = kind_anew p.kind w; text = w } ∷ anew ps ws
+anew (p ∷ ps) (w ∷ ws) = record { gap = p.gap; kind = kind_of_rewritten p.kind w; text = w } ∷ anew ps ws
 
 -- each piece is written anew as the text in its place
 abbrev pub ArePiecesAnew : TokenKind → List Piece → List (List ℕ) → Type 0
 ArePiecesAnew before [] [] = Unit {0}
 ArePiecesAnew before [] (w ∷ ws) = ⊥
 ArePiecesAnew before (p ∷ ps) [] = ⊥
-ArePiecesAnew before (p ∷ ps) (w ∷ ws) = IsRewritten before p.kind p.text w × ArePiecesAnew p.kind ps ws
+ArePiecesAnew before (p ∷ ps) (w ∷ ws) = IsRewrittenText before p.kind p.text w × ArePiecesAnew p.kind ps ws
 
 -- how the text behind a token differs from what it was, at its first byte
 pub data Front (before : TokenKind) (after later : List ℕ) : Type 0 where
@@ -70,14 +70,14 @@ heads_back a l (Named b s t n x y sb) h = absurd (n refl)
 -- ---- pieces
 
 -- a piece's text has the form of its kind
-pub fits_here : (k : TokenKind) (x after : List ℕ) → IsLongest (x ++ after) k (length x) → has_form k x after ≡ true
+pub fits_here : (k : TokenKind) (x after : List ℕ) → IsLongestToken (x ++ after) k (length x) → has_form k x after ≡ true
 fits_here k x after l = sym (λ i. has_form k (take-append_seam x after i) (drop-append_seam x after i)) ∙ l.fits.fits
 
 pub word_of : (k : TokenKind) (x after : List ℕ) → has_form k x after ≡ true → k ≡ Word → is_word x ≡ true
 unfolding has_form
 word_of k x after h e = subst (λ kind. has_form kind x after ≡ true) e h
 
-front_at : (before kind : TokenKind) (gap x w after later : List ℕ) → 0 < length x → (kind ≡ Word → is_word x ≡ true) → IsRewritten before kind x w → Front before (gap ++ (x ++ after)) (gap ++ (w ++ later))
+front_at : (before kind : TokenKind) (gap x w after later : List ℕ) → 0 < length x → (kind ≡ Word → is_word x ≡ true) → IsRewrittenText before kind x w → Front before (gap ++ (x ++ after)) (gap ++ (w ++ later))
 front_at before kind (c ∷ gap) x w after later some word r = Same c (gap ++ (x ++ after)) (gap ++ (w ++ later)) refl refl
 front_at before kind [] [] w after later some word r = absurd (omega (arith, some))
 front_at before kind [] (b ∷ x) w after later some word (inl same) = Same b (x ++ after) (x ++ later) refl (ap (λ l. l ++ later) (sym same))
@@ -88,14 +88,14 @@ front_at before kind [] (b ∷ x) w after later some word (inr (is, inr (number,
     Named b (x ++ after) (b ∷ (x ++ later)) number refl (ap (λ l. l ++ later) named) (and_parts (is_word_start b) (list_all is_word_byte x) (word is)).0
 
 -- what stands behind a token begins as before, or with a word's new text
-pub front_of : (before : TokenKind) (minus : Bool) (ps : List Piece) (ws : List (List ℕ)) (end : List ℕ) → AreStanding minus ps end → ArePiecesAnew before ps ws → Front before (spelled ps end) (spelled (anew ps ws) end)
+pub front_of : (before : TokenKind) (minus : Bool) (ps : List Piece) (ws : List (List ℕ)) (end : List ℕ) → ArePiecesStanding minus ps end → ArePiecesAnew before ps ws → Front before (text_of_pieces ps end) (text_of_pieces (anew ps ws) end)
 front_of before minus [] [] [] s r = Over refl refl
 front_of before minus [] [] (b ∷ end) s r = Same b end end refl refl
 front_of before minus [] (w ∷ ws) end s r = absurd r
 front_of before minus (p ∷ ps) [] end s r = absurd r
 front_of before minus (p ∷ ps) (w ∷ ws) end (s, ss) (r, rs) =
-    front_at before p.kind p.gap p.text w (spelled ps end) (spelled (anew ps ws) end) s.longest.fits.some
-    (λ e. word_of p.kind p.text (spelled ps end) (fits_here p.kind p.text (spelled ps end) s.longest) e) r
+    front_at before p.kind p.gap p.text w (text_of_pieces ps end) (text_of_pieces (anew ps ws) end) s.longest.fits.some
+    (λ e. word_of p.kind p.text (text_of_pieces ps end) (fits_here p.kind p.text (text_of_pieces ps end) s.longest) e) r
 
 pub gap_word : (b : ℕ) → is_word_byte b ≡ true → (is_separator b ≡ true) ⊎ (b ≡ slash) → ⊥
 unfolding is_word_byte is_word_start is_separator
@@ -140,7 +140,7 @@ head_of b c s t e = (ap first e, ap (drop 1) e)
     first [] = 0
     first (x ∷ xs) = x
 
-name_at : (before kind : TokenKind) (gap x w after later : List ℕ) → 0 < length x → has_form kind x after ≡ true → IsGapFront gap → IsRewritten before kind x w → IsNameFront (gap ++ (w ++ later))
+name_at : (before kind : TokenKind) (gap x w after later : List ℕ) → 0 < length x → has_form kind x after ≡ true → IsGapFront gap → IsRewrittenText before kind x w → IsNameFront (gap ++ (w ++ later))
 name_at before kind (c ∷ gap) x w after later some fits gap_is r t e =
     absurd (gap_hash c (head_of c hash (gap ++ (w ++ later)) t e).0 (gap_is c gap refl))
 name_at before kind [] [] w after later some fits gap_is r t e = absurd (omega (arith, some))
@@ -156,9 +156,9 @@ name_at before kind [] (b ∷ x) w after later some fits gap_is (inr (is, inr (n
     ap (heads is_word_start) (sym there.1) ∙ word_heads (b ∷ x) later (word_of kind (b ∷ x) after fits is)
 
 -- a `#` behind a token is that of a local name
-pub name_of : (before : TokenKind) (minus : Bool) (ps : List Piece) (ws : List (List ℕ)) (end : List ℕ) → AreStanding minus ps end → ArePiecesAnew before ps ws → IsNameFront (spelled (anew ps ws) end)
+pub name_of : (before : TokenKind) (minus : Bool) (ps : List Piece) (ws : List (List ℕ)) (end : List ℕ) → ArePiecesStanding minus ps end → ArePiecesAnew before ps ws → IsNameFront (text_of_pieces (anew ps ws) end)
 name_of before minus [] [] end s r = λ t e. absurd (end_front minus end t s e)
 name_of before minus [] (w ∷ ws) end s r = absurd r
 name_of before minus (p ∷ ps) [] end s r = absurd r
 name_of before minus (p ∷ ps) (w ∷ ws) end (s, ss) (r, rs) =
-    name_at before p.kind p.gap p.text w (spelled ps end) (spelled (anew ps ws) end) s.longest.fits.some (fits_here p.kind p.text (spelled ps end) s.longest) (gap_front p minus (spelled ps end) s) r
+    name_at before p.kind p.gap p.text w (text_of_pieces ps end) (text_of_pieces (anew ps ws) end) s.longest.fits.some (fits_here p.kind p.text (text_of_pieces ps end) s.longest) (gap_front p minus (text_of_pieces ps end) s) r

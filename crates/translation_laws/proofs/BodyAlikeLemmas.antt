@@ -19,8 +19,8 @@ use Rattle.stl_parser.specs.declared.places.ClausePlace.TheVariants as place
 use Rattle.stl_parser.specs.declared.tables.HeadWord.{HeadWord}
 use Rattle.stl_parser.specs.declared.tables.Keyword.{Keyword}
 use Rattle.stl_parser.specs.Clauses.{clause_at, clause_by_kind, declaration_clause, free_word_clause, inside_clause, keyword_clause, other_clause, plain_clause, setting_clause, statement_clause, structure_clause, word_clause}
-use Rattle.stl_parser.specs.Declarations.{declaration_of, declared_at}
-use Rattle.stl_parser.specs.Frame.{follow, follow_body}
+use Rattle.stl_parser.specs.Declarations.{declaration_of, declared_name_at}
+use Rattle.stl_parser.specs.Frame.{next_place, next_place_in_body}
 use Rattle.stl_parser.specs.Tables.{head_words, keywords, look_up}
 use Rattle.stl_parser.specs.Terminals.{has_kind}
 use Rattle.de_mnemonics.specs.Words.{operand_partner}
@@ -71,21 +71,21 @@ kind_take s e (suc n) (p ∷ ps) h = h
 
 -- ---- what may stand in a body
 
-no_declares : (k : BlockKind) (next : ClausePlace) (c : Clause) (d : Declaration) → clause.Declares d ≡ c → follow (place.Body k) c ≡ Some next → ⊥
-unfolding follow follow_body
-no_declares k next c d e may = by (ap (follow (place.Body k)) e ∙ may)
+no_declares : (k : BlockKind) (next : ClausePlace) (c : Clause) (d : Declaration) → clause.Declares d ≡ c → next_place (place.Body k) c ≡ Some next → ⊥
+unfolding next_place next_place_in_body
+no_declares k next c d e may = by (ap (next_place (place.Body k)) e ∙ may)
   where
     by : None ≡ Some next → ⊥
     by e = cc
 
-no_sets : (k : BlockKind) (next : ClausePlace) (c : Clause) (z : Setting) → clause.Sets z ≡ c → follow (place.Body k) c ≡ Some next → ⊥
-unfolding follow follow_body
-no_sets k next c z e may = by (ap (follow (place.Body k)) e ∙ may)
+no_sets : (k : BlockKind) (next : ClausePlace) (c : Clause) (z : Setting) → clause.Sets z ≡ c → next_place (place.Body k) c ≡ Some next → ⊥
+unfolding next_place next_place_in_body
+no_sets k next c z e may = by (ap (next_place (place.Body k)) e ∙ may)
   where
     by : None ≡ Some next → ⊥
     by e = cc
 
-declaration_stays_out : (s : List ℕ) (k : BlockKind) (next : ClausePlace) (ts : List Token) (x : Clause × Bool) → follow (place.Body k) x.0 ≡ Some next
+declaration_stays_out : (s : List ℕ) (k : BlockKind) (next : ClausePlace) (ts : List Token) (x : Clause × Bool) → next_place (place.Body k) x.0 ≡ Some next
     → declaration_clause s (place.Body k) ts ≡ Some x → ⊥
 unfolding declaration_clause
 declaration_stays_out s k next ts x may is = by (declaration_of s 0 ts) is
@@ -94,7 +94,7 @@ declaration_stays_out s k next ts x may is = by (declaration_of s 0 ts) is
     by None is = cc
     by (Some d) is = no_declares k next x.0 d (ap (λ (z : Clause × Bool). z.0) (same_Some (clause.Declares d, false) x is)) may
 
-setting_stays_out : (s : List ℕ) (k : BlockKind) (next : ClausePlace) (line : ℕ) (ts : List Token) (x : Clause × Bool) → follow (place.Body k) x.0 ≡ Some next
+setting_stays_out : (s : List ℕ) (k : BlockKind) (next : ClausePlace) (line : ℕ) (ts : List Token) (x : Clause × Bool) → next_place (place.Body k) x.0 ≡ Some next
     → setting_clause s line ts ≡ Some x → ⊥
 unfolding setting_clause
 setting_stays_out s k next line ts x may is = by _ is
@@ -103,7 +103,7 @@ setting_stays_out s k next line ts x may is = by _ is
     by None is = cc
     by (Some z) is = no_sets k next x.0 z (ap (λ (y : Clause × Bool). y.0) (same_Some (clause.Sets z, false) x is)) may
 
-structure_stays_out : (s : List ℕ) (k : BlockKind) (next : ClausePlace) (ts : List Token) (r : Clause × List Token × Bool) → follow (place.Body k) r.0 ≡ Some next
+structure_stays_out : (s : List ℕ) (k : BlockKind) (next : ClausePlace) (ts : List Token) (r : Clause × List Token × Bool) → next_place (place.Body k) r.0 ≡ Some next
     → structure_clause s (place.Body k) ts ≡ Some r → ⊥
 unfolding structure_clause
 structure_stays_out s k next ts r may is = by _ is
@@ -120,7 +120,7 @@ free_body s k t ts us (Some w) = refl
 module _ (s e : List ℕ) where
   declarations_none : (k : BlockKind) (ps : List (Pair s e)) → Weak s e ps → FirstKind s e ps → declaration_clause s (place.Body k) (lefts ps) ≡ None
       → declaration_clause e (place.Body k) (rights ps) ≡ None
-  unfolding declaration_clause declaration_of declared_at
+  unfolding declaration_clause declaration_of declared_name_at
   declarations_none k [] h kinds none = refl
   declarations_none k (p ∷ ps) h kinds none =
       none_too {R = λ x y. Unit {0}} _ _ (chained _ _ (declaration_agrees s e (Weak s e) (weak_closed s e) (weak_apart s e) 0 p ps h kinds) (λ d f same. something tt)) none
@@ -139,7 +139,7 @@ module _ (s e : List ℕ) where
 
   inside_body : (k : BlockKind) (next : ClausePlace) (line : ℕ) (ps : List (Pair s e)) → Weak s e ps → FirstKind s e ps → (x : Clause × Bool)
       → ((y : Statement) → x.0 ≡ clause.Runs y → AreStatement s e ps)
-      → follow (place.Body k) x.0 ≡ Some next → inside_clause s (place.Body k) line (lefts ps) ≡ Some x → inside_clause e (place.Body k) line (rights ps) ≡ Some x
+      → next_place (place.Body k) x.0 ≡ Some next → inside_clause s (place.Body k) line (lefts ps) ≡ Some x → inside_clause e (place.Body k) line (rights ps) ≡ Some x
   unfolding inside_clause
   inside_body k next line ps weak kinds x h may is =
       by (declaration_clause s (place.Body k) (lefts ps)) refl (statement_clause s line (lefts ps)) refl is
@@ -160,7 +160,7 @@ module _ (s e : List ℕ) where
     Stated ps r = (n : ℕ) (cut : IsCut s e n ps) (y : Statement) → r.0 ≡ clause.Runs y → AreStatement s e (take n ps)
 
     plain_body : (k : BlockKind) (next : ClausePlace) (line : ℕ) (p : Pair s e) (ps : List (Pair s e)) → F (p ∷ ps) → Weak s e (p ∷ ps)
-        → has_kind p.left kind.Word ≡ has_kind p.right kind.Word → (r : Clause × List Token × Bool) → Stated (p ∷ ps) r → follow (place.Body k) r.0 ≡ Some next
+        → has_kind p.left kind.Word ≡ has_kind p.right kind.Word → (r : Clause × List Token × Bool) → Stated (p ∷ ps) r → next_place (place.Body k) r.0 ≡ Some next
         → plain_clause s (place.Body k) line (p.left ∷ lefts ps) ≡ Some r → IsFound s e F behind beside r (plain_clause e (place.Body k) line (p.right ∷ rights ps))
     unfolding plain_clause
     plain_body k next line p ps h weak kinds r stated may is =
@@ -168,10 +168,10 @@ module _ (s e : List ℕ) where
         (none_too _ _ (structure_clause_agrees s e F behind beside (place.Body k) p ps h kinds))
         (semicolon_gives s e F behind beside (place.Body k) line (p ∷ ps) h r
         (λ n cut rest x first at. inside_body k next line (take n (p ∷ ps)) (weak_take s e n (p ∷ ps) weak) (kind_take s e n (p ∷ ps) kinds) x
-        (λ y runs. stated n cut y (sym first ∙ runs)) (ap (follow (place.Body k)) first ∙ may) at)) is
+        (λ y runs. stated n cut y (sym first ∙ runs)) (ap (next_place (place.Body k)) first ∙ may) at)) is
 
     word_body : (k : BlockKind) (next : ClausePlace) (p : Pair s e) (ps : List (Pair s e)) → F (p ∷ ps) → Weak s e (p ∷ ps)
-        → IsFront s e p → (r : Clause × List Token × Bool) → Stated (p ∷ ps) r → follow (place.Body k) r.0 ≡ Some next → (o : Option Keyword)
+        → IsFront s e p → (r : Clause × List Token × Bool) → Stated (p ∷ ps) r → next_place (place.Body k) r.0 ≡ Some next → (o : Option Keyword)
         → word_clause s (place.Body k) p.left (lefts ps) (p.left ∷ lefts ps) o ≡ Some r
         → IsFound s e F behind beside r (word_clause e (place.Body k) p.right (rights ps) (p.right ∷ rights ps) o)
     unfolding word_clause
@@ -185,7 +185,7 @@ module _ (s e : List ℕ) where
         (sym (free_body s k p.left (lefts ps) (p.left ∷ lefts ps) (look_up head_words (text_of s p.left))) ∙ is)))
 
     kind_body : (k : BlockKind) (next : ClausePlace) (p : Pair s e) (ps : List (Pair s e)) → F (p ∷ ps) → Weak s e (p ∷ ps)
-        → IsFront s e p → (r : Clause × List Token × Bool) → Stated (p ∷ ps) r → follow (place.Body k) r.0 ≡ Some next → (j : TokenKind)
+        → IsFront s e p → (r : Clause × List Token × Bool) → Stated (p ∷ ps) r → next_place (place.Body k) r.0 ≡ Some next → (j : TokenKind)
         → clause_by_kind s (place.Body k) p.left (lefts ps) (p.left ∷ lefts ps) j ≡ Some r
         → IsFound s e F behind beside r (clause_by_kind e (place.Body k) p.right (rights ps) (p.right ∷ rights ps) j)
     unfolding clause_by_kind other_clause
@@ -205,7 +205,7 @@ module _ (s e : List ℕ) where
     front_kind p (inr cased) = cased.word ∙ sym cased.other
 
     pub body_gives : (k : BlockKind) (next : ClausePlace) (p : Pair s e) (ps : List (Pair s e)) → F (p ∷ ps) → Weak s e (p ∷ ps)
-        → IsFront s e p → (r : Clause × List Token × Bool) → Stated (p ∷ ps) r → follow (place.Body k) r.0 ≡ Some next
+        → IsFront s e p → (r : Clause × List Token × Bool) → Stated (p ∷ ps) r → next_place (place.Body k) r.0 ≡ Some next
         → clause_at s (place.Body k) (p.left ∷ lefts ps) ≡ Some r → IsFound s e F behind beside r (clause_at e (place.Body k) (p.right ∷ rights ps))
     unfolding clause_at
     body_gives k next p ps h weak front r stated may is =

@@ -36,21 +36,21 @@ use Rattle.stl_parser.specs.declared.tables.HeadWord.{HeadWord}
 use Rattle.stl_parser.specs.declared.tables.HeadWord.TheVariants as head_word
 use Rattle.stl_parser.specs.declared.tables.Keyword.{Keyword}
 use Rattle.stl_parser.specs.declared.tables.Keyword.TheVariants as keyword
-use Rattle.stl_parser.specs.Addresses.{letter_count, glued_at, separate_at, numbered_at, block_number_at, quoted_at, block_at}
-use Rattle.stl_parser.specs.Clauses.{in_head, in_data_head, is_outer, level_at, takes_parameters, skip_semicolon, semicolon_place, until_semicolon, behind_note, is_of_kind, named_at, result_type, result_at, head_of, inner_end, structure_end, keyword_clause, version_at, word_at, head_word_at, head_word_clause, is_base, based_at, structure_clause, declaration_clause, first_step, value_behind, setting_of, statement_clause, setting_clause, inside_clause, semicolon_clause, plain_clause, other_clause, free_word_clause, word_clause, clause_by_kind, clause_at}
-use Rattle.stl_parser.specs.Declarations.{after_attribute, after_colon, declared_at, after_struct, structure_at, init_behind, declaration_of}
+use Rattle.stl_parser.specs.Addresses.{letter_count, glued_letters_and_number, separate_letters_and_number, letters_and_number_at, block_number_at, quoted_block_at, block_at}
+use Rattle.stl_parser.specs.Clauses.{in_head, in_data_head, is_outer, level_at, takes_parameters, skip_semicolon, semicolon_place, until_semicolon, behind_note, is_of_kind, block_of_kind_at, result_type, result_at, head_clause, inner_end, structure_end, keyword_clause, version_at, colon_and_word_at, head_word_at, head_word_clause, is_base_block, base_block_at, structure_clause, declaration_clause, first_step, value_behind, setting_of, statement_clause, setting_clause, inside_clause, semicolon_clause, plain_clause, other_clause, free_word_clause, word_clause, clause_by_kind, clause_at}
+use Rattle.stl_parser.specs.Declarations.{after_attribute, after_colon, declared_name_at, after_struct, structure_at, init_behind, declaration_of}
 use Rattle.stl_parser.specs.Literals.{truth_of, literal_token, byte_of, last_bytes, bytes_behind, bytes_at, long_literal, literal_at, literal_of}
-use Rattle.stl_parser.specs.Numbers.{number_up_to, number_of, signed_at, int_at}
+use Rattle.stl_parser.specs.Numbers.{number_up_to, number_of, signed_number_at, int_at}
 use Rattle.stl_parser.specs.Operands.{index_end, name_step, step_at, path_end, steps_from}
-use Rattle.stl_parser.specs.Parts.{parts_from, nothing_left, whole}
+use Rattle.stl_parser.specs.Parts.{parts_from, value_if_nothing_left, complete_reading}
 use Rattle.stl_parser.specs.Statements.{statement_of}
 use Rattle.stl_parser.specs.Tables.{look_up, block_kinds, head_words, keywords, simple_types}
 use Rattle.stl_parser.specs.Terminals.{has_kind, is_key, is_mark, key_text, kind_rank}
-use Rattle.stl_parser.specs.Types.{array_end, array_high, array_at, no_array, arrays_end, arrays_at, udt_of, simple_at, udt_at, element_at, counted_end, counted_at, init_at, next_init, at_end, init_list, single_init, init_of}
+use Rattle.stl_parser.specs.Types.{array_end, array_high, array_at, no_array, arrays_end, arrays_at, udt_of, simple_at, udt_at, element_at, counted_init_end, counted_init_at, init_at, next_init, end_of_tokens, init_list, single_init, init_of}
 use Rattle.stl_parser.proofs.OptionLemmas.{mapped, chained, either, both, passed, none_holds, some_holds, found, weakened, failed}
 use Rattle.de_mnemonics.specs.declared.classes.TokenClass.{TokenClass}
 use Rattle.de_mnemonics.specs.declared.classes.TokenClass.TheVariants as class
-use Rattle.de_mnemonics.specs.Places.{class_of, class_of_mark, is_among, may_be_keyword}
+use Rattle.de_mnemonics.specs.Places.{class_of, class_of_mark, is_word_in_list, may_be_keyword}
 use Rattle.de_mnemonics.specs.Tables.{begin_words, code_openings, data_openings}
 use Rattle.de_mnemonics.specs.Translation.{class_in}
 use Rattle.de_mnemonics.proofs.CaseLemmas.{same_among, same_text}
@@ -59,7 +59,7 @@ use Rattle.translation_laws.proofs.LookUpLemmas.{same_looked_up}
 
 -- a word that opens a block or a body
 abbrev pub is_block_word : List ℕ → Bool
-is_block_word word = is_among code_openings word || (is_among data_openings word || is_among begin_words word)
+is_block_word word = is_word_in_list code_openings word || (is_word_in_list data_openings word || is_word_in_list begin_words word)
 
 -- the walk outside of statements stays where it is at such a token
 abbrev pub calm_of : TokenClass → TokenClass → List ℕ → Bool
@@ -326,7 +326,7 @@ same_block_word : (a b : List ℕ) → str_eq_ignore_ascii_case a b ≡ true →
 same_block_word a b e = rw (same_among code_openings a b e, same_among data_openings a b e, same_among begin_words a b e) refl
 
 key_is_free : (k : Key) → is_block_word (key_text k) ≡ false
-unfolding key_text is_among code_openings data_openings begin_words
+unfolding key_text is_word_in_list code_openings data_openings begin_words
 key_is_free key.True = refl
 key_is_free key.False = refl
 key_is_free key.Array = refl
@@ -375,11 +375,11 @@ free_word : {X : Type 0} (table : List (List ℕ × X)) (text : List ℕ) → li
 free_word table text all = listed table text is_free same_free all
 
 block_kinds_free : list_all (λ e. is_free e.0) block_kinds ≡ true
-unfolding block_kinds is_among code_openings data_openings begin_words class_of_mark mark_text
+unfolding block_kinds is_word_in_list code_openings data_openings begin_words class_of_mark mark_text
 block_kinds_free = refl
 
 simple_types_free : list_all (λ e. is_free e.0) simple_types ≡ true
-unfolding simple_types is_among code_openings data_openings begin_words class_of_mark mark_text
+unfolding simple_types is_word_in_list code_openings data_openings begin_words class_of_mark mark_text
 simple_types_free = refl
 
 -- such a token, whatever its kind is
@@ -429,12 +429,12 @@ unfolding names_block
 same_naming a b e = ap is_some (same_looked_up block_kinds (take (letter_count a) a) (take (letter_count b) b) (same_letters a b e))
 
 -- no word of a list does
-none_names : (table : List (List ℕ)) (word : List ℕ) → list_all (λ e. not (names_block e)) table ≡ true → is_among table word ≡ true → names_block word ≡ false
-unfolding is_among
+none_names : (table : List (List ℕ)) (word : List ℕ) → list_all (λ e. not (names_block e)) table ≡ true → is_word_in_list table word ≡ true → names_block word ≡ false
+unfolding is_word_in_list
 none_names [] word all e = absurd (false≢true e)
 none_names (x ∷ xs) word all e =
     let parts = and_parts (not (names_block x)) (list_all (λ e. not (names_block e)) xs) all in
-    elim (or_cases (str_eq_ignore_ascii_case word x) (is_among xs word) e) [
+    elim (or_cases (str_eq_ignore_ascii_case word x) (is_word_in_list xs word) e) [
       | inl same ↦ same_naming word x same ∙ not-true (names_block x) parts.0
       | inr more ↦ none_names xs word parts.1 more
     ]
@@ -453,9 +453,9 @@ begin_names_none = refl
 
 block_word_names_none : (word : List ℕ) → is_block_word word ≡ true → names_block word ≡ false
 block_word_names_none word e =
-    elim (or_cases (is_among code_openings word) (is_among data_openings word || is_among begin_words word) e) [
+    elim (or_cases (is_word_in_list code_openings word) (is_word_in_list data_openings word || is_word_in_list begin_words word) e) [
       | inl code ↦ none_names code_openings word openings_name_none code
-      | inr more ↦ elim (or_cases (is_among data_openings word) (is_among begin_words word) more) [
+      | inr more ↦ elim (or_cases (is_word_in_list data_openings word) (is_word_in_list begin_words word) more) [
         | inl data_ ↦ none_names data_openings word data_name_none data_
         | inr begin ↦ none_names begin_words word begin_names_none begin
       ]
@@ -515,8 +515,8 @@ module _ (s : List ℕ) (P Q : List Token → Type 0) (on : GoesOn s P Q) where
   unfolding number_of
   quiet_of t = quiet_up_to (greatest_number false) t
 
-  signed : (sign : Token) (ts : List Token) → (IsQuiet s sign → P ts) → IfSome (signed_at s sign ts) Ended
-  unfolding signed_at
+  signed : (sign : Token) (ts : List Token) → (IsQuiet s sign → P ts) → IfSome (signed_number_at s sign ts) Ended
+  unfolding signed_number_at
   signed sign [] h = tt
   signed sign (t ∷ rest) h =
       tested (is_mark s sign mark.Minus) (option_map (λ n. (pos 0 -ℤ pos n, rest)) (number_up_to (greatest_number true) s t)) _ Ended
@@ -528,7 +528,7 @@ module _ (s : List ℕ) (P Q : List Token → Type 0) (on : GoesOn s P Q) where
   unfolding int_at
   int_behind [] h = tt
   int_behind (t ∷ rest) h =
-      either (option_map (λ n. (pos n, rest)) (number_of s t)) (signed_at s t rest) Ended
+      either (option_map (λ n. (pos n, rest)) (number_of s t)) (signed_number_at s t rest) Ended
       (mapped (number_of s t) (λ n. (pos n, rest)) (λ n. IsQuiet s t) Ended (quiet_of t) (λ n q. passed_quiet t rest q h))
       (signed t rest (λ q. step_quiet t rest q h))
 
@@ -595,7 +595,7 @@ module _ (s : List ℕ) (P Q : List Token → Type 0) (on : GoesOn s P Q) where
   unfolding long_literal
   long_read t rest h =
       tested (is_mark s t mark.Bytes) (bytes_at s rest) _ Ended (λ is. bytes_read rest (step_quiet t rest (quiet_bytes s t is) h))
-      (λ isnt. mapped (signed_at s t rest) _ Ended Ended (signed t rest (λ q. step_quiet t rest q h)) (λ r q. q))
+      (λ isnt. mapped (signed_number_at s t rest) _ Ended Ended (signed t rest (λ q. step_quiet t rest q h)) (λ r q. q))
 
   literal_read : (ts : List Token) → P ts → IfSome (literal_at s ts) Ended
   unfolding literal_at
@@ -606,11 +606,11 @@ module _ (s : List ℕ) (P Q : List Token → Type 0) (on : GoesOn s P Q) where
       (long_read t rest h)
 
   -- what is all of the tokens
-  whole_read : {X : Type 0} (o : Option (X × List Token)) → IfSome o (λ r. Q r.1) → IfSome (whole o) (λ x. Q [])
+  whole_read : {X : Type 0} (o : Option (X × List Token)) → IfSome o (λ r. Q r.1) → IfSome (complete_reading o) (λ x. Q [])
   whole_read None h = tt
   whole_read {X} (Some r) h = by r.1 h
     where
-      by : (left : List Token) → Q left → IfSome (nothing_left r.0 left) (λ x. Q [])
+      by : (left : List Token) → Q left → IfSome (value_if_nothing_left r.0 left) (λ x. Q [])
       by [] q = q
       by (t ∷ ts) q = tt
 
@@ -619,16 +619,16 @@ module _ (s : List ℕ) (P Q : List Token → Type 0) (on : GoesOn s P Q) where
   literal_whole ts h = whole_read (literal_at s ts) (literal_read ts h)
 
   -- blocks
-  glued : (w : Token) (rest : List Token) → (IsQuiet s w → Q rest) → has_kind w kind.Word ≡ true → IfSome (glued_at block_kinds (text_of s w) rest) Third
-  unfolding glued_at
+  glued : (w : Token) (rest : List Token) → (IsQuiet s w → Q rest) → has_kind w kind.Word ≡ true → IfSome (glued_letters_and_number block_kinds (text_of s w) rest) Third
+  unfolding glued_letters_and_number
   glued w rest h is =
       let letters = look_up block_kinds (take (letter_count (text_of s w)) (text_of s w)) in
       let digits = decimal_up_to (greatest_number false) (drop (letter_count (text_of s w)) (text_of s w)) in
       chained letters (λ x. option_map (λ n. (x, n, rest)) digits) (λ x. is_block_word (text_of s w) ≡ false) (Third {X = BlockKind}) (free_letters (text_of s w))
       (λ x free. mapped digits (λ n. (x, n, rest)) (λ n. Unit {0}) (Third {X = BlockKind}) (none_holds digits) (λ n l. h (quiet_word s w is free)))
 
-  separate : (w : Token) (rest : List Token) → (IsQuiet s w → Q rest) → has_kind w kind.Word ≡ true → IfSome (separate_at block_kinds s (text_of s w) rest) Third
-  unfolding separate_at
+  separate : (w : Token) (rest : List Token) → (IsQuiet s w → Q rest) → has_kind w kind.Word ≡ true → IfSome (separate_letters_and_number block_kinds s (text_of s w) rest) Third
+  unfolding separate_letters_and_number
   separate w [] h is = tt
   separate w (n ∷ rest) h is =
       chained (look_up block_kinds (text_of s w)) (λ x. option_map (λ m. (x, m, rest)) (number_of s n)) (λ x. is_free (text_of s w) ≡ true) (Third {X = BlockKind})
@@ -637,17 +637,17 @@ module _ (s : List ℕ) (P Q : List Token → Type 0) (on : GoesOn s P Q) where
 
   -- a block that begins with this token
   block_first : (w : Token) (rest : List Token) → (IsQuiet s w → Q rest) → IfSome (block_at s (w ∷ rest)) Ended
-  unfolding block_at block_number_at numbered_at quoted_at
+  unfolding block_at block_number_at letters_and_number_at quoted_block_at
   block_first w rest h =
       either _ _ Ended
       (mapped _ _ Third Ended
       (passed (has_kind w kind.Word) _ Third
-      (λ is. either (glued_at block_kinds (text_of s w) rest) (separate_at block_kinds s (text_of s w) rest) Third (glued w rest h is) (separate w rest h is)))
+      (λ is. either (glued_letters_and_number block_kinds (text_of s w) rest) (separate_letters_and_number block_kinds s (text_of s w) rest) Third (glued w rest h is) (separate w rest h is)))
       (λ r q. q))
       (passed (has_kind w kind.Quoted) _ Ended (λ is. h (quiet_quoted s w is)))
 
   block_none : block_at s [] ≡ None
-  unfolding block_at block_number_at numbered_at quoted_at
+  unfolding block_at block_number_at letters_and_number_at quoted_block_at
   block_none = refl
 
   block : (ts : List Token) → P ts → IfSome (block_at s ts) Ended
@@ -718,13 +718,13 @@ module _ (s : List ℕ) (P Q : List Token → Type 0) (on : GoesOn s P Q) where
       (chained (block_at s (t ∷ rest)) _ Ended Ended (block (t ∷ rest) h) (λ r q. mapped (udt_of r.0) _ (λ name. Unit {0}) Ended (none_holds (udt_of r.0)) (λ name k. q)))
 
   -- initial values
-  counted_close : (count : ℕ) (value : Literal) (ts : List Token) → P ts → IfSome (counted_end s count value ts) Ended
-  unfolding counted_end
+  counted_close : (count : ℕ) (value : Literal) (ts : List Token) → P ts → IfSome (counted_init_end s count value ts) Ended
+  unfolding counted_init_end
   counted_close count value [] h = tt
   counted_close count value (t ∷ rest) h = passed (is_mark s t mark.CloseParen) _ Ended (λ is. passed_quiet t rest (quiet_close_paren s t is) h)
 
-  counted : (ts : List Token) → P ts → IfSome (counted_at s ts) Ended
-  unfolding counted_at
+  counted : (ts : List Token) → P ts → IfSome (counted_init_at s ts) Ended
+  unfolding counted_init_at
   counted [] h = tt
   counted (n ∷ []) h = tt
   counted (n ∷ open_ ∷ rest) h =
@@ -736,7 +736,7 @@ module _ (s : List ℕ) (P Q : List Token → Type 0) (on : GoesOn s P Q) where
   init : (ts : List Token) → P ts → IfSome (init_at s ts) Ended
   unfolding init_at
   init ts h =
-      either (counted_at s ts) _ Ended (counted ts h) (mapped (literal_at s ts) _ Ended Ended (literal_read ts h) (λ r q. q))
+      either (counted_init_at s ts) _ Ended (counted ts h) (mapped (literal_at s ts) _ Ended Ended (literal_read ts h) (λ r q. q))
 
   init_next : (ts : List Token) → P ts → IfSome (next_init s ts) Ended
   unfolding next_init
@@ -744,21 +744,21 @@ module _ (s : List ℕ) (P Q : List Token → Type 0) (on : GoesOn s P Q) where
   init_next (t ∷ rest) h = passed (is_mark s t mark.Comma) (init_at s rest) Ended (λ is. init rest (step_quiet t rest (quiet_comma s t is) h))
 
   inits : (ts : List Token) → P ts → IfSome (init_list s ts) (λ l. P [])
-  unfolding init_list at_end
+  unfolding init_list end_of_tokens
   inits ts h =
       chained (init_at s ts) _ Ended (λ l. P []) (init ts h)
-      (λ r q. weakly_whole (parts_from at_end (next_init s) (r.0 ∷ []) (length r.1) r.1)
-      (parts P at_end (next_init s) (r.0 ∷ []) (length r.1) r.1 ended init_next (weaker r.1 q)))
+      (λ r q. weakly_whole (parts_from end_of_tokens (next_init s) (r.0 ∷ []) (length r.1) r.1)
+      (parts P end_of_tokens (next_init s) (r.0 ∷ []) (length r.1) r.1 ended init_next (weaker r.1 q)))
     where
-      ended : (us : List Token) → P us → IfSome (at_end us) P
+      ended : (us : List Token) → P us → IfSome (end_of_tokens us) P
       ended [] k = k
       ended (t ∷ us) k = tt
 
-      weakly_whole : {X : Type 0} (o : Option (X × List Token)) → IfSome o (λ r. P r.1) → IfSome (whole o) (λ x. P [])
+      weakly_whole : {X : Type 0} (o : Option (X × List Token)) → IfSome o (λ r. P r.1) → IfSome (complete_reading o) (λ x. P [])
       weakly_whole None k = tt
       weakly_whole (Some r) k = by r.1 k
         where
-          by : (left : List Token) → P left → IfSome (nothing_left r.0 left) (λ x. P [])
+          by : (left : List Token) → P left → IfSome (value_if_nothing_left r.0 left) (λ x. P [])
           by [] p = p
           by (t ∷ us) p = tt
 
@@ -790,8 +790,8 @@ module _ (s : List ℕ) (P Q : List Token → Type 0) (on : GoesOn s P Q) where
   colon [] h = tt
   colon (t ∷ rest) h = passed (is_mark s t mark.Colon) (Some rest) P (λ is. passed_sign t rest (sign_colon s t is) h)
 
-  declared : (w : Token) (rest : List Token) → P rest → IfSome (declared_at s (w ∷ rest)) Behind
-  unfolding declared_at
+  declared : (w : Token) (rest : List Token) → P rest → IfSome (declared_name_at s (w ∷ rest)) Behind
+  unfolding declared_name_at
   declared w rest h =
       passed (has_kind w kind.Word) _ Behind
       (λ is. mapped (after_colon s (after_attribute rest)) _ P Behind (colon (after_attribute rest) (attribute rest h)) (λ y k. k))
@@ -804,7 +804,7 @@ module _ (s : List ℕ) (P Q : List Token → Type 0) (on : GoesOn s P Q) where
   structure : (level : ℕ) (w : Token) (rest : List Token) → P rest → IfSome (structure_at s level (w ∷ rest)) Ended
   unfolding structure_at
   structure level w rest h =
-      chained (declared_at s (w ∷ rest)) _ Behind Ended (declared w rest h)
+      chained (declared_name_at s (w ∷ rest)) _ Behind Ended (declared w rest h)
       (λ d i. chained (arrays_at s d.1) _ Behind Ended (arrays d.1 i)
       (λ a j. mapped (after_struct s a.1) _ Q Ended (struct a.1 j) (λ left k. k)))
 
@@ -816,7 +816,7 @@ module _ (s : List ℕ) (P Q : List Token → Type 0) (on : GoesOn s P Q) where
   declaration : (level : ℕ) (w : Token) (rest : List Token) → P rest → IfSome (declaration_of s level (w ∷ rest)) (λ d. P [])
   unfolding declaration_of
   declaration level w rest h =
-      chained (declared_at s (w ∷ rest)) _ Behind (λ d. P []) (declared w rest h)
+      chained (declared_name_at s (w ∷ rest)) _ Behind (λ d. P []) (declared w rest h)
       (λ d i. chained (arrays_at s d.1) _ Behind (λ z. P []) (arrays d.1 i)
       (λ a j. chained (element_at s a.1) _ Ended (λ z. P []) (element_read a.1 j)
       (λ e k. mapped (init_behind s a.0 e.0 e.1) _ (λ l. P []) (λ z. P []) (init_later a.0 e.0 e.1 (weaker e.1 k)) (λ l z. z))))
@@ -893,7 +893,7 @@ module _ (s : List ℕ) (P Q : List Token → Type 0) (on : GoesOn s P Q) where
       by false = h
 
   head_word_behind : (w : HeadWord) (ts : List Token) → Q ts → IfSome (head_word_at s w ts) Q
-  unfolding head_word_at version_at word_at
+  unfolding head_word_at version_at colon_and_word_at
   head_word_behind head_word.Alone ts h = h
   head_word_behind head_word.Version [] h = tt
   head_word_behind head_word.Version (a ∷ []) h = tt
@@ -918,8 +918,8 @@ module _ (s : List ℕ) (P Q : List Token → Type 0) (on : GoesOn s P Q) where
   abbrev IsRead : Clause × List Token × Bool → Type 0
   IsRead r = is_statement r.0 ≡ false → Q r.1
 
-  head : (line : ℕ) (k : BlockKind) (ts : List Token) → Q ts → IfSome (head_of s line k ts) IsRead
-  unfolding head_of named_at
+  head : (line : ℕ) (k : BlockKind) (ts : List Token) → Q ts → IfSome (head_clause s line k ts) IsRead
+  unfolding head_clause block_of_kind_at
   head line k ts h =
       chained (option_and_then (λ r. if is_of_kind k r.0 then Some r else None) (block_at s ts)) _ Ended IsRead
       (chained (block_at s ts) _ Ended Ended (block ts (weaker ts h)) (λ r q. passed (is_of_kind k r.0) (Some r) Ended (λ is. q)))
@@ -949,10 +949,10 @@ module _ (s : List ℕ) (P Q : List Token → Type 0) (on : GoesOn s P Q) where
   unfolding head_word_clause
   head_word_read p w ts h = mapped (head_word_at s w ts) _ Q IsRead (head_word_behind w ts h) (λ behind k isnt. note p behind k)
 
-  based : (w : Token) (rest : List Token) → (IsQuiet s w → Q rest) → IfSome (based_at s (w ∷ rest)) IsRead
-  unfolding based_at
+  based : (w : Token) (rest : List Token) → (IsQuiet s w → Q rest) → IfSome (base_block_at s (w ∷ rest)) IsRead
+  unfolding base_block_at
   based w rest h =
-      chained (block_at s (w ∷ rest)) _ Ended IsRead (block_first w rest h) (λ r q. passed (is_base r.0) (Some (clause.Based r.0, r.1, false)) IsRead (λ is isnt. q))
+      chained (block_at s (w ∷ rest)) _ Ended IsRead (block_first w rest h) (λ r q. passed (is_base_block r.0) (Some (clause.Based r.0, r.1, false)) IsRead (λ is isnt. q))
 
   structure_read : (p : ClausePlace) (w : Token) (rest : List Token) → P rest → IfSome (structure_clause s p (w ∷ rest)) IsRead
   unfolding structure_clause
@@ -1018,7 +1018,7 @@ module _ (s : List ℕ) (P Q : List Token → Type 0) (on : GoesOn s P Q) where
 
   by_inside : (p : ClausePlace) (line : ℕ) (t : Token) (ts inside rest : List Token) → P ts → IsCut s (t ∷ ts) inside rest
       → IfSome (inside_clause s p line inside) (λ c. is_statement c.0 ≡ false → Q rest)
-  unfolding inside_clause declaration_clause statement_clause setting_clause declaration_of declared_at setting_of statement_of
+  unfolding inside_clause declaration_clause statement_clause setting_clause declaration_of declared_name_at setting_of statement_of
   by_inside p line t ts [] rest h cut = λ isnt. absurd (true≢false isnt)
   by_inside p line t ts (w ∷ inside) rest h cut =
       weakened (inside_clause s p line (w ∷ inside)) (λ c. is_statement c.0 ≡ false → P (cut.semicolon ∷ rest)) (λ c. is_statement c.0 ≡ false → Q rest)
@@ -1041,8 +1041,8 @@ module _ (s : List ℕ) (P Q : List Token → Type 0) (on : GoesOn s P Q) where
   other_read : (p : ClausePlace) (line : ℕ) (t : Token) (ts : List Token) → P ts → (IsQuiet s t → Q ts) → IfSome (other_clause s p line (t ∷ ts)) Leaves
   unfolding other_clause
   other_read p line t ts h q =
-      both (in_data_head p) (option_or (based_at s (t ∷ ts)) (plain_clause s p line (t ∷ ts))) (plain_clause s p line (t ∷ ts)) Leaves
-      (either (based_at s (t ∷ ts)) (plain_clause s p line (t ∷ ts)) Leaves (based s P Q on t ts q) (plain_read p line t ts h))
+      both (in_data_head p) (option_or (base_block_at s (t ∷ ts)) (plain_clause s p line (t ∷ ts))) (plain_clause s p line (t ∷ ts)) Leaves
+      (either (base_block_at s (t ∷ ts)) (plain_clause s p line (t ∷ ts)) Leaves (based s P Q on t ts q) (plain_read p line t ts h))
       (plain_read p line t ts h)
 
   free_word_read : (p : ClausePlace) (t : Token) (ts : List Token) (w : Option HeadWord) → P ts → Q ts

@@ -22,7 +22,7 @@ use Rattle.stl_parser.specs.declared.tables.HeadWord.{HeadWord}
 use Rattle.stl_parser.specs.declared.tables.HeadWord.TheVariants as head_word
 use Rattle.stl_parser.specs.declared.tables.Keyword.{Keyword}
 use Rattle.stl_parser.specs.declared.tables.Keyword.TheVariants as keyword
-use Rattle.stl_parser.specs.Clauses.{based_at, behind_note, head_of, head_word_at, head_word_clause, in_head, inner_end, is_base, is_of_kind, keyword_clause, level_at, named_at, result_at, result_type, skip_semicolon, structure_clause, structure_end, takes_parameters, version_at, word_at}
+use Rattle.stl_parser.specs.Clauses.{base_block_at, behind_note, head_clause, head_word_at, head_word_clause, in_head, inner_end, is_base_block, is_of_kind, keyword_clause, level_at, block_of_kind_at, result_at, result_type, skip_semicolon, structure_clause, structure_end, takes_parameters, version_at, colon_and_word_at}
 use Rattle.stl_parser.specs.Declarations.{structure_at}
 use Rattle.stl_parser.specs.Tables.{look_up, simple_types}
 use Rattle.stl_parser.specs.Terminals.{has_kind, is_mark}
@@ -78,8 +78,8 @@ module _ (s e : List ℕ) (F : List (Pair s e) → Type 0) (closed : (p : Pair s
   note_of : (cp : ClausePlace) (ts us : List Token) → Rests s e F ts us → Rests s e F (behind_note s cp ts) (behind_note e cp us)
   note_of cp ts us r = rw (sym r.left, sym r.right) (note_rests cp r.pairs r.fits)
 
-  named_agrees : (k : BlockKind) (ps : List (Pair s e)) → F ps → Agree (Behind s e F {X = BlockName}) (named_at s k (lefts ps)) (named_at e k (rights ps))
-  unfolding named_at
+  named_agrees : (k : BlockKind) (ps : List (Pair s e)) → F ps → Agree (Behind s e F {X = BlockName}) (block_of_kind_at s k (lefts ps)) (block_of_kind_at e k (rights ps))
+  unfolding block_of_kind_at
   named_agrees k ps h = goes_on _ _ (block_agrees s e F closed apart ps h) (λ x qs j. guarded (is_of_kind k x) (something (refl, rest s e F qs j)))
 
   type_word : (p : Pair s e) → look_up simple_types (text_of s p.left) ≡ look_up simple_types (text_of e p.right)
@@ -109,8 +109,8 @@ module _ (s e : List ℕ) (F : List (Pair s e) → Type 0) (closed : (p : Pair s
   result_agrees kinds.Fc ps h = chained _ _ (colon_agrees s e F closed apart ps h) (λ ts us r. result_behind ts us r)
   result_agrees _ ps h = something (refl, rest s e F ps h)
 
-  head_agrees : (line : ℕ) (k : BlockKind) (ps : List (Pair s e)) → F ps → Agree SameRead (head_of s line k (lefts ps)) (head_of e line k (rights ps))
-  unfolding head_of
+  head_agrees : (line : ℕ) (k : BlockKind) (ps : List (Pair s e)) → F ps → Agree SameRead (head_clause s line k (lefts ps)) (head_clause e line k (rights ps))
+  unfolding head_clause
   head_agrees line k ps h =
       goes_on _ _ (named_agrees k ps h) (λ b qs j. mapped _ _ (result_agrees k qs j) (λ x y l. (ap (λ r. clause.Head line k b r) l.0, l.1, refl)))
 
@@ -160,8 +160,8 @@ module _ (s e : List ℕ) (F : List (Pair s e) → Type 0) (closed : (p : Pair s
   colon_word true false c d h k = absurd cc
   colon_word false true c d h k = absurd cc
 
-  word_agrees : (ps : List (Pair s e)) → F ps → NoteKind ps → Agree (Rests s e F) (word_at s (lefts ps)) (word_at e (rights ps))
-  unfolding word_at
+  word_agrees : (ps : List (Pair s e)) → F ps → NoteKind ps → Agree (Rests s e F) (colon_and_word_at s (lefts ps)) (colon_and_word_at e (rights ps))
+  unfolding colon_and_word_at
   word_agrees (p ∷ q ∷ ps) h note =
       tested (colon_word (is_mark s p.left mark.Colon) (is_mark e p.right mark.Colon) (has_kind q.left kind.Word) (has_kind q.right kind.Word) (mark_like s e p mark.Colon) note)
       (λ is. something (rest s e F ps (closed q ps (closed p (q ∷ ps) h))))
@@ -177,9 +177,9 @@ module _ (s e : List ℕ) (F : List (Pair s e) → Type 0) (closed : (p : Pair s
       at head_word.Named = word_agrees ps h note
       at head_word.Alone = something (rest s e F ps h)
 
-  pub based_agrees : (ps : List (Pair s e)) → F ps → Agree SameRead (based_at s (lefts ps)) (based_at e (rights ps))
-  unfolding based_at
-  based_agrees ps h = goes_on _ _ (block_agrees s e F closed apart ps h) (λ x qs j. guarded (is_base x) (something (refl, rest s e F qs j, refl)))
+  pub based_agrees : (ps : List (Pair s e)) → F ps → Agree SameRead (base_block_at s (lefts ps)) (base_block_at e (rights ps))
+  unfolding base_block_at
+  based_agrees ps h = goes_on _ _ (block_agrees s e F closed apart ps h) (λ x qs j. guarded (is_base_block x) (something (refl, rest s e F qs j, refl)))
 
   -- a clause that opens a structure is the same where the declared name is
   abbrev pub NamedRead : Pair s e → Clause × List Token × Bool → Clause × List Token × Bool → Type 0

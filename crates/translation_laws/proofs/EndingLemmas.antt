@@ -12,13 +12,13 @@ use Rattle.stl_lexer.specs.declared.kinds.TokenKind.{TokenKind}
 use Rattle.stl_lexer.specs.declared.kinds.TokenKind.TheVariants.{Word, Number, Quoted, Local, Characters, Based, NumberLiteral, TimeLiteral, Mark, SignWord, Attribute, Title}
 use Rattle.stl_lexer.specs.Forms as forms
 use Rattle.stl_lexer.specs.Bytes.{hash, double_quote, single_quote, open_brace, close_brace, is_line_byte, is_word_byte, is_word_start}
-use Rattle.stl_lexer.specs.Forms.{has_form, is_word, is_number, is_run, is_closed, is_inner, is_enclosed, is_quoted, behind_sign, goes_on, begins_with, based_prefixes, long_prefixes, count_prefixes, time_prefixes, s5time_prefixes, sign_words, title_words}
-use Rattle.stl_lexer.specs.Longest.{IsLongest, IsFormAt}
+use Rattle.stl_lexer.specs.Forms.{has_form, is_word, is_number, is_run, is_closed, is_inner, is_enclosed, is_quoted, behind_sign, continues_word, begins_with, based_prefixes, long_prefixes, count_prefixes, time_prefixes, s5time_prefixes, sign_words, title_words}
+use Rattle.stl_lexer.specs.Longest.{IsLongestToken, IsFormAt}
 use Rattle.stl_lexer.specs.Marks.{marks, mark_text}
-use Rattle.stl_lexer.specs.Pieces.{Piece, AreStanding, spelled}
+use Rattle.stl_lexer.specs.Pieces.{Piece, ArePiecesStanding, text_of_pieces}
 use Rattle.stl_lexer.specs.Tokens.{is_minus}
-use Rattle.de_mnemonics.specs.Places.{is_among}
-use Rattle.translation_laws.specs.Rewritten.{IsRewritten, is_quiet, joining_words}
+use Rattle.de_mnemonics.specs.Places.{is_word_in_list}
+use Rattle.translation_laws.specs.Rewritten.{IsRewrittenText, is_non_joining_word, joining_words}
 use Rattle.translation_laws.proofs.TextLemmas.{alike_fronts, among_alike, begins_fronts, first_same, fronts, fronts_back, fronts_cut, fronts_over, fronts_trans, fronts_within, heads, run_words, same_start, same_word_byte, whole_word, word_fronts}
 use Rattle.translation_laws.proofs.GapsLemmas.{IsGapFront, gap_front}
 use Rattle.translation_laws.proofs.AheadLemmas.{Front, ArePiecesAnew, anew, fits_here, front_of, gap_word, heads_back, heads_same, word_of}
@@ -36,10 +36,10 @@ pub data Tail : Type 0 where
 -- the lexer's word for it
 unfoldable pub is_tail : Tail → List ℕ → List ℕ → Bool
 is_tail Nothing s after = length s == 0
-is_tail Apart s after = length s == 0 && not (goes_on after)
+is_tail Apart s after = length s == 0 && not (continues_word after)
 is_tail Run s after = list_all is_word_byte s
 is_tail SignedRun s after = list_all is_word_byte (behind_sign s)
-is_tail Line s after = list_all is_line_byte s && not (goes_on (s ++ after))
+is_tail Line s after = list_all is_line_byte s && not (continues_word (s ++ after))
 
 -- an entry with its tail
 unfoldable pub is_entry : Tail → List ℕ → List ℕ → List ℕ → Bool
@@ -215,7 +215,7 @@ run_form f p x (b ∷ a) e h = record {
 }
 
 -- a word ends where no byte of a word follows
-pub word_ends : (x after : List ℕ) → IsLongest (x ++ after) Word (length x) → heads is_word_byte after ≡ false
+pub word_ends : (x after : List ℕ) → IsLongestToken (x ++ after) Word (length x) → heads is_word_byte after ≡ false
 unfolding has_form
 word_ends x after l = false_from_ne_true (heads is_word_byte after) (λ h. elim (l.longest Word (length x + 1) (run_form is_word_start is_word_byte x after (fits_here Word x after l) h)) [
   | inl lt ↦ absurd (omega (arith, lt))
@@ -228,7 +228,7 @@ word_ends x after l = false_from_ne_true (heads is_word_byte after) (λ h. elim 
 unfoldable pub is_ending : List ℕ → Bool
 is_ending rest =
     list_all is_word_byte rest
-    && (heads is_ascii_digit rest && length rest == 1 || heads is_word_start rest && (nat_lt (length rest) 4 && is_among joining_words rest))
+    && (heads is_ascii_digit rest && length rest == 1 || heads is_word_start rest && (nat_lt (length rest) 4 && is_word_in_list joining_words rest))
 
 -- a text begins with a word and goes on with none
 abbrev pub ends_word : List ℕ → List ℕ → Bool
@@ -237,20 +237,20 @@ ends_word rest s = fronts rest s && not (heads is_word_byte (drop (length rest) 
 pub record IsEnding (rest : List ℕ) : Type 0 where
   pub words : list_all is_word_byte rest ≡ true
   pub short : length rest < 4
-  pub which : ((heads is_ascii_digit rest ≡ true) × (length rest ≡ 1)) ⊎ ((heads is_word_start rest ≡ true) × (is_among joining_words rest ≡ true))
+  pub which : ((heads is_ascii_digit rest ≡ true) × (length rest ≡ 1)) ⊎ ((heads is_word_start rest ≡ true) × (is_word_in_list joining_words rest ≡ true))
 
 pub ending_is : (rest : List ℕ) → is_ending rest ≡ true → IsEnding rest
 unfolding is_ending
 ending_is rest e =
-    let parts = and_parts (list_all is_word_byte rest) (heads is_ascii_digit rest && length rest == 1 || heads is_word_start rest && (nat_lt (length rest) 4 && is_among joining_words rest)) e in
-    elim (or_cases (heads is_ascii_digit rest && length rest == 1) (heads is_word_start rest && (nat_lt (length rest) 4 && is_among joining_words rest)) parts.1) [
+    let parts = and_parts (list_all is_word_byte rest) (heads is_ascii_digit rest && length rest == 1 || heads is_word_start rest && (nat_lt (length rest) 4 && is_word_in_list joining_words rest)) e in
+    elim (or_cases (heads is_ascii_digit rest && length rest == 1) (heads is_word_start rest && (nat_lt (length rest) 4 && is_word_in_list joining_words rest)) parts.1) [
       | inl digit ↦
           let two = and_parts (heads is_ascii_digit rest) (length rest == 1) digit in
           let one = eqb-true (length rest) 1 two.1 in
           record { words = parts.0; short = omega (arith, one); which = inl (two.0, one) }
       | inr word ↦
-          let two = and_parts (heads is_word_start rest) (nat_lt (length rest) 4 && is_among joining_words rest) word in
-          let more = and_parts (nat_lt (length rest) 4) (is_among joining_words rest) two.1 in
+          let two = and_parts (heads is_word_start rest) (nat_lt (length rest) 4 && is_word_in_list joining_words rest) word in
+          let more = and_parts (nat_lt (length rest) 4) (is_word_in_list joining_words rest) two.1 in
           record { words = parts.0; short = ltb-true (length rest) 4 more.0; which = inr (two.0, more.1) }
     ]
 
@@ -330,8 +330,8 @@ number_ends rest (b ∷ x) after later e number short back h =
     ]
 
 -- another word in place of one
-other_word_ends : (rest x w after later : List ℕ) → IsEnding rest → is_word x ≡ true → is_word w ≡ true → (str_eq_ignore_ascii_case x w ≡ true) ⊎ (is_quiet w ≡ true) → heads is_word_byte after ≡ false → heads is_word_byte later ≡ false → ends_word rest (w ++ later) ≡ true → ends_word rest (x ++ after) ≡ true
-unfolding is_quiet
+other_word_ends : (rest x w after later : List ℕ) → IsEnding rest → is_word x ≡ true → is_word w ≡ true → (str_eq_ignore_ascii_case x w ≡ true) ⊎ (is_non_joining_word w ≡ true) → heads is_word_byte after ≡ false → heads is_word_byte later ≡ false → ends_word rest (w ++ later) ≡ true → ends_word rest (x ++ after) ≡ true
+unfolding is_non_joining_word
 other_word_ends rest x [] after later e word_x word_w why stops ends h = absurd (false≢true word_w)
 other_word_ends rest x (b ∷ w) after later e word_x word_w why stops ends h =
     let whole = whole_ends rest (b ∷ w) later e.words (run_words (b ∷ w) word_w) ends h in
@@ -341,7 +341,7 @@ other_word_ends rest x (b ∷ w) after later e word_x word_w why stops ends h =
           ends_whole rest x after (whole.0 ∙ sym same.1) (fronts_trans rest (b ∷ w) x whole.1 (fronts_back x (b ∷ w) same.0 same.1)) stops
       | inr quiet ↦ elim e.which [
         | inl digit ↦ absurd (not_both rest digit.0 (start_first rest b w (ending_some rest e) (and_parts (is_word_start b) (list_all is_word_byte w) word_w).0 whole.1))
-        | inr start ↦ absurd (false≢true (sym (not-true (is_among joining_words (b ∷ w)) quiet) ∙ among_alike joining_words (b ∷ w) rest (fronts_back rest (b ∷ w) whole.1 whole.0) (sym whole.0) start.1))
+        | inr start ↦ absurd (false≢true (sym (not-true (is_word_in_list joining_words (b ∷ w)) quiet) ∙ among_alike joining_words (b ∷ w) rest (fronts_back rest (b ∷ w) whole.1 whole.0) (sym whole.0) start.1))
       ]
     ]
 
@@ -363,7 +363,7 @@ kept_ends kind x after later rest fits word f e h = elim (cases_lt (length rest)
 
 -- an end of a sign word that stands behind a token stood there before
 pub ending_at : (before kind : TokenKind) (gap x w after later rest : List ℕ) → 0 < length x → has_form kind x after ≡ true → (kind ≡ Word → heads is_word_byte after ≡ false) → IsGapFront gap
-    → IsRewritten before kind x w → Front kind after later → is_ending rest ≡ true → ends_word rest (gap ++ (w ++ later)) ≡ true → ends_word rest (gap ++ (x ++ after)) ≡ true
+    → IsRewrittenText before kind x w → Front kind after later → is_ending rest ≡ true → ends_word rest (gap ++ (w ++ later)) ≡ true → ends_word rest (gap ++ (x ++ after)) ≡ true
 unfolding is_word_byte is_word_start
 ending_at before kind (c ∷ gap) x w after later rest some fits word gap_is r f ending h =
     let e = ending_is rest ending in
@@ -379,15 +379,15 @@ ending_at before kind [] x w after later rest some fits word gap_is (inr (is, in
     let parts = and_parts (fronts rest (hash ∷ (x ++ later))) (not (heads is_word_byte (drop (length rest) (hash ∷ (x ++ later))))) there in
     absurd (false≢true (first_word rest hash (x ++ later) (ending_some rest e) e.words parts.0))
 
-word_stops : (k : TokenKind) (x after : List ℕ) → IsLongest (x ++ after) k (length x) → k ≡ Word → heads is_word_byte after ≡ false
-word_stops k x after l e = word_ends x after (subst (λ kind. IsLongest (x ++ after) kind (length x)) e l)
+word_stops : (k : TokenKind) (x after : List ℕ) → IsLongestToken (x ++ after) k (length x) → k ≡ Word → heads is_word_byte after ≡ false
+word_stops k x after l e = word_ends x after (subst (λ kind. IsLongestToken (x ++ after) kind (length x)) e l)
 
-pub ending_of : (before : TokenKind) (minus : Bool) (ps : List Piece) (ws : List (List ℕ)) (end rest : List ℕ) → AreStanding minus ps end → ArePiecesAnew before ps ws → is_ending rest ≡ true
-    → ends_word rest (spelled (anew ps ws) end) ≡ true → ends_word rest (spelled ps end) ≡ true
+pub ending_of : (before : TokenKind) (minus : Bool) (ps : List Piece) (ws : List (List ℕ)) (end rest : List ℕ) → ArePiecesStanding minus ps end → ArePiecesAnew before ps ws → is_ending rest ≡ true
+    → ends_word rest (text_of_pieces (anew ps ws) end) ≡ true → ends_word rest (text_of_pieces ps end) ≡ true
 ending_of before minus [] [] end rest s r e h = h
 ending_of before minus [] (w ∷ ws) end rest s r e h = absurd r
 ending_of before minus (p ∷ ps) [] end rest s r e h = absurd r
 ending_of before minus (p ∷ ps) (w ∷ ws) end rest (s, ss) (r, rs) e h =
-    ending_at before p.kind p.gap p.text w (spelled ps end) (spelled (anew ps ws) end) rest s.longest.fits.some (fits_here p.kind p.text (spelled ps end) s.longest)
-    (word_stops p.kind p.text (spelled ps end) s.longest) (gap_front p minus (spelled ps end) s) r
+    ending_at before p.kind p.gap p.text w (text_of_pieces ps end) (text_of_pieces (anew ps ws) end) rest s.longest.fits.some (fits_here p.kind p.text (text_of_pieces ps end) s.longest)
+    (word_stops p.kind p.text (text_of_pieces ps end) s.longest) (gap_front p minus (text_of_pieces ps end) s) r
     (front_of p.kind (is_minus p.kind p.text) ps ws end ss rs) e h

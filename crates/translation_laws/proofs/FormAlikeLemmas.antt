@@ -16,7 +16,7 @@ use Rattle.stl_lexer.specs.declared.marks.Mark.TheVariants as mark
 use Rattle.stl_lexer.specs.Bytes.{close_brace, double_quote, hash, open_brace, single_quote}
 use Rattle.stl_lexer.specs.Forms.{based_prefixes, begins_with, count_prefixes, has_form, is_closed, is_enclosed, is_entry, is_inner, is_listed, long_prefixes, s5time_prefixes, sign_words, time_prefixes, title_words}
 use Rattle.stl_lexer.specs.Marks.{mark_text, marks}
-use Rattle.stl_lexer.specs.Tokens.{AreTokens, Follow, IsEnd, is_minus, text_of}
+use Rattle.stl_lexer.specs.Tokens.{AreTokens, TokensFollow, IsEndOfTokens, is_minus, text_of}
 use Rattle.stl_ast.specs.declared.mnemonics.Mnemonic.{Mnemonic}
 use Rattle.stl_symbols.specs.declared.languages.Language.TheVariants.{English, German}
 use Rattle.stl_parser.specs.declared.tables.OperandSyntax.{OperandSyntax}
@@ -29,11 +29,11 @@ use Rattle.de_mnemonics.specs.declared.places.Place.{Place}
 use Rattle.de_mnemonics.specs.declared.places.Place.TheVariants as place
 use Rattle.de_mnemonics.specs.declared.roles.Role.{Role}
 use Rattle.de_mnemonics.specs.declared.roles.Role.TheVariants as role
-use Rattle.translation_laws.specs.Alike.{ComesAs, IsCased, IsSame}
-use Rattle.de_mnemonics.specs.Places.{behind, behind_first, behind_front, behind_instruction, behind_open, behind_sign, behind_start, behind_word, class_of, class_of_mark, is_among, is_in, is_jump, is_text, role_at_start, role_first, role_of, role_of_word}
-use Rattle.de_mnemonics.specs.Tables.{common_jumps, endings, jumps, network_words}
+use Rattle.translation_laws.specs.Alike.{ComesBackInRole, IsSameWordButForCase, IsSameToken}
+use Rattle.de_mnemonics.specs.Places.{place_behind, place_behind_first, place_behind_front, place_behind_instruction, place_behind_open, place_behind_sign, place_behind_start, place_behind_word, class_of, class_of_mark, is_word_in_list, is_word_in_pairs, is_jump_word, is_mark_text, role_at_start, role_first, role_of, role_of_word}
+use Rattle.de_mnemonics.specs.Tables.{common_jumps, block_end_words, jump_pairs, network_words}
 use Rattle.de_mnemonics.specs.Translation.{class_in, next_class}
-use Rattle.de_mnemonics.specs.Words.{partner}
+use Rattle.de_mnemonics.specs.Words.{partner_in_table}
 use Rattle.translation_laws.proofs.AgreeAlikeLemmas.{IsSamePair, Pair, lefts}
 use Rattle.translation_laws.proofs.LikeAlikeLemmas.{itself, of_kind, same_kind}
 use Rattle.translation_laws.proofs.OperandAlikeLemmas.{HeadSame}
@@ -194,9 +194,9 @@ is_jump_syntax _ = false
 abbrev is_jump_form : Mnemonic × OperandSyntax → Bool
 is_jump_form m = is_jump_syntax m.1
 
-jump_blind : SeesNoCase is_jump
-unfolding is_jump is_in
-jump_blind a b same = rw (partner_same German jumps a b same, partner_same English jumps a b same, same_among common_jumps a b same) refl
+jump_blind : SeesNoCase is_jump_word
+unfolding is_jump_word is_word_in_pairs
+jump_blind a b same = rw (partner_same German jump_pairs a b same, partner_same English jump_pairs a b same, same_among common_jumps a b same) refl
 
 jumps_are_letters : list_all (λ x. not (is_jump_form x.1) || are_letters x.0) mnemonics ≡ true
 unfolding mnemonics
@@ -206,8 +206,8 @@ jumps_no_titles : list_all (λ x. not (is_jump_form x.1) || not (is_title x.0)) 
 unfolding mnemonics
 jumps_no_titles = refl
 
-jumps_are_jumps : list_all (λ x. not (is_jump_form x.1) || is_jump x.0) mnemonics ≡ true
-unfolding mnemonics is_jump is_in is_among partner jumps common_jumps
+jumps_are_jumps : list_all (λ x. not (is_jump_form x.1) || is_jump_word x.0) mnemonics ≡ true
+unfolding mnemonics is_jump_word is_word_in_pairs is_word_in_list partner_in_table jump_pairs common_jumps
 jumps_are_jumps = refl
 
 -- every token has the form of its kind
@@ -218,7 +218,7 @@ abbrev pub AreFormed : List ℕ → List Token → Type 0
 AreFormed s [] = Unit {0}
 AreFormed s (t ∷ ts) = IsFormed s t × AreFormed s ts
 
-followed : (s : List ℕ) (from : ℕ) (minus : Bool) (ts : List Token) → Follow s (λ from minus. IsEnd s from) from minus ts → AreFormed s ts
+followed : (s : List ℕ) (from : ℕ) (minus : Bool) (ts : List Token) → TokensFollow s (λ from minus. IsEndOfTokens s from) from minus ts → AreFormed s ts
 followed s from minus [] h = tt
 followed s from minus (t ∷ ts) h =
     ((drop (t.end - t.start) (drop t.start s), h.0.longest.fits.fits), followed s t.end (is_minus t.kind (text_of s t)) ts h.1)
@@ -229,11 +229,11 @@ formed s ts are = followed s 0 false ts are
 
 -- the word of a jump is a word, and one for the walk
 jump_word : (s : List ℕ) (t : Token) (m : Mnemonic × OperandSyntax) → IsFormed s t → look_up mnemonics (text_of s t) ≡ Some m → is_jump_form m ≡ true
-    → (t.kind ≡ kind.Word) × (is_jump (text_of s t) ≡ true)
+    → (t.kind ≡ kind.Word) × (is_jump_word (text_of s t) ≡ true)
 jump_word s t m h found is = (
   word_alone t.kind (text_of s t) h.0 h.1 (found_passes are_letters letters_blind is_jump_form mnemonics jumps_are_letters (text_of s t) m found is)
       (turn (is_title (text_of s t)) (found_passes (λ w. not (is_title w)) (λ a b same. ap not (title_blind a b same)) is_jump_form mnemonics jumps_no_titles (text_of s t) m found is)),
-  found_passes is_jump jump_blind is_jump_form mnemonics jumps_are_jumps (text_of s t) m found is,
+  found_passes is_jump_word jump_blind is_jump_form mnemonics jumps_are_jumps (text_of s t) m found is,
 )
   where
     turn : (b : Bool) → not b ≡ true → b ≡ false
@@ -245,7 +245,7 @@ jump_word s t m h found is = (
 module _ (s e : List ℕ) where
   -- what may be the first token of an instruction
   abbrev pub IsFront : Pair s e → Type 0
-  IsFront q = IsSame s e q.left q.right ⊎ IsCased s e q.left q.right
+  IsFront q = IsSameToken s e q.left q.right ⊎ IsSameWordButForCase s e q.left q.right
 
   pub front_kinds : (q : Pair s e) → IsFront q → has_kind q.left kind.Word ≡ has_kind q.right kind.Word
   front_kinds q (inl h) = same_kind s e q.left q.right kind.Word h
@@ -267,7 +267,7 @@ module _ (s e : List ℕ) where
 
   start_role : (before c : TokenClass) (text : List ℕ) (next : TokenClass) → IsFrontRole (role_of place.Start before c text next)
   unfolding role_of role_of_word role_at_start
-  start_role before class.Word text next = front_first (is_among endings text || is_among network_words text) next
+  start_role before class.Word text next = front_first (is_word_in_list block_end_words text || is_word_in_list network_words text) next
   start_role before _ text next = tt
 
   labelled_role : (before c : TokenClass) (text : List ℕ) (next : TokenClass) → IsFrontRole (role_of place.Labelled before c text next)
@@ -275,16 +275,16 @@ module _ (s e : List ℕ) where
   labelled_role before class.Word text next = tt
   labelled_role before _ text next = tt
 
-  front_of : (r : Role) (q : Pair s e) → IsFrontRole r → ComesAs s e r q.left q.right → IsFront q
+  front_of : (r : Role) (q : Pair s e) → IsFrontRole r → ComesBackInRole s e r q.left q.right → IsFront q
   front_of role.Instruction q is h = h
   front_of role.Stays q is h = inl h
   front_of role.Operand q is h = absurd is
   front_of role.Path q is h = absurd is
 
-  pub start_front : (before next : TokenClass) (q : Pair s e) → ComesAs s e (role_of place.Start before (class_in s q.left) (text_of s q.left) next) q.left q.right → IsFront q
+  pub start_front : (before next : TokenClass) (q : Pair s e) → ComesBackInRole s e (role_of place.Start before (class_in s q.left) (text_of s q.left) next) q.left q.right → IsFront q
   start_front before next q h = front_of _ q (start_role before (class_in s q.left) (text_of s q.left) next) h
 
-  labelled_front : (before next : TokenClass) (q : Pair s e) → ComesAs s e (role_of place.Labelled before (class_in s q.left) (text_of s q.left) next) q.left q.right → IsFront q
+  labelled_front : (before next : TokenClass) (q : Pair s e) → ComesBackInRole s e (role_of place.Labelled before (class_in s q.left) (text_of s q.left) next) q.left q.right → IsFront q
   labelled_front before next q h = front_of _ q (labelled_role before (class_in s q.left) (text_of s q.left) next) h
 
   -- ---- the place behind it
@@ -297,19 +297,19 @@ module _ (s e : List ℕ) where
   is_colon class.Colon = true
   is_colon _ = false
 
-  instruction_in : (text : List ℕ) → in_statement s e (behind_instruction text) ≡ true
-  unfolding behind_instruction
-  instruction_in text = by (is_jump text)
+  instruction_in : (text : List ℕ) → in_statement s e (place_behind_instruction text) ≡ true
+  unfolding place_behind_instruction
+  instruction_in text = by (is_jump_word text)
     where
       by : (b : Bool) → in_statement s e (if b then place.Jump else place.Instruction) ≡ true
       by true = refl
       by false = refl
 
-  jump_in : (text : List ℕ) → is_jump text ≡ true → behind_instruction text ≡ place.Jump
-  unfolding behind_instruction
+  jump_in : (text : List ℕ) → is_jump_word text ≡ true → place_behind_instruction text ≡ place.Jump
+  unfolding place_behind_instruction
   jump_in text is = rw is refl
 
-  first_in : (next : TokenClass) (text : List ℕ) → is_colon next ≡ false → behind_first next text ≡ behind_instruction text
+  first_in : (next : TokenClass) (text : List ℕ) → is_colon next ≡ false → place_behind_first next text ≡ place_behind_instruction text
   first_in class.Colon text isnt = absurd (false≢true (sym isnt))
   first_in class.Word text isnt = refl
   first_in class.Number text isnt = refl
@@ -325,19 +325,19 @@ module _ (s e : List ℕ) where
 
   -- a word that is neither an end nor a network
   abbrev IsFree : List ℕ → Type 0
-  IsFree text = (is_among endings text ≡ false) × (is_among network_words text ≡ false)
+  IsFree text = (is_word_in_list block_end_words text ≡ false) × (is_word_in_list network_words text ≡ false)
 
-  start_word : (before : TokenClass) (text : List ℕ) (next : TokenClass) → IsFree text → behind_word place.Start before text next ≡ behind_first next text
-  unfolding behind_word behind_start
+  start_word : (before : TokenClass) (text : List ℕ) (next : TokenClass) → IsFree text → place_behind_word place.Start before text next ≡ place_behind_first next text
+  unfolding place_behind_word place_behind_start
   start_word before text next free = rw (free.0, free.1) refl
 
-  front_in : (c : TokenClass) → is_end s e c ≡ false → in_statement s e (behind_front c) ≡ true
+  front_in : (c : TokenClass) → is_end s e c ≡ false → in_statement s e (place_behind_front c) ≡ true
   front_in class.Semicolon isnt = absurd (false≢true (sym isnt))
   front_in class.CloseParen isnt = refl
   front_in class.Number isnt = refl
   front_in _ isnt = refl
 
-  open_in : (c : TokenClass) → is_end s e c ≡ false → is_note c ≡ false → in_statement s e (behind_open c) ≡ true
+  open_in : (c : TokenClass) → is_end s e c ≡ false → is_note c ≡ false → in_statement s e (place_behind_open c) ≡ true
   open_in class.Note isnt note = absurd (false≢true (sym note))
   open_in class.Semicolon isnt note = absurd (false≢true (sym isnt))
   open_in class.CloseParen isnt note = refl
@@ -347,7 +347,7 @@ module _ (s e : List ℕ) where
   -- behind the first token of an instruction the statement goes on, behind a jump with its label
   pub record GoesOn (p : Place) (text : List ℕ) (c : TokenClass) : Type 0 where
     pub inside : in_statement s e p ≡ true
-    pub jumps : c ≡ class.Word → is_jump text ≡ true → p ≡ place.Jump
+    pub jumps : c ≡ class.Word → is_jump_word text ≡ true → p ≡ place.Jump
 
   abbrev is_word_class : TokenClass → Bool
   is_word_class class.Word = true
@@ -357,8 +357,8 @@ module _ (s e : List ℕ) where
   no_word c isnt e = false≢true (sym isnt ∙ ap is_word_class e)
 
   start_on : (before c : TokenClass) (text : List ℕ) (next : TokenClass) → is_end s e c ≡ false → is_note c ≡ false
-      → (c ≡ class.Word → IsFree text × (is_colon next ≡ false)) → GoesOn (behind place.Start before c text next) text c
-  unfolding behind behind_sign
+      → (c ≡ class.Word → IsFree text × (is_colon next ≡ false)) → GoesOn (place_behind place.Start before c text next) text c
+  unfolding place_behind place_behind_sign
   start_on before class.Word text next isnt note free =
       let there = free refl in
       let at = start_word before text next there.0 ∙ first_in next text there.1 in
@@ -378,8 +378,8 @@ module _ (s e : List ℕ) where
   start_on before class.Pointer text next isnt note free = record { inside = open_in class.Pointer isnt note; jumps = λ is jump. absurd (no_word class.Pointer refl is) }
   start_on before class.Other text next isnt note free = record { inside = open_in class.Other isnt note; jumps = λ is jump. absurd (no_word class.Other refl is) }
 
-  labelled_on : (before c : TokenClass) (text : List ℕ) (next : TokenClass) → is_end s e c ≡ false → GoesOn (behind place.Labelled before c text next) text c
-  unfolding behind behind_sign behind_word
+  labelled_on : (before c : TokenClass) (text : List ℕ) (next : TokenClass) → is_end s e c ≡ false → GoesOn (place_behind place.Labelled before c text next) text c
+  unfolding place_behind place_behind_sign place_behind_word
   labelled_on before class.Word text next isnt = record { inside = instruction_in text; jumps = λ is jump. jump_in text jump }
   labelled_on before class.Note text next isnt = record { inside = front_in class.Note isnt; jumps = λ is jump. absurd (no_word class.Note refl is) }
   labelled_on before class.Number text next isnt = record { inside = front_in class.Number isnt; jumps = λ is jump. absurd (no_word class.Number refl is) }
@@ -408,7 +408,7 @@ module _ (s e : List ℕ) where
   head_label zero before qs h = tt
   head_label (suc n) before [] h = tt
   head_label (suc n) before (r ∷ rs) h =
-      subst (λ (x : Role). ComesAs s e x r.left r.right) (jump_stays before (class_in s r.left) (text_of s r.left) (next_class s (lefts rs))) h.0
+      subst (λ (x : Role). ComesBackInRole s e x r.left r.right) (jump_stays before (class_in s r.left) (text_of s r.left) (next_class s (lefts rs))) h.0
 
   labels_from : (n : ℕ) (p : Place) (q : Pair s e) (qs : List (Pair s e)) → IsFormed s q.left → GoesOn p (text_of s q.left) (class_in s q.left) → Walk s e p (class_in s q.left) qs
       → (m : Mnemonic × OperandSyntax) → look_up mnemonics (text_of s q.left) ≡ Some m → (f : OperandSyntax) → m.1 ≡ f → Labels s e f (take n qs)
@@ -473,13 +473,13 @@ module _ (s e : List ℕ) where
 
   mark_no_word : (a : List ℕ) → is_word_class (class_of_mark a) ≡ false
   unfolding class_of_mark
-  mark_no_word a = words (is_text a mark.Semicolon) (is_text a mark.Dot) (is_text a mark.Assign) (is_text a mark.Colon) (is_text a mark.OpenBracket)
-      (is_text a mark.OpenParen) (is_text a mark.CloseParen) (is_text a mark.Pointer)
+  mark_no_word a = words (is_mark_text a mark.Semicolon) (is_mark_text a mark.Dot) (is_mark_text a mark.Assign) (is_mark_text a mark.Colon) (is_mark_text a mark.OpenBracket)
+      (is_mark_text a mark.OpenParen) (is_mark_text a mark.CloseParen) (is_mark_text a mark.Pointer)
 
-  mark_no_colon : (a : List ℕ) → is_text a mark.Colon ≡ false → is_colon (class_of_mark a) ≡ false
+  mark_no_colon : (a : List ℕ) → is_mark_text a mark.Colon ≡ false → is_colon (class_of_mark a) ≡ false
   unfolding class_of_mark
-  mark_no_colon a isnt = rw isnt (colons (is_text a mark.Semicolon) (is_text a mark.Dot) (is_text a mark.Assign) (is_text a mark.OpenBracket)
-      (is_text a mark.OpenParen) (is_text a mark.CloseParen) (is_text a mark.Pointer))
+  mark_no_colon a isnt = rw isnt (colons (is_mark_text a mark.Semicolon) (is_mark_text a mark.Dot) (is_mark_text a mark.Assign) (is_mark_text a mark.OpenBracket)
+      (is_mark_text a mark.OpenParen) (is_mark_text a mark.CloseParen) (is_mark_text a mark.Pointer))
 
   kind_of_class : (t : Token) (k : TokenKind) → t.kind ≡ k → is_word_class (class_of k (text_of s t)) ≡ true → has_kind t kind.Word ≡ true
   unfolding class_of
@@ -494,7 +494,7 @@ module _ (s e : List ℕ) where
   unfolding class_of is_mark
   no_colon_kind t kind.Mark is isnt = mark_no_colon (text_of s t) (by (has_kind t kind.Mark) (of_kind t kind.Mark kind.Mark is) isnt)
     where
-      by : (b : Bool) → b ≡ true → (b && str_eq_ignore_ascii_case (text_of s t) (mark_text mark.Colon)) ≡ false → is_text (text_of s t) mark.Colon ≡ false
+      by : (b : Bool) → b ≡ true → (b && str_eq_ignore_ascii_case (text_of s t) (mark_text mark.Colon)) ≡ false → is_mark_text (text_of s t) mark.Colon ≡ false
       by true is isnt = isnt
       by false is isnt = absurd (false≢true is)
   no_colon_kind t _ is isnt = refl
@@ -516,7 +516,7 @@ module _ (s e : List ℕ) where
   labelled_first zero before ps shape none h = tt
   labelled_first (suc n) before [] shape none h = tt
   labelled_first (suc n) before (q ∷ qs) shape none h =
-      first_from n (behind place.Labelled before (class_in s q.left) (text_of s q.left) (next_class s (lefts qs))) q qs
+      first_from n (place_behind place.Labelled before (class_in s q.left) (text_of s q.left) (next_class s (lefts qs))) q qs
       (labelled_front before (next_class s (lefts qs)) q h.0) shape.0
       (labelled_on before (class_in s q.left) (text_of s q.left) (next_class s (lefts qs)) (no_end s e q.left none.0)) none.1 h.1
 
@@ -527,29 +527,29 @@ module _ (s e : List ℕ) where
 
   start_label : (before : TokenClass) (text : List ℕ) → role_of place.Start before class.Word text class.Colon ≡ role.Stays
   unfolding role_of role_of_word role_at_start
-  start_label before text = by (is_among endings text || is_among network_words text)
+  start_label before text = by (is_word_in_list block_end_words text || is_word_in_list network_words text)
     where
       by : (b : Bool) → (if b then role.Stays else role_first class.Colon) ≡ role.Stays
       by true = refl
       by false = refl
 
-  label_place : (before : TokenClass) (text : List ℕ) → IsFree text → behind place.Start before class.Word text class.Colon ≡ place.Label
-  unfolding behind
+  label_place : (before : TokenClass) (text : List ℕ) → IsFree text → place_behind place.Start before class.Word text class.Colon ≡ place.Label
+  unfolding place_behind
   label_place before text free = start_word before text class.Colon free
 
-  colon_place : (before : TokenClass) (text : List ℕ) (next : TokenClass) → behind place.Label before class.Colon text next ≡ place.Labelled
-  unfolding behind behind_sign
+  colon_place : (before : TokenClass) (text : List ℕ) (next : TokenClass) → place_behind place.Label before class.Colon text next ≡ place.Labelled
+  unfolding place_behind place_behind_sign
   colon_place before text next = refl
 
   -- the place behind a label and its `:`
   label_then : (before : TokenClass) (q r : Pair s e) (rs : List (Pair s e)) → IsFree (text_of s q.left) → class_in s q.left ≡ class.Word → class_in s r.left ≡ class.Colon
-      → behind (behind place.Start before (class_in s q.left) (text_of s q.left) (class_in s r.left)) (class_in s q.left) (class_in s r.left) (text_of s r.left) (next_class s (lefts rs))
+      → place_behind (place_behind place.Start before (class_in s q.left) (text_of s q.left) (class_in s r.left)) (class_in s q.left) (class_in s r.left) (text_of s r.left) (next_class s (lefts rs))
       ≡ place.Labelled
   label_then before q r rs free word colon =
-      let first_is = ap (λ (c : TokenClass). behind place.Start before c (text_of s q.left) (class_in s r.left)) word
-      ∙ ap (λ (c : TokenClass). behind place.Start before class.Word (text_of s q.left) c) colon ∙ label_place before (text_of s q.left) free in
-      ap (λ (p : Place). behind p (class_in s q.left) (class_in s r.left) (text_of s r.left) (next_class s (lefts rs))) first_is
-      ∙ ap (λ (c : TokenClass). behind place.Label (class_in s q.left) c (text_of s r.left) (next_class s (lefts rs))) colon
+      let first_is = ap (λ (c : TokenClass). place_behind place.Start before c (text_of s q.left) (class_in s r.left)) word
+      ∙ ap (λ (c : TokenClass). place_behind place.Start before class.Word (text_of s q.left) c) colon ∙ label_place before (text_of s q.left) free in
+      ap (λ (p : Place). place_behind p (class_in s q.left) (class_in s r.left) (text_of s r.left) (next_class s (lefts rs))) first_is
+      ∙ ap (λ (c : TokenClass). place_behind place.Label (class_in s q.left) c (text_of s r.left) (next_class s (lefts rs))) colon
       ∙ colon_place (class_in s q.left) (text_of s r.left) (next_class s (lefts rs))
 
   -- a label, and the instruction behind its `:`
@@ -558,7 +558,7 @@ module _ (s e : List ℕ) where
   labelled_from n before q r rs shape none h free word colon =
       let role_is = ap (λ (c : TokenClass). role_of place.Start before c (text_of s q.left) (class_in s r.left)) word
       ∙ ap (λ (c : TokenClass). role_of place.Start before class.Word (text_of s q.left) c) colon ∙ start_label before (text_of s q.left) in (
-        subst (λ (x : Role). ComesAs s e x q.left q.right) role_is h.0,
+        subst (λ (x : Role). ComesBackInRole s e x q.left q.right) role_is h.0,
         labelled_first n (class_in s r.left) rs shape none (subst (λ (p : Place). Walk s e p (class_in s r.left) rs) (label_then before q r rs free word colon) h.1.1),
       )
 
@@ -575,7 +575,7 @@ module _ (s e : List ℕ) where
   statement_from (suc (suc n)) before (q ∷ r ∷ rs) shape none h free = record {
     kinds = front_kinds q front;
     label = λ colon word. labelled_from n before q r rs shape.1.1 none.1.1 h (free.1 word) (class_of_word q.left word) (class_mark s e r.left mark.Colon colon ∙ colon_class);
-    bare = λ isnt. first_from (suc n) (behind place.Start before (class_in s q.left) (text_of s q.left) (class_in s r.left)) q (r ∷ rs) front shape.0
+    bare = λ isnt. first_from (suc n) (place_behind place.Start before (class_in s q.left) (text_of s q.left) (class_in s r.left)) q (r ∷ rs) front shape.0
         (start_on before (class_in s q.left) (text_of s q.left) (class_in s r.left) (no_end s e q.left none.0) free.0
         (λ word. let is = word_of_class q.left word in
         (free.1 is, no_colon r.left (bare_colon (has_kind q.left kind.Word) (is_mark s r.left mark.Colon) isnt is)))) none.1 h.1;
@@ -605,20 +605,20 @@ module _ (s e : List ℕ) where
   first_or d [] = d
   first_or d (x ∷ xs) = x
 
-  start_end : (before : TokenClass) (text : List ℕ) (next : TokenClass) → behind place.Start before class.Semicolon text next ≡ place.Start
-  unfolding behind behind_sign
+  start_end : (before : TokenClass) (text : List ℕ) (next : TokenClass) → place_behind place.Start before class.Semicolon text next ≡ place.Start
+  unfolding place_behind place_behind_sign
   start_end before text next = refl
 
-  labelled_end : (before : TokenClass) (text : List ℕ) (next : TokenClass) → behind place.Labelled before class.Semicolon text next ≡ place.Start
-  unfolding behind behind_sign
+  labelled_end : (before : TokenClass) (text : List ℕ) (next : TokenClass) → place_behind place.Labelled before class.Semicolon text next ≡ place.Start
+  unfolding place_behind place_behind_sign
   labelled_end before text next = refl
 
   ended : (p : Place) (before : TokenClass) (q : Pair s e) (qs : List (Pair s e)) → is_mark s q.left mark.Semicolon ≡ true
-      → behind p before class.Semicolon (text_of s q.left) (next_class s (lefts qs)) ≡ place.Start → Walk s e p before (q ∷ qs) → Walk s e place.Start class.Semicolon qs
+      → place_behind p before class.Semicolon (text_of s q.left) (next_class s (lefts qs)) ≡ place.Start → Walk s e p before (q ∷ qs) → Walk s e place.Start class.Semicolon qs
   ended p before q qs is starts h =
       subst (λ (c : TokenClass). Walk s e place.Start c qs) (end_class q.left is)
       (subst (λ (x : Place). Walk s e x (class_in s q.left) qs)
-      (ap (λ (c : TokenClass). behind p before c (text_of s q.left) (next_class s (lefts qs))) (end_class q.left is) ∙ starts) h.1)
+      (ap (λ (c : TokenClass). place_behind p before c (text_of s q.left) (next_class s (lefts qs))) (end_class q.left is) ∙ starts) h.1)
 
   labelled_walked : (n : ℕ) (before : TokenClass) (ps : List (Pair s e)) (q : Pair s e) (qs : List (Pair s e)) → NoEnd s e n ps → Walk s e place.Labelled before ps
       → drop n ps ≡ q ∷ qs → is_mark s q.left mark.Semicolon ≡ true → Walk s e place.Start class.Semicolon qs
@@ -627,7 +627,7 @@ module _ (s e : List ℕ) where
       ended place.Labelled before q qs is (labelled_end before (text_of s q.left) (next_class s (lefts qs))) (subst (λ (l : List (Pair s e)). Walk s e place.Labelled before l) there h)
   labelled_walked (suc n) before [] q qs none h there is = absurd cc
   labelled_walked (suc n) before (r ∷ rs) q qs none h there is =
-      walked s e n (behind place.Labelled before (class_in s r.left) (text_of s r.left) (next_class s (lefts rs))) (class_in s r.left) rs q qs
+      walked s e n (place_behind place.Labelled before (class_in s r.left) (text_of s r.left) (next_class s (lefts rs))) (class_in s r.left) rs q qs
       (labelled_on before (class_in s r.left) (text_of s r.left) (next_class s (lefts rs)) (no_end s e r.left none.0)).inside none.1 h.1 there is
 
   label_walked : (n : ℕ) (before : TokenClass) (r : Pair s e) (rs : List (Pair s e)) (q : Pair s e) (qs : List (Pair s e)) → NoEnd s e n rs → Walk s e place.Start before (r ∷ rs)
@@ -651,7 +651,7 @@ module _ (s e : List ℕ) where
       by (has_kind r.left kind.Word) refl (is_colon (next_class s (lefts rs))) refl
     where
       on : (class_in s r.left ≡ class.Word → IsFree (text_of s r.left) × (is_colon (next_class s (lefts rs)) ≡ false)) → Walk s e place.Start class.Semicolon qs
-      on such = walked s e n (behind place.Start before (class_in s r.left) (text_of s r.left) (next_class s (lefts rs))) (class_in s r.left) rs q qs
+      on such = walked s e n (place_behind place.Start before (class_in s r.left) (text_of s r.left) (next_class s (lefts rs))) (class_in s r.left) rs q qs
           (start_on before (class_in s r.left) (text_of s r.left) (next_class s (lefts rs)) (no_end s e r.left none.0) free.0 such).inside none.1 h.1 there is
 
       by : (a : Bool) → has_kind r.left kind.Word ≡ a → (b : Bool) → is_colon (next_class s (lefts rs)) ≡ b → Walk s e place.Start class.Semicolon qs

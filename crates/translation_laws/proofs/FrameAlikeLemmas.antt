@@ -13,7 +13,7 @@ use Rattle.stl_lexer.specs.Tokens.{text_of}
 use Rattle.stl_lexer.specs.declared.kinds.Token.{Token}
 use Rattle.stl_lexer.specs.declared.kinds.TokenKind.{TokenKind}
 use Rattle.stl_lexer.specs.declared.kinds.TokenKind.TheVariants as kind
-use Rattle.stl_ast.specs.Blocks.{has_shape, is_date_and_time, may_declare, may_have, part_rank}
+use Rattle.stl_ast.specs.Blocks.{has_shape, is_date_and_time, may_declare, may_have_section, part_rank}
 use Rattle.stl_ast.specs.declared.blocks.PartKind.{PartKind}
 use Rattle.stl_ast.specs.declared.statements.Statement.{Statement}
 use Rattle.stl_ast.specs.Declarations.{is_elementary}
@@ -26,11 +26,11 @@ use Rattle.stl_parser.specs.declared.places.ClausePlace.TheVariants as at
 use Rattle.stl_parser.specs.declared.tables.HeadWord.{HeadWord}
 use Rattle.stl_parser.specs.declared.tables.Keyword.{Keyword}
 use Rattle.stl_parser.specs.declared.tables.Keyword.TheVariants as keyword
-use Rattle.stl_parser.specs.Clauses.{based_at, behind_note, clause_at, clause_by_kind, declaration_clause, free_word_clause, head_of, head_word_at, head_word_clause, in_data_head, inner_end, inside_clause, is_base, is_outer, keyword_clause, level_at, named_at, other_clause, plain_clause, result_at, semicolon_clause, setting_clause, setting_of, skip_semicolon, statement_clause, structure_clause, structure_end, takes_parameters, until_semicolon, word_clause}
+use Rattle.stl_parser.specs.Clauses.{base_block_at, behind_note, clause_at, clause_by_kind, declaration_clause, free_word_clause, head_clause, head_word_at, head_word_clause, in_data_head, inner_end, inside_clause, is_base_block, is_outer, keyword_clause, level_at, block_of_kind_at, other_clause, plain_clause, result_at, semicolon_clause, setting_clause, setting_of, skip_semicolon, statement_clause, structure_clause, structure_end, takes_parameters, until_semicolon, word_clause}
 use Rattle.stl_parser.specs.Addresses.{block_at}
 use Rattle.stl_parser.specs.Declarations.{declaration_of, structure_at}
 use Rattle.stl_parser.specs.Statements.{statement_of}
-use Rattle.stl_parser.specs.Frame.{follow, follow_between, follow_body, follow_head, follow_outside, follow_section, follow_settings, follow_shape, follow_shaped, section_behind, shape_behind}
+use Rattle.stl_parser.specs.Frame.{next_place, next_place_between, next_place_in_body, next_place_in_head, next_place_outside, next_place_in_section, next_place_in_settings, next_place_in_shape, next_place_behind_shape, section_behind, shape_behind}
 use Rattle.stl_parser.specs.Tables.{head_words, keywords, look_up}
 use Rattle.stl_parser.specs.Terminals.{has_kind, is_mark, kind_rank}
 use Rattle.stl_lexer.specs.declared.marks.Mark.TheVariants as mark
@@ -40,8 +40,8 @@ use Rattle.de_mnemonics.specs.declared.classes.TokenClass.TheVariants as class
 use Rattle.de_mnemonics.specs.declared.places.Place.{Place}
 use Rattle.de_mnemonics.specs.declared.places.Place.TheVariants as place
 use Rattle.de_mnemonics.specs.declared.roles.Role.TheVariants as role
-use Rattle.de_mnemonics.specs.Places.{behind, behind_head, behind_outside, behind_sign, behind_start, behind_word, class_of, class_of_mark, is_among, is_text, may_be_keyword, role_of, role_of_word}
-use Rattle.de_mnemonics.specs.Tables.{begin_words, code_openings, data_openings, endings, network_words}
+use Rattle.de_mnemonics.specs.Places.{place_behind, place_behind_head, place_behind_outside, place_behind_sign, place_behind_start, place_behind_word, class_of, class_of_mark, is_word_in_list, is_mark_text, may_be_keyword, role_of, role_of_word}
+use Rattle.de_mnemonics.specs.Tables.{begin_words, code_openings, data_openings, block_end_words, network_words}
 use Rattle.de_mnemonics.specs.Translation.{class_in}
 use Rattle.de_mnemonics.proofs.CaseLemmas.{same_among}
 use Rattle.translation_laws.proofs.CalmLemmas.{calm_of, is_block_word, is_statement}
@@ -119,8 +119,8 @@ quiet_data kinds.Db e = refl
 quiet_data kinds.Sfc e = absurd (false≢true e)
 quiet_data kinds.Udt e = absurd (false≢true e)
 
-code_parts : (k : BlockKind) (p : PartKind) → may_have k p ≡ true → is_code k ≡ true
-unfolding may_have
+code_parts : (k : BlockKind) (p : PartKind) → may_have_section k p ≡ true → is_code k ≡ true
+unfolding may_have_section
 code_parts kinds.Ob p e = refl
 code_parts kinds.Fc p e = refl
 code_parts kinds.Fb p e = refl
@@ -150,9 +150,9 @@ if_none : {A : Type 0} (b : Bool) (x y : A) → (if b then None else Some x) ≡
 if_none true x y e = absurd (none-some y e)
 if_none false x y e = e
 
-outside_after : (c : Clause) (next : ClausePlace) (pl : Place) (b : TokenClass) → pl ≡ place.Outside → follow at.Outside c ≡ Some next → may_be_keyword b ≡ true
+outside_after : (c : Clause) (next : ClausePlace) (pl : Place) (b : TokenClass) → pl ≡ place.Outside → next_place at.Outside c ≡ Some next → may_be_keyword b ≡ true
     → Stands next (place_after c pl) b
-unfolding follow follow_outside follow_head follow_section follow_between follow_shape follow_shaped follow_settings
+unfolding next_place next_place_outside next_place_in_head next_place_in_section next_place_between next_place_in_shape next_place_behind_shape next_place_in_settings
 outside_after (clause.Head line e name result) next pl b is h ok = stands_at (at.Head e) next (quiet_place e) b h (refl, ok)
 outside_after (clause.Ends line e) next pl b is h ok = absurd (none-some next h)
 outside_after (clause.Section line q) next pl b is h ok = absurd (none-some next h)
@@ -168,13 +168,13 @@ outside_after (clause.Declares d) next pl b is h ok = absurd (none-some next h)
 outside_after (clause.Sets v) next pl b is h ok = absurd (none-some next h)
 outside_after (clause.Runs y) next pl b is h ok = absurd (none-some next h)
 
-head_after : (k : BlockKind) (c : Clause) (next : ClausePlace) (pl : Place) (b : TokenClass) → pl ≡ quiet_place k → follow (at.Head k) c ≡ Some next → may_be_keyword b ≡ true
+head_after : (k : BlockKind) (c : Clause) (next : ClausePlace) (pl : Place) (b : TokenClass) → pl ≡ quiet_place k → next_place (at.Head k) c ≡ Some next → may_be_keyword b ≡ true
     → Stands next (place_after c pl) b
-unfolding follow follow_outside follow_head follow_section follow_between follow_shape follow_shaped follow_settings
+unfolding next_place next_place_outside next_place_in_head next_place_in_section next_place_between next_place_in_shape next_place_behind_shape next_place_in_settings
 head_after k (clause.Head line e name result) next pl b is h ok = absurd (none-some next h)
 head_after k (clause.Ends line e) next pl b is h ok = absurd (none-some next h)
 head_after k (clause.Section line q) next pl b is h ok =
-    let parts = if_some (may_have k q) (at.Section k q 0) next h in
+    let parts = if_some (may_have_section k q) (at.Section k q 0) next h in
     let code : is_code k ≡ true = code_parts k q parts.0 in
     stands_at (at.Section k q 0) next pl b parts.1 (is ∙ quiet_code k code, ok, code)
 head_after k clause.EndSection next pl b is h ok = absurd (none-some next h)
@@ -200,9 +200,9 @@ section_end : (k : BlockKind) (p : PartKind) (level : ℕ) (next : ClausePlace) 
 section_end k p zero next pl b is code h ok = absurd (none-some next h)
 section_end k p (suc level) next pl b is code h ok = stands_at (at.Section k p level) next pl b h (is, ok, code)
 
-section_after : (k : BlockKind) (p : PartKind) (level : ℕ) (c : Clause) (next : ClausePlace) (pl : Place) (b : TokenClass) → pl ≡ place.Head → is_code k ≡ true → follow (at.Section k p level) c ≡ Some next → may_be_keyword b ≡ true
+section_after : (k : BlockKind) (p : PartKind) (level : ℕ) (c : Clause) (next : ClausePlace) (pl : Place) (b : TokenClass) → pl ≡ place.Head → is_code k ≡ true → next_place (at.Section k p level) c ≡ Some next → may_be_keyword b ≡ true
     → Stands next (place_after c pl) b
-unfolding follow follow_outside follow_head follow_section follow_between follow_shape follow_shaped follow_settings
+unfolding next_place next_place_outside next_place_in_head next_place_in_section next_place_between next_place_in_shape next_place_behind_shape next_place_in_settings
 section_after k p level (clause.Head line e name result) next pl b is code h ok = absurd (none-some next h)
 section_after k p level (clause.Ends line e) next pl b is code h ok = absurd (none-some next h)
 section_after k p level (clause.Section line q) next pl b is code h ok = absurd (none-some next h)
@@ -220,13 +220,13 @@ section_after k p level (clause.Declares d) next pl b is code h ok =
 section_after k p level (clause.Sets v) next pl b is code h ok = absurd (none-some next h)
 section_after k p level (clause.Runs y) next pl b is code h ok = absurd (none-some next h)
 
-between_after : (k : BlockKind) (p : PartKind) (c : Clause) (next : ClausePlace) (pl : Place) (b : TokenClass) → pl ≡ place.Head → is_code k ≡ true → follow (at.Between k p) c ≡ Some next → may_be_keyword b ≡ true
+between_after : (k : BlockKind) (p : PartKind) (c : Clause) (next : ClausePlace) (pl : Place) (b : TokenClass) → pl ≡ place.Head → is_code k ≡ true → next_place (at.Between k p) c ≡ Some next → may_be_keyword b ≡ true
     → Stands next (place_after c pl) b
-unfolding follow follow_outside follow_head follow_section follow_between follow_shape follow_shaped follow_settings
+unfolding next_place next_place_outside next_place_in_head next_place_in_section next_place_between next_place_in_shape next_place_behind_shape next_place_in_settings
 between_after k p (clause.Head line e name result) next pl b is code h ok = absurd (none-some next h)
 between_after k p (clause.Ends line e) next pl b is code h ok = absurd (none-some next h)
 between_after k p (clause.Section line q) next pl b is code h ok =
-    stands_at (at.Section k q 0) next pl b (if_some (may_have k q && nat_lt (part_rank p) (part_rank q)) (at.Section k q 0) next h).1 (is, ok, code)
+    stands_at (at.Section k q 0) next pl b (if_some (may_have_section k q && nat_lt (part_rank p) (part_rank q)) (at.Section k q 0) next h).1 (is, ok, code)
 between_after k p clause.EndSection next pl b is code h ok = absurd (none-some next h)
 between_after k p clause.Begins next pl b is code h ok = stands_at (at.Body k) next (place_after clause.Begins pl) b h (ap (place_after clause.Begins) is, code)
 between_after k p clause.Network next pl b is code h ok = absurd (none-some next h)
@@ -244,9 +244,9 @@ shape_end : (k : BlockKind) (level : ℕ) (next : ClausePlace) (pl : Place) (b :
 shape_end k zero next pl b is h ok = stands_at (at.Shaped k) next pl b h (is, ok)
 shape_end k (suc level) next pl b is h ok = stands_at (at.Shape k level) next pl b h (is, ok)
 
-shape_after : (k : BlockKind) (level : ℕ) (c : Clause) (next : ClausePlace) (pl : Place) (b : TokenClass) → pl ≡ place.Outside → follow (at.Shape k level) c ≡ Some next → may_be_keyword b ≡ true
+shape_after : (k : BlockKind) (level : ℕ) (c : Clause) (next : ClausePlace) (pl : Place) (b : TokenClass) → pl ≡ place.Outside → next_place (at.Shape k level) c ≡ Some next → may_be_keyword b ≡ true
     → Stands next (place_after c pl) b
-unfolding follow follow_outside follow_head follow_section follow_between follow_shape follow_shaped follow_settings
+unfolding next_place next_place_outside next_place_in_head next_place_in_section next_place_between next_place_in_shape next_place_behind_shape next_place_in_settings
 shape_after k level (clause.Head line e name result) next pl b is h ok = absurd (none-some next h)
 shape_after k level (clause.Ends line e) next pl b is h ok = absurd (none-some next h)
 shape_after k level (clause.Section line q) next pl b is h ok = absurd (none-some next h)
@@ -264,9 +264,9 @@ shape_after k level (clause.Declares d) next pl b is h ok =
 shape_after k level (clause.Sets v) next pl b is h ok = absurd (none-some next h)
 shape_after k level (clause.Runs y) next pl b is h ok = absurd (none-some next h)
 
-shaped_after : (k : BlockKind) (c : Clause) (next : ClausePlace) (pl : Place) (b : TokenClass) → pl ≡ place.Outside → follow (at.Shaped k) c ≡ Some next
+shaped_after : (k : BlockKind) (c : Clause) (next : ClausePlace) (pl : Place) (b : TokenClass) → pl ≡ place.Outside → next_place (at.Shaped k) c ≡ Some next
     → may_be_keyword b ≡ true → Stands next (place_after c pl) b
-unfolding follow follow_outside follow_head follow_section follow_between follow_shape follow_shaped follow_settings
+unfolding next_place next_place_outside next_place_in_head next_place_in_section next_place_between next_place_in_shape next_place_behind_shape next_place_in_settings
 shaped_after kinds.Ob (clause.Head line e name result) next pl b is h ok = absurd (none-some next h)
 shaped_after kinds.Ob (clause.Ends line e) next pl b is h ok = absurd (none-some next h)
 shaped_after kinds.Ob (clause.Section line q) next pl b is h ok = absurd (none-some next h)
@@ -357,9 +357,9 @@ shaped_after kinds.Udt (clause.Declares d) next pl b is h ok = absurd (none-some
 shaped_after kinds.Udt (clause.Sets v) next pl b is h ok = absurd (none-some next h)
 shaped_after kinds.Udt (clause.Runs y) next pl b is h ok = absurd (none-some next h)
 
-settings_after : (c : Clause) (next : ClausePlace) (pl : Place) (b : TokenClass) → pl ≡ place.Outside → follow at.Settings c ≡ Some next
+settings_after : (c : Clause) (next : ClausePlace) (pl : Place) (b : TokenClass) → pl ≡ place.Outside → next_place at.Settings c ≡ Some next
     → may_be_keyword b ≡ true → Stands next (place_after c pl) b
-unfolding follow follow_outside follow_head follow_section follow_between follow_shape follow_shaped follow_settings
+unfolding next_place next_place_outside next_place_in_head next_place_in_section next_place_between next_place_in_shape next_place_behind_shape next_place_in_settings
 settings_after (clause.Head line e name result) next pl b is h ok = absurd (none-some next h)
 settings_after (clause.Ends line kinds.Ob) next pl b is h ok = absurd (none-some next h)
 settings_after (clause.Ends line kinds.Fc) next pl b is h ok = absurd (none-some next h)
@@ -381,7 +381,7 @@ settings_after (clause.Sets v) next pl b is h ok = stands_at at.Settings next pl
 settings_after (clause.Runs y) next pl b is h ok = absurd (none-some next h)
 
 pub stands_after : (cp : ClausePlace) (c : Clause) (next : ClausePlace) (pl : Place) (before behind : TokenClass) → is_body cp ≡ false → Stands cp pl before
-    → follow cp c ≡ Some next → may_be_keyword behind ≡ true → Stands next (place_after c pl) behind
+    → next_place cp c ≡ Some next → may_be_keyword behind ≡ true → Stands next (place_after c pl) behind
 stands_after at.Outside c next pl before behind no_ h e ok = outside_after c next pl behind h.0 e ok
 stands_after (at.Head k) c next pl before behind no_ h e ok = head_after k c next pl behind h.0 e ok
 stands_after (at.Section k p level) c next pl before behind no_ h e ok = section_after k p level c next pl behind h.0 h.2 e ok
@@ -392,8 +392,8 @@ stands_after at.Settings c next pl before behind no_ h e ok = settings_after c n
 stands_after (at.Body k) c next pl before behind no_ h e ok = absurd (true≢false no_)
 
 -- a statement stands in a body alone
-runs_nowhere : (cp : ClausePlace) (y : Statement) (next : ClausePlace) → is_body cp ≡ false → follow cp (clause.Runs y) ≡ Some next → ⊥
-unfolding follow follow_outside follow_head follow_section follow_between follow_shape follow_shaped follow_settings
+runs_nowhere : (cp : ClausePlace) (y : Statement) (next : ClausePlace) → is_body cp ≡ false → next_place cp (clause.Runs y) ≡ Some next → ⊥
+unfolding next_place next_place_outside next_place_in_head next_place_in_section next_place_between next_place_in_shape next_place_behind_shape next_place_in_settings
 runs_nowhere at.Outside y next no_ e = none-some next e
 runs_nowhere (at.Head k) y next no_ e = none-some next e
 runs_nowhere (at.Section k p level) y next no_ e = none-some next e
@@ -408,7 +408,7 @@ runs_nowhere (at.Shaped kinds.Udt) y next no_ e = none-some next e
 runs_nowhere at.Settings y next no_ e = none-some next e
 runs_nowhere (at.Body k) y next no_ e = true≢false no_
 
-pub no_statement : (cp : ClausePlace) (c : Clause) (next : ClausePlace) → is_body cp ≡ false → follow cp c ≡ Some next → is_statement c ≡ false
+pub no_statement : (cp : ClausePlace) (c : Clause) (next : ClausePlace) → is_body cp ≡ false → next_place cp c ≡ Some next → is_statement c ≡ false
 no_statement cp (clause.Head line e name result) next no_ h = refl
 no_statement cp (clause.Ends line e) next no_ h = refl
 no_statement cp (clause.Section line q) next no_ h = refl
@@ -461,13 +461,13 @@ network_key _ = false
 
 abbrev fits : List ℕ → Keyword → Bool
 fits word k =
-    agree (is_among code_openings word) (code_key k) && (agree (is_among data_openings word) (data_key k)
-    && (agree (is_among begin_words word) (begin_key k) && (agree (is_among endings word) (end_key k)
-    && agree (is_among network_words word) (network_key k))))
+    agree (is_word_in_list code_openings word) (code_key k) && (agree (is_word_in_list data_openings word) (data_key k)
+    && (agree (is_word_in_list begin_words word) (begin_key k) && (agree (is_word_in_list block_end_words word) (end_key k)
+    && agree (is_word_in_list network_words word) (network_key k))))
 
 same_fits : (a b : List ℕ) (k : Keyword) → str_eq_ignore_ascii_case a b ≡ true → fits a k ≡ fits b k
 same_fits a b k e =
-    rw (same_among code_openings a b e, same_among data_openings a b e, same_among begin_words a b e, same_among endings a b e, same_among network_words a b e) refl
+    rw (same_among code_openings a b e, same_among data_openings a b e, same_among begin_words a b e, same_among block_end_words a b e, same_among network_words a b e) refl
 
 -- a test of a word and what stands beside it
 entry_fits : {X : Type 0} (table : List (List ℕ × X)) (word : List ℕ) (test : List ℕ → X → Bool)
@@ -486,30 +486,30 @@ entry_fits {X} (p ∷ ps) word test same all =
     by_test false is here more = more
 
 keywords_fit : list_all (λ e. fits e.0 e.1) keywords ≡ true
-unfolding keywords is_among code_openings data_openings begin_words endings network_words
+unfolding keywords is_word_in_list code_openings data_openings begin_words block_end_words network_words
 keywords_fit = refl
 
 -- what the walk makes of a keyword
 record KeyFits (word : List ℕ) (k : Keyword) : Type 0 where
-  code : is_among code_openings word ≡ code_key k
-  data_ : is_among data_openings word ≡ data_key k
-  begin : is_among begin_words word ≡ begin_key k
-  ends : is_among endings word ≡ end_key k
-  network : is_among network_words word ≡ network_key k
+  code : is_word_in_list code_openings word ≡ code_key k
+  data_ : is_word_in_list data_openings word ≡ data_key k
+  begin : is_word_in_list begin_words word ≡ begin_key k
+  ends : is_word_in_list block_end_words word ≡ end_key k
+  network : is_word_in_list network_words word ≡ network_key k
 
 key_fits : (word : List ℕ) (k : Keyword) → look_up keywords word ≡ Some k → KeyFits word k
 key_fits word k e =
     let all : fits word k ≡ true = some_holds (look_up keywords word) k (λ x. fits word x ≡ true) e (entry_fits keywords word fits same_fits keywords_fit) in
-    let first = and_parts (agree (is_among code_openings word) (code_key k)) (agree (is_among data_openings word) (data_key k) && (agree (is_among begin_words word) (begin_key k) && (agree (is_among endings word) (end_key k) && agree (is_among network_words word) (network_key k)))) all in
-    let second = and_parts (agree (is_among data_openings word) (data_key k)) (agree (is_among begin_words word) (begin_key k) && (agree (is_among endings word) (end_key k) && agree (is_among network_words word) (network_key k))) first.1 in
-    let third = and_parts (agree (is_among begin_words word) (begin_key k)) (agree (is_among endings word) (end_key k) && agree (is_among network_words word) (network_key k)) second.1 in
-    let fourth = and_parts (agree (is_among endings word) (end_key k)) (agree (is_among network_words word) (network_key k)) third.1 in
+    let first = and_parts (agree (is_word_in_list code_openings word) (code_key k)) (agree (is_word_in_list data_openings word) (data_key k) && (agree (is_word_in_list begin_words word) (begin_key k) && (agree (is_word_in_list block_end_words word) (end_key k) && agree (is_word_in_list network_words word) (network_key k)))) all in
+    let second = and_parts (agree (is_word_in_list data_openings word) (data_key k)) (agree (is_word_in_list begin_words word) (begin_key k) && (agree (is_word_in_list block_end_words word) (end_key k) && agree (is_word_in_list network_words word) (network_key k))) first.1 in
+    let third = and_parts (agree (is_word_in_list begin_words word) (begin_key k)) (agree (is_word_in_list block_end_words word) (end_key k) && agree (is_word_in_list network_words word) (network_key k)) second.1 in
+    let fourth = and_parts (agree (is_word_in_list block_end_words word) (end_key k)) (agree (is_word_in_list network_words word) (network_key k)) third.1 in
     record {
-      code = agreed (is_among code_openings word) (code_key k) first.0;
-      data_ = agreed (is_among data_openings word) (data_key k) second.0;
-      begin = agreed (is_among begin_words word) (begin_key k) third.0;
-      ends = agreed (is_among endings word) (end_key k) fourth.0;
-      network = agreed (is_among network_words word) (network_key k) fourth.1;
+      code = agreed (is_word_in_list code_openings word) (code_key k) first.0;
+      data_ = agreed (is_word_in_list data_openings word) (data_key k) second.0;
+      begin = agreed (is_word_in_list begin_words word) (begin_key k) third.0;
+      ends = agreed (is_word_in_list block_end_words word) (end_key k) fourth.0;
+      network = agreed (is_word_in_list network_words word) (network_key k) fourth.1;
     }
 
 -- each of the walk's words is a keyword
@@ -519,19 +519,19 @@ is_key_word word = is_some (look_up keywords word)
 same_key_word : (a b : List ℕ) → str_eq_ignore_ascii_case a b ≡ true → is_key_word a ≡ is_key_word b
 same_key_word a b e = ap is_some (same_looked_up keywords a b e)
 
-among_keys : (table : List (List ℕ)) (word : List ℕ) → list_all is_key_word table ≡ true → is_among table word ≡ true → is_key_word word ≡ true
-unfolding is_among
+among_keys : (table : List (List ℕ)) (word : List ℕ) → list_all is_key_word table ≡ true → is_word_in_list table word ≡ true → is_key_word word ≡ true
+unfolding is_word_in_list
 among_keys [] word all e = absurd (false≢true e)
 among_keys (x ∷ xs) word all e =
     let parts = and_parts (is_key_word x) (list_all is_key_word xs) all in
-    elim (or_cases (str_eq_ignore_ascii_case word x) (is_among xs word) e) [
+    elim (or_cases (str_eq_ignore_ascii_case word x) (is_word_in_list xs word) e) [
       | inl same ↦ same_key_word word x same ∙ parts.0
       | inr more ↦ among_keys xs word parts.1 more
     ]
 
-none_among : (table : List (List ℕ)) (word : List ℕ) → list_all is_key_word table ≡ true → look_up keywords word ≡ None → is_among table word ≡ false
+none_among : (table : List (List ℕ)) (word : List ℕ) → list_all is_key_word table ≡ true → look_up keywords word ≡ None → is_word_in_list table word ≡ false
 none_among table word all none =
-    false_from_ne_true (is_among table word) (λ is. false≢true (sym (ap is_some none) ∙ among_keys table word all is))
+    false_from_ne_true (is_word_in_list table word) (λ is. false≢true (sym (ap is_some none) ∙ among_keys table word all is))
 
 code_keys : list_all is_key_word code_openings ≡ true
 unfolding look_up keywords code_openings
@@ -545,8 +545,8 @@ begin_keys : list_all is_key_word begin_words ≡ true
 unfolding look_up keywords begin_words
 begin_keys = refl
 
-end_keys : list_all is_key_word endings ≡ true
-unfolding look_up keywords endings
+end_keys : list_all is_key_word block_end_words ≡ true
+unfolding look_up keywords block_end_words
 end_keys = refl
 
 network_keys : list_all is_key_word network_words ≡ true
@@ -561,10 +561,10 @@ walk_to place.Head code data_ begin = if begin then place.Start else (if data_ t
 walk_to pl code data_ begin = pl
 
 word_walk : (pl : Place) (b : TokenClass) (x : List ℕ) (n : TokenClass) → is_quiet pl ≡ true → may_be_keyword b ≡ true
-    → behind pl b class.Word x n ≡ walk_to pl (is_among code_openings x) (is_among data_openings x) (is_among begin_words x)
-unfolding behind behind_word behind_outside behind_head walk_to
+    → place_behind pl b class.Word x n ≡ walk_to pl (is_word_in_list code_openings x) (is_word_in_list data_openings x) (is_word_in_list begin_words x)
+unfolding place_behind place_behind_word place_behind_outside place_behind_head walk_to
 word_walk place.Outside b x n quiet may = rw may refl
-word_walk place.Head b x n quiet may = rw may (by (is_among begin_words x) (is_among data_openings x))
+word_walk place.Head b x n quiet may = rw may (by (is_word_in_list begin_words x) (is_word_in_list data_openings x))
   where
     by : (c d : Bool) → (if c then place.Start else (if d then place.Outside else place.Head)) ≡ (if c then place.Start else (if d then place.Outside else place.Head))
     by c d = refl
@@ -590,8 +590,8 @@ stays_put place.Closing e = absurd (false≢true e)
 stays_put place.Path e = absurd (false≢true e)
 stays_put place.Inside e = absurd (false≢true e)
 
-plain_walk : (pl : Place) (b c : TokenClass) (x : List ℕ) (n : TokenClass) → is_quiet pl ≡ true → is_plain_class c ≡ true → behind pl b c x n ≡ pl
-unfolding behind_sign
+plain_walk : (pl : Place) (b c : TokenClass) (x : List ℕ) (n : TokenClass) → is_quiet pl ≡ true → is_plain_class c ≡ true → place_behind pl b c x n ≡ pl
+unfolding place_behind_sign
 plain_walk place.Outside b c x n e plain = behind_plain place.Outside b c x n plain
 plain_walk place.Head b c x n e plain = behind_plain place.Head b c x n plain
 plain_walk place.Start b c x n e plain = absurd (false≢true e)
@@ -604,20 +604,20 @@ plain_walk place.Path b c x n e plain = absurd (false≢true e)
 plain_walk place.Inside b c x n e plain = absurd (false≢true e)
 
 free_walk : (pl : Place) (b : TokenClass) (x : List ℕ) (n : TokenClass) → is_quiet pl ≡ true → may_be_keyword b ≡ true → look_up keywords x ≡ None
-    → behind pl b class.Word x n ≡ pl
+    → place_behind pl b class.Word x n ≡ pl
 free_walk pl b x n quiet may none =
     word_walk pl b x n quiet may
-    ∙ ap (λ c. walk_to pl c (is_among data_openings x) (is_among begin_words x)) (none_among code_openings x code_keys none)
-    ∙ ap (λ c. walk_to pl false c (is_among begin_words x)) (none_among data_openings x data_keys none)
+    ∙ ap (λ c. walk_to pl c (is_word_in_list data_openings x) (is_word_in_list begin_words x)) (none_among code_openings x code_keys none)
+    ∙ ap (λ c. walk_to pl false c (is_word_in_list begin_words x)) (none_among data_openings x data_keys none)
     ∙ ap (λ c. walk_to pl false false c) (none_among begin_words x begin_keys none)
     ∙ stays_put pl quiet
 
 key_walk : (pl : Place) (b : TokenClass) (x : List ℕ) (n : TokenClass) (k : Keyword) → is_quiet pl ≡ true → may_be_keyword b ≡ true → KeyFits x k
-    → behind pl b class.Word x n ≡ walk_to pl (code_key k) (data_key k) (begin_key k)
+    → place_behind pl b class.Word x n ≡ walk_to pl (code_key k) (data_key k) (begin_key k)
 key_walk pl b x n k quiet may h =
     word_walk pl b x n quiet may
-    ∙ ap (λ c. walk_to pl c (is_among data_openings x) (is_among begin_words x)) h.code
-    ∙ ap (λ c. walk_to pl (code_key k) c (is_among begin_words x)) h.data_
+    ∙ ap (λ c. walk_to pl c (is_word_in_list data_openings x) (is_word_in_list begin_words x)) h.code
+    ∙ ap (λ c. walk_to pl (code_key k) c (is_word_in_list begin_words x)) h.data_
     ∙ ap (λ c. walk_to pl (code_key k) (data_key k) c) h.begin
 
 -- ---- clauses that begin with no keyword
@@ -647,10 +647,10 @@ inside_plain s cp line inside =
     (mapped (setting_of s line inside) (λ v. (clause.Sets v, false)) (λ v. Unit {0}) (IsPlain {X = Bool}) (none_holds (setting_of s line inside)) (λ v k. refl)))
 
 other_plain : (s : List ℕ) (cp : ClausePlace) (line : ℕ) (tokens : List Token) → IfSome (other_clause s cp line tokens) IsPlainRead
-unfolding other_clause plain_clause structure_clause semicolon_clause based_at
+unfolding other_clause plain_clause structure_clause semicolon_clause base_block_at
 other_plain s cp line tokens =
-    both (in_data_head cp) (option_or (based_at s tokens) (plain_clause s cp line tokens)) (plain_clause s cp line tokens) IsPlainRead
-    (either (based_at s tokens) (plain_clause s cp line tokens) IsPlainRead based plain) plain
+    both (in_data_head cp) (option_or (base_block_at s tokens) (plain_clause s cp line tokens)) (plain_clause s cp line tokens) IsPlainRead
+    (either (base_block_at s tokens) (plain_clause s cp line tokens) IsPlainRead based plain) plain
   where
     to_clause : Declaration × List Token → Clause × List Token × Bool
     to_clause r = (clause.Declares r.0, r.1, false)
@@ -664,10 +664,10 @@ other_plain s cp line tokens =
         (none_holds (until_semicolon s tokens))
         (λ cut k. mapped (inside_clause s cp line cut.0) (λ c. (c.0, cut.1, c.1)) (IsPlain {X = Bool}) IsPlainRead (inside_plain s cp line cut.0) (λ c i. i)))
 
-    based : IfSome (based_at s tokens) IsPlainRead
+    based : IfSome (base_block_at s tokens) IsPlainRead
     based =
         chained (block_at s tokens) _ (λ r. Unit {0}) IsPlainRead (none_holds (block_at s tokens))
-        (λ r k. passed (is_base r.0) (Some (clause.Based r.0, r.1, false)) IsPlainRead (λ is. refl))
+        (λ r k. passed (is_base_block r.0) (Some (clause.Based r.0, r.1, false)) IsPlainRead (λ is. refl))
 
 plain_after : (c : Clause) (pl : Place) → is_plain c ≡ true → place_after c pl ≡ pl
 plain_after (clause.Head line e name result) pl h = absurd (false≢true h)
@@ -713,8 +713,8 @@ structure_ends s cp ts =
 mark_no_note : (x : List ℕ) → is_note (class_of_mark x) ≡ false
 unfolding class_of_mark
 mark_no_note x =
-    note_none (is_text x mark.Semicolon) (is_text x mark.Dot) (is_text x mark.Assign) (is_text x mark.Colon) (is_text x mark.OpenBracket)
-    (is_text x mark.OpenParen) (is_text x mark.CloseParen) (is_text x mark.Pointer)
+    note_none (is_mark_text x mark.Semicolon) (is_mark_text x mark.Dot) (is_mark_text x mark.Assign) (is_mark_text x mark.Colon) (is_mark_text x mark.OpenBracket)
+    (is_mark_text x mark.OpenParen) (is_mark_text x mark.CloseParen) (is_mark_text x mark.Pointer)
 
 -- ---- the first token of a clause outside of bodies
 
@@ -728,20 +728,20 @@ module _ (s : List ℕ) (cp : ClausePlace) (pl : Place) (b : TokenClass) (nc : T
     (t : Token) (ts : List Token) where
   -- the place behind the first token is that of the clause
   abbrev Leads : Clause × List Token × Bool → Type 0
-  Leads r = is_statement r.0 ≡ false → behind pl b (class_in s t) (text_of s t) nc ≡ place_after r.0 pl
+  Leads r = is_statement r.0 ≡ false → place_behind pl b (class_in s t) (text_of s t) nc ≡ place_after r.0 pl
 
   -- where the token leads to the same place, a clause that leads nowhere else is right
-  plain_leads : behind pl b (class_in s t) (text_of s t) nc ≡ pl → (r : Clause × List Token × Bool) → is_plain r.0 ≡ true → Leads r
+  plain_leads : place_behind pl b (class_in s t) (text_of s t) nc ≡ pl → (r : Clause × List Token × Bool) → is_plain r.0 ≡ true → Leads r
   plain_leads stays r plain = λ isnt. stays ∙ sym (plain_after r.0 pl plain)
 
-  other_leads : behind pl b (class_in s t) (text_of s t) nc ≡ pl → IfSome (other_clause s cp t.line (t ∷ ts)) Leads
+  other_leads : place_behind pl b (class_in s t) (text_of s t) nc ≡ pl → IfSome (other_clause s cp t.line (t ∷ ts)) Leads
   other_leads stays = weakened (other_clause s cp t.line (t ∷ ts)) IsPlainRead Leads (other_plain s cp t.line (t ∷ ts)) (λ r plain. plain_leads stays r plain)
 
-  note_leads : behind pl b (class_in s t) (text_of s t) nc ≡ pl → (w : HeadWord) → IfSome (head_word_clause s cp w ts) Leads
+  note_leads : place_behind pl b (class_in s t) (text_of s t) nc ≡ pl → (w : HeadWord) → IfSome (head_word_clause s cp w ts) Leads
   note_leads stays w =
       weakened (head_word_clause s cp w ts) (λ r. r.0 ≡ clause.Note) Leads (note_read s cp w ts) (λ r is isnt. stays ∙ sym (ap (λ c. place_after c pl) is))
 
-  free_leads : behind pl b (class_in s t) (text_of s t) nc ≡ pl → (w : Option HeadWord) → IfSome (free_word_clause s cp t ts (t ∷ ts) w) Leads
+  free_leads : place_behind pl b (class_in s t) (text_of s t) nc ≡ pl → (w : Option HeadWord) → IfSome (free_word_clause s cp t ts (t ∷ ts) w) Leads
   unfolding free_word_clause
   free_leads stays (Some w) = both (is_outer cp) (head_word_clause s cp w ts) (other_clause s cp t.line (t ∷ ts)) Leads (note_leads stays w) (other_leads stays)
   free_leads stays None = other_leads stays
@@ -777,18 +777,18 @@ module _ (s : List ℕ) (cp : ClausePlace) (pl : Place) (b : TokenClass) (nc : T
   begin_walk place.Inside e = absurd (false≢true e)
 
   -- the head of a block
-  opens_leads : (k : BlockKind) → behind pl b (class_in s t) (text_of s t) nc ≡ quiet_place k → IfSome (head_of s t.line k ts) Leads
-  unfolding head_of
+  opens_leads : (k : BlockKind) → place_behind pl b (class_in s t) (text_of s t) nc ≡ quiet_place k → IfSome (head_clause s t.line k ts) Leads
+  unfolding head_clause
   opens_leads k leads =
-      chained (named_at s k ts) (λ n. option_map (λ r. (clause.Head t.line k n.0 r.0, r.1, false)) (result_at s k n.1)) (λ n. Unit {0}) Leads (none_holds (named_at s k ts))
+      chained (block_of_kind_at s k ts) (λ n. option_map (λ r. (clause.Head t.line k n.0 r.0, r.1, false)) (result_at s k n.1)) (λ n. Unit {0}) Leads (none_holds (block_of_kind_at s k ts))
       (λ n i. mapped (result_at s k n.1) (λ r. (clause.Head t.line k n.0 r.0, r.1, false)) (λ r. Unit {0}) Leads (none_holds (result_at s k n.1)) (λ r j isnt. leads))
 
   -- the end of a structure
-  ends_leads : behind pl b (class_in s t) (text_of s t) nc ≡ pl → IfSome (structure_end s cp ts) Leads
+  ends_leads : place_behind pl b (class_in s t) (text_of s t) nc ≡ pl → IfSome (structure_end s cp ts) Leads
   ends_leads stays =
       weakened (structure_end s cp ts) (λ r. r.0 ≡ clause.EndStructure) Leads (structure_ends s cp ts) (λ r e isnt. stays ∙ sym (ap (λ c. place_after c pl) e))
 
-  key_leads : (k : Keyword) → behind pl b (class_in s t) (text_of s t) nc ≡ walk_to pl (code_key k) (data_key k) (begin_key k)
+  key_leads : (k : Keyword) → place_behind pl b (class_in s t) (text_of s t) nc ≡ walk_to pl (code_key k) (data_key k) (begin_key k)
       → IfSome (keyword_clause s cp t.line k ts) Leads
   unfolding keyword_clause
   key_leads (keyword.Opens k) leads = opens_leads k (leads ∙ opens_walk k pl quiet)
@@ -803,13 +803,13 @@ module _ (s : List ℕ) (cp : ClausePlace) (pl : Place) (b : TokenClass) (nc : T
   word_leads : class_in s t ≡ class.Word → (o : Option Keyword) → look_up keywords (text_of s t) ≡ o → IfSome (word_clause s cp t ts (t ∷ ts) o) Leads
   unfolding word_clause
   word_leads is (Some k) e =
-      key_leads k (ap (λ c. behind pl b c (text_of s t) nc) is ∙ key_walk pl b (text_of s t) nc k quiet may (key_fits (text_of s t) k e))
+      key_leads k (ap (λ c. place_behind pl b c (text_of s t) nc) is ∙ key_walk pl b (text_of s t) nc k quiet may (key_fits (text_of s t) k e))
   word_leads is None e =
-      free_leads (ap (λ c. behind pl b c (text_of s t) nc) is ∙ free_walk pl b (text_of s t) nc quiet may e) (look_up head_words (text_of s t))
+      free_leads (ap (λ c. place_behind pl b c (text_of s t) nc) is ∙ free_walk pl b (text_of s t) nc quiet may e) (look_up head_words (text_of s t))
 
-  kind_stays : (k : TokenKind) → t.kind ≡ k → is_word_kind k ≡ false → behind pl b (class_in s t) (text_of s t) nc ≡ pl
+  kind_stays : (k : TokenKind) → t.kind ≡ k → is_word_kind k ≡ false → place_behind pl b (class_in s t) (text_of s t) nc ≡ pl
   kind_stays k is other =
-      ap (λ j. behind pl b (class_of j (text_of s t)) (text_of s t) nc) is
+      ap (λ j. place_behind pl b (class_of j (text_of s t)) (text_of s t) nc) is
       ∙ plain_walk pl b (class_of k (text_of s t)) (text_of s t) nc quiet (kind_plain k (text_of s t) other)
 
   kind_leads : (k : TokenKind) → t.kind ≡ k → IfSome (clause_by_kind s cp t ts (t ∷ ts) k) Leads
@@ -833,9 +833,9 @@ module _ (s : List ℕ) (cp : ClausePlace) (pl : Place) (b : TokenClass) (nc : T
 
 pub first_place : (s : List ℕ) (cp : ClausePlace) (t : Token) (ts : List Token) (c : Clause) (rest : List Token) (long : Bool) (pl : Place) (before nc : TokenClass)
     → is_quiet pl ≡ true → may_be_keyword before ≡ true → is_statement c ≡ false → clause_at s cp (t ∷ ts) ≡ Some (c, rest, long)
-    → behind pl before (class_in s t) (text_of s t) nc ≡ place_after c pl
+    → place_behind pl before (class_in s t) (text_of s t) nc ≡ place_after c pl
 first_place s cp t ts c rest long pl before nc quiet may isnt e =
-    some_holds (clause_at s cp (t ∷ ts)) (c, rest, long) (λ r. is_statement r.0 ≡ false → behind pl before (class_in s t) (text_of s t) nc ≡ place_after r.0 pl) e
+    some_holds (clause_at s cp (t ∷ ts)) (c, rest, long) (λ r. is_statement r.0 ≡ false → place_behind pl before (class_in s t) (text_of s t) nc ≡ place_after r.0 pl) e
     (clause_leads s cp pl before nc quiet may t ts) isnt
 
 -- ---- BEGIN
@@ -873,9 +873,9 @@ module _ (s : List ℕ) (cp : ClausePlace) (t : Token) (ts : List Token) where
       weakened (other_clause s cp t.line (t ∷ ts)) IsPlainRead Begun (other_plain s cp t.line (t ∷ ts)) (λ r plain. no_begin r (plain_no_begins r.0 plain))
 
   key_begun : (k : Keyword) → IfSome (keyword_clause s cp t.line k ts) Begun
-  unfolding keyword_clause head_of structure_end
+  unfolding keyword_clause head_clause structure_end
   key_begun (keyword.Opens k) =
-      chained (named_at s k ts) (λ n. option_map (λ r. (clause.Head t.line k n.0 r.0, r.1, false)) (result_at s k n.1)) (λ n. Unit {0}) Begun (none_holds (named_at s k ts))
+      chained (block_of_kind_at s k ts) (λ n. option_map (λ r. (clause.Head t.line k n.0 r.0, r.1, false)) (result_at s k n.1)) (λ n. Unit {0}) Begun (none_holds (block_of_kind_at s k ts))
       (λ n i. mapped (result_at s k n.1) (λ r. (clause.Head t.line k n.0 r.0, r.1, false)) (λ r. Unit {0}) Begun (none_holds (result_at s k n.1)) (λ r j is. absurd (false≢true is)))
   key_begun (keyword.Ends k) = λ is. absurd (false≢true is)
   key_begun (keyword.Section k) = λ is. absurd (false≢true is)
@@ -924,15 +924,15 @@ begins_rest s cp t ts rest long e =
 -- ---- tokens inside a clause
 
 calm_place_word : (pl : Place) (b : TokenClass) (x : List ℕ) (n : TokenClass) → is_quiet pl ≡ true → (may_be_keyword b && is_block_word x) ≡ false
-    → behind pl b class.Word x n ≡ pl
-unfolding behind behind_word behind_outside behind_head
-calm_place_word place.Outside b x n quiet e = by (may_be_keyword b) (is_among code_openings x) (is_among data_openings x || is_among begin_words x) e
+    → place_behind pl b class.Word x n ≡ pl
+unfolding place_behind place_behind_word place_behind_outside place_behind_head
+calm_place_word place.Outside b x n quiet e = by (may_be_keyword b) (is_word_in_list code_openings x) (is_word_in_list data_openings x || is_word_in_list begin_words x) e
   where
     by : (a c d : Bool) → (a && (c || d)) ≡ false → (if a && c then place.Head else place.Outside) ≡ place.Outside
     by true true d h = absurd (true≢false h)
     by true false d h = refl
     by false c d h = refl
-calm_place_word place.Head b x n quiet e = by (may_be_keyword b) (is_among code_openings x) (is_among data_openings x) (is_among begin_words x) e
+calm_place_word place.Head b x n quiet e = by (may_be_keyword b) (is_word_in_list code_openings x) (is_word_in_list data_openings x) (is_word_in_list begin_words x) e
   where
     by : (a c d f : Bool) → (a && (c || (d || f))) ≡ false → (if a then (if f then place.Start else (if d then place.Outside else place.Head)) else place.Head) ≡ place.Head
     by true true d f h = absurd (true≢false h)
@@ -954,7 +954,7 @@ calm_test true true e = absurd (false≢true e)
 calm_test true false e = refl
 calm_test false c e = refl
 
-pub calm_place : (pl : Place) (b c : TokenClass) (text : List ℕ) (nc : TokenClass) → is_quiet pl ≡ true → calm_of b c text ≡ true → behind pl b c text nc ≡ pl
+pub calm_place : (pl : Place) (b c : TokenClass) (text : List ℕ) (nc : TokenClass) → is_quiet pl ≡ true → calm_of b c text ≡ true → place_behind pl b c text nc ≡ pl
 calm_place pl b class.Word text nc quiet calm = calm_place_word pl b text nc quiet (calm_test (may_be_keyword b) (is_block_word text) calm)
 calm_place pl b class.Number text nc quiet calm = plain_walk pl b class.Number text nc quiet refl
 calm_place pl b class.Note text nc quiet calm = plain_walk pl b class.Note text nc quiet refl
@@ -1036,21 +1036,21 @@ same_kind_code kinds.Udt kinds.Db h code = absurd (false≢true h)
 same_kind_code kinds.Udt kinds.Sfc h code = absurd (false≢true h)
 same_kind_code kinds.Udt kinds.Udt h code = absurd (false≢true code)
 
-ends_place : (b : TokenClass) (x : List ℕ) (n : TokenClass) → is_among endings x ≡ true → behind place.Start b class.Word x n ≡ place.Outside
-unfolding behind behind_word behind_start
+ends_place : (b : TokenClass) (x : List ℕ) (n : TokenClass) → is_word_in_list block_end_words x ≡ true → place_behind place.Start b class.Word x n ≡ place.Outside
+unfolding place_behind place_behind_word place_behind_start
 ends_place b x n e = rw e refl
 
-network_place : (b : TokenClass) (x : List ℕ) (n : TokenClass) → is_among endings x ≡ false → is_among network_words x ≡ true
-    → behind place.Start b class.Word x n ≡ place.Start
-unfolding behind behind_word behind_start
+network_place : (b : TokenClass) (x : List ℕ) (n : TokenClass) → is_word_in_list block_end_words x ≡ false → is_word_in_list network_words x ≡ true
+    → place_behind place.Start b class.Word x n ≡ place.Start
+unfolding place_behind place_behind_word place_behind_start
 network_place b x n e f = rw (e, f) refl
 
-note_place : (b : TokenClass) (x : List ℕ) (n : TokenClass) → behind place.Start b class.Note x n ≡ place.Start
-unfolding behind behind_sign
+note_place : (b : TokenClass) (x : List ℕ) (n : TokenClass) → place_behind place.Start b class.Note x n ≡ place.Start
+unfolding place_behind place_behind_sign
 note_place b x n = refl
 
-plain_no_step : (k : BlockKind) (c : Clause) (next : ClausePlace) → is_plain c ≡ true → is_statement c ≡ false → follow (at.Body k) c ≡ Some next → ⊥
-unfolding follow follow_body
+plain_no_step : (k : BlockKind) (c : Clause) (next : ClausePlace) → is_plain c ≡ true → is_statement c ≡ false → next_place (at.Body k) c ≡ Some next → ⊥
+unfolding next_place next_place_in_body
 plain_no_step k (clause.Head line e name result) next h isnt f = false≢true h
 plain_no_step k (clause.Ends line e) next h isnt f = false≢true h
 plain_no_step k (clause.Section line q) next h isnt f = false≢true h
@@ -1066,59 +1066,59 @@ plain_no_step k (clause.Declares d) next h isnt f = none-some next f
 plain_no_step k (clause.Sets v) next h isnt f = none-some next f
 plain_no_step k (clause.Runs y) next h isnt f = true≢false isnt
 
-no_structure_step : (k : BlockKind) (c : Clause) (next : ClausePlace) → c ≡ clause.EndStructure → follow (at.Body k) c ≡ Some next → ⊥
-unfolding follow follow_body
-no_structure_step k c next e f = none-some next (sym (ap (λ d. follow (at.Body k) d) e) ∙ f)
+no_structure_step : (k : BlockKind) (c : Clause) (next : ClausePlace) → c ≡ clause.EndStructure → next_place (at.Body k) c ≡ Some next → ⊥
+unfolding next_place next_place_in_body
+no_structure_step k c next e f = none-some next (sym (ap (λ d. next_place (at.Body k) d) e) ∙ f)
 
-no_note_step : (k : BlockKind) (c : Clause) (next : ClausePlace) → c ≡ clause.Note → follow (at.Body k) c ≡ Some next → ⊥
-unfolding follow follow_body
-no_note_step k c next e f = none-some next (sym (ap (λ d. follow (at.Body k) d) e) ∙ f)
+no_note_step : (k : BlockKind) (c : Clause) (next : ClausePlace) → c ≡ clause.Note → next_place (at.Body k) c ≡ Some next → ⊥
+unfolding next_place next_place_in_body
+no_note_step k c next e f = none-some next (sym (ap (λ d. next_place (at.Body k) d) e) ∙ f)
 
 module _ (s : List ℕ) (k : BlockKind) (code : is_code k ≡ true) (t : Token) (ts : List Token) (b nc : TokenClass) where
   -- a clause of a body that is no statement is one token, and the walk stands where the next clause does
   abbrev Steps : Clause × List Token × Bool → Type 0
   Steps r =
-      is_statement r.0 ≡ false → (next : ClausePlace) → follow (at.Body k) r.0 ≡ Some next
-      → (r.1 ≡ ts) × Stands next (behind place.Start b (class_in s t) (text_of s t) nc) (class_in s t)
+      is_statement r.0 ≡ false → (next : ClausePlace) → next_place (at.Body k) r.0 ≡ Some next
+      → (r.1 ≡ ts) × Stands next (place_behind place.Start b (class_in s t) (text_of s t) nc) (class_in s t)
 
   other_steps : IfSome (other_clause s (at.Body k) t.line (t ∷ ts)) Steps
   other_steps =
       weakened (other_clause s (at.Body k) t.line (t ∷ ts)) IsPlainRead Steps (other_plain s (at.Body k) t.line (t ∷ ts))
       (λ r plain isnt next f. absurd (plain_no_step k r.0 next plain isnt f))
 
-  ends_steps : (e : BlockKind) (rest : List Token) → rest ≡ ts → class_in s t ≡ class.Word → is_among endings (text_of s t) ≡ is_code e
+  ends_steps : (e : BlockKind) (rest : List Token) → rest ≡ ts → class_in s t ≡ class.Word → is_word_in_list block_end_words (text_of s t) ≡ is_code e
       → Steps (clause.Ends t.line e, rest, false)
-  unfolding follow follow_body
+  unfolding next_place next_place_in_body
   ends_steps e rest same word among isnt next f =
       let parts = if_some (nat_eq (kind_order e) (kind_order k)) at.Outside next f in (
         same,
-        stands_at at.Outside next (behind place.Start b (class_in s t) (text_of s t) nc) (class_in s t) parts.1 (
-          ap (λ c. behind place.Start b c (text_of s t) nc) word ∙ ends_place b (text_of s t) nc (among ∙ same_kind_code e k parts.0 code),
+        stands_at at.Outside next (place_behind place.Start b (class_in s t) (text_of s t) nc) (class_in s t) parts.1 (
+          ap (λ c. place_behind place.Start b c (text_of s t) nc) word ∙ ends_place b (text_of s t) nc (among ∙ same_kind_code e k parts.0 code),
           ap may_be_keyword word,
         ),
       )
 
-  network_steps : class_in s t ≡ class.Word → is_among endings (text_of s t) ≡ false → is_among network_words (text_of s t) ≡ true
+  network_steps : class_in s t ≡ class.Word → is_word_in_list block_end_words (text_of s t) ≡ false → is_word_in_list network_words (text_of s t) ≡ true
       → Steps (clause.Network, ts, false)
-  unfolding follow follow_body
+  unfolding next_place next_place_in_body
   network_steps word ends network isnt next f = (
     refl,
-    stands_at (at.Body k) next (behind place.Start b (class_in s t) (text_of s t) nc) (class_in s t) f
-        (ap (λ c. behind place.Start b c (text_of s t) nc) word ∙ network_place b (text_of s t) nc ends network, code),
+    stands_at (at.Body k) next (place_behind place.Start b (class_in s t) (text_of s t) nc) (class_in s t) f
+        (ap (λ c. place_behind place.Start b c (text_of s t) nc) word ∙ network_place b (text_of s t) nc ends network, code),
   )
 
   title_steps : class_in s t ≡ class.Note → Steps (clause.Title, behind_note s (at.Body k) ts, false)
-  unfolding follow follow_body behind_note
+  unfolding next_place next_place_in_body behind_note
   title_steps note isnt next f = (
     refl,
-    stands_at (at.Body k) next (behind place.Start b (class_in s t) (text_of s t) nc) (class_in s t) f
-        (ap (λ c. behind place.Start b c (text_of s t) nc) note ∙ note_place b (text_of s t) nc, code),
+    stands_at (at.Body k) next (place_behind place.Start b (class_in s t) (text_of s t) nc) (class_in s t) f
+        (ap (λ c. place_behind place.Start b c (text_of s t) nc) note ∙ note_place b (text_of s t) nc, code),
   )
 
   key_steps : class_in s t ≡ class.Word → (j : Keyword) → KeyFits (text_of s t) j → IfSome (keyword_clause s (at.Body k) t.line j ts) Steps
-  unfolding keyword_clause head_of follow follow_body
+  unfolding keyword_clause head_clause next_place next_place_in_body
   key_steps word (keyword.Opens e) h =
-      chained (named_at s e ts) (λ n. option_map (λ r. (clause.Head t.line e n.0 r.0, r.1, false)) (result_at s e n.1)) (λ n. Unit {0}) Steps (none_holds (named_at s e ts))
+      chained (block_of_kind_at s e ts) (λ n. option_map (λ r. (clause.Head t.line e n.0 r.0, r.1, false)) (result_at s e n.1)) (λ n. Unit {0}) Steps (none_holds (block_of_kind_at s e ts))
       (λ n i. mapped (result_at s e n.1) (λ r. (clause.Head t.line e n.0 r.0, r.1, false)) (λ r. Unit {0}) Steps (none_holds (result_at s e n.1))
       (λ r j isnt next f. absurd (none-some next f)))
   key_steps word (keyword.Ends e) h = ends_steps e ts refl word h.ends
@@ -1161,20 +1161,20 @@ module _ (s : List ℕ) (k : BlockKind) (code : is_code k ≡ true) (t : Token) 
   clause_steps = kind_steps t.kind refl
 
 pub body_step : (s : List ℕ) (k : BlockKind) (t : Token) (ts : List Token) (c : Clause) (rest : List Token) (long : Bool) (next : ClausePlace) (before nc : TokenClass)
-    → is_code k ≡ true → is_statement c ≡ false → clause_at s (at.Body k) (t ∷ ts) ≡ Some (c, rest, long) → follow (at.Body k) c ≡ Some next
-    → (rest ≡ ts) × Stands next (behind place.Start before (class_in s t) (text_of s t) nc) (class_in s t)
+    → is_code k ≡ true → is_statement c ≡ false → clause_at s (at.Body k) (t ∷ ts) ≡ Some (c, rest, long) → next_place (at.Body k) c ≡ Some next
+    → (rest ≡ ts) × Stands next (place_behind place.Start before (class_in s t) (text_of s t) nc) (class_in s t)
 body_step s k t ts c rest long next before nc code isnt e f =
     some_holds (clause_at s (at.Body k) (t ∷ ts)) (c, rest, long)
-    (λ r. is_statement r.0 ≡ false → (n : ClausePlace) → follow (at.Body k) r.0 ≡ Some n
-    → (r.1 ≡ ts) × Stands n (behind place.Start before (class_in s t) (text_of s t) nc) (class_in s t)) e (clause_steps s k code t ts before nc) isnt next f
+    (λ r. is_statement r.0 ≡ false → (n : ClausePlace) → next_place (at.Body k) r.0 ≡ Some n
+    → (r.1 ≡ ts) × Stands n (place_behind place.Start before (class_in s t) (text_of s t) nc) (class_in s t)) e (clause_steps s k code t ts before nc) isnt next f
 
 -- ---- the first token of a statement
 
 -- keywords begin no statement
 pub key_no_statement : (s : List ℕ) (cp : ClausePlace) (line : ℕ) (j : Keyword) (ts : List Token) → IfSome (keyword_clause s cp line j ts) (λ r. is_statement r.0 ≡ false)
-unfolding keyword_clause head_of
+unfolding keyword_clause head_clause
 key_no_statement s cp line (keyword.Opens e) ts =
-    chained (named_at s e ts) (λ n. option_map (λ r. (clause.Head line e n.0 r.0, r.1, false)) (result_at s e n.1)) (λ n. Unit {0}) (λ r. is_statement r.0 ≡ false) (none_holds (named_at s e ts))
+    chained (block_of_kind_at s e ts) (λ n. option_map (λ r. (clause.Head line e n.0 r.0, r.1, false)) (result_at s e n.1)) (λ n. Unit {0}) (λ r. is_statement r.0 ≡ false) (none_holds (block_of_kind_at s e ts))
     (λ n i. mapped (result_at s e n.1) (λ r. (clause.Head line e n.0 r.0, r.1, false)) (λ r. Unit {0}) (λ r. is_statement r.0 ≡ false) (none_holds (result_at s e n.1)) (λ r j. refl))
 key_no_statement s cp line (keyword.Ends e) ts = refl
 key_no_statement s cp line (keyword.Section q) ts = refl
@@ -1189,11 +1189,11 @@ key_no_statement s cp line keyword.EndStructure ts =
 abbrev IsFree : List ℕ → Token → Type 0
 IsFree s t =
     (is_note (class_in s t) ≡ false)
-    × (has_kind t kind.Word ≡ true → (is_among endings (text_of s t) ≡ false) × (is_among network_words (text_of s t) ≡ false))
+    × (has_kind t kind.Word ≡ true → (is_word_in_list block_end_words (text_of s t) ≡ false) × (is_word_in_list network_words (text_of s t) ≡ false))
 
 free_word : (s : List ℕ) (t : Token) → class_in s t ≡ class.Word → look_up keywords (text_of s t) ≡ None → IsFree s t
 free_word s t word none =
-    (ap is_note word, λ is. (none_among endings (text_of s t) end_keys none, none_among network_words (text_of s t) network_keys none))
+    (ap is_note word, λ is. (none_among block_end_words (text_of s t) end_keys none, none_among network_words (text_of s t) network_keys none))
 
 -- no word
 free_kind : (s : List ℕ) (t : Token) (j : TokenKind) → t.kind ≡ j → is_note (class_of j (text_of s t)) ≡ false → nat_eq (kind_rank j) 0 ≡ false → IsFree s t
@@ -1240,6 +1240,6 @@ module _ (s : List ℕ) (k : BlockKind) (t : Token) (ts : List Token) where
 pub body_free : (s : List ℕ) (k : BlockKind) (t : Token) (ts : List Token) (y : Statement) (rest : List Token) (long : Bool)
     → clause_at s (at.Body k) (t ∷ ts) ≡ Some (clause.Runs y, rest, long)
     → (is_note (class_in s t) ≡ false)
-    × (has_kind t kind.Word ≡ true → (is_among endings (text_of s t) ≡ false) × (is_among network_words (text_of s t) ≡ false))
+    × (has_kind t kind.Word ≡ true → (is_word_in_list block_end_words (text_of s t) ≡ false) × (is_word_in_list network_words (text_of s t) ≡ false))
 body_free s k t ts y rest long e =
     some_holds (clause_at s (at.Body k) (t ∷ ts)) (clause.Runs y, rest, long) (λ r. is_statement r.0 ≡ true → IsFree s t) e (clause_frees s k t ts) refl

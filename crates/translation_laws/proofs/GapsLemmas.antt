@@ -7,29 +7,29 @@ use Rattle.std.proofs.lemmas.Bool.Decides.{nat_tests}
 use Rattle.std.proofs.lemmas.List.{length-append}
 use Rattle.stl_lexer.specs.declared.kinds.TokenKind.{TokenKind}
 use Rattle.stl_lexer.specs.declared.kinds.TokenKind.TheVariants.{Word, Number, Quoted, Local, Characters, Based, NumberLiteral, TimeLiteral, Mark, SignWord, Attribute, Title}
-use Rattle.stl_lexer.specs.Bytes.{hash, newline, slash, in_source, is_separator, is_word_byte, is_word_start, opens_comment}
+use Rattle.stl_lexer.specs.Bytes.{hash, newline, slash, is_source_byte, is_separator, is_word_byte, is_word_start, opens_comment}
 use Rattle.stl_lexer.specs.Forms as forms
 use Rattle.stl_lexer.specs.Forms.{has_form}
 use Rattle.stl_lexer.specs.Gap.{after_gap, is_comment_byte}
-use Rattle.stl_lexer.specs.Longest.{IsLongest}
+use Rattle.stl_lexer.specs.Longest.{IsLongestToken}
 use Rattle.stl_lexer.specs.Marks.{marks, mark_text}
-use Rattle.stl_lexer.specs.Pieces.{Piece, AreStanding, Stands}
-use Rattle.stl_lexer.specs.Rules.{earlier, fault_of, rule_of}
+use Rattle.stl_lexer.specs.Pieces.{Piece, ArePiecesStanding, StandsBefore}
+use Rattle.stl_lexer.specs.Rules.{earlier_fault, fault_of, rule_broken_by_token}
 use Rattle.stl_lexer.proofs.GapLemmas.{comment_gap}
-use Rattle.translation_laws.specs.Rewritten.{IsRewritten, kind_anew}
+use Rattle.translation_laws.specs.Rewritten.{IsRewrittenText, kind_of_rewritten}
 
 -- a walk over a gap: outside of comments and inside of one
 pub record Walks {P : Type 0} (g : P → List ℕ → List ℕ) (blanks comment : P) : Type 0 where
   pub ended : (g blanks [] ≡ []) × (g comment [] ≡ [])
   pub outside : (b : ℕ) (s : List ℕ) → g blanks (b ∷ s) ≡ (if is_separator b then g blanks s else (if opens_comment (b ∷ s) then g comment s else b ∷ s))
-  pub inside : (b : ℕ) (s : List ℕ) → g comment (b ∷ s) ≡ (if b == newline then g blanks s else (if in_source b then g comment s else b ∷ s))
+  pub inside : (b : ℕ) (s : List ℕ) → g comment (b ∷ s) ≡ (if b == newline then g blanks s else (if is_source_byte b then g comment s else b ∷ s))
 
 -- what is left is no longer than the text
 shorter : {P : Type 0} (g : P → List ℕ → List ℕ) (blanks comment : P) → Walks g blanks comment → (s : List ℕ) → (length (g blanks s) ≤ length s) × (length (g comment s) ≤ length s)
 shorter g blanks comment w [] = (omega (arith, ap length w.ended.0), omega (arith, ap length w.ended.1))
 shorter g blanks comment w (b ∷ s) =
     let rest = shorter g blanks comment w s in
-    (omega (arith, ap length (w.outside b s), cut (is_separator b) (opens_comment (b ∷ s)) (g blanks s) (g comment s) rest.0 rest.1), omega (arith, ap length (w.inside b s), cut (b == newline) (in_source b) (g blanks s) (g comment s) rest.0 rest.1))
+    (omega (arith, ap length (w.outside b s), cut (is_separator b) (opens_comment (b ∷ s)) (g blanks s) (g comment s) rest.0 rest.1), omega (arith, ap length (w.inside b s), cut (b == newline) (is_source_byte b) (g blanks s) (g comment s) rest.0 rest.1))
   where
     cut : (p q : Bool) (u v : List ℕ) → length u ≤ length s → length v ≤ length s → length (if p then u else (if q then v else b ∷ s)) ≤ length (b ∷ s)
     cut true q u v hu hv = omega (arith, hu)
@@ -48,10 +48,10 @@ whole_outside g blanks comment w b s e =
     none false false u v hu hv e = (refl, refl)
 
 -- a byte of the source is left in no comment
-whole_inside : {P : Type 0} (g : P → List ℕ → List ℕ) (blanks comment : P) → Walks g blanks comment → (b : ℕ) (s : List ℕ) → in_source b ≡ true → g comment (b ∷ s) ≡ b ∷ s → ⊥
+whole_inside : {P : Type 0} (g : P → List ℕ → List ℕ) (blanks comment : P) → Walks g blanks comment → (b : ℕ) (s : List ℕ) → is_source_byte b ≡ true → g comment (b ∷ s) ≡ b ∷ s → ⊥
 whole_inside g blanks comment w b s source e =
     let rest = shorter g blanks comment w s in
-    none (b == newline) (in_source b) (g blanks s) (g comment s) rest.0 rest.1 source (sym (w.inside b s) ∙ e)
+    none (b == newline) (is_source_byte b) (g blanks s) (g comment s) rest.0 rest.1 source (sym (w.inside b s) ∙ e)
   where
     none : (p q : Bool) (u v : List ℕ) → length u ≤ length s → length v ≤ length s → q ≡ true → (if p then u else (if q then v else b ∷ s)) ≡ b ∷ s → ⊥
     none true q u v hu hv yes_ e = absurd (omega (arith, hu, ap length e))
@@ -69,7 +69,7 @@ pub record IsKept {P : Type 0} (g : P → List ℕ → List ℕ) (part : P) (gap
   pub kept : (c : ℕ) (t : List ℕ) → is_separator c ≡ false → opens_comment (c ∷ t) ≡ false → g part (gap ++ (c ∷ t)) ≡ c ∷ t
 
 -- what stands outside or inside of a comment
-pub gap_kept : {P : Type 0} (g : P → List ℕ → List ℕ) (blanks comment : P) → Walks g blanks comment → (gap : List ℕ) (b : ℕ) (s : List ℕ) → in_source b ≡ true
+pub gap_kept : {P : Type 0} (g : P → List ℕ → List ℕ) (blanks comment : P) → Walks g blanks comment → (gap : List ℕ) (b : ℕ) (s : List ℕ) → is_source_byte b ≡ true
     → (g blanks (gap ++ (b ∷ s)) ≡ b ∷ s → IsKept g blanks gap b s) × (g comment (gap ++ (b ∷ s)) ≡ b ∷ s → IsKept g comment gap b s)
 gap_kept g blanks comment w [] b s source = (
   λ e. record {
@@ -81,7 +81,7 @@ gap_kept g blanks comment w [] b s source = (
 gap_kept g blanks comment w (d ∷ gap) b s source =
     let rest = gap_kept g blanks comment w gap b s source in (
       λ e. outside (is_separator d) refl rest.0 rest.1 (sym (w.outside d (gap ++ (b ∷ s))) ∙ e),
-      λ e. inside (d == newline) (in_source d) refl refl rest.0 rest.1 (sym (w.inside d (gap ++ (b ∷ s))) ∙ e),
+      λ e. inside (d == newline) (is_source_byte d) refl refl rest.0 rest.1 (sym (w.inside d (gap ++ (b ∷ s))) ∙ e),
     )
   where
     same_opens : (gap : List ℕ) (c : ℕ) (t : List ℕ) → (gap ≡ [] → ⊥) → opens_comment (d ∷ (gap ++ (b ∷ s))) ≡ opens_comment (d ∷ (gap ++ (c ∷ t)))
@@ -117,7 +117,7 @@ gap_kept g blanks comment w (d ∷ gap) b s source =
           too_long h
     ]
 
-    inside : (p q : Bool) → (d == newline) ≡ p → in_source d ≡ q → (g blanks (gap ++ (b ∷ s)) ≡ b ∷ s → IsKept g blanks gap b s) → (g comment (gap ++ (b ∷ s)) ≡ b ∷ s → IsKept g comment gap b s)
+    inside : (p q : Bool) → (d == newline) ≡ p → is_source_byte d ≡ q → (g blanks (gap ++ (b ∷ s)) ≡ b ∷ s → IsKept g blanks gap b s) → (g comment (gap ++ (b ∷ s)) ≡ b ∷ s → IsKept g comment gap b s)
         → (if p then g blanks (gap ++ (b ∷ s)) else (if q then g comment (gap ++ (b ∷ s)) else d ∷ (gap ++ (b ∷ s)))) ≡ b ∷ s → IsKept g comment (d ∷ gap) b s
     inside true q ends source_d more more' e =
         let kept = more e in
@@ -162,7 +162,7 @@ gap_front_of g blanks comment w known (b ∷ gap) y e c rest is =
     first [] = 0
     first (x ∷ xs) = x
 
-pub gap_front : (p : Piece) (minus : Bool) (after : List ℕ) → Stands p minus after → IsGapFront p.gap
+pub gap_front : (p : Piece) (minus : Bool) (after : List ℕ) → StandsBefore p minus after → IsGapFront p.gap
 gap_front p minus after s = gap_front_of after_gap _ _ (record { ended = (refl, refl); outside = λ b t. refl; inside = λ b t. refl }) comment_gap p.gap (p.text ++ after) s.gap
 
 end_front_of : {P : Type 0} (g : P → List ℕ → List ℕ) (blanks comment : P) → Walks g blanks comment → ((s : List ℕ) → g comment s ≡ g comment (drop (prefix_len is_comment_byte s) s))
@@ -174,14 +174,14 @@ end_front_of g blanks comment w known t e = no_hash hash refl (front_byte g blan
     no_hash b e h = grind (arith, nat_tests)
 
 -- no `#` stands behind the last piece
-pub end_front : (minus : Bool) (end t : List ℕ) → AreStanding minus [] end → end ≡ hash ∷ t → ⊥
+pub end_front : (minus : Bool) (end t : List ℕ) → ArePiecesStanding minus [] end → end ≡ hash ∷ t → ⊥
 end_front minus end t stands e =
-    let here : AreStanding minus [] (hash ∷ t) = subst (λ s. AreStanding minus [] s) e stands in
+    let here : ArePiecesStanding minus [] (hash ∷ t) = subst (λ s. ArePiecesStanding minus [] s) e stands in
     end_front_of after_gap _ _ (record { ended = (refl, refl); outside = λ b t. refl; inside = λ b t. refl }) comment_gap t here
 
 -- ---- a gap before a new text
 
-no_fault : (rule : Option ℕ) → earlier rule (Some 0) ≡ None → ⊥
+no_fault : (rule : Option ℕ) → earlier_fault rule (Some 0) ≡ None → ⊥
 no_fault None e = cc
 no_fault (Some n) e = cc
 
@@ -191,11 +191,11 @@ first_place p b x e =
     (λ i. if nat_lt (none i) (length (b ∷ x)) then Some (none i) else None) ∙ ap (λ t. if t then Some 0 else None) (lt-ltb 0 (length (b ∷ x)) (omega arith))
 
 -- the first byte of a token that breaks no rule may stand in a source
-pub first_source : (k : TokenKind) (b : ℕ) (x : List ℕ) (minus : Bool) → fault_of k (b ∷ x) minus ≡ None → in_source b ≡ true
+pub first_source : (k : TokenKind) (b : ℕ) (x : List ℕ) (minus : Bool) → fault_of k (b ∷ x) minus ≡ None → is_source_byte b ≡ true
 unfolding fault_of
-first_source k b x minus e = elim (cases_Bool (in_source b)) as (λ _. in_source b ≡ true) [
+first_source k b x minus e = elim (cases_Bool (is_source_byte b)) as (λ _. is_source_byte b ≡ true) [
   | inl yes_ ↦ yes_
-  | inr no_ ↦ absurd (no_fault (rule_of k (b ∷ x) minus) (sym (ap (earlier (rule_of k (b ∷ x) minus)) (first_place (λ c. not (in_source c)) b x (not_from_false (in_source b) no_))) ∙ e))
+  | inr no_ ↦ absurd (no_fault (rule_broken_by_token k (b ∷ x) minus) (sym (ap (earlier_fault (rule_broken_by_token k (b ∷ x) minus)) (first_place (λ c. not (is_source_byte c)) b x (not_from_false (is_source_byte b) no_))) ∙ e))
 ]
 
 -- no token is a `/` alone
@@ -228,7 +228,7 @@ unfolding is_word_start is_separator
 start_plain b e = (grind (arith, nat_tests), λ h. grind (arith, nat_tests))
 
 -- what a new text begins with belongs to no gap
-new_first : (before k : TokenKind) (b : ℕ) (x after : List ℕ) (c : ℕ) (w later : List ℕ) → has_form k (b ∷ x) after ≡ true → IsRewritten before k (b ∷ x) (c ∷ w)
+new_first : (before k : TokenKind) (b : ℕ) (x after : List ℕ) (c : ℕ) (w later : List ℕ) → has_form k (b ∷ x) after ≡ true → IsRewrittenText before k (b ∷ x) (c ∷ w)
     → (is_separator b ≡ false) × (opens_comment (b ∷ (x ++ after)) ≡ false) → (is_separator c ≡ false) × (opens_comment (c ∷ (w ++ later)) ≡ false)
 unfolding is_separator
 new_first before k b x after c w later fits (inl same) first =
@@ -258,7 +258,7 @@ new_first before k b x after c w later fits (inr (is, inr (number, named))) firs
     hash_slash e = absurd (omega (arith, e))
 
 gap_anew_of : {P : Type 0} (g : P → List ℕ → List ℕ) (blanks comment : P) → Walks g blanks comment → ((s : List ℕ) → g comment s ≡ g comment (drop (prefix_len is_comment_byte s) s))
-    → (before k : TokenKind) (gap x after w later : List ℕ) (minus : Bool) → 0 < length x → 0 < length w → fault_of k x minus ≡ None → has_form k x after ≡ true → IsRewritten before k x w
+    → (before k : TokenKind) (gap x after w later : List ℕ) (minus : Bool) → 0 < length x → 0 < length w → fault_of k x minus ≡ None → has_form k x after ≡ true → IsRewrittenText before k x w
     → g blanks (gap ++ (x ++ after)) ≡ x ++ after → g blanks (gap ++ (w ++ later)) ≡ w ++ later
 gap_anew_of g blanks comment walks known before k gap [] after w later minus some some_w right fits r e = absurd (omega (arith, some))
 gap_anew_of g blanks comment walks known before k gap (b ∷ x) after [] later minus some some_w right fits r e = absurd (omega (arith, some_w))
@@ -268,8 +268,8 @@ gap_anew_of g blanks comment walks known before k gap (b ∷ x) after (c ∷ w) 
     kept.kept c (w ++ later) first.0 first.1
 
 -- a piece with a new text, where this is the longest token and right
-pub piece_anew : (before : TokenKind) (p : Piece) (minus : Bool) (after w later : List ℕ) → Stands p minus after → has_form p.kind p.text after ≡ true → IsRewritten before p.kind p.text w
-    → IsLongest (w ++ later) (kind_anew p.kind w) (length w) → fault_of (kind_anew p.kind w) w minus ≡ None → Stands (record { gap = p.gap; kind = kind_anew p.kind w; text = w }) minus later
+pub piece_anew : (before : TokenKind) (p : Piece) (minus : Bool) (after w later : List ℕ) → StandsBefore p minus after → has_form p.kind p.text after ≡ true → IsRewrittenText before p.kind p.text w
+    → IsLongestToken (w ++ later) (kind_of_rewritten p.kind w) (length w) → fault_of (kind_of_rewritten p.kind w) w minus ≡ None → StandsBefore (record { gap = p.gap; kind = kind_of_rewritten p.kind w; text = w }) minus later
 piece_anew before p minus after w later s fits r longest right = record {
   gap = gap_anew_of after_gap _ _ (record { ended = (refl, refl); outside = λ b t. refl; inside = λ b t. refl }) comment_gap before p.kind p.gap p.text after w later minus s.longest.fits.some longest.fits.some s.right fits r s.gap;
   longest = longest;

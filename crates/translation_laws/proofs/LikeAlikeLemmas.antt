@@ -14,9 +14,9 @@ use Rattle.stl_parser.specs.declared.keywords.Key.{Key}
 use Rattle.stl_parser.specs.declared.keywords.Key.TheVariants as key
 use Rattle.stl_parser.specs.Numbers.{number_up_to}
 use Rattle.stl_parser.specs.Terminals.{has_kind, is_key, is_mark, key_text, kind_rank}
-use Rattle.translation_laws.specs.Alike.{IsNamed, IsSame}
-use Rattle.de_mnemonics.specs.Tables.{operands, results}
-use Rattle.de_mnemonics.specs.Words.{numbered_partner, operand_partner, partner}
+use Rattle.translation_laws.specs.Alike.{IsOperandWordAsLocal, IsSameToken}
+use Rattle.de_mnemonics.specs.Tables.{operand_pairs, result_pairs}
+use Rattle.de_mnemonics.specs.Words.{numbered_partner, operand_partner, partner_in_table}
 use Rattle.translation_laws.proofs.AgreeAlikeLemmas.{Like, Pair}
 use Rattle.translation_laws.proofs.TextAlikeLemmas.{Same, is_operand, operand_same}
 use Rattle.de_mnemonics.proofs.CaseLemmas.{same_from, same_text}
@@ -41,7 +41,7 @@ no_key s t k e = rw e refl
 
 -- a language's operand words are none of the keys
 keys_differ : (language : Language) (k : Key) → is_operand language (key_text k) ≡ false
-unfolding operand_partner numbered_partner partner operands results key_text
+unfolding operand_partner numbered_partner partner_in_table operand_pairs result_pairs key_text
 keys_differ English key.True = refl
 keys_differ English key.False = refl
 keys_differ English key.Array = refl
@@ -90,7 +90,7 @@ module _ (s e : List ℕ) where
       by (inr (inl h)) = h.line
       by (inr (inr h)) = h.named.line
 
-  pub same_kind : (t u : Token) (k : TokenKind) → IsSame s e t u → has_kind t k ≡ has_kind u k
+  pub same_kind : (t u : Token) (k : TokenKind) → IsSameToken s e t u → has_kind t k ≡ has_kind u k
   unfolding has_kind
   same_kind t u k h = ap (λ i. nat_eq (kind_rank i) (kind_rank k)) h.kind
 
@@ -112,7 +112,7 @@ module _ (s e : List ℕ) where
       by (inr (inl h)) = no_number most s p.left (of_kind p.left kind.Word kind.Number h.word) ∙ sym (no_number most e p.right (of_kind p.right kind.Word kind.Number h.other))
       by (inr (inr h)) = no_number most s p.left (of_kind p.left kind.Word kind.Number h.named.word) ∙ sym (no_number most e p.right (of_kind p.right kind.Local kind.Number h.named.other))
 
-  pub named_no_key : (t u : Token) (k : Key) → IsNamed s e t u → is_key s t k ≡ false
+  pub named_no_key : (t u : Token) (k : Key) → IsOperandWordAsLocal s e t u → is_key s t k ≡ false
   named_no_key t u k h = by h.operand
     where
       by : (is_operand English (text_of s t) ≡ true) ⊎ (is_operand German (text_of s t) ≡ true) → is_key s t k ≡ false

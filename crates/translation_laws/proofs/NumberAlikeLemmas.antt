@@ -16,13 +16,13 @@ use Rattle.stl_ast.specs.declared.names.BlockName.TheVariants as block
 use Rattle.stl_symbols.specs.declared.languages.Language.TheVariants.{English, German}
 use Rattle.stl_parser.specs.declared.keywords.Key.TheVariants as key
 use Rattle.stl_parser.specs.declared.tables.Address.{Address}
-use Rattle.stl_parser.specs.Addresses.{address_at, bit_of, block_at, block_number_at, glued_at, letter_count, numbered_at, quoted_at, separate_at}
-use Rattle.stl_parser.specs.Literals.{byte_of, bytes_at, bytes_behind, characters_of, last_bytes, literal_at, literal_of, literal_token, long_literal, truth_of, unquoted}
-use Rattle.stl_parser.specs.Numbers.{int_at, number_of, number_up_to, signed_at}
+use Rattle.stl_parser.specs.Addresses.{address_at, bit_of, block_at, block_number_at, glued_letters_and_number, letter_count, letters_and_number_at, quoted_block_at, separate_letters_and_number}
+use Rattle.stl_parser.specs.Literals.{byte_of, bytes_at, bytes_behind, characters_of, last_bytes, literal_at, literal_of, literal_token, long_literal, truth_of, text_between_quotes}
+use Rattle.stl_parser.specs.Numbers.{int_at, number_of, number_up_to, signed_number_at}
 use Rattle.stl_parser.specs.Tables.{addresses, block_kinds, flags, look_up}
 use Rattle.stl_parser.specs.Terminals.{has_kind}
-use Rattle.stl_parser.specs.Values.{based_value, duration, long_or_count}
-use Rattle.translation_laws.specs.Alike.{IsNamed, IsSame}
+use Rattle.stl_parser.specs.Values.{based_value, duration_literal, long_or_count}
+use Rattle.translation_laws.specs.Alike.{IsOperandWordAsLocal, IsSameToken}
 use Rattle.de_mnemonics.specs.Words.{operand_partner}
 use Rattle.translation_laws.proofs.AgreeAlikeLemmas.{Agree, Behind, IsNamedPair, Like, Numbered, OpensNone, Pair, chained, chosen, either, equal, lefts, mapped, nothing, rest, rights, something, tested, whole_same}
 use Rattle.translation_laws.proofs.LikeAlikeLemmas.{itself, key_like, kind_like, mark_like, named_no_key, number_like, of_kind, same_kind, text_like}
@@ -34,8 +34,8 @@ module _ (s e : List ℕ) (F : List (Pair s e) → Type 0) (closed : (p : Pair s
     (apart : (p q : Pair s e) (ps : List (Pair s e)) → F (p ∷ q ∷ ps) → IsNamedPair p → is_some (operand_partner English (text_of s p.left)) ≡ false → OpensNone q) where
   -- ---- numbers
 
-  pub signed_agrees : (p : Pair s e) (ps : List (Pair s e)) → F ps → Agree (Behind s e F) (signed_at s p.left (lefts ps)) (signed_at e p.right (rights ps))
-  unfolding signed_at number_of
+  pub signed_agrees : (p : Pair s e) (ps : List (Pair s e)) → F ps → Agree (Behind s e F) (signed_number_at s p.left (lefts ps)) (signed_number_at e p.right (rights ps))
+  unfolding signed_number_at number_of
   signed_agrees p [] h = nothing
   signed_agrees p (q ∷ qs) h =
       chosen (mark_like s e p mark.Minus)
@@ -60,17 +60,17 @@ module _ (s e : List ℕ) (F : List (Pair s e) → Type 0) (closed : (p : Pair s
   unfolding number_of
   number_of_like p = number_like s e (greatest_number false) p
 
-  same_token : (p : Pair s e) → IsSame s e p.left p.right → (k : TokenKind) → literal_token s p.left k ≡ literal_token e p.right k
+  same_token : (p : Pair s e) → IsSameToken s e p.left p.right → (k : TokenKind) → literal_token s p.left k ≡ literal_token e p.right k
   unfolding literal_token
   same_token p h kind.Word = truth_like p
   same_token p h kind.Number = ap (option_map (λ n. literal.Number (pos n))) (number_of_like p)
-  same_token p h kind.Characters = ap (λ t. option_map literal.Characters (characters_of (unquoted t))) h.text
+  same_token p h kind.Characters = ap (λ t. option_map literal.Characters (characters_of (text_between_quotes t))) h.text
   same_token p h kind.Based = ap based_value h.text
   same_token p h kind.NumberLiteral = ap long_or_count h.text
-  same_token p h kind.TimeLiteral = ap duration h.text
+  same_token p h kind.TimeLiteral = ap duration_literal h.text
   same_token p h _ = refl
 
-  pub no_truth : (p : Pair s e) → IsNamed s e p.left p.right → truth_of s p.left ≡ None
+  pub no_truth : (p : Pair s e) → IsOperandWordAsLocal s e p.left p.right → truth_of s p.left ≡ None
   unfolding truth_of
   no_truth p h = rw (named_no_key s e p.left p.right key.True h, named_no_key s e p.left p.right key.False h) refl
 
@@ -81,7 +81,7 @@ module _ (s e : List ℕ) (F : List (Pair s e) → Type 0) (closed : (p : Pair s
       word : literal_token s p.left kind.Word ≡ literal_token e p.right kind.Word
       word = truth_like p
 
-      name : IsNamed s e p.left p.right → literal_token s p.left kind.Word ≡ literal_token e p.right kind.Local
+      name : IsOperandWordAsLocal s e p.left p.right → literal_token s p.left kind.Word ≡ literal_token e p.right kind.Local
       name h = no_truth p h
 
       by : Like s e p.left p.right → literal_token s p.left p.left.kind ≡ literal_token e p.right p.right.kind
@@ -141,15 +141,15 @@ module _ (s e : List ℕ) (F : List (Pair s e) → Type 0) (closed : (p : Pair s
   -- ---- letters and a number
 
   glued_agrees : {X : Type 0} (table : List (List ℕ × X)) (a b : List ℕ) → Same a b → (ps : List (Pair s e)) → F ps
-      → Agree (Numbered s e F {X = X}) (glued_at table a (lefts ps)) (glued_at table b (rights ps))
-  unfolding glued_at
+      → Agree (Numbered s e F {X = X}) (glued_letters_and_number table a (lefts ps)) (glued_letters_and_number table b (rights ps))
+  unfolding glued_letters_and_number
   glued_agrees table a b is ps h =
       chained _ _ (equal _ _ (same_looked_up table (take (letter_count a) a) (take (letter_count b) b) (same_letters a b is)))
       (λ x y k. mapped _ _ (equal _ _ (decimal_same (greatest_number false) a b is)) (λ n m l. (k, l, rest s e F ps h)))
 
   separate_agrees : {X : Type 0} (table : List (List ℕ × X)) (a b : List ℕ) → Same a b → (ps : List (Pair s e)) → F ps
-      → Agree (Numbered s e F {X = X}) (separate_at table s a (lefts ps)) (separate_at table e b (rights ps))
-  unfolding separate_at
+      → Agree (Numbered s e F {X = X}) (separate_letters_and_number table s a (lefts ps)) (separate_letters_and_number table e b (rights ps))
+  unfolding separate_letters_and_number
   separate_agrees table a b is [] h = nothing
   separate_agrees table a b is (p ∷ ps) h =
       chained _ _ (equal _ _ (same_looked_up table a b is))
@@ -157,14 +157,14 @@ module _ (s e : List ℕ) (F : List (Pair s e) → Type 0) (closed : (p : Pair s
 
   -- a name is neither letters of the table nor has it a number
   abbrev pub IsNone : {X : Type 0} → List (List ℕ × X) → List ℕ → List Token → Type 0
-  IsNone table a ts = (glued_at table a ts ≡ None) × (separate_at table s a ts ≡ None)
+  IsNone table a ts = (glued_letters_and_number table a ts ≡ None) × (separate_letters_and_number table s a ts ≡ None)
 
-  no_glued : {X : Type 0} (table : List (List ℕ × X)) (a : List ℕ) (ts : List Token) → look_up table (take (letter_count a) a) ≡ None → glued_at table a ts ≡ None
-  unfolding glued_at
+  no_glued : {X : Type 0} (table : List (List ℕ × X)) (a : List ℕ) (ts : List Token) → look_up table (take (letter_count a) a) ≡ None → glued_letters_and_number table a ts ≡ None
+  unfolding glued_letters_and_number
   no_glued table a ts none = rw none refl
 
-  no_separate : {X : Type 0} (table : List (List ℕ × X)) (a : List ℕ) (ts : List Token) → look_up table a ≡ None → separate_at table s a ts ≡ None
-  unfolding separate_at
+  no_separate : {X : Type 0} (table : List (List ℕ × X)) (a : List ℕ) (ts : List Token) → look_up table a ≡ None → separate_letters_and_number table s a ts ≡ None
+  unfolding separate_letters_and_number
   no_separate table a [] none = refl
   no_separate table a (t ∷ ts) none = rw none refl
 
@@ -173,31 +173,31 @@ module _ (s e : List ℕ) (F : List (Pair s e) → Type 0) (closed : (p : Pair s
   nothing_of (Some x) = refl
 
   -- without digits in the word
-  no_digits : {X : Type 0} (table : List (List ℕ × X)) (a : List ℕ) (ts : List Token) → drop (letter_count a) a ≡ [] → glued_at table a ts ≡ None
-  unfolding glued_at decimal_up_to
+  no_digits : {X : Type 0} (table : List (List ℕ × X)) (a : List ℕ) (ts : List Token) → drop (letter_count a) a ≡ [] → glued_letters_and_number table a ts ≡ None
+  unfolding glued_letters_and_number decimal_up_to
   no_digits table a ts none = rw none (nothing_of (look_up table (take (letter_count a) a)))
 
   -- and without a number behind it
-  no_number : {X : Type 0} (table : List (List ℕ × X)) (a : List ℕ) (t : Token) (ts : List Token) → has_kind t kind.Number ≡ false → separate_at table s a (t ∷ ts) ≡ None
-  unfolding separate_at number_of number_up_to
+  no_number : {X : Type 0} (table : List (List ℕ × X)) (a : List ℕ) (t : Token) (ts : List Token) → has_kind t kind.Number ≡ false → separate_letters_and_number table s a (t ∷ ts) ≡ None
+  unfolding separate_letters_and_number number_of number_up_to
   no_number table a t ts none = rw none (nothing_of (look_up table a))
 
   numbered_agrees : {X : Type 0} (table : List (List ℕ × X)) (p : Pair s e) (ps : List (Pair s e)) → F ps
       → (IsNamedPair p → IsNone table (text_of s p.left) (lefts ps))
-      → Agree (Numbered s e F {X = X}) (numbered_at table s (p.left ∷ lefts ps)) (numbered_at table e (p.right ∷ rights ps))
-  unfolding numbered_at
+      → Agree (Numbered s e F {X = X}) (letters_and_number_at table s (p.left ∷ lefts ps)) (letters_and_number_at table e (p.right ∷ rights ps))
+  unfolding letters_and_number_at
   numbered_agrees {X = X} table p ps h none = by p.like
     where
       two : (x y : Bool) → x ≡ y → Same (text_of s p.left) (text_of e p.right)
-          → Agree (Numbered s e F {X = X}) (if x then option_or (glued_at table (text_of s p.left) (lefts ps)) (separate_at table s (text_of s p.left) (lefts ps)) else None)
-          (if y then option_or (glued_at table (text_of e p.right) (rights ps)) (separate_at table e (text_of e p.right) (rights ps)) else None)
+          → Agree (Numbered s e F {X = X}) (if x then option_or (glued_letters_and_number table (text_of s p.left) (lefts ps)) (separate_letters_and_number table s (text_of s p.left) (lefts ps)) else None)
+          (if y then option_or (glued_letters_and_number table (text_of e p.right) (rights ps)) (separate_letters_and_number table e (text_of e p.right) (rights ps)) else None)
       two x y same text =
           chosen same
           (either (glued_agrees table (text_of s p.left) (text_of e p.right) text ps h) (separate_agrees table (text_of s p.left) (text_of e p.right) text ps h)) nothing
 
       by : Like s e p.left p.right
-          → Agree (Numbered s e F {X = X}) (if has_kind p.left kind.Word then option_or (glued_at table (text_of s p.left) (lefts ps)) (separate_at table s (text_of s p.left) (lefts ps)) else None)
-          (if has_kind p.right kind.Word then option_or (glued_at table (text_of e p.right) (rights ps)) (separate_at table e (text_of e p.right) (rights ps)) else None)
+          → Agree (Numbered s e F {X = X}) (if has_kind p.left kind.Word then option_or (glued_letters_and_number table (text_of s p.left) (lefts ps)) (separate_letters_and_number table s (text_of s p.left) (lefts ps)) else None)
+          (if has_kind p.right kind.Word then option_or (glued_letters_and_number table (text_of e p.right) (rights ps)) (separate_letters_and_number table e (text_of e p.right) (rights ps)) else None)
       by (inl k) = two (has_kind p.left kind.Word) (has_kind p.right kind.Word) (same_kind s e p.left p.right kind.Word k) (itself (text_of s p.left) (text_of e p.right) k.text)
       by (inr (inl k)) = two (has_kind p.left kind.Word) (has_kind p.right kind.Word) (of_kind p.left kind.Word kind.Word k.word ∙ sym (of_kind p.right kind.Word kind.Word k.other)) k.text
       by (inr (inr k)) =
@@ -205,7 +205,7 @@ module _ (s e : List ℕ) (F : List (Pair s e) → Type 0) (closed : (p : Pair s
           rw (of_kind p.left kind.Word kind.Word k.named.word, of_kind p.right kind.Local kind.Word k.named.other, found.0, found.1) nothing
 
   pub block_number_agrees : (ps : List (Pair s e)) → F ps → Agree (Numbered s e F {X = BlockKind}) (block_number_at s (lefts ps)) (block_number_at e (rights ps))
-  unfolding block_number_at numbered_at
+  unfolding block_number_at letters_and_number_at
   block_number_agrees [] h = nothing
   block_number_agrees (p ∷ ps) h = numbered_agrees block_kinds p ps (closed p ps h) (λ named. by named.named.operand)
     where
@@ -215,10 +215,10 @@ module _ (s e : List ℕ) (F : List (Pair s e) → Type 0) (closed : (p : Pair s
 
   -- a name with `#` is no address
   named_none : (p : Pair s e) (ps : List (Pair s e)) → F (p ∷ ps) → IsNamedPair p → IsNone addresses (text_of s p.left) (lefts ps)
-  unfolding separate_at
+  unfolding separate_letters_and_number
   named_none p ps h named = by named (is_operand English (text_of s p.left)) refl named.alone
     where
-      behind : (qs : List (Pair s e)) → F (p ∷ qs) → IsNamedPair p → is_operand English (text_of s p.left) ≡ false → separate_at addresses s (text_of s p.left) (lefts qs) ≡ None
+      behind : (qs : List (Pair s e)) → F (p ∷ qs) → IsNamedPair p → is_operand English (text_of s p.left) ≡ false → separate_letters_and_number addresses s (text_of s p.left) (lefts qs) ≡ None
       behind [] k named isnt = refl
       behind (q ∷ qs) k named isnt = no_number addresses (text_of s p.left) q.left (lefts qs) (apart p q qs k named isnt).0
 
@@ -231,22 +231,22 @@ module _ (s e : List ℕ) (F : List (Pair s e) → Type 0) (closed : (p : Pair s
       by named false is (inr none) = (no_digits addresses (text_of s p.left) (lefts ps) none.0, behind ps h named is)
 
   pub named_no_address : (p : Pair s e) (ps : List (Pair s e)) → F (p ∷ ps) → IsNamedPair p → address_at s (p.left ∷ lefts ps) ≡ None
-  unfolding address_at numbered_at
+  unfolding address_at letters_and_number_at
   named_no_address p ps h named =
       let found = named_none p ps h named in
       rw (of_kind p.left kind.Word kind.Word named.named.word, found.0, found.1) refl
 
   pub address_agrees : (ps : List (Pair s e)) → F ps → Agree (Numbered s e F {X = Address}) (address_at s (lefts ps)) (address_at e (rights ps))
-  unfolding address_at numbered_at
+  unfolding address_at letters_and_number_at
   address_agrees [] h = nothing
   address_agrees (p ∷ ps) h = numbered_agrees addresses p ps (closed p ps h) (λ named. named_none p ps h named)
 
-  pub quoted_agrees : (ps : List (Pair s e)) → F ps → Agree (Behind s e F) (quoted_at s (lefts ps)) (quoted_at e (rights ps))
-  unfolding quoted_at
+  pub quoted_agrees : (ps : List (Pair s e)) → F ps → Agree (Behind s e F) (quoted_block_at s (lefts ps)) (quoted_block_at e (rights ps))
+  unfolding quoted_block_at
   quoted_agrees [] h = nothing
   quoted_agrees (p ∷ ps) h =
       tested (kind_like s e p kind.Quoted refl refl)
-      (λ is. something (ap (λ t. block.Quoted (unquoted t)) (text_like s e p kind.Quoted refl is), rest s e F ps (closed p ps h)))
+      (λ is. something (ap (λ t. block.Quoted (text_between_quotes t)) (text_like s e p kind.Quoted refl is), rest s e F ps (closed p ps h)))
 
   block_name : (k l : BlockKind) (n m : ℕ) → k ≡ l → n ≡ m → block.Number (record { kind = k; number = n }) ≡ block.Number (record { kind = l; number = m })
   block_name k l n m a b = rw (a, b) refl

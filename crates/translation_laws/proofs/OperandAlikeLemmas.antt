@@ -26,12 +26,12 @@ use Rattle.stl_parser.specs.declared.keywords.Key.TheVariants as key
 use Rattle.stl_parser.specs.declared.tables.Address.{Address}
 use Rattle.stl_parser.specs.declared.tables.Address.TheVariants as address
 use Rattle.stl_parser.specs.Addresses.{address_at, bit_of, is_address_word, letter_count}
-use Rattle.stl_parser.specs.Literals.{literal_at, literal_of, literal_token, long_literal, unquoted}
-use Rattle.stl_parser.specs.Numbers.{number_of, signed_at}
-use Rattle.stl_parser.specs.Operands.{alone_of, area_by, area_of, area_pointer, behind_block, block_path, block_place, by_register, condition_of, data_block, data_block_name, direct_of, in_block, index_end, indirect_of, is_operand_word, local_path, mark_operand, memory_pointer, name_step, number_by, offset_of, operand_by_kind, operand_of, other_if, other_of, path_end, path_of, place_bit, place_of, plain_path, plain_pointer, pointer_close, pointer_end, pointer_of, quoted_operand, register_of, register_pointer, sign_operand, sized_by_register, step_at, steps_from, with_number, with_pointer, word_operand}
+use Rattle.stl_parser.specs.Literals.{literal_at, literal_of, literal_token, long_literal, text_between_quotes}
+use Rattle.stl_parser.specs.Numbers.{number_of, signed_number_at}
+use Rattle.stl_parser.specs.Operands.{lone_word_operand, operand_by_pointer, area_operand, area_pointer, operand_behind_block, block_path, block_place, operand_by_register, condition_of, data_block_operand, data_block_name, direct_address_operand, operand_in_block, index_end, indirect_operand, is_operand_word, local_path, mark_operand, memory_pointer, name_step, operand_by_memory_number, offset_of, operand_by_kind, operand_of, register_name_operand_if, register_name_operand, path_end, path_of, place_bit, place_of_data_address, plain_path, plain_pointer, pointer_close, pointer_end, pointer_constant_operand, quoted_operand, register_of, register_pointer, sign_operand, sized_by_register, step_at, steps_from, operand_with_number, operand_with_pointer, word_operand}
 use Rattle.stl_parser.specs.Tables.{addresses, flags, look_up, registers}
 use Rattle.stl_parser.specs.Terminals.{has_kind, is_mark}
-use Rattle.translation_laws.specs.Alike.{IsCased, IsSame}
+use Rattle.translation_laws.specs.Alike.{IsSameWordButForCase, IsSameToken}
 use Rattle.de_mnemonics.specs.Words.{operand_partner}
 use Rattle.translation_laws.proofs.AgreeAlikeLemmas.{Agree, Behind, Equal, Follows, IsName, IsNamedPair, IsSamePair, Numbered, OpensNone, Pair, Rests, also, chained, counts, decided, equal, goes_on, if_same, lefts, nothing, numbers_on, of_none, parts_agree, rest, rights, same_option, something, tested, whole_same}
 use Rattle.translation_laws.proofs.LikeAlikeLemmas.{itself, key_like, mark_like, named_no_key, no_mark, of_kind, same_kind}
@@ -42,7 +42,7 @@ use Rattle.translation_laws.proofs.LookUpLemmas.{same_looked_up}
 -- the same but for case is an operand word alone
 abbrev pub IsKnown : {s e : List ℕ} → Pair s e → Type 0
 IsKnown {s = s} {e = e} p =
-    IsSame s e p.left p.right ⊎ ((IsCased s e p.left p.right × (is_operand German (text_of s p.left) ≡ true)) ⊎ IsName s e p.left p.right)
+    IsSameToken s e p.left p.right ⊎ ((IsSameWordButForCase s e p.left p.right × (is_operand German (text_of s p.left) ≡ true)) ⊎ IsName s e p.left p.right)
 
 -- what two tokens that stand side by side say of each other: behind a `.` and before `:=` they are the same, and no number stands
 -- behind a name
@@ -136,12 +136,12 @@ module _ (s e : List ℕ) where
   bit_at _ [] = refl
   bit_at _ (p ∷ ps) = refl
 
-  area_same : (area : Letters) (w : Width) (byte : ℕ) (ps : List (Pair s e)) → area_of s area w byte (lefts ps) ≡ area_of e area w byte (rights ps)
-  unfolding area_of
+  area_same : (area : Letters) (w : Width) (byte : ℕ) (ps : List (Pair s e)) → area_operand s area w byte (lefts ps) ≡ area_operand e area w byte (rights ps)
+  unfolding area_operand
   area_same area w byte ps = ap (option_map (λ bit. operand.Direct None area w byte bit)) (bit_at w ps)
 
-  place_same : (a : Address) (byte : ℕ) (ps : List (Pair s e)) → place_of s a byte (lefts ps) ≡ place_of e a byte (rights ps)
-  unfolding place_of
+  place_same : (a : Address) (byte : ℕ) (ps : List (Pair s e)) → place_of_data_address s a byte (lefts ps) ≡ place_of_data_address e a byte (rights ps)
+  unfolding place_of_data_address
   place_same (address.Area letters.Db w) byte ps = ap (option_map (λ bit. (w, byte, bit))) (bit_at w ps)
   place_same _ byte ps = refl
 
@@ -158,22 +158,22 @@ module _ (s e : List ℕ) where
       (whole_same {s = s} {e = e} {F = Fits s e} (steps_from s (step.Named (text_of e p.right) ∷ []) (lefts ps)) (steps_from e (step.Named (text_of e p.right) ∷ []) (rights ps)) (steps_agree (step.Named (text_of e p.right) ∷ []) ps h.2))))
       (λ isnt. refl)
 
-  in_block_same : (name : BlockName) (ps : List (Pair s e)) → Fits s e ps → HeadSame s e ps → in_block s name (lefts ps) ≡ in_block e name (rights ps)
-  unfolding in_block
+  in_block_same : (name : BlockName) (ps : List (Pair s e)) → Fits s e ps → HeadSame s e ps → operand_in_block s name (lefts ps) ≡ operand_in_block e name (rights ps)
+  unfolding operand_in_block
   in_block_same name ps h same = rw (block_place_same ps h, block_path_same name ps h same) refl
 
-  pub behind_block_same : (name : BlockName) (ps : List (Pair s e)) → Fits s e ps → behind_block s name (lefts ps) ≡ behind_block e name (rights ps)
-  unfolding behind_block
+  pub behind_block_same : (name : BlockName) (ps : List (Pair s e)) → Fits s e ps → operand_behind_block s name (lefts ps) ≡ operand_behind_block e name (rights ps)
+  unfolding operand_behind_block
   behind_block_same name [] h = refl
   behind_block_same name (p ∷ ps) h = if_same (mark_like s e p mark.Dot) (λ is. in_block_same name ps h.2 (dotted_head p ps h is)) (λ isnt. refl)
 
-  data_block_same : (n : ℕ) (ps : List (Pair s e)) → Fits s e ps → data_block s n (lefts ps) ≡ data_block e n (rights ps)
-  unfolding data_block
+  data_block_same : (n : ℕ) (ps : List (Pair s e)) → Fits s e ps → data_block_operand s n (lefts ps) ≡ data_block_operand e n (rights ps)
+  unfolding data_block_operand
   data_block_same n [] h = refl
   data_block_same n (p ∷ ps) h = behind_block_same (data_block_name n) (p ∷ ps) h
 
-  direct_same : (a : Address) (n : ℕ) (ps : List (Pair s e)) → Fits s e ps → direct_of s a n (lefts ps) ≡ direct_of e a n (rights ps)
-  unfolding direct_of
+  direct_same : (a : Address) (n : ℕ) (ps : List (Pair s e)) → Fits s e ps → direct_address_operand s a n (lefts ps) ≡ direct_address_operand e a n (rights ps)
+  unfolding direct_address_operand
   direct_same (address.Area area w) n ps h = area_same area w n ps
   direct_same address.Timer n [] h = refl
   direct_same address.Timer n (p ∷ ps) h = refl
@@ -199,8 +199,8 @@ module _ (s e : List ℕ) where
       rw (mark_like s e o mark.OpenBracket, mark_like s e c mark.Comma, mark_like s e z mark.CloseBracket, register_like r, offset_same p n (d ∷ b ∷ [])) refl
   register_pointer_same _ = refl
 
-  by_register_same : (area : Option Letters) (w : Width) (ps : List (Pair s e)) → by_register s area w (lefts ps) ≡ by_register e area w (rights ps)
-  unfolding by_register
+  by_register_same : (area : Option Letters) (w : Width) (ps : List (Pair s e)) → operand_by_register s area w (lefts ps) ≡ operand_by_register e area w (rights ps)
+  unfolding operand_by_register
   by_register_same area w ps = ap (option_map (λ p. operand.ByRegister area w p.0 p.1)) (register_pointer_same ps)
 
   pointer_close_same : (area : Letters) (byte : ℕ) (ps : List (Pair s e)) → pointer_close s area byte (lefts ps) ≡ pointer_close e area byte (rights ps)
@@ -222,16 +222,16 @@ module _ (s e : List ℕ) where
       (λ is. same_option _ _ (numbers_on _ _ (addressed ps h.2) (λ a n qs k. equal _ _ (pointer_end_same pointer a n qs))))
       (λ isnt. refl)
 
-  number_by_same : (what : NumberedKind) (ps : List (Pair s e)) → Fits s e ps → number_by s what (lefts ps) ≡ number_by e what (rights ps)
-  unfolding number_by
+  number_by_same : (what : NumberedKind) (ps : List (Pair s e)) → Fits s e ps → operand_by_memory_number s what (lefts ps) ≡ operand_by_memory_number e what (rights ps)
+  unfolding operand_by_memory_number
   number_by_same what ps h = ap (option_map (λ p. operand.NumberBy what p.0 p.1)) (memory_same false ps h)
 
-  area_by_same : (area : Letters) (w : Width) (ps : List (Pair s e)) → Fits s e ps → area_by s area w (lefts ps) ≡ area_by e area w (rights ps)
-  unfolding area_by
+  area_by_same : (area : Letters) (w : Width) (ps : List (Pair s e)) → Fits s e ps → operand_by_pointer s area w (lefts ps) ≡ operand_by_pointer e area w (rights ps)
+  unfolding operand_by_pointer
   area_by_same area w ps h = rw (memory_same true ps h, by_register_same (Some area) w ps) refl
 
-  indirect_same : (a : Address) (ps : List (Pair s e)) → Fits s e ps → indirect_of s a (lefts ps) ≡ indirect_of e a (rights ps)
-  unfolding indirect_of
+  indirect_same : (a : Address) (ps : List (Pair s e)) → Fits s e ps → indirect_operand s a (lefts ps) ≡ indirect_operand e a (rights ps)
+  unfolding indirect_operand
   indirect_same (address.Area area w) ps h = area_by_same area w ps h
   indirect_same address.Timer ps h = number_by_same _ ps h
   indirect_same address.Counter ps h = number_by_same _ ps h
@@ -248,8 +248,8 @@ module _ (s e : List ℕ) where
   plain_pointer_same [] = refl
   plain_pointer_same (p ∷ ps) = rw (counted p, bits ps) refl
 
-  pointer_same : (ps : List (Pair s e)) → Fits s e ps → pointer_of s (lefts ps) ≡ pointer_of e (rights ps)
-  unfolding pointer_of
+  pointer_same : (ps : List (Pair s e)) → Fits s e ps → pointer_constant_operand s (lefts ps) ≡ pointer_constant_operand e (rights ps)
+  unfolding pointer_constant_operand
   pointer_same ps h = rw (plain_pointer_same ps)
       (ap (option_or (plain_pointer e (rights ps))) (same_option _ _ (numbers_on _ _ (addressed ps h) (λ a n qs k. equal _ _ (area_pointer_same a n qs)))))
 
@@ -265,20 +265,20 @@ module _ (s e : List ℕ) where
   unfolding condition_of
   condition_same p same = ap (option_map operand.OfStatus) (same_looked_up flags (text_of s p.left) (text_of e p.right) same)
 
-  other_same : (p : Pair s e) → IsWordPair p → other_of s p.left ≡ other_of e p.right
-  unfolding other_of
+  other_same : (p : Pair s e) → IsWordPair p → register_name_operand s p.left ≡ register_name_operand e p.right
+  unfolding register_name_operand
   other_same p h = by h.exact
     where
       registered : look_up registers (text_of s p.left) ≡ look_up registers (text_of e p.right)
       registered = same_looked_up registers (text_of s p.left) (text_of e p.right) h.text
 
       by : (text_of s p.left ≡ text_of e p.right) ⊎ (is_operand German (text_of s p.left) ≡ true)
-          → other_if (text_of s p.left) (look_up registers (text_of s p.left)) ≡ other_if (text_of e p.right) (look_up registers (text_of e p.right))
-      by (inl same) = ap (λ w. other_if w (look_up registers w)) same
+          → register_name_operand_if (text_of s p.left) (look_up registers (text_of s p.left)) ≡ register_name_operand_if (text_of e p.right) (look_up registers (text_of e p.right))
+      by (inl same) = ap (λ w. register_name_operand_if w (look_up registers w)) same
       by (inr is) = rw (sym registered, no_register German (text_of s p.left) is) refl
 
-  alone_same : (p : Pair s e) (ps : List (Pair s e)) → IsWordPair p → alone_of s p.left (lefts ps) ≡ alone_of e p.right (rights ps)
-  unfolding alone_of
+  alone_same : (p : Pair s e) (ps : List (Pair s e)) → IsWordPair p → lone_word_operand s p.left (lefts ps) ≡ lone_word_operand e p.right (rights ps)
+  unfolding lone_word_operand
   alone_same p [] h = rw (condition_same p h.text, other_same p h) refl
   alone_same p (q ∷ qs) h = refl
 
@@ -312,8 +312,8 @@ module _ (s e : List ℕ) where
       by (inl same) = if_same (word_like p h.text) (λ is. refl) (λ isnt. rw same (path_same (head.Local (text_of e p.right)) ps fits))
       by (inr is) = rw (sym (word_like p h.text), known_word p is) refl
 
-  with_pointer_same : (p : Pair s e) (ps : List (Pair s e)) → IsWordPair p → Fits s e ps → with_pointer s p.left (lefts ps) ≡ with_pointer e p.right (rights ps)
-  unfolding with_pointer
+  with_pointer_same : (p : Pair s e) (ps : List (Pair s e)) → IsWordPair p → Fits s e ps → operand_with_pointer s p.left (lefts ps) ≡ operand_with_pointer e p.right (rights ps)
+  unfolding operand_with_pointer
   with_pointer_same p ps h fits =
       rw (same_looked_up addresses (text_of s p.left) (text_of e p.right) h.text)
       (same_option _ _ (chained _ _ (equal (look_up addresses (text_of e p.right)) (look_up addresses (text_of e p.right)) refl) (λ a b k. rw k (equal _ _ (indirect_same b ps fits)))))
@@ -321,8 +321,8 @@ module _ (s e : List ℕ) where
   or_same : {X : Type 0} (a b c d : Option X) → a ≡ c → b ≡ d → option_or a b ≡ option_or c d
   or_same a b c d h k = rw (h, k) refl
 
-  with_number_same : (ps : List (Pair s e)) → Fits s e ps → with_number s (lefts ps) ≡ with_number e (rights ps)
-  unfolding with_number
+  with_number_same : (ps : List (Pair s e)) → Fits s e ps → operand_with_number s (lefts ps) ≡ operand_with_number e (rights ps)
+  unfolding operand_with_number
   with_number_same ps h = same_option _ _ (numbers_on _ _ (addressed ps h) (λ a n qs k. equal _ _ (direct_same a n qs k)))
 
   word_same : (p : Pair s e) (ps : List (Pair s e)) → IsWordPair p → Fits s e (p ∷ ps)
@@ -336,8 +336,8 @@ module _ (s e : List ℕ) where
 
   quoted_same : (p : Pair s e) (ps : List (Pair s e)) → IsSamePair p → Fits s e ps → quoted_operand s p.left (lefts ps) ≡ quoted_operand e p.right (rights ps)
   unfolding quoted_operand
-  quoted_same p [] same h = ap (λ t. Some (operand.Named (head.Symbol (unquoted t)) [])) same.text
-  quoted_same p (q ∷ qs) same h = rw same.text (behind_block_same (block.Quoted (unquoted (text_of e p.right))) (q ∷ qs) h)
+  quoted_same p [] same h = ap (λ t. Some (operand.Named (head.Symbol (text_between_quotes t)) [])) same.text
+  quoted_same p (q ∷ qs) same h = rw same.text (behind_block_same (block.Quoted (text_between_quotes (text_of e p.right))) (q ∷ qs) h)
 
   mark_same : (p : Pair s e) (ps : List (Pair s e)) → Fits s e ps
       → mark_operand s p.left (lefts ps) (p.left ∷ lefts ps) ≡ mark_operand e p.right (rights ps) (p.right ∷ rights ps)
@@ -377,12 +377,12 @@ module _ (s e : List ℕ) where
   no_pointer p ps h =
       rw (named_no_key s e p.left p.right key.B h.named, named_no_key s e p.left p.right key.W h.named, named_no_key s e p.left p.right key.D h.named) refl
 
-  no_number : (p : Pair s e) (ps : List (Pair s e)) → IsNamedPair p → Fits s e (p ∷ ps) → with_number s (p.left ∷ lefts ps) ≡ None
-  unfolding with_number
+  no_number : (p : Pair s e) (ps : List (Pair s e)) → IsNamedPair p → Fits s e (p ∷ ps) → operand_with_number s (p.left ∷ lefts ps) ≡ None
+  unfolding operand_with_number
   no_number p ps named h = rw (named_no_address s e (Fits s e) closed apart p ps h named) refl
 
-  no_alone : (t : Token) (ts : List Token) → look_up flags (text_of s t) ≡ None → look_up registers (text_of s t) ≡ None → alone_of s t ts ≡ None
-  unfolding alone_of condition_of other_of
+  no_alone : (t : Token) (ts : List Token) → look_up flags (text_of s t) ≡ None → look_up registers (text_of s t) ≡ None → lone_word_operand s t ts ≡ None
+  unfolding lone_word_operand condition_of register_name_operand
   no_alone t [] a b = rw (a, b) refl
   no_alone t (u ∷ us) a b = refl
 
@@ -397,8 +397,8 @@ module _ (s e : List ℕ) where
         named_no_key s e p.left p.right key.False h.named,
       ) refl
 
-  german_pointer : (t : Token) (ts : List Token) → is_operand English (text_of s t) ≡ true → with_pointer s t ts ≡ None
-  unfolding with_pointer
+  german_pointer : (t : Token) (ts : List Token) → is_operand English (text_of s t) ≡ true → operand_with_pointer s t ts ≡ None
+  unfolding operand_with_pointer
   german_pointer t ts is = rw (no_address (text_of s t) is) refl
 
   german_path : (p : Pair s e) (ps : List (Pair s e)) → IsNamedPair p → is_operand English (text_of s p.left) ≡ true → Fits s e ps
@@ -432,16 +432,16 @@ module _ (s e : List ℕ) where
   unfolding memory_pointer
   memory_none pointer t ts isnt = rw isnt refl
 
-  indirect_none : (a : Address) (t : Token) (ts : List Token) → is_mark s t mark.OpenBracket ≡ false → indirect_of s a (t ∷ ts) ≡ None
-  unfolding indirect_of area_by number_by by_register
+  indirect_none : (a : Address) (t : Token) (ts : List Token) → is_mark s t mark.OpenBracket ≡ false → indirect_operand s a (t ∷ ts) ≡ None
+  unfolding indirect_operand operand_by_pointer operand_by_memory_number operand_by_register
   indirect_none (address.Area area w) t ts isnt = rw (memory_none true t ts isnt, register_none t ts isnt) refl
   indirect_none address.Timer t ts isnt = rw (memory_none false t ts isnt) refl
   indirect_none address.Counter t ts isnt = rw (memory_none false t ts isnt) refl
   indirect_none (address.Block false) t ts isnt = rw (memory_none false t ts isnt) refl
   indirect_none (address.Block true) t ts isnt = rw (memory_none false t ts isnt) refl
 
-  indirect_end : (a : Address) → indirect_of s a [] ≡ None
-  unfolding indirect_of area_by number_by by_register memory_pointer register_pointer
+  indirect_end : (a : Address) → indirect_operand s a [] ≡ None
+  unfolding indirect_operand operand_by_pointer operand_by_memory_number operand_by_register memory_pointer register_pointer
   indirect_end (address.Area area w) = refl
   indirect_end address.Timer = refl
   indirect_end address.Counter = refl
@@ -449,8 +449,8 @@ module _ (s e : List ℕ) where
   indirect_end (address.Block true) = refl
 
   english_pointer : (p : Pair s e) (ps : List (Pair s e)) → IsNamedPair p → is_operand English (text_of s p.left) ≡ false → Fits s e (p ∷ ps)
-      → with_pointer s p.left (lefts ps) ≡ None
-  unfolding with_pointer
+      → operand_with_pointer s p.left (lefts ps) ≡ None
+  unfolding operand_with_pointer
   english_pointer p [] named isnt h = none_of _ _ indirect_end
   english_pointer p (q ∷ qs) named isnt h = none_of _ _ (λ a. indirect_none a q.left (lefts qs) (h.1.apart named isnt).1)
 
@@ -481,7 +481,7 @@ module _ (s e : List ℕ) where
       flag (inr none) = none.1
 
   long_none : (t : Token) (ts : List Token) → has_kind t kind.Mark ≡ false → long_literal s t ts ≡ None
-  unfolding long_literal signed_at
+  unfolding long_literal signed_number_at
   long_none t [] isnt = rw (no_mark s t mark.Bytes isnt) refl
   long_none t (u ∷ us) isnt = rw (no_mark s t mark.Bytes isnt, no_mark s t mark.Minus isnt, no_mark s t mark.Plus isnt) refl
 

@@ -19,9 +19,9 @@ use Rattle.de_mnemonics.specs.declared.places.Place.{Place}
 use Rattle.de_mnemonics.specs.declared.places.Place.TheVariants as place
 use Rattle.de_mnemonics.specs.declared.roles.Role.{Role}
 use Rattle.de_mnemonics.specs.declared.roles.Role.TheVariants as role
-use Rattle.de_mnemonics.specs.Places.{behind, behind_closing, behind_first, behind_head, behind_instruction, behind_outside, behind_sign, behind_start, behind_word, class_of, class_of_mark, is_among, is_behind_instruction, is_component, is_in, is_jump, is_numbered, is_operand_place, is_pointer, is_text, opens_path, role_at_start, role_first, role_in, role_of, role_of_word}
-use Rattle.de_mnemonics.specs.Tables.{Pairs, common_jumps, endings, instructions, jumps, network_words, operands, results, zone_words}
-use Rattle.de_mnemonics.specs.Words.{digits, exchanged, instruction_partner, letter_count, letters, numbered_partner, operand_partner, partner, written}
+use Rattle.de_mnemonics.specs.Places.{place_behind, place_behind_closing, place_behind_first, place_behind_head, place_behind_instruction, place_behind_outside, place_behind_sign, place_behind_start, place_behind_word, class_of, class_of_mark, is_word_in_list, is_behind_instruction, is_component, is_word_in_pairs, is_jump_word, is_numbered_operand, is_operand_place, is_pointer, is_mark_text, opens_path, role_at_start, role_first, role_in, role_of, role_of_word}
+use Rattle.de_mnemonics.specs.Tables.{WordPairs, common_jumps, block_end_words, instruction_pairs, jump_pairs, network_words, operand_pairs, result_pairs, zone_words}
+use Rattle.de_mnemonics.specs.Words.{digits_of_word, exchanged_word, instruction_partner, letter_count_of_word, letters_of_word, numbered_partner, operand_partner, partner_in_table, translated_word}
 use Rattle.de_mnemonics.proofs.CaseLemmas.{same_among, same_text}
 use Rattle.de_mnemonics.proofs.WordLemmas.{letters_end}
 use Rattle.translation_laws.proofs.LetterLemmas.{same_letters}
@@ -36,8 +36,8 @@ near_by : {X : Type 0} (f : TokenClass → X) → f class.Word ≡ f class.Other
 near_by f e c d (inl same) = ap f same
 near_by f e c d (inr (word, other)) = ap f word ∙ e ∙ sym (ap f other)
 
-word_before : (p : Place) (x : List ℕ) (n : TokenClass) → behind_word p class.Word x n ≡ behind_word p class.Other x n
-unfolding behind_word behind_outside behind_head
+word_before : (p : Place) (x : List ℕ) (n : TokenClass) → place_behind_word p class.Word x n ≡ place_behind_word p class.Other x n
+unfolding place_behind_word place_behind_outside place_behind_head
 word_before place.Outside x n = refl
 word_before place.Head x n = refl
 word_before place.Start x n = refl
@@ -49,8 +49,8 @@ word_before place.Closing x n = refl
 word_before place.Path x n = refl
 word_before place.Inside x n = refl
 
-word_next : (p : Place) (b : TokenClass) (x : List ℕ) → behind_word p b x class.Word ≡ behind_word p b x class.Other
-unfolding behind_word behind_start
+word_next : (p : Place) (b : TokenClass) (x : List ℕ) → place_behind_word p b x class.Word ≡ place_behind_word p b x class.Other
+unfolding place_behind_word place_behind_start
 word_next place.Outside b x = refl
 word_next place.Head b x = refl
 word_next place.Start b x = refl
@@ -76,7 +76,7 @@ role_before place.Path x n = refl
 role_before place.Inside x n = refl
 
 role_next : (p : Place) (b : TokenClass) (x : List ℕ) → role_of_word p b x class.Word ≡ role_of_word p b x class.Other
-unfolding role_of_word role_at_start role_in is_operand_place is_numbered
+unfolding role_of_word role_at_start role_in is_operand_place is_numbered_operand
 role_next place.Outside b x = refl
 role_next place.Head b x = refl
 role_next place.Start b x = refl
@@ -90,9 +90,9 @@ role_next place.Inside b x = refl
 
 -- the place behind a word, and its role, between neighbours of a translation
 pub same_behind_word : (p : Place) (b b' : TokenClass) (x : List ℕ) (n n' : TokenClass) → IsNear b b' → IsNear n n'
-    → behind_word p b' x n' ≡ behind_word p b x n
+    → place_behind_word p b' x n' ≡ place_behind_word p b x n
 same_behind_word p b b' x n n' h k =
-    sym (near_by (λ c. behind_word p c x n) (word_before p x n) b b' h ∙ near_by (λ c. behind_word p b' x c) (word_next p b' x) n n' k)
+    sym (near_by (λ c. place_behind_word p c x n) (word_before p x n) b b' h ∙ near_by (λ c. place_behind_word p b' x c) (word_next p b' x) n n' k)
 
 pub same_role_word : (p : Place) (b b' : TokenClass) (x : List ℕ) (n n' : TokenClass) → IsNear b b' → IsNear n n'
     → role_of_word p b' x n' ≡ role_of_word p b x n
@@ -120,8 +120,8 @@ role_plain p b class.CloseParen x n e = refl
 role_plain p b class.Pointer x n e = refl
 role_plain p b class.Other x n e = refl
 
-pub behind_plain : (p : Place) (b c : TokenClass) (x : List ℕ) (n : TokenClass) → is_plain_class c ≡ true → behind p b c x n ≡ behind_sign p c
-unfolding behind
+pub behind_plain : (p : Place) (b c : TokenClass) (x : List ℕ) (n : TokenClass) → is_plain_class c ≡ true → place_behind p b c x n ≡ place_behind_sign p c
+unfolding place_behind
 behind_plain p b class.Word x n e = absurd (false≢true e)
 behind_plain p b class.Number x n e = refl
 behind_plain p b class.Note x n e = refl
@@ -163,8 +163,8 @@ mark_class_plain false false false false false false false false = refl
 mark_plain : (x : List ℕ) → is_plain_class (class_of_mark x) ≡ true
 unfolding class_of_mark mark_class
 mark_plain x =
-    mark_class_plain (is_text x mark.Semicolon) (is_text x mark.Dot) (is_text x mark.Assign) (is_text x mark.Colon) (is_text x mark.OpenBracket)
-    (is_text x mark.OpenParen) (is_text x mark.CloseParen) (is_text x mark.Pointer)
+    mark_class_plain (is_mark_text x mark.Semicolon) (is_mark_text x mark.Dot) (is_mark_text x mark.Assign) (is_mark_text x mark.Colon) (is_mark_text x mark.OpenBracket)
+    (is_mark_text x mark.OpenParen) (is_mark_text x mark.CloseParen) (is_mark_text x mark.Pointer)
 
 -- the kinds of tokens other than words
 abbrev pub is_word_kind : TokenKind → Bool
@@ -195,9 +195,9 @@ record IsEntry (test : List ℕ × List ℕ → Bool) (word found : List ℕ) : 
   beside : pair.1 ≡ found
   passes : test pair ≡ true
 
-entry : (test : List ℕ × List ℕ → Bool) (table : Pairs) (word found : List ℕ) → list_all test table ≡ true → partner German table word ≡ Some found
+entry : (test : List ℕ × List ℕ → Bool) (table : WordPairs) (word found : List ℕ) → list_all test table ≡ true → partner_in_table German table word ≡ Some found
     → IsEntry test word found
-unfolding partner
+unfolding partner_in_table
 entry test [] word found all is = absurd (none-some found is)
 entry test (p ∷ ps) word found all is =
     let parts = and_parts (test p) (list_all test ps) all in
@@ -209,98 +209,98 @@ entry test (p ∷ ps) word found all is =
     by_test p more passes true e rest is = record { pair = p; same = e; beside = same_Some p.1 found is; passes = passes }
     by_test p more passes false e rest is = rest is
 
-same_first : (table : Pairs) (a b : List ℕ) → str_eq_ignore_ascii_case a b ≡ true
+same_first : (table : WordPairs) (a b : List ℕ) → str_eq_ignore_ascii_case a b ≡ true
     → find (λ pair. str_eq_ignore_ascii_case a pair.0) table ≡ find (λ pair. str_eq_ignore_ascii_case b pair.0) table
 same_first [] a b e = refl
 same_first (x ∷ xs) a b e = rw (same_text a b x.0 e, same_first xs a b e) refl
 
-same_second : (table : Pairs) (a b : List ℕ) → str_eq_ignore_ascii_case a b ≡ true
+same_second : (table : WordPairs) (a b : List ℕ) → str_eq_ignore_ascii_case a b ≡ true
     → find (λ pair. str_eq_ignore_ascii_case a pair.1) table ≡ find (λ pair. str_eq_ignore_ascii_case b pair.1) table
 same_second [] a b e = refl
 same_second (x ∷ xs) a b e = rw (same_text a b x.1 e, same_second xs a b e) refl
 
 -- what stands beside a word goes by no case
-same_partner : (language : Language) (table : Pairs) (a b : List ℕ) → str_eq_ignore_ascii_case a b ≡ true
-    → partner language table a ≡ partner language table b
-unfolding partner
+same_partner : (language : Language) (table : WordPairs) (a b : List ℕ) → str_eq_ignore_ascii_case a b ≡ true
+    → partner_in_table language table a ≡ partner_in_table language table b
+unfolding partner_in_table
 same_partner German table a b e = ap (λ (o : Option (List ℕ × List ℕ)). option_map (λ pair. pair.1) o) (same_first table a b e)
 same_partner English table a b e = ap (λ (o : Option (List ℕ × List ℕ)). option_map (λ pair. pair.0) o) (same_second table a b e)
 
-same_in : (table : Pairs) (a b : List ℕ) → str_eq_ignore_ascii_case a b ≡ true → is_in table a ≡ is_in table b
-unfolding is_in
+same_in : (table : WordPairs) (a b : List ℕ) → str_eq_ignore_ascii_case a b ≡ true → is_word_in_pairs table a ≡ is_word_in_pairs table b
+unfolding is_word_in_pairs
 same_in table a b e = rw (same_partner German table a b e, same_partner English table a b e) refl
 
-same_jump : (a b : List ℕ) → str_eq_ignore_ascii_case a b ≡ true → is_jump a ≡ is_jump b
-unfolding is_jump
-same_jump a b e = rw (same_in jumps a b e, same_among common_jumps a b e) refl
+same_jump : (a b : List ℕ) → str_eq_ignore_ascii_case a b ≡ true → is_jump_word a ≡ is_jump_word b
+unfolding is_jump_word
+same_jump a b e = rw (same_in jump_pairs a b e, same_among common_jumps a b e) refl
 
 -- ---- instruction words
 
 -- a keyword at the start of a statement
 abbrev is_keyword : List ℕ → Bool
-is_keyword word = is_among endings word || is_among network_words word
+is_keyword word = is_word_in_list block_end_words word || is_word_in_list network_words word
 
 same_keyword : (a b : List ℕ) → str_eq_ignore_ascii_case a b ≡ true → is_keyword a ≡ is_keyword b
-same_keyword a b e = rw (same_among endings a b e, same_among network_words a b e) refl
+same_keyword a b e = rw (same_among block_end_words a b e, same_among network_words a b e) refl
 
 -- a word and the one that it is exchanged for are no keywords, and jumps both or neither
 pub record Exchanges (x w : List ℕ) : Type 0 where
   pub keyword_before : is_keyword x ≡ false
   pub keyword_behind : is_keyword w ≡ false
-  pub jump : is_jump w ≡ is_jump x
+  pub jump : is_jump_word w ≡ is_jump_word x
 
 abbrev common_pair : List ℕ × List ℕ → Bool
-common_pair pair = not (is_keyword pair.0) && (not (is_keyword pair.1) && (not (is_jump pair.0) && not (is_jump pair.1)))
+common_pair pair = not (is_keyword pair.0) && (not (is_keyword pair.1) && (not (is_jump_word pair.0) && not (is_jump_word pair.1)))
 
 abbrev jump_pair : List ℕ × List ℕ → Bool
-jump_pair pair = not (is_keyword pair.0) && (not (is_keyword pair.1) && (is_jump pair.0 && is_jump pair.1))
+jump_pair pair = not (is_keyword pair.0) && (not (is_keyword pair.1) && (is_jump_word pair.0 && is_jump_word pair.1))
 
-instructions_common : list_all common_pair instructions ≡ true
-unfolding instructions is_jump is_in is_among partner jumps common_jumps endings network_words
+instructions_common : list_all common_pair instruction_pairs ≡ true
+unfolding instruction_pairs is_jump_word is_word_in_pairs is_word_in_list partner_in_table jump_pairs common_jumps block_end_words network_words
 instructions_common = refl
 
-jumps_jump : list_all jump_pair jumps ≡ true
-unfolding is_jump is_in is_among partner jumps common_jumps endings network_words
+jumps_jump : list_all jump_pair jump_pairs ≡ true
+unfolding is_jump_word is_word_in_pairs is_word_in_list partner_in_table jump_pairs common_jumps block_end_words network_words
 jumps_jump = refl
 
 by_common : (x w : List ℕ) → IsEntry common_pair x w → Exchanges x w
 by_common x w h =
-    let first = and_parts (not (is_keyword h.pair.0)) (not (is_keyword h.pair.1) && (not (is_jump h.pair.0) && not (is_jump h.pair.1))) h.passes in
-    let second = and_parts (not (is_keyword h.pair.1)) (not (is_jump h.pair.0) && not (is_jump h.pair.1)) first.1 in
-    let third = and_parts (not (is_jump h.pair.0)) (not (is_jump h.pair.1)) second.1 in
+    let first = and_parts (not (is_keyword h.pair.0)) (not (is_keyword h.pair.1) && (not (is_jump_word h.pair.0) && not (is_jump_word h.pair.1))) h.passes in
+    let second = and_parts (not (is_keyword h.pair.1)) (not (is_jump_word h.pair.0) && not (is_jump_word h.pair.1)) first.1 in
+    let third = and_parts (not (is_jump_word h.pair.0)) (not (is_jump_word h.pair.1)) second.1 in
     record {
       keyword_before = same_keyword x h.pair.0 h.same ∙ not-true (is_keyword h.pair.0) first.0;
       keyword_behind = ap is_keyword (sym h.beside) ∙ not-true (is_keyword h.pair.1) second.0;
-      jump = ap is_jump (sym h.beside) ∙ not-true (is_jump h.pair.1) third.1 ∙ sym (same_jump x h.pair.0 h.same ∙ not-true (is_jump h.pair.0) third.0);
+      jump = ap is_jump_word (sym h.beside) ∙ not-true (is_jump_word h.pair.1) third.1 ∙ sym (same_jump x h.pair.0 h.same ∙ not-true (is_jump_word h.pair.0) third.0);
     }
 
 by_jump : (x w : List ℕ) → IsEntry jump_pair x w → Exchanges x w
 by_jump x w h =
-    let first = and_parts (not (is_keyword h.pair.0)) (not (is_keyword h.pair.1) && (is_jump h.pair.0 && is_jump h.pair.1)) h.passes in
-    let second = and_parts (not (is_keyword h.pair.1)) (is_jump h.pair.0 && is_jump h.pair.1) first.1 in
-    let third = and_parts (is_jump h.pair.0) (is_jump h.pair.1) second.1 in
+    let first = and_parts (not (is_keyword h.pair.0)) (not (is_keyword h.pair.1) && (is_jump_word h.pair.0 && is_jump_word h.pair.1)) h.passes in
+    let second = and_parts (not (is_keyword h.pair.1)) (is_jump_word h.pair.0 && is_jump_word h.pair.1) first.1 in
+    let third = and_parts (is_jump_word h.pair.0) (is_jump_word h.pair.1) second.1 in
     record {
       keyword_before = same_keyword x h.pair.0 h.same ∙ not-true (is_keyword h.pair.0) first.0;
       keyword_behind = ap is_keyword (sym h.beside) ∙ not-true (is_keyword h.pair.1) second.0;
-      jump = ap is_jump (sym h.beside) ∙ third.1 ∙ sym (same_jump x h.pair.0 h.same ∙ third.0);
+      jump = ap is_jump_word (sym h.beside) ∙ third.1 ∙ sym (same_jump x h.pair.0 h.same ∙ third.0);
     }
 
-by_tables : (x w : List ℕ) (o : Option (List ℕ)) → partner German instructions x ≡ o → option_or o (partner German jumps x) ≡ Some w → Exchanges x w
-by_tables x w (Some found) e is = by_common x w (entry common_pair instructions x w instructions_common (e ∙ is))
-by_tables x w None e is = by_jump x w (entry jump_pair jumps x w jumps_jump is)
+by_tables : (x w : List ℕ) (o : Option (List ℕ)) → partner_in_table German instruction_pairs x ≡ o → option_or o (partner_in_table German jump_pairs x) ≡ Some w → Exchanges x w
+by_tables x w (Some found) e is = by_common x w (entry common_pair instruction_pairs x w instructions_common (e ∙ is))
+by_tables x w None e is = by_jump x w (entry jump_pair jump_pairs x w jumps_jump is)
 
 partner_exchanges : (x w : List ℕ) → instruction_partner German x ≡ Some w → Exchanges x w
 unfolding instruction_partner
-partner_exchanges x w is = by_tables x w (partner German instructions x) refl is
+partner_exchanges x w is = by_tables x w (partner_in_table German instruction_pairs x) refl is
 
 -- a word that was looked up is exchanged, or it is the same
-pub exchanged_or : (o : Option (List ℕ)) (foreign : Bool) (x w : List ℕ) → exchanged o foreign x ≡ Some w → (o ≡ Some w) ⊎ ((o ≡ None) × (w ≡ x))
+pub exchanged_or : (o : Option (List ℕ)) (foreign : Bool) (x w : List ℕ) → exchanged_word o foreign x ≡ Some w → (o ≡ Some w) ⊎ ((o ≡ None) × (w ≡ x))
 exchanged_or (Some found) foreign x w is = inl is
 exchanged_or None true x w is = absurd (none-some w is)
 exchanged_or None false x w is = inr (refl, sym (same_Some x w is))
 
-pub instruction_exchanges : (x w : List ℕ) → written German role.Instruction x ≡ Some w → (w ≡ x) ⊎ Exchanges x w
-unfolding written
+pub instruction_exchanges : (x w : List ℕ) → translated_word German role.Instruction x ≡ Some w → (w ≡ x) ⊎ Exchanges x w
+unfolding translated_word
 instruction_exchanges x w is =
     elim (exchanged_or (instruction_partner German x) (is_some (instruction_partner English x)) x w is) [
       | inl found ↦ inr (partner_exchanges x w found)
@@ -310,10 +310,10 @@ instruction_exchanges x w is =
 -- what holds of a word in a role behind it, in its place
 pub record Keeps (p : Place) (b : TokenClass) (x w : List ℕ) (n : TokenClass) : Type 0 where
   pub role : role_of_word p b w n ≡ role_of_word p b x n
-  pub behind : behind_word p b w n ≡ behind_word p b x n
+  pub behind : place_behind_word p b w n ≡ place_behind_word p b x n
 
 pub keeps_same : (p : Place) (b : TokenClass) (x w : List ℕ) (n : TokenClass) → w ≡ x → Keeps p b x w n
-keeps_same p b x w n e = record { role = ap (λ (y : List ℕ). role_of_word p b y n) e; behind = ap (λ (y : List ℕ). behind_word p b y n) e }
+keeps_same p b x w n e = record { role = ap (λ (y : List ℕ). role_of_word p b y n) e; behind = ap (λ (y : List ℕ). place_behind_word p b y n) e }
 
 in_no_instruction : (c o q : Bool) → (if c then role.Stays else (if o then role.Operand else (if q then role.Path else role.Stays))) ≡ role.Instruction → ⊥
 in_no_instruction true o q e = cc
@@ -325,11 +325,11 @@ role_in_none : (p : Place) (b : TokenClass) (x : List ℕ) (n : TokenClass) → 
 unfolding role_in
 role_in_none p b x n e = in_no_instruction (is_component b n) (is_operand_place b x n) (opens_path p b) e
 
-instruction_same : (x w : List ℕ) → Exchanges x w → behind_instruction w ≡ behind_instruction x
-unfolding behind_instruction
+instruction_same : (x w : List ℕ) → Exchanges x w → place_behind_instruction w ≡ place_behind_instruction x
+unfolding place_behind_instruction
 instruction_same x w h = rw h.jump refl
 
-first_same : (n : TokenClass) (x w : List ℕ) → Exchanges x w → behind_first n w ≡ behind_first n x
+first_same : (n : TokenClass) (x w : List ℕ) → Exchanges x w → place_behind_first n w ≡ place_behind_first n x
 first_same class.Colon x w h = refl
 first_same class.Word x w h = instruction_same x w h
 first_same class.Number x w h = instruction_same x w h
@@ -343,11 +343,11 @@ first_same class.CloseParen x w h = instruction_same x w h
 first_same class.Pointer x w h = instruction_same x w h
 first_same class.Other x w h = instruction_same x w h
 
-start_same : (x w : List ℕ) (n : TokenClass) → Exchanges x w → behind_start w n ≡ behind_start x n
-unfolding behind_start
+start_same : (x w : List ℕ) (n : TokenClass) → Exchanges x w → place_behind_start w n ≡ place_behind_start x n
+unfolding place_behind_start
 start_same x w n h =
-    let before = or_parts (is_among endings x) (is_among network_words x) h.keyword_before in
-    let later = or_parts (is_among endings w) (is_among network_words w) h.keyword_behind in
+    let before = or_parts (is_word_in_list block_end_words x) (is_word_in_list network_words x) h.keyword_before in
+    let later = or_parts (is_word_in_list block_end_words w) (is_word_in_list network_words w) h.keyword_behind in
     rw (before.0, before.1, later.0, later.1) (first_same n x w h)
 
 start_role_same : (x w : List ℕ) (n : TokenClass) → Exchanges x w → role_at_start w n ≡ role_at_start x n
@@ -357,7 +357,7 @@ start_role_same x w n h = rw (h.keyword_before, h.keyword_behind) refl
 -- an instruction word's place and role are those of the word that it was exchanged for
 pub instruction_keeps : (p : Place) (b : TokenClass) (x w : List ℕ) (n : TokenClass) → role_of_word p b x n ≡ role.Instruction → Exchanges x w
     → Keeps p b x w n
-unfolding role_of_word behind_word
+unfolding role_of_word place_behind_word
 instruction_keeps place.Outside b x w n e h = absurd cc
 instruction_keeps place.Head b x w n e h = absurd cc
 instruction_keeps place.Start b x w n e h = record { role = start_role_same x w n h; behind = start_same x w n h }
@@ -372,121 +372,121 @@ instruction_keeps place.Inside b x w n e h = absurd (role_in_none place.Inside b
 -- ---- operand words
 
 -- letters that are those of another word stand in no table where the other's don't
-letters_none : (language : Language) (x y : List ℕ) → str_eq_ignore_ascii_case x y ≡ true → partner language operands (letters y) ≡ None
-    → partner language operands (letters x) ≡ None
-letters_none language x y e none = same_partner language operands (letters x) (letters y) (same_letters x y e) ∙ none
+letters_none : (language : Language) (x y : List ℕ) → str_eq_ignore_ascii_case x y ≡ true → partner_in_table language operand_pairs (letters_of_word y) ≡ None
+    → partner_in_table language operand_pairs (letters_of_word x) ≡ None
+letters_none language x y e none = same_partner language operand_pairs (letters_of_word x) (letters_of_word y) (same_letters x y e) ∙ none
 
-numbered_none : (language : Language) (x : List ℕ) → partner language operands (letters x) ≡ None → numbered_partner language x ≡ None
+numbered_none : (language : Language) (x : List ℕ) → partner_in_table language operand_pairs (letters_of_word x) ≡ None → numbered_partner language x ≡ None
 unfolding numbered_partner
-numbered_none language x none = rw none (by (list_all is_ascii_digit (digits x)))
+numbered_none language x none = rw none (by (list_all is_ascii_digit (digits_of_word x)))
   where
-    by : (b : Bool) → (if b then option_map (λ (found : List ℕ). found ++ digits x) None else None) ≡ None
+    by : (b : Bool) → (if b then option_map (λ (found : List ℕ). found ++ digits_of_word x) None else None) ≡ None
     by true = refl
     by false = refl
 
 -- the word of `)MCR` is no operand word
-zone_none : (language : Language) → (partner language operands (letters (codes "MCR")) ≡ None) × (partner language results (codes "MCR") ≡ None)
-unfolding partner operands results
+zone_none : (language : Language) → (partner_in_table language operand_pairs (letters_of_word (codes "MCR")) ≡ None) × (partner_in_table language result_pairs (codes "MCR") ≡ None)
+unfolding partner_in_table operand_pairs result_pairs
 zone_none English = (refl, refl)
 zone_none German = (refl, refl)
 
-in_zone : (x : List ℕ) → is_among zone_words x ≡ true → str_eq_ignore_ascii_case x (codes "MCR") ≡ true
-unfolding is_among zone_words
+in_zone : (x : List ℕ) → is_word_in_list zone_words x ≡ true → str_eq_ignore_ascii_case x (codes "MCR") ≡ true
+unfolding is_word_in_list zone_words
 in_zone x e = elim (or_cases (str_eq_ignore_ascii_case x (codes "MCR")) false e) [ inl is ↦ is | inr no_ ↦ absurd (false≢true no_) ]
 
-zone_is_none : (language : Language) (x : List ℕ) → is_among zone_words x ≡ true → operand_partner language x ≡ None
+zone_is_none : (language : Language) (x : List ℕ) → is_word_in_list zone_words x ≡ true → operand_partner language x ≡ None
 unfolding operand_partner
 zone_is_none language x e =
     let is = in_zone x e in
     rw (numbered_none language x (letters_none language x (codes "MCR") is (zone_none language).0))
-    (same_partner language results x (codes "MCR") is ∙ (zone_none language).1)
+    (same_partner language result_pairs x (codes "MCR") is ∙ (zone_none language).1)
 
-pub operand_no_zone : (language : Language) (x : List ℕ) → is_some (operand_partner language x) ≡ true → is_among zone_words x ≡ false
+pub operand_no_zone : (language : Language) (x : List ℕ) → is_some (operand_partner language x) ≡ true → is_word_in_list zone_words x ≡ false
 operand_no_zone language x e =
-    false_from_ne_true (is_among zone_words x) (λ zone. false≢true (sym (ap is_some (zone_is_none language x zone)) ∙ e))
+    false_from_ne_true (is_word_in_list zone_words x) (λ zone. false≢true (sym (ap is_some (zone_is_none language x zone)) ∙ e))
 
 -- the pair of letters that take a number: both columns have them, the German ones have no digit and lead back
 abbrev letters_pair : List ℕ × List ℕ → Bool
 letters_pair pair =
-    is_in operands pair.0 && (is_in operands pair.1 && (list_all (λ b. not (is_ascii_digit b)) pair.1 && is_some (partner English operands pair.1)))
+    is_word_in_pairs operand_pairs pair.0 && (is_word_in_pairs operand_pairs pair.1 && (list_all (λ b. not (is_ascii_digit b)) pair.1 && is_some (partner_in_table English operand_pairs pair.1)))
 
-operands_letters : list_all letters_pair operands ≡ true
-unfolding operands is_in partner
+operands_letters : list_all letters_pair operand_pairs ≡ true
+unfolding operand_pairs is_word_in_pairs partner_in_table
 operands_letters = refl
 
 -- a word with its number, and the one that it is exchanged for
 pub record Renumbers (x w : List ℕ) : Type 0 where
-  before : is_in operands (letters x) ≡ true
-  behind : is_in operands (letters w) ≡ true
-  same : digits w ≡ digits x
-  all : list_all is_ascii_digit (digits x) ≡ true
-  there : is_some (partner German operands (letters x)) ≡ true
-  back : is_some (partner English operands (letters w)) ≡ true
+  before : is_word_in_pairs operand_pairs (letters_of_word x) ≡ true
+  behind : is_word_in_pairs operand_pairs (letters_of_word w) ≡ true
+  same : digits_of_word w ≡ digits_of_word x
+  all : list_all is_ascii_digit (digits_of_word x) ≡ true
+  there : is_some (partner_in_table German operand_pairs (letters_of_word x)) ≡ true
+  back : is_some (partner_in_table English operand_pairs (letters_of_word w)) ≡ true
 
-renumbered : (x w f : List ℕ) → list_all is_ascii_digit (digits x) ≡ true → partner German operands (letters x) ≡ Some f
-    → IsEntry letters_pair (letters x) f → f ++ digits x ≡ w → Renumbers x w
+renumbered : (x w f : List ℕ) → list_all is_ascii_digit (digits_of_word x) ≡ true → partner_in_table German operand_pairs (letters_of_word x) ≡ Some f
+    → IsEntry letters_pair (letters_of_word x) f → f ++ digits_of_word x ≡ w → Renumbers x w
 renumbered x w f all there h is =
-    let first = and_parts (is_in operands h.pair.0) (is_in operands h.pair.1 && (list_all (λ b. not (is_ascii_digit b)) h.pair.1 && is_some (partner English operands h.pair.1))) h.passes in
-    let second = and_parts (is_in operands h.pair.1) (list_all (λ b. not (is_ascii_digit b)) h.pair.1 && is_some (partner English operands h.pair.1)) first.1 in
-    let third = and_parts (list_all (λ b. not (is_ascii_digit b)) h.pair.1) (is_some (partner English operands h.pair.1)) second.1 in
+    let first = and_parts (is_word_in_pairs operand_pairs h.pair.0) (is_word_in_pairs operand_pairs h.pair.1 && (list_all (λ b. not (is_ascii_digit b)) h.pair.1 && is_some (partner_in_table English operand_pairs h.pair.1))) h.passes in
+    let second = and_parts (is_word_in_pairs operand_pairs h.pair.1) (list_all (λ b. not (is_ascii_digit b)) h.pair.1 && is_some (partner_in_table English operand_pairs h.pair.1)) first.1 in
+    let third = and_parts (list_all (λ b. not (is_ascii_digit b)) h.pair.1) (is_some (partner_in_table English operand_pairs h.pair.1)) second.1 in
     let plain : list_all (λ b. not (is_ascii_digit b)) f ≡ true = subst (λ (l : List ℕ). list_all (λ b. not (is_ascii_digit b)) l ≡ true) h.beside third.0 in
-    let end : letter_count (f ++ digits x) ≡ length f = letters_end f (digits x) plain all in
-    let front : letters (f ++ digits x) ≡ f = ap (λ k. take k (f ++ digits x)) end ∙ take-append_seam f (digits x) in
-    let rest : digits (f ++ digits x) ≡ digits x = ap (λ k. drop k (f ++ digits x)) end ∙ drop-append_seam f (digits x) in
-    let word : letters w ≡ h.pair.1 = ap (λ (l : List ℕ). letters l) (sym is) ∙ front ∙ sym h.beside in
+    let end : letter_count_of_word (f ++ digits_of_word x) ≡ length f = letters_end f (digits_of_word x) plain all in
+    let front : letters_of_word (f ++ digits_of_word x) ≡ f = ap (λ k. take k (f ++ digits_of_word x)) end ∙ take-append_seam f (digits_of_word x) in
+    let rest : digits_of_word (f ++ digits_of_word x) ≡ digits_of_word x = ap (λ k. drop k (f ++ digits_of_word x)) end ∙ drop-append_seam f (digits_of_word x) in
+    let word : letters_of_word w ≡ h.pair.1 = ap (λ (l : List ℕ). letters_of_word l) (sym is) ∙ front ∙ sym h.beside in
     record {
-      before = same_in operands (letters x) h.pair.0 h.same ∙ first.0;
-      behind = ap (is_in operands) word ∙ second.0;
-      same = ap (λ (l : List ℕ). digits l) (sym is) ∙ rest;
+      before = same_in operand_pairs (letters_of_word x) h.pair.0 h.same ∙ first.0;
+      behind = ap (is_word_in_pairs operand_pairs) word ∙ second.0;
+      same = ap (λ (l : List ℕ). digits_of_word l) (sym is) ∙ rest;
       all = all;
       there = ap is_some there;
-      back = ap (λ (l : List ℕ). is_some (partner English operands l)) word ∙ third.1;
+      back = ap (λ (l : List ℕ). is_some (partner_in_table English operand_pairs l)) word ∙ third.1;
     }
 
 numbered_renumbers : (x w : List ℕ) → numbered_partner German x ≡ Some w → Renumbers x w
 unfolding numbered_partner
-numbered_renumbers x w is = by_digits (list_all is_ascii_digit (digits x)) refl is
+numbered_renumbers x w is = by_digits (list_all is_ascii_digit (digits_of_word x)) refl is
   where
-    by_letters : list_all is_ascii_digit (digits x) ≡ true → (o : Option (List ℕ)) → partner German operands (letters x) ≡ o
-        → option_map (λ (found : List ℕ). found ++ digits x) o ≡ Some w → Renumbers x w
+    by_letters : list_all is_ascii_digit (digits_of_word x) ≡ true → (o : Option (List ℕ)) → partner_in_table German operand_pairs (letters_of_word x) ≡ o
+        → option_map (λ (found : List ℕ). found ++ digits_of_word x) o ≡ Some w → Renumbers x w
     by_letters all None e found = absurd (none-some w found)
-    by_letters all (Some f) e found = renumbered x w f all e (entry letters_pair operands (letters x) f operands_letters e) (same_Some (f ++ digits x) w found)
+    by_letters all (Some f) e found = renumbered x w f all e (entry letters_pair operand_pairs (letters_of_word x) f operands_letters e) (same_Some (f ++ digits_of_word x) w found)
 
-    by_digits : (b : Bool) → list_all is_ascii_digit (digits x) ≡ b
-        → (if b then option_map (λ (found : List ℕ). found ++ digits x) (partner German operands (letters x)) else None) ≡ Some w → Renumbers x w
-    by_digits true all found = by_letters all (partner German operands (letters x)) refl found
+    by_digits : (b : Bool) → list_all is_ascii_digit (digits_of_word x) ≡ b
+        → (if b then option_map (λ (found : List ℕ). found ++ digits_of_word x) (partner_in_table German operand_pairs (letters_of_word x)) else None) ≡ Some w → Renumbers x w
+    by_digits true all found = by_letters all (partner_in_table German operand_pairs (letters_of_word x)) refl found
     by_digits false all found = absurd (none-some w found)
 
 -- the German word of the binary result is one, and leads back
 abbrev result_pair : List ℕ × List ℕ → Bool
-result_pair pair = is_in results pair.1 && is_some (operand_partner English pair.1)
+result_pair pair = is_word_in_pairs result_pairs pair.1 && is_some (operand_partner English pair.1)
 
-results_result : list_all result_pair results ≡ true
-unfolding results is_in partner operand_partner numbered_partner operands
+results_result : list_all result_pair result_pairs ≡ true
+unfolding result_pairs is_word_in_pairs partner_in_table operand_partner numbered_partner operand_pairs
 results_result = refl
 
 -- what an operand word is exchanged for
 abbrev pub Reoperands : List ℕ → List ℕ → Type 0
-Reoperands x w = Renumbers x w ⊎ ((is_in results w ≡ true) × (is_some (operand_partner English w) ≡ true))
+Reoperands x w = Renumbers x w ⊎ ((is_word_in_pairs result_pairs w ≡ true) × (is_some (operand_partner English w) ≡ true))
 
-by_number : (x w : List ℕ) (o : Option (List ℕ)) → numbered_partner German x ≡ o → option_or o (partner German results x) ≡ Some w → Reoperands x w
+by_number : (x w : List ℕ) (o : Option (List ℕ)) → numbered_partner German x ≡ o → option_or o (partner_in_table German result_pairs x) ≡ Some w → Reoperands x w
 by_number x w (Some found) e is = inl (numbered_renumbers x w (e ∙ is))
 by_number x w None e is =
-    let h = entry result_pair results x w results_result is in
-    let parts = and_parts (is_in results h.pair.1) (is_some (operand_partner English h.pair.1)) h.passes in
-    inr (ap (is_in results) (sym h.beside) ∙ parts.0, ap (λ (l : List ℕ). is_some (operand_partner English l)) (sym h.beside) ∙ parts.1)
+    let h = entry result_pair result_pairs x w results_result is in
+    let parts = and_parts (is_word_in_pairs result_pairs h.pair.1) (is_some (operand_partner English h.pair.1)) h.passes in
+    inr (ap (is_word_in_pairs result_pairs) (sym h.beside) ∙ parts.0, ap (λ (l : List ℕ). is_some (operand_partner English l)) (sym h.beside) ∙ parts.1)
 
 pub partner_reoperands : (x w : List ℕ) → operand_partner German x ≡ Some w → Reoperands x w
 unfolding operand_partner
 partner_reoperands x w is = by_number x w (numbered_partner German x) refl is
 
-leads_back : (w : List ℕ) → list_all is_ascii_digit (digits w) ≡ true → is_some (partner English operands (letters w)) ≡ true
+leads_back : (w : List ℕ) → list_all is_ascii_digit (digits_of_word w) ≡ true → is_some (partner_in_table English operand_pairs (letters_of_word w)) ≡ true
     → is_some (operand_partner English w) ≡ true
 unfolding operand_partner numbered_partner
-leads_back w all e = by (partner English operands (letters w)) e all
+leads_back w all e = by (partner_in_table English operand_pairs (letters_of_word w)) e all
   where
-    by : (o : Option (List ℕ)) → is_some o ≡ true → list_all is_ascii_digit (digits w) ≡ true
-        → is_some (option_or (if list_all is_ascii_digit (digits w) then option_map (λ (found : List ℕ). found ++ digits w) o else None) (partner English results w)) ≡ true
+    by : (o : Option (List ℕ)) → is_some o ≡ true → list_all is_ascii_digit (digits_of_word w) ≡ true
+        → is_some (option_or (if list_all is_ascii_digit (digits_of_word w) then option_map (λ (found : List ℕ). found ++ digits_of_word w) o else None) (partner_in_table English result_pairs w)) ≡ true
     by None h k = absurd (false≢true h)
     by (Some f) h k = rw k refl
 
@@ -495,9 +495,9 @@ reoperands_back x w (inl h) = leads_back w (ap (λ (l : List ℕ). list_all is_a
 reoperands_back x w (inr h) = h.1
 
 -- a test that goes by no case holds of each word that is in one of the columns of a table, where it holds of all words there
-first_passes : (test : List ℕ → Bool) → ((a b : List ℕ) → str_eq_ignore_ascii_case a b ≡ true → test a ≡ test b) → (table : Pairs) (x : List ℕ)
-    → list_all (λ pair. test pair.0 && test pair.1) table ≡ true → is_some (partner German table x) ≡ true → test x ≡ true
-unfolding partner
+first_passes : (test : List ℕ → Bool) → ((a b : List ℕ) → str_eq_ignore_ascii_case a b ≡ true → test a ≡ test b) → (table : WordPairs) (x : List ℕ)
+    → list_all (λ pair. test pair.0 && test pair.1) table ≡ true → is_some (partner_in_table German table x) ≡ true → test x ≡ true
+unfolding partner_in_table
 first_passes test same [] x all e = absurd (false≢true e)
 first_passes test same (p ∷ ps) x all e =
     let parts = and_parts (test p.0 && test p.1) (list_all (λ pair. test pair.0 && test pair.1) ps) all in
@@ -509,9 +509,9 @@ first_passes test same (p ∷ ps) x all e =
     by_test true is here rest more = same x p.0 is ∙ here
     by_test false is here rest more = rest more
 
-second_passes : (test : List ℕ → Bool) → ((a b : List ℕ) → str_eq_ignore_ascii_case a b ≡ true → test a ≡ test b) → (table : Pairs) (x : List ℕ)
-    → list_all (λ pair. test pair.0 && test pair.1) table ≡ true → is_some (partner English table x) ≡ true → test x ≡ true
-unfolding partner
+second_passes : (test : List ℕ → Bool) → ((a b : List ℕ) → str_eq_ignore_ascii_case a b ≡ true → test a ≡ test b) → (table : WordPairs) (x : List ℕ)
+    → list_all (λ pair. test pair.0 && test pair.1) table ≡ true → is_some (partner_in_table English table x) ≡ true → test x ≡ true
+unfolding partner_in_table
 second_passes test same [] x all e = absurd (false≢true e)
 second_passes test same (p ∷ ps) x all e =
     let parts = and_parts (test p.0 && test p.1) (list_all (λ pair. test pair.0 && test pair.1) ps) all in
@@ -525,31 +525,31 @@ second_passes test same (p ∷ ps) x all e =
 
 -- the letters of a word take no number in English
 abbrev is_unnumbered : List ℕ → Bool
-is_unnumbered word = not (is_some (partner German operands (letters word)))
+is_unnumbered word = not (is_some (partner_in_table German operand_pairs (letters_of_word word)))
 
 same_unnumbered : (a b : List ℕ) → str_eq_ignore_ascii_case a b ≡ true → is_unnumbered a ≡ is_unnumbered b
-same_unnumbered a b e = ap (λ (o : Option (List ℕ)). not (is_some o)) (same_partner German operands (letters a) (letters b) (same_letters a b e))
+same_unnumbered a b e = ap (λ (o : Option (List ℕ)). not (is_some o)) (same_partner German operand_pairs (letters_of_word a) (letters_of_word b) (same_letters a b e))
 
-results_unnumbered : list_all (λ pair. is_unnumbered pair.0 && is_unnumbered pair.1) results ≡ true
-unfolding results partner operands
+results_unnumbered : list_all (λ pair. is_unnumbered pair.0 && is_unnumbered pair.1) result_pairs ≡ true
+unfolding result_pairs partner_in_table operand_pairs
 results_unnumbered = refl
 
-result_unnumbered : (x : List ℕ) → is_in results x ≡ true → is_unnumbered x ≡ true
-unfolding is_in
+result_unnumbered : (x : List ℕ) → is_word_in_pairs result_pairs x ≡ true → is_unnumbered x ≡ true
+unfolding is_word_in_pairs
 result_unnumbered x e =
-    elim (or_cases (is_some (partner German results x)) (is_some (partner English results x)) e) [
-      | inl first ↦ first_passes is_unnumbered same_unnumbered results x results_unnumbered first
-      | inr second ↦ second_passes is_unnumbered same_unnumbered results x results_unnumbered second
+    elim (or_cases (is_some (partner_in_table German result_pairs x)) (is_some (partner_in_table English result_pairs x)) e) [
+      | inl first ↦ first_passes is_unnumbered same_unnumbered result_pairs x results_unnumbered first
+      | inr second ↦ second_passes is_unnumbered same_unnumbered result_pairs x results_unnumbered second
     ]
 
 -- a word whose letters take a number is none of the binary result
-numbered_no_result : (x : List ℕ) → is_some (partner German operands (letters x)) ≡ true → is_in results x ≡ false
+numbered_no_result : (x : List ℕ) → is_some (partner_in_table German operand_pairs (letters_of_word x)) ≡ true → is_word_in_pairs result_pairs x ≡ false
 numbered_no_result x e =
-    false_from_ne_true (is_in results x)
-    (λ is. true≢false (sym e ∙ not-true (is_some (partner German operands (letters x))) (result_unnumbered x is)))
+    false_from_ne_true (is_word_in_pairs result_pairs x)
+    (λ is. true≢false (sym e ∙ not-true (is_some (partner_in_table German operand_pairs (letters_of_word x))) (result_unnumbered x is)))
 
-same_numbered : (x w : List ℕ) (n : TokenClass) → Renumbers x w → is_numbered w n ≡ is_numbered x n
-unfolding is_numbered
+same_numbered : (x w : List ℕ) (n : TokenClass) → Renumbers x w → is_numbered_operand w n ≡ is_numbered_operand x n
+unfolding is_numbered_operand
 same_numbered x w n h = rw (h.before, h.behind, h.same) refl
 
 -- ---- the place of an operand word
@@ -572,10 +572,10 @@ or_last false false = refl
 place_kept : (b : TokenClass) (x w : List ℕ) (n : TokenClass) → is_operand_place b x n ≡ true → Reoperands x w → is_operand_place b w n ≡ true
 unfolding is_operand_place
 place_kept b x w n e (inl h) =
-    let alone : is_in results x ≡ false = numbered_no_result x h.there in
-    subst (λ c. (is_pointer b || c || is_in results w) ≡ true) (sym (same_numbered x w n h))
-    (keep_or (is_pointer b) (is_numbered x n) (is_in results w) (subst (λ d. (is_pointer b || is_numbered x n || d) ≡ true) alone e))
-place_kept b x w n e (inr h) = subst (λ d. (is_pointer b || is_numbered w n || d) ≡ true) (sym h.0) (or_last (is_pointer b) (is_numbered w n))
+    let alone : is_word_in_pairs result_pairs x ≡ false = numbered_no_result x h.there in
+    subst (λ c. (is_pointer b || c || is_word_in_pairs result_pairs w) ≡ true) (sym (same_numbered x w n h))
+    (keep_or (is_pointer b) (is_numbered_operand x n) (is_word_in_pairs result_pairs w) (subst (λ d. (is_pointer b || is_numbered_operand x n || d) ≡ true) alone e))
+place_kept b x w n e (inr h) = subst (λ d. (is_pointer b || is_numbered_operand w n || d) ≡ true) (sym h.0) (or_last (is_pointer b) (is_numbered_operand w n))
 
 abbrev is_front_role : Role → Bool
 is_front_role role.Stays = true
@@ -599,7 +599,7 @@ first_front class.Other = refl
 
 start_front : (x : List ℕ) (n : TokenClass) → is_front_role (role_at_start x n) ≡ true
 unfolding role_at_start
-start_front x n = by (is_among endings x || is_among network_words x)
+start_front x n = by (is_word_in_list block_end_words x || is_word_in_list network_words x)
   where
     by : (b : Bool) → is_front_role (if b then role.Stays else role_first n) ≡ true
     by true = refl
@@ -628,14 +628,14 @@ in_kept p b x w n e h =
     let parts = in_operand (is_component b n) (is_operand_place b x n) (opens_path p b) e in
     rw (parts.0, parts.1, place_kept b x w n parts.1 h) refl
 
-closing_kept : (x w : List ℕ) → is_among zone_words x ≡ false → is_among zone_words w ≡ false → behind_closing w ≡ behind_closing x
-unfolding behind_closing
+closing_kept : (x w : List ℕ) → is_word_in_list zone_words x ≡ false → is_word_in_list zone_words w ≡ false → place_behind_closing w ≡ place_behind_closing x
+unfolding place_behind_closing
 closing_kept x w before later = rw (before, later) refl
 
 -- an operand word's place and role are those of the word that it was exchanged for
 pub operand_keeps : (p : Place) (b : TokenClass) (x w : List ℕ) (n : TokenClass) → role_of_word p b x n ≡ role.Operand → operand_partner German x ≡ Some w
     → Keeps p b x w n
-unfolding role_of_word behind_word
+unfolding role_of_word place_behind_word
 operand_keeps place.Outside b x w n e is = absurd cc
 operand_keeps place.Head b x w n e is = absurd cc
 operand_keeps place.Start b x w n e is = absurd (not_front x n role.Operand e refl)
@@ -653,14 +653,14 @@ operand_keeps place.Inside b x w n e is = record { role = in_kept place.Inside b
 
 -- ---- the place of a name
 
-closing_named : (x : List ℕ) → is_among zone_words x ≡ false → place.Inside ≡ behind_closing x
-unfolding behind_closing
+closing_named : (x : List ℕ) → is_word_in_list zone_words x ≡ false → place.Inside ≡ place_behind_closing x
+unfolding place_behind_closing
 closing_named x e = rw e refl
 
 -- a name with its `#` leads to the same place
 pub name_keeps : (p : Place) (b : TokenClass) (x : List ℕ) (n : TokenClass) → role_of_word p b x n ≡ role.Path
-    → is_some (operand_partner English x) ≡ true → behind_sign p class.Other ≡ behind_word p b x n
-unfolding role_of_word behind_word behind_sign
+    → is_some (operand_partner English x) ≡ true → place_behind_sign p class.Other ≡ place_behind_word p b x n
+unfolding role_of_word place_behind_word place_behind_sign
 name_keeps place.Outside b x n e is = absurd cc
 name_keeps place.Head b x n e is = absurd cc
 name_keeps place.Start b x n e is = absurd (not_front x n role.Path e refl)
@@ -695,8 +695,8 @@ is_number_class _ = false
 abbrev pub IsFit : Place → TokenClass → Type 0
 IsFit p b = is_behind_instruction p ≡ true → is_number_class b ≡ false
 
-number_inside : (p : Place) → is_behind_instruction (behind_sign p class.Number) ≡ false
-unfolding behind_sign
+number_inside : (p : Place) → is_behind_instruction (place_behind_sign p class.Number) ≡ false
+unfolding place_behind_sign
 number_inside place.Outside = refl
 number_inside place.Head = refl
 number_inside place.Start = refl
@@ -708,8 +708,8 @@ number_inside place.Closing = refl
 number_inside place.Path = refl
 number_inside place.Inside = refl
 
-pub fits_next : (p : Place) (b c : TokenClass) (x : List ℕ) (n : TokenClass) → IsFit (behind p b c x n) c
-unfolding behind
+pub fits_next : (p : Place) (b c : TokenClass) (x : List ℕ) (n : TokenClass) → IsFit (place_behind p b c x n) c
+unfolding place_behind
 fits_next p b class.Number x n e = absurd (false≢true (sym (number_inside p) ∙ e))
 fits_next p b class.Word x n e = refl
 fits_next p b class.Note x n e = refl

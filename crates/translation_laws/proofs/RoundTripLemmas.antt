@@ -6,7 +6,7 @@ use Rattle.std.proofs.lemmas.Bool.{false≢true, true≢false}
 use Rattle.std.proofs.lemmas.Option.{same_Some}
 use Rattle.stl_lexer.specs.Bytes.{hash}
 use Rattle.stl_lexer.specs.Forms.{has_form, is_word}
-use Rattle.stl_lexer.specs.Tokens.{AreTokens, AreTokensUnique, Follow, IsEnd, IsNext, is_minus, text_of}
+use Rattle.stl_lexer.specs.Tokens.{AreTokens, AreTokensUnique, TokensFollow, IsEndOfTokens, IsNextToken, is_minus, text_of}
 use Rattle.stl_lexer.specs.declared.kinds.Token.{Token}
 use Rattle.stl_lexer.specs.declared.kinds.TokenKind.{TokenKind}
 use Rattle.stl_lexer.specs.declared.kinds.TokenKind.TheVariants as kind
@@ -21,12 +21,12 @@ use Rattle.de_mnemonics.specs.declared.places.Place.TheVariants as place
 use Rattle.de_mnemonics.specs.declared.roles.Role.{Role}
 use Rattle.de_mnemonics.specs.declared.roles.Role.TheVariants as role
 use Rattle.de_mnemonics.specs.declared.translation.Spot.{Spot}
-use Rattle.de_mnemonics.specs.Places.{behind, class_of, role_of, role_of_word}
-use Rattle.de_mnemonics.specs.Translation.{class_in, front_spot, next_class, put, put_word, role_at, spot_behind, translated, translated_from}
-use Rattle.de_mnemonics.specs.Words.{named, operand_partner, written}
-use Rattle.translation_laws.specs.Alike.{AreAlike, ComesAs, IsCased, IsNamed as IsNamedToken, IsSame, TreesAlike}
-use Rattle.translation_laws.specs.Rewritten.{AreRewritten, IsRewritten, KeepsTokens, Rewrites, ShowAnew, kind_anew, rewritten}
-use Rattle.translation_laws.specs.RoundTrip.{ComesBack, RoundTrips}
+use Rattle.de_mnemonics.specs.Places.{place_behind, class_of, role_of, role_of_word}
+use Rattle.de_mnemonics.specs.Translation.{class_in, front_spot, next_class, with_bytes_before, with_word_before, role_at, spot_behind, translation_of, translation_from}
+use Rattle.de_mnemonics.specs.Words.{marked_name, operand_partner, translated_word}
+use Rattle.translation_laws.specs.Alike.{AreTokensAlike, ComesBackInRole, IsSameWordButForCase, IsOperandWordAsLocal as IsNamedToken, IsSameToken, TreesAlike}
+use Rattle.translation_laws.specs.Rewritten.{AreRewrittenTexts, IsRewrittenText, RewritingKeepsTokens, RewritesSource, ShowRewrittenTexts, kind_of_rewritten, rewritten_source}
+use Rattle.translation_laws.specs.RoundTrip.{ComesBackWithTree, RoundTrips}
 use Rattle.translation_laws.proofs.RoleLemmas.{IsFit, IsNear, fits_next, is_number_class, is_word_kind, kind_plain, path_no_number, role_plain}
 use Rattle.translation_laws.proofs.BackLemmas.{IsOperandWord, Spellings, StepBack, TextBack, same_is_word, token_back, token_near, word_kind}
 
@@ -38,22 +38,22 @@ AreWritten language s spot [] [] = Unit {0}
 AreWritten language s spot [] (w ∷ ws) = ⊥
 AreWritten language s spot (t ∷ ts) [] = ⊥
 AreWritten language s spot (t ∷ ts) (w ∷ ws) =
-    (written language (role_at s spot t ts) (text_of s t) ≡ Some w) × AreWritten language s (spot_behind s spot t ts) ts ws
+    (translated_word language (role_at s spot t ts) (text_of s t) ≡ Some w) × AreWritten language s (spot_behind s spot t ts) ts ws
 
 -- texts that make up a translation
 record Writes (language : Language) (s : List ℕ) (spot : Spot) (ts : List Token) (text : List ℕ) : Type 0 where
   words : List (List ℕ)
   are : AreWritten language s spot ts words
-  make : text ≡ rewritten s spot.from ts words
+  make : text ≡ rewritten_source s spot.from ts words
 
 abbrev ok_text : Result (List ℕ) ℕ → List ℕ
 ok_text (Ok text) = text
 ok_text (Err line) = []
 
 writes_put : (language : Language) (s : List ℕ) (spot : Spot) (t : Token) (ts : List Token) (text : List ℕ) (o : Option (List ℕ)) (r : Result (List ℕ) ℕ)
-    → written language (role_at s spot t ts) (text_of s t) ≡ o
+    → translated_word language (role_at s spot t ts) (text_of s t) ≡ o
     → ((rest : List ℕ) → r ≡ Ok rest → Writes language s (spot_behind s spot t ts) ts rest)
-    → put (slice_range s spot.from t.start) (put_word o t.line r) ≡ Ok text → Writes language s spot (t ∷ ts) text
+    → with_bytes_before (slice_range s spot.from t.start) (with_word_before o t.line r) ≡ Ok text → Writes language s spot (t ∷ ts) text
 writes_put language s spot t ts text None r is more e = absurd cc
 writes_put language s spot t ts text (Some w) (Err line) is more e = absurd cc
 writes_put language s spot t ts text (Some w) (Ok rest) is more e =
@@ -64,24 +64,24 @@ writes_put language s spot t ts text (Some w) (Ok rest) is more e =
       make = sym (ap ok_text e) ∙ ap (λ (l : List ℕ). slice_range s spot.from t.start ++ (w ++ l)) behind.make;
     }
 
-writes : (language : Language) (s : List ℕ) (spot : Spot) (ts : List Token) (text : List ℕ) → translated_from language s spot ts ≡ Ok text
+writes : (language : Language) (s : List ℕ) (spot : Spot) (ts : List Token) (text : List ℕ) → translation_from language s spot ts ≡ Ok text
     → Writes language s spot ts text
-unfolding translated_from
+unfolding translation_from
 writes language s spot [] text e = record { words = []; are = tt; make = sym (ap ok_text e) }
 writes language s spot (t ∷ ts) text e =
-    writes_put language s spot t ts text (written language (role_at s spot t ts) (text_of s t)) (translated_from language s (spot_behind s spot t ts) ts) refl
+    writes_put language s spot t ts text (translated_word language (role_at s spot t ts) (text_of s t)) (translation_from language s (spot_behind s spot t ts) ts) refl
     (λ rest is. writes language s (spot_behind s spot t ts) ts rest is) e
 
 -- and the other way round
 makes : (language : Language) (s : List ℕ) (spot : Spot) (ts : List Token) (words : List (List ℕ)) → AreWritten language s spot ts words
-    → translated_from language s spot ts ≡ Ok (rewritten s spot.from ts words)
-unfolding translated_from
+    → translation_from language s spot ts ≡ Ok (rewritten_source s spot.from ts words)
+unfolding translation_from
 makes language s spot [] [] are = refl
 makes language s spot [] (w ∷ ws) are = absurd are
 makes language s spot (t ∷ ts) [] are = absurd are
 makes language s spot (t ∷ ts) (w ∷ ws) are =
-    ap (λ o. put (slice_range s spot.from t.start) (put_word o t.line (translated_from language s (spot_behind s spot t ts) ts))) are.0
-    ∙ ap (λ r. put (slice_range s spot.from t.start) (put_word (Some w) t.line r)) (makes language s (spot_behind s spot t ts) ts ws are.1)
+    ap (λ o. with_bytes_before (slice_range s spot.from t.start) (with_word_before o t.line (translation_from language s (spot_behind s spot t ts) ts))) are.0
+    ∙ ap (λ r. with_bytes_before (slice_range s spot.from t.start) (with_word_before (Some w) t.line r)) (makes language s (spot_behind s spot t ts) ts ws are.1)
 
 -- ---- words are words
 
@@ -89,12 +89,12 @@ abbrev AreWords : List ℕ → List Token → Type 0
 AreWords s [] = Unit {0}
 AreWords s (t ∷ ts) = (t.kind ≡ kind.Word → is_word (text_of s t) ≡ true) × AreWords s ts
 
-next_is_word : (s : List ℕ) (from : ℕ) (minus : Bool) (t : Token) → IsNext s from minus t → t.kind ≡ kind.Word → is_word (text_of s t) ≡ true
+next_is_word : (s : List ℕ) (from : ℕ) (minus : Bool) (t : Token) → IsNextToken s from minus t → t.kind ≡ kind.Word → is_word (text_of s t) ≡ true
 unfolding has_form
 next_is_word s from minus t next is =
     subst (λ k. has_form k (take (t.end - t.start) (drop t.start s)) (drop (t.end - t.start) (drop t.start s)) ≡ true) is next.longest.fits.fits
 
-words_follow : (s : List ℕ) (from : ℕ) (minus : Bool) (ts : List Token) → Follow s (λ from minus. IsEnd s from) from minus ts → AreWords s ts
+words_follow : (s : List ℕ) (from : ℕ) (minus : Bool) (ts : List Token) → TokensFollow s (λ from minus. IsEndOfTokens s from) from minus ts → AreWords s ts
 words_follow s from minus [] are = tt
 words_follow s from minus (t ∷ ts) are =
     (λ is. next_is_word s from minus t are.0 is, words_follow s t.end (is_minus t.kind (text_of s t)) ts are.1)
@@ -115,34 +115,34 @@ number_class k x e = ap (λ j. is_number_class (class_of j x)) e
 
 -- a word in a role is rewritten as the translation writes it
 word_rewritten : Spellings → (p : Place) (b : TokenClass) (before : TokenKind) (x w : List ℕ) (n : TokenClass) → IsFit p b → IsBefore before b
-    → is_word x ≡ true → (r : Role) → role_of_word p b x n ≡ r → written German r x ≡ Some w → IsRewritten before kind.Word x w
-unfolding written
+    → is_word x ≡ true → (r : Role) → role_of_word p b x n ≡ r → translated_word German r x ≡ Some w → IsRewrittenText before kind.Word x w
+unfolding translated_word
 word_rewritten spelled p b before x w n fit stands word role.Stays e is = inl (same_Some x w is)
 word_rewritten spelled p b before x w n fit stands word role.Instruction e is = inr (refl, inl (spelled.instruction x w word is))
 word_rewritten spelled p b before x w n fit stands word role.Operand e is = inr (refl, inl (spelled.operand x w word is))
 word_rewritten spelled p b before x w n fit stands word role.Path e is =
     path_rewritten before x w (λ number. true≢false (sym (stands number) ∙ path_no_number p b x n fit e)) (is_some (operand_partner English x)) is
   where
-    path_rewritten : (before : TokenKind) (x w : List ℕ) → (before ≡ kind.Number → ⊥) → (c : Bool) → Some (named c x) ≡ Some w → IsRewritten before kind.Word x w
+    path_rewritten : (before : TokenKind) (x w : List ℕ) → (before ≡ kind.Number → ⊥) → (c : Bool) → Some (marked_name c x) ≡ Some w → IsRewrittenText before kind.Word x w
     path_rewritten before x w free true same = inr (refl, inr (free, sym (same_Some (hash ∷ x) w same)))
     path_rewritten before x w free false same = inl (same_Some x w same)
 
-stays_same : (r : Role) (x w : List ℕ) → r ≡ role.Stays → written German r x ≡ Some w → x ≡ w
-unfolding written
-stays_same r x w e is = same_Some x w (ap (λ q. written German q x) (sym e) ∙ is)
+stays_same : (r : Role) (x w : List ℕ) → r ≡ role.Stays → translated_word German r x ≡ Some w → x ≡ w
+unfolding translated_word
+stays_same r x w e is = same_Some x w (ap (λ q. translated_word German q x) (sym e) ∙ is)
 
 word_role : Spellings → (p : Place) (b : TokenClass) (before : TokenKind) (x w : List ℕ) (n : TokenClass) → IsFit p b → IsBefore before b → is_word x ≡ true
-    → written German (role_of p b (class_of kind.Word x) x n) x ≡ Some w → IsRewritten before kind.Word x w
+    → translated_word German (role_of p b (class_of kind.Word x) x n) x ≡ Some w → IsRewrittenText before kind.Word x w
 unfolding role_of class_of
 word_role spelled p b before x w n fit stands word is = word_rewritten spelled p b before x w n fit stands word (role_of_word p b x n) refl is
 
 other_rewritten : (p : Place) (b : TokenClass) (before k : TokenKind) (x w : List ℕ) (n : TokenClass) → is_word_kind k ≡ false
-    → written German (role_of p b (class_of k x) x n) x ≡ Some w → IsRewritten before k x w
+    → translated_word German (role_of p b (class_of k x) x n) x ≡ Some w → IsRewrittenText before k x w
 other_rewritten p b before k x w n other is =
     inl (stays_same (role_of p b (class_of k x) x n) x w (role_plain p b (class_of k x) x n (kind_plain k x other)) is)
 
 token_rewritten : Spellings → (p : Place) (b : TokenClass) (before k : TokenKind) (x w : List ℕ) (n : TokenClass) → IsFit p b → IsBefore before b
-    → (k ≡ kind.Word → is_word x ≡ true) → written German (role_of p b (class_of k x) x n) x ≡ Some w → IsRewritten before k x w
+    → (k ≡ kind.Word → is_word x ≡ true) → translated_word German (role_of p b (class_of k x) x n) x ≡ Some w → IsRewrittenText before k x w
 token_rewritten spelled p b before kind.Word x w n fit stands word is = word_role spelled p b before x w n fit stands (word refl) is
 token_rewritten spelled p b before kind.Number x w n fit stands word is = other_rewritten p b before kind.Number x w n refl is
 token_rewritten spelled p b before kind.Quoted x w n fit stands word is = other_rewritten p b before kind.Quoted x w n refl is
@@ -157,7 +157,7 @@ token_rewritten spelled p b before kind.Attribute x w n fit stands word is = oth
 token_rewritten spelled p b before kind.Title x w n fit stands word is = other_rewritten p b before kind.Title x w n refl is
 
 there_rewritten : Spellings → (s : List ℕ) (spot : Spot) (before : TokenKind) (ts : List Token) (ws : List (List ℕ)) → IsFit spot.place spot.before
-    → IsBefore before spot.before → AreWords s ts → AreWritten German s spot ts ws → AreRewritten s before ts ws
+    → IsBefore before spot.before → AreWords s ts → AreWritten German s spot ts ws → AreRewrittenTexts s before ts ws
 there_rewritten spelled s spot before [] [] fit stands words are = tt
 there_rewritten spelled s spot before [] (w ∷ ws) fit stands words are = are
 there_rewritten spelled s spot before (t ∷ ts) [] fit stands words are = are
@@ -176,7 +176,7 @@ AreBack s p b [] (v ∷ vs) = ⊥
 AreBack s p b (t ∷ ts) [] = ⊥
 AreBack s p b (t ∷ ts) (v ∷ vs) =
     TextBack (role_of p b (class_in s t) (text_of s t) (next_class s ts)) (text_of s t) v
-    × AreBack s (behind p b (class_in s t) (text_of s t) (next_class s ts)) (class_in s t) ts vs
+    × AreBack s (place_behind p b (class_in s t) (text_of s t) (next_class s ts)) (class_in s t) ts vs
 
 record Returns (s g : List ℕ) (spot spot' : Spot) (ts us : List Token) : Type 0 where
   texts : List (List ℕ)
@@ -184,10 +184,10 @@ record Returns (s g : List ℕ) (spot spot' : Spot) (ts us : List Token) : Type 
   kept : AreBack s spot.place spot.before ts texts
 
 -- the class of a token in the German text
-class_anew : (g : List ℕ) (t u : Token) (w : List ℕ) → u.kind ≡ kind_anew t.kind w → text_of g u ≡ w → class_in g u ≡ class_of (kind_anew t.kind w) w
-class_anew g t u w is text = ap (λ k. class_of k (text_of g u)) is ∙ ap (class_of (kind_anew t.kind w)) text
+class_anew : (g : List ℕ) (t u : Token) (w : List ℕ) → u.kind ≡ kind_of_rewritten t.kind w → text_of g u ≡ w → class_in g u ≡ class_of (kind_of_rewritten t.kind w) w
+class_anew g t u w is text = ap (λ k. class_of k (text_of g u)) is ∙ ap (class_of (kind_of_rewritten t.kind w)) text
 
-next_near : (s g : List ℕ) (spot : Spot) (ts : List Token) (ws : List (List ℕ)) (us : List Token) → AreWritten German s spot ts ws → ShowAnew g ts ws us
+next_near : (s g : List ℕ) (spot : Spot) (ts : List Token) (ws : List (List ℕ)) (us : List Token) → AreWritten German s spot ts ws → ShowRewrittenTexts g ts ws us
     → IsNear (next_class s ts) (next_class g us)
 next_near s g spot [] [] [] are shows = inl refl
 next_near s g spot [] [] (u ∷ us) are shows = absurd shows
@@ -199,21 +199,21 @@ next_near s g spot (t ∷ ts) (w ∷ ws) (u ∷ us) are shows =
     (token_near spot.place spot.before t.kind (text_of s t) w (next_class s ts) are.0)
 
 -- what is written for a token of the German text, and the place behind it
-role_anew : (g : List ℕ) (spot' : Spot) (p : Place) (t u : Token) (us : List Token) (w v : List ℕ) → spot'.place ≡ p → u.kind ≡ kind_anew t.kind w → text_of g u ≡ w
-    → written English (role_of p spot'.before (class_of (kind_anew t.kind w) w) w (next_class g us)) w ≡ Some v
-    → written English (role_at g spot' u us) (text_of g u) ≡ Some v
+role_anew : (g : List ℕ) (spot' : Spot) (p : Place) (t u : Token) (us : List Token) (w v : List ℕ) → spot'.place ≡ p → u.kind ≡ kind_of_rewritten t.kind w → text_of g u ≡ w
+    → translated_word English (role_of p spot'.before (class_of (kind_of_rewritten t.kind w) w) w (next_class g us)) w ≡ Some v
+    → translated_word English (role_at g spot' u us) (text_of g u) ≡ Some v
 role_anew g spot' p t u us w v at is text e =
-    ap (λ (x : List ℕ). written English (role_of spot'.place spot'.before (class_in g u) x (next_class g us)) x) text
-    ∙ ap (λ c. written English (role_of spot'.place spot'.before c w (next_class g us)) w) (class_anew g t u w is text)
-    ∙ ap (λ q. written English (role_of q spot'.before (class_of (kind_anew t.kind w) w) w (next_class g us)) w) at ∙ e
+    ap (λ (x : List ℕ). translated_word English (role_of spot'.place spot'.before (class_in g u) x (next_class g us)) x) text
+    ∙ ap (λ c. translated_word English (role_of spot'.place spot'.before c w (next_class g us)) w) (class_anew g t u w is text)
+    ∙ ap (λ q. translated_word English (role_of q spot'.before (class_of (kind_of_rewritten t.kind w) w) w (next_class g us)) w) at ∙ e
 
-place_anew : (g : List ℕ) (spot' : Spot) (p q : Place) (t u : Token) (us : List Token) (w : List ℕ) → spot'.place ≡ p → u.kind ≡ kind_anew t.kind w → text_of g u ≡ w
-    → behind p spot'.before (class_of (kind_anew t.kind w) w) w (next_class g us) ≡ q
-    → behind spot'.place spot'.before (class_in g u) (text_of g u) (next_class g us) ≡ q
+place_anew : (g : List ℕ) (spot' : Spot) (p q : Place) (t u : Token) (us : List Token) (w : List ℕ) → spot'.place ≡ p → u.kind ≡ kind_of_rewritten t.kind w → text_of g u ≡ w
+    → place_behind p spot'.before (class_of (kind_of_rewritten t.kind w) w) w (next_class g us) ≡ q
+    → place_behind spot'.place spot'.before (class_in g u) (text_of g u) (next_class g us) ≡ q
 place_anew g spot' p q t u us w at is text e =
-    ap (λ (x : List ℕ). behind spot'.place spot'.before (class_in g u) x (next_class g us)) text
-    ∙ ap (λ c. behind spot'.place spot'.before c w (next_class g us)) (class_anew g t u w is text)
-    ∙ ap (λ r. behind r spot'.before (class_of (kind_anew t.kind w) w) w (next_class g us)) at ∙ e
+    ap (λ (x : List ℕ). place_behind spot'.place spot'.before (class_in g u) x (next_class g us)) text
+    ∙ ap (λ c. place_behind spot'.place spot'.before c w (next_class g us)) (class_anew g t u w is text)
+    ∙ ap (λ r. place_behind r spot'.before (class_of (kind_of_rewritten t.kind w) w) w (next_class g us)) at ∙ e
 
 -- the spots of both texts are the same but for what differs by a name
 record IsSpotNear (spot spot' : Spot) : Type 0 where
@@ -221,7 +221,7 @@ record IsSpotNear (spot spot' : Spot) : Type 0 where
   before : IsNear spot.before spot'.before
 
 returns : Spellings → (s g : List ℕ) (spot spot' : Spot) (ts : List Token) (ws : List (List ℕ)) (us : List Token) → IsSpotNear spot spot' → AreWords s ts
-    → AreWritten German s spot ts ws → ShowAnew g ts ws us → Returns s g spot spot' ts us
+    → AreWritten German s spot ts ws → ShowRewrittenTexts g ts ws us → Returns s g spot spot' ts us
 returns spelled s g spot spot' [] [] [] near words are shows = record { texts = []; are = tt; kept = tt }
 returns spelled s g spot spot' [] [] (u ∷ us) near words are shows = absurd shows
 returns spelled s g spot spot' [] (w ∷ ws) us near words are shows = absurd are
@@ -233,7 +233,7 @@ returns spelled s g spot spot' (t ∷ ts) (w ∷ ws) (u ∷ us) near words are s
     (next_near s g (spot_behind s spot t ts) ts ws us are.1 shows.3) words.0 are.0 in
     let behind_near : IsSpotNear (spot_behind s spot t ts) (spot_behind g spot' u us) =
     record {
-      place = place_anew g spot' spot.place (behind spot.place spot.before (class_in s t) (text_of s t) (next_class s ts)) t u us w near.place shows.0 shows.1 step.place;
+      place = place_anew g spot' spot.place (place_behind spot.place spot.before (class_in s t) (text_of s t) (next_class s ts)) t u us w near.place shows.0 shows.1 step.place;
       before = subst (λ c. IsNear (class_in s t) c) (sym (class_anew g t u w shows.0 shows.1))
           (token_near spot.place spot.before t.kind (text_of s t) w (next_class s ts) are.0);
     } in
@@ -268,11 +268,11 @@ back_stays : (r : Role) (x v : List ℕ) → r ≡ role.Stays → TextBack r x v
 back_stays r x v e back = subst (λ q. TextBack q x v) e back
 
 word_again : (before k : TokenKind) (x v : List ℕ) → k ≡ kind.Word → str_eq_ignore_ascii_case x v ≡ true → is_word x ≡ true
-    → IsRewritten before k x v
+    → IsRewrittenText before k x v
 word_again before k x v is same word = inr (is, inl (same_is_word x v same word, inl same))
 
 back_rewritten : (p : Place) (b : TokenClass) (before k : TokenKind) (x v : List ℕ) (n : TokenClass) → IsFit p b → IsBefore before b → k ≡ kind.Word → is_word x ≡ true
-    → (r : Role) → role_of_word p b x n ≡ r → TextBack r x v → IsRewritten before k x v
+    → (r : Role) → role_of_word p b x n ≡ r → TextBack r x v → IsRewrittenText before k x v
 back_rewritten p b before k x v n fit stands is word role.Stays e back = inl (sym back)
 back_rewritten p b before k x v n fit stands is word role.Instruction e back = word_again before k x v is back word
 back_rewritten p b before k x v n fit stands is word role.Operand e (inl same) = inl (sym same)
@@ -287,7 +287,7 @@ unfolding role_of class_of
 word_role_of p b k x n is = ap (λ j. role_of p b (class_of j x) x n) is
 
 token_again : (p : Place) (b : TokenClass) (before k : TokenKind) (x v : List ℕ) (n : TokenClass) → IsFit p b → IsBefore before b
-    → (k ≡ kind.Word → is_word x ≡ true) → TextBack (role_of p b (class_of k x) x n) x v → IsRewritten before k x v
+    → (k ≡ kind.Word → is_word x ≡ true) → TextBack (role_of p b (class_of k x) x n) x v → IsRewrittenText before k x v
 token_again p b before k x v n fit stands word back =
     elim (role_word p b k x n (is_word_kind k) refl) [
       | inl is ↦ back_rewritten p b before k x v n fit stands is (word is) (role_of_word p b x n) refl (subst (λ r. TextBack r x v) (word_role_of p b k x n is) back)
@@ -295,13 +295,13 @@ token_again p b before k x v n fit stands word back =
     ]
 
 back_again : (s : List ℕ) (p : Place) (b : TokenClass) (before : TokenKind) (ts : List Token) (vs : List (List ℕ)) → IsFit p b → IsBefore before b → AreWords s ts
-    → AreBack s p b ts vs → AreRewritten s before ts vs
+    → AreBack s p b ts vs → AreRewrittenTexts s before ts vs
 back_again s p b before [] [] fit stands words back = tt
 back_again s p b before [] (v ∷ vs) fit stands words back = back
 back_again s p b before (t ∷ ts) [] fit stands words back = back
 back_again s p b before (t ∷ ts) (v ∷ vs) fit stands words back = (
   token_again p b before t.kind (text_of s t) v (next_class s ts) fit stands words.0 back.0,
-  back_again s (behind p b (class_in s t) (text_of s t) (next_class s ts)) (class_in s t) t.kind ts vs
+  back_again s (place_behind p b (class_in s t) (text_of s t) (next_class s ts)) (class_in s t) t.kind ts vs
       (fits_next p b (class_in s t) (text_of s t) (next_class s ts)) (λ number. number_class t.kind (text_of s t) number) words.1 back.1,
 )
 
@@ -309,11 +309,11 @@ as_many : (s : List ℕ) (p : Place) (b : TokenClass) (ts : List Token) (vs : Li
 as_many s p b [] [] back = refl
 as_many s p b [] (v ∷ vs) back = absurd back
 as_many s p b (t ∷ ts) [] back = absurd back
-as_many s p b (t ∷ ts) (v ∷ vs) back = ap suc (as_many s (behind p b (class_in s t) (text_of s t) (next_class s ts)) (class_in s t) ts vs back.1)
+as_many s p b (t ∷ ts) (v ∷ vs) back = ap suc (as_many s (place_behind p b (class_in s t) (text_of s t) (next_class s ts)) (class_in s t) ts vs back.1)
 
 -- ---- tokens that come back
 
-kind_kept : (k : TokenKind) (x : List ℕ) → (k ≡ kind.Word → is_word x ≡ true) → kind_anew k x ≡ k
+kind_kept : (k : TokenKind) (x : List ℕ) → (k ≡ kind.Word → is_word x ≡ true) → kind_of_rewritten k x ≡ k
 kind_kept kind.Word x word = word_kind x (word refl)
 kind_kept kind.Number x word = refl
 kind_kept kind.Quoted x word = refl
@@ -329,28 +329,28 @@ kind_kept kind.Title x word = refl
 
 -- a token of the English text and the one that it came from
 record Shows (e : List ℕ) (t u : Token) (v : List ℕ) : Type 0 where
-  kind_ : u.kind ≡ kind_anew t.kind v
+  kind_ : u.kind ≡ kind_of_rewritten t.kind v
   text : text_of e u ≡ v
   line : u.line ≡ t.line
 
-same_token : (s e : List ℕ) (t u : Token) (v : List ℕ) → (t.kind ≡ kind.Word → is_word (text_of s t) ≡ true) → Shows e t u v → v ≡ text_of s t → IsSame s e t u
+same_token : (s e : List ℕ) (t u : Token) (v : List ℕ) → (t.kind ≡ kind.Word → is_word (text_of s t) ≡ true) → Shows e t u v → v ≡ text_of s t → IsSameToken s e t u
 same_token s e t u v word shows same = record {
-  kind = sym (shows.kind_ ∙ ap (kind_anew t.kind) same ∙ kind_kept t.kind (text_of s t) word);
+  kind = sym (shows.kind_ ∙ ap (kind_of_rewritten t.kind) same ∙ kind_kept t.kind (text_of s t) word);
   line = sym shows.line;
   text = sym (shows.text ∙ same);
 }
 
 cased_token : (s e : List ℕ) (t u : Token) (v : List ℕ) → t.kind ≡ kind.Word → is_word (text_of s t) ≡ true → Shows e t u v
-    → str_eq_ignore_ascii_case (text_of s t) v ≡ true → IsCased s e t u
+    → str_eq_ignore_ascii_case (text_of s t) v ≡ true → IsSameWordButForCase s e t u
 cased_token s e t u v is word shows same = record {
   word = is;
-  other = shows.kind_ ∙ ap (λ k. kind_anew k v) is ∙ word_kind v (same_is_word (text_of s t) v same word);
+  other = shows.kind_ ∙ ap (λ k. kind_of_rewritten k v) is ∙ word_kind v (same_is_word (text_of s t) v same word);
   line = sym shows.line;
   text = subst (λ (x : List ℕ). str_eq_ignore_ascii_case (text_of s t) x ≡ true) (sym shows.text) same;
 }
 
-named_kind : (k : TokenKind) (x v : List ℕ) → k ≡ kind.Word → v ≡ hash ∷ x → kind_anew k v ≡ kind.Local
-named_kind k x v is same = ap (λ j. kind_anew j v) is ∙ ap (kind_anew kind.Word) same
+named_kind : (k : TokenKind) (x v : List ℕ) → k ≡ kind.Word → v ≡ hash ∷ x → kind_of_rewritten k v ≡ kind.Local
+named_kind k x v is same = ap (λ j. kind_of_rewritten j v) is ∙ ap (kind_of_rewritten kind.Word) same
 
 named_token : (s e : List ℕ) (t u : Token) (v : List ℕ) → t.kind ≡ kind.Word → Shows e t u v → v ≡ hash ∷ text_of s t → IsOperandWord (text_of s t) → IsNamedToken s e t u
 named_token s e t u v is shows same operand = record {
@@ -362,7 +362,7 @@ named_token s e t u v is shows same operand = record {
 }
 
 comes : (s e : List ℕ) (t u : Token) (v : List ℕ) (r : Role) → (t.kind ≡ kind.Word) ⊎ (r ≡ role.Stays) → (t.kind ≡ kind.Word → is_word (text_of s t) ≡ true) → Shows e t u v
-    → TextBack r (text_of s t) v → ComesAs s e r t u
+    → TextBack r (text_of s t) v → ComesBackInRole s e r t u
 comes s e t u v role.Stays is word shows back = same_token s e t u v word shows back
 comes s e t u v role.Instruction (inl is) word shows back = inr (cased_token s e t u v is (word is) shows back)
 comes s e t u v role.Instruction (inr other) word shows back = absurd cc
@@ -373,8 +373,8 @@ comes s e t u v role.Path (inl is) word shows (inl same) = inl (same_token s e t
 comes s e t u v role.Path (inl is) word shows (inr named_) = inr (named_token s e t u v is shows named_.0 named_.1)
 comes s e t u v role.Path (inr other) word shows back = absurd cc
 
-alike : (s e : List ℕ) (p : Place) (b : TokenClass) (ts : List Token) (vs : List (List ℕ)) (us : List Token) → AreWords s ts → AreBack s p b ts vs → ShowAnew e ts vs us
-    → AreAlike s e p b ts us
+alike : (s e : List ℕ) (p : Place) (b : TokenClass) (ts : List Token) (vs : List (List ℕ)) (us : List Token) → AreWords s ts → AreBack s p b ts vs → ShowRewrittenTexts e ts vs us
+    → AreTokensAlike s e p b ts us
 alike s e p b [] [] [] words back shows = tt
 alike s e p b [] [] (u ∷ us) words back shows = absurd shows
 alike s e p b [] (v ∷ vs) us words back shows = absurd back
@@ -383,7 +383,7 @@ alike s e p b (t ∷ ts) (v ∷ vs) [] words back shows = absurd shows
 alike s e p b (t ∷ ts) (v ∷ vs) (u ∷ us) words back shows = (
   comes s e t u v (role_of p b (class_in s t) (text_of s t) (next_class s ts)) (role_word p b t.kind (text_of s t) (next_class s ts) (is_word_kind t.kind) refl) words.0
       (record { kind_ = shows.0; text = shows.1; line = shows.2 }) back.0,
-  alike s e (behind p b (class_in s t) (text_of s t) (next_class s ts)) (class_in s t) ts vs us words.1 back.1 shows.3,
+  alike s e (place_behind p b (class_in s t) (text_of s t) (next_class s ts)) (class_in s t) ts vs us words.1 back.1 shows.3,
 )
 
 -- ---- the whole
@@ -391,7 +391,7 @@ alike s e p b (t ∷ ts) (v ∷ vs) (u ∷ us) words back shows = (
 -- what is known of tokens that are written anew, and of trees
 pub record Laws : Type 0 where
   pub one_list : AreTokensUnique
-  pub keeps : KeepsTokens
+  pub keeps : RewritingKeepsTokens
   pub trees : TreesAlike
   pub spelled : Spellings
 
@@ -403,32 +403,32 @@ front_stands = λ e. absurd cc
 
 -- from the German text, its tokens and what is written for each of them
 comes_back : Laws → (s : List ℕ) (ts : List Token) (tree : Tree) (ws : List (List ℕ)) → AreTokens s ts → IsTree s ts tree → AreWritten German s front_spot ts ws
-    → ComesBack (rewritten s 0 ts ws) tree
-unfolding translated
+    → ComesBackWithTree (rewritten_source s 0 ts ws) tree
+unfolding translation_of
 comes_back laws s ts tree ws are is there =
     let words : AreWords s ts = words_of s ts are in
-    let german : Rewrites s ts ws = laws.keeps s ts ws are (there_rewritten laws.spelled s front_spot kind.Mark ts ws front_fits front_stands words there) in
-    let back : Returns s (rewritten s 0 ts ws) front_spot front_spot ts german.us =
-    returns laws.spelled s (rewritten s 0 ts ws) front_spot front_spot ts ws german.us (record { place = refl; before = inl refl }) words there german.shows in
-    let again : rewritten (rewritten s 0 ts ws) 0 german.us back.texts ≡ rewritten s 0 ts back.texts =
+    let german : RewritesSource s ts ws = laws.keeps s ts ws are (there_rewritten laws.spelled s front_spot kind.Mark ts ws front_fits front_stands words there) in
+    let back : Returns s (rewritten_source s 0 ts ws) front_spot front_spot ts german.us =
+    returns laws.spelled s (rewritten_source s 0 ts ws) front_spot front_spot ts ws german.us (record { place = refl; before = inl refl }) words there german.shows in
+    let again : rewritten_source (rewritten_source s 0 ts ws) 0 german.us back.texts ≡ rewritten_source s 0 ts back.texts =
     german.again back.texts (as_many s place.Outside class.Other ts back.texts back.kept) in
-    let english : Rewrites s ts back.texts =
+    let english : RewritesSource s ts back.texts =
     laws.keeps s ts back.texts are (back_again s place.Outside class.Other kind.Mark ts back.texts front_fits front_stands words back.kept) in
     record {
-      english = rewritten s 0 ts back.texts;
-      translation = (german.us, german.tokens, makes English (rewritten s 0 ts ws) front_spot german.us back.texts back.are ∙ ap Ok again);
+      english = rewritten_source s 0 ts back.texts;
+      translation = (german.us, german.tokens, makes English (rewritten_source s 0 ts ws) front_spot german.us back.texts back.are ∙ ap Ok again);
       same = record {
         tokens = english.us;
         are = english.tokens;
-        is = laws.trees s (rewritten s 0 ts back.texts) ts english.us tree are
-            (alike s (rewritten s 0 ts back.texts) place.Outside class.Other ts back.texts english.us words back.kept english.shows) is;
+        is = laws.trees s (rewritten_source s 0 ts back.texts) ts english.us tree are
+            (alike s (rewritten_source s 0 ts back.texts) place.Outside class.Other ts back.texts english.us words back.kept english.shows) is;
       };
     }
 
 pub round_trips : Laws → RoundTrips
-unfolding translated
+unfolding translation_of
 round_trips laws s german tree has (ts, are, is) =
     let same : ts ≡ has.tokens = laws.one_list s ts has.tokens are has.are in
     let wrote : Writes German s front_spot ts german = writes German s front_spot ts german is in
-    subst (λ (g : List ℕ). ComesBack g tree) (sym wrote.make)
+    subst (λ (g : List ℕ). ComesBackWithTree g tree) (sym wrote.make)
     (comes_back laws s ts tree wrote.words are (subst (λ (l : List Token). IsTree s l tree) (sym same) has.is) wrote.are)

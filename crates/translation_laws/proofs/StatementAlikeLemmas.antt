@@ -27,12 +27,12 @@ use Rattle.stl_parser.specs.declared.tables.Address.{Address}
 use Rattle.stl_parser.specs.declared.tables.OperandSyntax.{OperandSyntax}
 use Rattle.stl_parser.specs.declared.tables.OperandSyntax.TheVariants as form
 use Rattle.stl_parser.specs.declared.keywords.Key.{Key}
-use Rattle.stl_parser.specs.Addresses.{address_at, block_at, block_number_at, glued_at, letter_count, numbered_at, quoted_at, separate_at}
-use Rattle.stl_parser.specs.Literals.{literal_at, literal_of, literal_token, long_literal, truth_of, unquoted}
-use Rattle.stl_parser.specs.Numbers.{signed_at}
-use Rattle.stl_parser.specs.Operands.{alone_of, by_register, direct_of, is_operand_word, mark_operand, operand_by_kind, operand_of, path_end, path_of, plain_path, register_pointer, sized_by_register, step_at, steps_from, with_number, with_pointer, word_operand}
+use Rattle.stl_parser.specs.Addresses.{address_at, block_at, block_number_at, glued_letters_and_number, letter_count, letters_and_number_at, quoted_block_at, separate_letters_and_number}
+use Rattle.stl_parser.specs.Literals.{literal_at, literal_of, literal_token, long_literal, truth_of, text_between_quotes}
+use Rattle.stl_parser.specs.Numbers.{signed_number_at}
+use Rattle.stl_parser.specs.Operands.{lone_word_operand, operand_by_register, direct_address_operand, is_operand_word, mark_operand, operand_by_kind, operand_of, path_end, path_of, plain_path, register_pointer, sized_by_register, step_at, steps_from, operand_with_number, operand_with_pointer, word_operand}
 use Rattle.stl_parser.specs.Parts.{parts_from}
-use Rattle.stl_parser.specs.Statements.{actual_at, actuals_behind, actuals_end, actuals_of, after_paren, behind_word, block_call_of, call_of, closed_of, data_block_at, instance_at, instruction_of, is_long, jump_of, labelled, may_be, next_actual, open_of, opening_of, plain, statement, statement_of, unlabelled, value_ends, value_length, value_of, with_operand, zone_end_of}
+use Rattle.stl_parser.specs.Statements.{actual_at, actuals_behind, actuals_end, actuals_of, after_paren, behind_word, block_call_of, call_of, one_token_instruction, data_block_at, instance_at, instruction_of, is_long_label, jump_of, labelled_statement, may_be_of_kind, next_actual, open_of, opening_instruction, statement_without_actuals, statement_with_label, statement_of, unlabelled_statement, value_ends, value_length, value_of, statement_with_operand, zone_end_of}
 use Rattle.stl_parser.specs.Tables.{addresses, look_up, mnemonics, opening_mnemonics}
 use Rattle.stl_parser.specs.Terminals.{has_kind, is_key, is_mark, key_text, kind_rank}
 use Rattle.translation_laws.proofs.AgreeAlikeLemmas.{Agree, Behind, Equal, Follows, Pair, Rests, IsSamePair, also, counts, decided, guarded, equal, goes_on, lefts, mapped, nothing, of_none, parts_follow, rest, rights, something, tested, then_decided, then_either, then_goes_on, then_mapped, then_nothing, whole_follows, whole_same}
@@ -171,14 +171,14 @@ module _ (s e : List ℕ) where
 
   data_block_agrees : (ps : List (Pair s e)) → Fits s e ps → Agree (Behind s e (Fits s e) {X = BlockName}) (data_block_at s (lefts ps)) (data_block_at e (rights ps))
   unfolding data_block_at
-  data_block_agrees ps h = goes_on _ _ (blocks ps h) (λ x qs k. guarded (may_be x is_data_block) (something (refl, rest s e (Fits s e) qs k)))
+  data_block_agrees ps h = goes_on _ _ (blocks ps h) (λ x qs k. guarded (may_be_of_kind x is_data_block) (something (refl, rest s e (Fits s e) qs k)))
 
   instance_agrees : (name : BlockName) (ps : List (Pair s e)) → Fits s e ps → Agree (Behind s e (Fits s e) {X = Option BlockName}) (instance_at s name (lefts ps)) (instance_at e name (rights ps))
   unfolding instance_at
   instance_agrees name [] h = something (refl, rest s e (Fits s e) [] tt)
   instance_agrees name (p ∷ ps) h =
       decided (mark_like s e p mark.Comma)
-      (λ is. guarded (may_be name is_function_block) (mapped _ _ (data_block_agrees ps h.2) (λ x y k. (ap Some k.0, k.1))))
+      (λ is. guarded (may_be_of_kind name is_function_block) (mapped _ _ (data_block_agrees ps h.2) (λ x y k. (ap Some k.0, k.1))))
       (λ isnt. something (refl, rest s e (Fits s e) (p ∷ ps) h))
 
   call_follows : (code : Mnemonic) (ps : List (Pair s e)) → Fits s e ps → Follows Equal (call_of s code (lefts ps)) (call_of e code (rights ps))
@@ -190,20 +190,20 @@ module _ (s e : List ℕ) where
   block_call_same : (code : Mnemonic) (ps : List (Pair s e)) → Fits s e ps → block_call_of s code (lefts ps) ≡ block_call_of e code (rights ps)
   unfolding block_call_of
   block_call_same code ps h =
-      ap (option_map (λ name. plain code (operand.Called name None))) (whole_same {s = s} {e = e} {F = Fits s e} (block_at s (lefts ps)) (block_at e (rights ps)) (blocks ps h))
+      ap (option_map (λ name. statement_without_actuals code (operand.Called name None))) (whole_same {s = s} {e = e} {F = Fits s e} (block_at s (lefts ps)) (block_at e (rights ps)) (blocks ps h))
 
-  with_operand_follows : (code : Mnemonic) (ps : List (Pair s e)) → Fits s e ps → Follows Equal (with_operand s code (lefts ps)) (with_operand e code (rights ps))
-  unfolding with_operand
-  with_operand_follows code ps h = then_mapped _ _ (operand_follows s e ps h) (λ x y k. ap (plain code) k)
+  with_operand_follows : (code : Mnemonic) (ps : List (Pair s e)) → Fits s e ps → Follows Equal (statement_with_operand s code (lefts ps)) (statement_with_operand e code (rights ps))
+  unfolding statement_with_operand
+  with_operand_follows code ps h = then_mapped _ _ (operand_follows s e ps h) (λ x y k. ap (statement_without_actuals code) k)
 
   -- ---- what stands behind an instruction word
 
-  long_same : (p : Pair s e) → IsSamePair p → is_long s p.left ≡ is_long e p.right
-  unfolding is_long
+  long_same : (p : Pair s e) → IsSamePair p → is_long_label s p.left ≡ is_long_label e p.right
+  unfolding is_long_label
   long_same p same = rw same.text refl
 
   abbrev jump : List ℕ → Mnemonic → Token → BareStatement
-  jump source code t = record { code = code; operand = operand.Label (text_of source t); actuals = []; long = is_long source t }
+  jump source code t = record { code = code; operand = operand.Label (text_of source t); actuals = []; long = is_long_label source t }
 
   jump_is : (code : Mnemonic) (p : Pair s e) → IsSamePair p → jump s code p.left ≡ jump e code p.right
   jump_is code p same = rw (long_same p same, same.text) refl
@@ -220,7 +220,7 @@ module _ (s e : List ℕ) where
   open_follows code [] h = with_operand_follows code [] h
   open_follows code (p ∷ []) h =
       then_decided (kind_like s e p kind.Quoted refl refl)
-      (λ is. also (something (ap (λ t. plain code (operand.OpenBlock false (block.Quoted (unquoted t)))) (text_like s e p kind.Quoted refl is))))
+      (λ is. also (something (ap (λ t. statement_without_actuals code (operand.OpenBlock false (block.Quoted (text_between_quotes t)))) (text_like s e p kind.Quoted refl is))))
       (λ isnt. with_operand_follows code (p ∷ []) h)
   open_follows code (p ∷ q ∷ ps) h = with_operand_follows code (p ∷ q ∷ ps) h
 
@@ -245,8 +245,8 @@ module _ (s e : List ℕ) where
     pub labels : (m : Mnemonic × OperandSyntax) → look_up mnemonics (text_of s p.left) ≡ Some m → Labels m.1 ps
     pub fits : Fits s e ps
 
-  closed_follows : (p : Pair s e) (ps : List (Pair s e)) → IsFirst p ps → Follows Equal (closed_of s p.left (lefts ps)) (closed_of e p.right (rights ps))
-  unfolding closed_of
+  closed_follows : (p : Pair s e) (ps : List (Pair s e)) → IsFirst p ps → Follows Equal (one_token_instruction s p.left (lefts ps)) (one_token_instruction e p.right (rights ps))
+  unfolding one_token_instruction
   closed_follows p ps h =
       rw (sym (same_looked_up mnemonics (text_of s p.left) (text_of e p.right) h.text))
       (by (look_up mnemonics (text_of s p.left)) h.labels)
@@ -292,7 +292,7 @@ module _ (s e : List ℕ) where
   paren_register t _ is = refl
 
   paren_long : (t : Token) (ts : List Token) → is_mark s t mark.OpenParen ≡ true → long_literal s t ts ≡ None
-  unfolding long_literal signed_at mark_text
+  unfolding long_literal signed_number_at mark_text
   paren_long t [] is = rw (other_mark t mark.OpenParen mark.Bytes is refl) refl
   paren_long t (u ∷ us) is =
       rw (other_mark t mark.OpenParen mark.Bytes is refl, other_mark t mark.OpenParen mark.Minus is refl, other_mark t mark.OpenParen mark.Plus is refl) refl
@@ -306,7 +306,7 @@ module _ (s e : List ℕ) where
   paren_literal t ts is = rw (ap (literal_token s t) (is_of_mark t mark.OpenParen is) ∙ mark_literal t, paren_long t ts is) refl
 
   paren_mark : (t : Token) (ts : List Token) → is_mark s t mark.OpenParen ≡ true → mark_operand s t ts (t ∷ ts) ≡ None
-  unfolding mark_operand by_register mark_text
+  unfolding mark_operand operand_by_register mark_text
   paren_mark t ts is = rw (other_mark t mark.OpenParen mark.Pointer is refl, paren_register t ts is) refl
 
   or_none : {X : Type 0} (a b : Option X) → a ≡ None → b ≡ None → option_or a b ≡ None
@@ -318,9 +318,9 @@ module _ (s e : List ℕ) where
       or_none _ _ (ap (option_map operand.Constant) (paren_literal t ts is))
       (ap (λ k. operand_by_kind s t ts (t ∷ ts) k) (is_of_mark t mark.OpenParen is) ∙ paren_mark t ts is)
 
-  paren_with : (code : Mnemonic) (t : Token) (ts : List Token) → is_mark s t mark.OpenParen ≡ true → with_operand s code (t ∷ ts) ≡ None
-  unfolding with_operand
-  paren_with code t ts is = ap (option_map (plain code)) (paren_operand t ts is)
+  paren_with : (code : Mnemonic) (t : Token) (ts : List Token) → is_mark s t mark.OpenParen ≡ true → statement_with_operand s code (t ∷ ts) ≡ None
+  unfolding statement_with_operand
+  paren_with code t ts is = ap (option_map (statement_without_actuals code)) (paren_operand t ts is)
 
   paren_jump : (code : Mnemonic) (t : Token) (ts : List Token) → is_mark s t mark.OpenParen ≡ true → jump_of s code (t ∷ ts) ≡ None
   unfolding jump_of
@@ -333,7 +333,7 @@ module _ (s e : List ℕ) where
   paren_open code t (u ∷ us) is = paren_with code t (u ∷ us) is
 
   paren_block : (t : Token) (ts : List Token) → is_mark s t mark.OpenParen ≡ true → block_at s (t ∷ ts) ≡ None
-  unfolding block_at block_number_at numbered_at quoted_at
+  unfolding block_at block_number_at letters_and_number_at quoted_block_at
   paren_block t ts is =
       rw (of_kind t kind.Mark kind.Word (is_of_mark t mark.OpenParen is), of_kind t kind.Mark kind.Quoted (is_of_mark t mark.OpenParen is)) refl
 
@@ -353,24 +353,24 @@ module _ (s e : List ℕ) where
   none_of f None h = refl
   none_of f (Some x) h = h x
 
-  paren_closed : (w t : Token) (ts : List Token) → is_mark s t mark.OpenParen ≡ true → closed_of s w (t ∷ ts) ≡ None
-  unfolding closed_of
+  paren_closed : (w t : Token) (ts : List Token) → is_mark s t mark.OpenParen ≡ true → one_token_instruction s w (t ∷ ts) ≡ None
+  unfolding one_token_instruction
   paren_closed w t ts is = none_of _ _ (λ m. paren_behind m.1 m.0 t ts is)
 
   -- ---- brackets
 
   -- without a `(` none opens
-  no_opening : (source : List ℕ) (w t : Token) (ts : List Token) → is_mark source t mark.OpenParen ≡ false → opening_of source w (t ∷ ts) ≡ None
-  unfolding opening_of after_paren
+  no_opening : (source : List ℕ) (w t : Token) (ts : List Token) → is_mark source t mark.OpenParen ≡ false → opening_instruction source w (t ∷ ts) ≡ None
+  unfolding opening_instruction after_paren
   no_opening source w t ts isnt = rw isnt (nothing_of (look_up opening_mnemonics (text_of source w)))
 
-  no_opening_end : (source : List ℕ) (w : Token) → opening_of source w [] ≡ None
-  unfolding opening_of after_paren
+  no_opening_end : (source : List ℕ) (w : Token) → opening_instruction source w [] ≡ None
+  unfolding opening_instruction after_paren
   no_opening_end source w = nothing_of (look_up opening_mnemonics (text_of source w))
 
   opening_at : (source : List ℕ) (w t : Token) (ts : List Token) → is_mark source t mark.OpenParen ≡ true
-      → opening_of source w (t ∷ ts) ≡ option_and_then (λ code. with_operand source code ts) (look_up opening_mnemonics (text_of source w))
-  unfolding opening_of after_paren
+      → opening_instruction source w (t ∷ ts) ≡ option_and_then (λ code. statement_with_operand source code ts) (look_up opening_mnemonics (text_of source w))
+  unfolding opening_instruction after_paren
   opening_at source w t ts is = rw is refl
 
   no_zone : (source : List ℕ) (w t : Token) (ts : List Token) → (is_mark source w mark.CloseParen && is_key source t key.Mcr) ≡ false → zone_end_of source w (t ∷ ts) ≡ None
@@ -378,7 +378,7 @@ module _ (s e : List ℕ) where
   no_zone source w t ts isnt = rw isnt refl
 
   zone_at : (source : List ℕ) (w t : Token) (ts : List Token) → (is_mark source w mark.CloseParen && is_key source t key.Mcr) ≡ true
-      → zone_end_of source w (t ∷ ts) ≡ with_operand source mnemonic.McrClose ts
+      → zone_end_of source w (t ∷ ts) ≡ statement_with_operand source mnemonic.McrClose ts
   unfolding zone_end_of
   zone_at source w t ts is = rw is refl
 
@@ -392,13 +392,13 @@ module _ (s e : List ℕ) where
   both_none : {X : Type 0} (o o' : Option X) → o ≡ None → o' ≡ None → Agree Equal o o'
   both_none o o' a b = rw (a, b) nothing
 
-  with_same : (code : Mnemonic) (ps : List (Pair s e)) → operand_of s (lefts ps) ≡ operand_of e (rights ps) → with_operand s code (lefts ps) ≡ with_operand e code (rights ps)
-  unfolding with_operand
-  with_same code ps same = ap (option_map (plain code)) same
+  with_same : (code : Mnemonic) (ps : List (Pair s e)) → operand_of s (lefts ps) ≡ operand_of e (rights ps) → statement_with_operand s code (lefts ps) ≡ statement_with_operand e code (rights ps)
+  unfolding statement_with_operand
+  with_same code ps same = ap (option_map (statement_without_actuals code)) same
 
-  with_none : (code : Mnemonic) (ts : List Token) → operand_of s ts ≡ None → with_operand s code ts ≡ None
-  unfolding with_operand
-  with_none code ts none = ap (option_map (plain code)) none
+  with_none : (code : Mnemonic) (ts : List Token) → operand_of s ts ≡ None → statement_with_operand s code ts ≡ None
+  unfolding statement_with_operand
+  with_none code ts none = ap (option_map (statement_without_actuals code)) none
 
   -- ---- behind `)MCR`
 
@@ -430,16 +430,16 @@ module _ (s e : List ℕ) where
   unfolding look_up addresses
   zone_whole w is = same_looked_up addresses (text_of s w) (codes "MCR") (zone_text w is)
 
-  zone_address : (w : Token) (ts : List Token) → is_key s w key.Mcr ≡ true → with_number s (w ∷ ts) ≡ None
-  unfolding with_number address_at numbered_at glued_at separate_at
+  zone_address : (w : Token) (ts : List Token) → is_key s w key.Mcr ≡ true → operand_with_number s (w ∷ ts) ≡ None
+  unfolding operand_with_number address_at letters_and_number_at glued_letters_and_number separate_letters_and_number
   zone_address w [] is = rw (zone_letters w is) (by (has_kind w kind.Word))
     where
-      by : (b : Bool) → option_and_then (λ (r : Address × ℕ × List Token). direct_of s r.0 r.1 r.2) (if b then None else None) ≡ None
+      by : (b : Bool) → option_and_then (λ (r : Address × ℕ × List Token). direct_address_operand s r.0 r.1 r.2) (if b then None else None) ≡ None
       by true = refl
       by false = refl
   zone_address w (t ∷ ts) is = rw (zone_letters w is, zone_whole w is) (by (has_kind w kind.Word))
     where
-      by : (b : Bool) → option_and_then (λ (r : Address × ℕ × List Token). direct_of s r.0 r.1 r.2) (if b then None else None) ≡ None
+      by : (b : Bool) → option_and_then (λ (r : Address × ℕ × List Token). direct_address_operand s r.0 r.1 r.2) (if b then None else None) ≡ None
       by true = refl
       by false = refl
 
@@ -452,7 +452,7 @@ module _ (s e : List ℕ) where
       by false x k = k
 
   zone_rest : (w u : Token) (us : List Token) → is_key s w key.Mcr ≡ true → u.kind ≡ kind.Word → word_operand s w (u ∷ us) (w ∷ u ∷ us) ≡ None
-  unfolding word_operand alone_of with_pointer sized_by_register key_text
+  unfolding word_operand lone_word_operand operand_with_pointer sized_by_register key_text
   zone_rest w u us is word =
       rw (zone_address w (u ∷ us) is, zone_whole w is, other_key w key.Mcr key.B is refl, other_key w key.Mcr key.W is refl, other_key w key.Mcr key.D is refl, zone_plain w u us word) refl
 
@@ -479,7 +479,7 @@ module _ (s e : List ℕ) where
   zone_truth w is = rw (other_key w key.Mcr key.True is refl, other_key w key.Mcr key.False is refl) refl
 
   word_long : (t u : Token) (us : List Token) → t.kind ≡ kind.Word → long_literal s t (u ∷ us) ≡ None
-  unfolding long_literal signed_at
+  unfolding long_literal signed_number_at
   word_long t u us is =
       rw (no_mark s t mark.Bytes (of_kind t kind.Word kind.Mark is), no_mark s t mark.Minus (of_kind t kind.Word kind.Mark is), no_mark s t mark.Plus (of_kind t kind.Word kind.Mark is)) refl
 
@@ -497,24 +497,24 @@ module _ (s e : List ℕ) where
   unfolding look_up mnemonics is_mark mark_text
   closing t is = same_looked_up mnemonics (text_of s t) (codes ")") (second (has_kind t kind.Mark) (str_eq_ignore_ascii_case (text_of s t) (codes ")")) is)
 
-  zone_closed : (t w u : Token) (us : List Token) → is_mark s t mark.CloseParen ≡ true → is_key s w key.Mcr ≡ true → u.kind ≡ kind.Word → closed_of s t (w ∷ u ∷ us) ≡ None
-  unfolding closed_of behind_word
+  zone_closed : (t w u : Token) (us : List Token) → is_mark s t mark.CloseParen ≡ true → is_key s w key.Mcr ≡ true → u.kind ≡ kind.Word → one_token_instruction s t (w ∷ u ∷ us) ≡ None
+  unfolding one_token_instruction behind_word
   zone_closed t w u us close is word = rw (closing t close) (with_none mnemonic.Close (w ∷ u ∷ us) (zone_operand w u us is word))
 
   -- ---- an instruction
 
-  all_none : (w : Token) (ts : List Token) → opening_of s w ts ≡ None → zone_end_of s w ts ≡ None → closed_of s w ts ≡ None → instruction_of s (w ∷ ts) ≡ None
+  all_none : (w : Token) (ts : List Token) → opening_instruction s w ts ≡ None → zone_end_of s w ts ≡ None → one_token_instruction s w ts ≡ None → instruction_of s (w ∷ ts) ≡ None
   unfolding instruction_of
   all_none w ts a b c = rw (a, b, c) refl
 
-  three : (p : Pair s e) (ps : List (Pair s e)) → Agree Equal (opening_of s p.left (lefts ps)) (opening_of e p.right (rights ps))
+  three : (p : Pair s e) (ps : List (Pair s e)) → Agree Equal (opening_instruction s p.left (lefts ps)) (opening_instruction e p.right (rights ps))
       → Agree Equal (zone_end_of s p.left (lefts ps)) (zone_end_of e p.right (rights ps)) → IsFirst p ps
       → Follows Equal (instruction_of s (p.left ∷ lefts ps)) (instruction_of e (p.right ∷ rights ps))
   unfolding instruction_of
   three p ps opening zone h = then_either opening (then_either zone (closed_follows p ps h))
 
   foreign_word : (ps : List (Pair s e)) → HeadForeign s e ps → (w : Token) → is_key s w key.Mcr ≡ true → (t : Token) → is_mark s t mark.CloseParen ≡ true
-      → closed_of s t (w ∷ lefts ps) ≡ None
+      → one_token_instruction s t (w ∷ lefts ps) ≡ None
   foreign_word [] foreign w is t close = absurd foreign
   foreign_word (p ∷ ps) foreign w is t close = zone_closed t w p.left (lefts ps) close is foreign.0.named.word
 
@@ -532,22 +532,22 @@ module _ (s e : List ℕ) where
       zones_none : (is_mark s p.left mark.CloseParen && is_key s q.left key.Mcr) ≡ false → Agree Equal (zone_end_of s p.left (q.left ∷ lefts qs)) (zone_end_of e p.right (q.right ∷ rights qs))
       zones_none isnt = both_none _ _ (no_zone s p.left q.left (lefts qs) isnt) (no_zone e p.right q.right (rights qs) (sym zone_same ∙ isnt))
 
-      opening_none : is_mark s q.left mark.OpenParen ≡ false → Agree Equal (opening_of s p.left (q.left ∷ lefts qs)) (opening_of e p.right (q.right ∷ rights qs))
+      opening_none : is_mark s q.left mark.OpenParen ≡ false → Agree Equal (opening_instruction s p.left (q.left ∷ lefts qs)) (opening_instruction e p.right (q.right ∷ rights qs))
       opening_none isnt = both_none _ _ (no_opening s p.left q.left (lefts qs) isnt) (no_opening e p.right q.right (rights qs) (sym (mark_like s e q mark.OpenParen) ∙ isnt))
 
       opened : is_mark s q.left mark.OpenParen ≡ true → operand_of s (lefts qs) ≡ operand_of e (rights qs)
-          → opening_of s p.left (q.left ∷ lefts qs) ≡ opening_of e p.right (q.right ∷ rights qs)
+          → opening_instruction s p.left (q.left ∷ lefts qs) ≡ opening_instruction e p.right (q.right ∷ rights qs)
       opened is same =
           opening_at s p.left q.left (lefts qs) is
-          ∙ ap (option_and_then (λ code. with_operand s code (lefts qs))) (same_looked_up opening_mnemonics (text_of s p.left) (text_of e p.right) h.text)
+          ∙ ap (option_and_then (λ code. statement_with_operand s code (lefts qs))) (same_looked_up opening_mnemonics (text_of s p.left) (text_of e p.right) h.text)
           ∙ each (look_up opening_mnemonics (text_of e p.right))
           ∙ sym (opening_at e p.right q.right (rights qs) (sym (mark_like s e q mark.OpenParen) ∙ is))
         where
-          each : (o : Option Mnemonic) → option_and_then (λ code. with_operand s code (lefts qs)) o ≡ option_and_then (λ code. with_operand e code (rights qs)) o
+          each : (o : Option Mnemonic) → option_and_then (λ code. statement_with_operand s code (lefts qs)) o ≡ option_and_then (λ code. statement_with_operand e code (rights qs)) o
           each None = refl
           each (Some code) = with_same code qs same
 
-      unread : is_mark s q.left mark.OpenParen ≡ true → operand_of s (lefts qs) ≡ None → opening_of s p.left (q.left ∷ lefts qs) ≡ None
+      unread : is_mark s q.left mark.OpenParen ≡ true → operand_of s (lefts qs) ≡ None → opening_instruction s p.left (q.left ∷ lefts qs) ≡ None
       unread is none = opening_at s p.left q.left (lefts qs) is ∙ none_of _ _ (λ code. with_none code (lefts qs) none)
 
       at_paren : is_mark s q.left mark.OpenParen ≡ true → (operand_of s (lefts qs) ≡ operand_of e (rights qs)) ⊎ HeadForeign s e qs
@@ -599,15 +599,15 @@ module _ (s e : List ℕ) where
   instructions_follow [] h = then_nothing
   instructions_follow (p ∷ ps) h = instruction_follows p ps h
 
-  unlabelled_follows : (line : ℕ) (ps : List (Pair s e)) → AreInstruction ps → Follows Equal (unlabelled s line (lefts ps)) (unlabelled e line (rights ps))
-  unfolding unlabelled
-  unlabelled_follows line ps h = then_mapped _ _ (instructions_follow ps h) (λ x y k. ap (λ (i : BareStatement). (statement line None i, i.long)) k)
+  unlabelled_follows : (line : ℕ) (ps : List (Pair s e)) → AreInstruction ps → Follows Equal (unlabelled_statement s line (lefts ps)) (unlabelled_statement e line (rights ps))
+  unfolding unlabelled_statement
+  unlabelled_follows line ps h = then_mapped _ _ (instructions_follow ps h) (λ x y k. ap (λ (i : BareStatement). (statement_with_label line None i, i.long)) k)
 
-  labelled_follows : (line : ℕ) (p : Pair s e) (ps : List (Pair s e)) → IsSamePair p → AreInstruction ps → Follows Equal (labelled s line p.left (lefts ps)) (labelled e line p.right (rights ps))
-  unfolding labelled
+  labelled_follows : (line : ℕ) (p : Pair s e) (ps : List (Pair s e)) → IsSamePair p → AreInstruction ps → Follows Equal (labelled_statement s line p.left (lefts ps)) (labelled_statement e line p.right (rights ps))
+  unfolding labelled_statement
   labelled_follows line p ps same h =
       rw (same.text, long_same p same)
-      (then_mapped _ _ (instructions_follow ps h) (λ x y k. ap (λ (i : BareStatement). (statement line (Some (text_of e p.right)) i, i.long || is_long e p.right)) k))
+      (then_mapped _ _ (instructions_follow ps h) (λ x y k. ap (λ (i : BareStatement). (statement_with_label line (Some (text_of e p.right)) i, i.long || is_long_label e p.right)) k))
 
   pub statement_follows : (line : ℕ) (ps : List (Pair s e)) → AreStatement ps → Follows Equal (statement_of s line (lefts ps)) (statement_of e line (rights ps))
   unfolding statement_of

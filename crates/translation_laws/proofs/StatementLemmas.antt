@@ -9,10 +9,10 @@ use Rattle.de_mnemonics.specs.declared.places.Place.{Place}
 use Rattle.de_mnemonics.specs.declared.places.Place.TheVariants as place
 use Rattle.de_mnemonics.specs.declared.roles.Role.{Role}
 use Rattle.de_mnemonics.specs.declared.roles.Role.TheVariants as role
-use Rattle.de_mnemonics.specs.Places.{behind, behind_closing, behind_head, behind_instruction, behind_outside, behind_sign, behind_start, behind_word, is_among, is_jump, may_be_keyword, role_at_start, role_in, role_of, role_of_word}
-use Rattle.de_mnemonics.specs.Tables.{begin_words, data_openings, endings, network_words, zone_words}
+use Rattle.de_mnemonics.specs.Places.{place_behind, place_behind_closing, place_behind_head, place_behind_instruction, place_behind_outside, place_behind_sign, place_behind_start, place_behind_word, is_word_in_list, is_jump_word, may_be_keyword, role_at_start, role_in, role_of, role_of_word}
+use Rattle.de_mnemonics.specs.Tables.{begin_words, data_openings, block_end_words, network_words, zone_words}
 use Rattle.de_mnemonics.specs.Translation.{class_in, next_class}
-use Rattle.translation_laws.specs.Statements.{BodiesHaveRoles, HasNoSemicolon, OthersStay, StatementsHaveRoles, closing_roles, instruction_roles, is_between, is_body_end, is_closing_class, is_colon_class, is_note_class, is_number_class, is_opening_class, is_semicolon_class, is_word_class, is_zone_end, label_roles, opening_roles, place_in_head, place_outside, roles_beside, roles_from, sign_roles, token_role, word_roles}
+use Rattle.translation_laws.specs.Statements.{BodiesHaveRoles, HasNoSemicolon, OthersStay, StatementsHaveRoles, closing_roles, instruction_roles, stands_between_statements, is_body_end, is_closing_class, is_colon_class, is_note_class, is_number_class, is_opening_class, is_semicolon_class, is_word_class, is_zone_end, label_roles, opening_roles, place_in_head, place_outside, roles_beside, roles_from, sign_roles, token_role, word_roles}
 
 -- the class of what follows a part of a statement doesn't ask for what stands behind its `;`
 next_end : (s : List ℕ) (inside : List Token) (semicolon : Token) (rest : List Token)
@@ -21,8 +21,8 @@ next_end s [] semicolon rest = refl
 next_end s (t ∷ inside) semicolon rest = refl
 
 -- the place behind a token of the rest of a statement
-inside_place : (b c : TokenClass) (x : List ℕ) (n : TokenClass) → is_semicolon_class c ≡ false → behind place.Inside b c x n ≡ place.Inside
-unfolding behind behind_word behind_sign
+inside_place : (b c : TokenClass) (x : List ℕ) (n : TokenClass) → is_semicolon_class c ≡ false → place_behind place.Inside b c x n ≡ place.Inside
+unfolding place_behind place_behind_word place_behind_sign
 inside_place b class.Semicolon x n e = absurd (true≢false e)
 inside_place b class.Word x n e = refl
 inside_place b class.Number x n e = refl
@@ -36,8 +36,8 @@ inside_place b class.CloseParen x n e = refl
 inside_place b class.Pointer x n e = refl
 inside_place b class.Other x n e = refl
 
-path_place : (b c : TokenClass) (x : List ℕ) (n : TokenClass) → is_semicolon_class c ≡ false → behind place.Path b c x n ≡ place.Inside
-unfolding behind behind_word behind_sign
+path_place : (b c : TokenClass) (x : List ℕ) (n : TokenClass) → is_semicolon_class c ≡ false → place_behind place.Path b c x n ≡ place.Inside
+unfolding place_behind place_behind_word place_behind_sign
 path_place b class.Semicolon x n e = absurd (true≢false e)
 path_place b class.Word x n e = refl
 path_place b class.Number x n e = refl
@@ -73,8 +73,8 @@ semicolon_class class.Pointer e = absurd (false≢true e)
 semicolon_class class.Other e = absurd (false≢true e)
 
 semicolon_place : (p : Place) (b : TokenClass) (x : List ℕ) (n : TokenClass) → is_in_statement p ≡ true
-    → (role_of p b class.Semicolon x n ≡ role.Stays) × (behind p b class.Semicolon x n ≡ place.Start)
-unfolding role_of behind behind_sign
+    → (role_of p b class.Semicolon x n ≡ role.Stays) × (place_behind p b class.Semicolon x n ≡ place.Start)
+unfolding role_of place_behind place_behind_sign
 semicolon_place place.Outside b x n e = absurd (false≢true e)
 semicolon_place place.Head b x n e = absurd (false≢true e)
 semicolon_place place.Label b x n e = absurd (false≢true e)
@@ -91,11 +91,11 @@ cons_same x y xs ys e h = ap (λ z. z ∷ xs) e ∙ ap (λ zs. y ∷ zs) h
 
 -- one token, and what is behind it
 step : (s : List ℕ) (p q : Place) (b : TokenClass) (t : Token) (rest : List Token) (r : Role) (behind_ : List Role)
-    → role_of p b (class_in s t) (text_of s t) (next_class s rest) ≡ r → behind p b (class_in s t) (text_of s t) (next_class s rest) ≡ q
+    → role_of p b (class_in s t) (text_of s t) (next_class s rest) ≡ r → place_behind p b (class_in s t) (text_of s t) (next_class s rest) ≡ q
     → roles_from s q (class_in s t) rest ≡ behind_ → roles_from s p b (t ∷ rest) ≡ r ∷ behind_
 step s p q b t rest r behind_ e f h =
     cons_same (role_of p b (class_in s t) (text_of s t) (next_class s rest)) r
-    (roles_from s (behind p b (class_in s t) (text_of s t) (next_class s rest)) (class_in s t) rest) behind_ e
+    (roles_from s (place_behind p b (class_in s t) (text_of s t) (next_class s rest)) (class_in s t) rest) behind_ e
     (ap (λ z. roles_from s z (class_in s t) rest) f ∙ h)
 
 semicolon_step : (s : List ℕ) (p : Place) (b : TokenClass) (t : Token) (rest : List Token) → is_in_statement p ≡ true
@@ -105,7 +105,7 @@ semicolon_step s p b t rest in_ e =
     let facts = semicolon_place p b (text_of s t) (next_class s rest) in_ in
     step s p place.Start b t rest role.Stays (roles_from s place.Start class.Semicolon rest)
     (ap (λ c. role_of p b c (text_of s t) (next_class s rest)) is ∙ facts.0)
-    (ap (λ c. behind p b c (text_of s t) (next_class s rest)) is ∙ facts.1)
+    (ap (λ c. place_behind p b c (text_of s t) (next_class s rest)) is ∙ facts.1)
     (ap (λ c. roles_from s place.Start c rest) is)
 
 -- a `;` has no role
@@ -195,7 +195,7 @@ inside_roles s b (t ∷ inside) semicolon rest h =
 -- where a path may begin, and the place behind the first token is known
 open_roles : (s : List ℕ) (p q : Place) (opens : Bool) (b : TokenClass) (t : Token) (inside : List Token) (semicolon : Token) (rest : List Token)
     → is_open_place p ≡ true
-    → behind p b (class_in s t) (text_of s t) (next_class s (inside ++ semicolon ∷ rest)) ≡ q
+    → place_behind p b (class_in s t) (text_of s t) (next_class s (inside ++ semicolon ∷ rest)) ≡ q
     → roles_from s q (class_in s t) (inside ++ semicolon ∷ rest) ≡ roles_beside s opens (class_in s t) (inside ++ semicolon ∷ []) ++ Next s rest
     → roles_from s p b (t ∷ (inside ++ semicolon ∷ rest))
     ≡ (token_role true b (class_in s t) (text_of s t) (next_class s (inside ++ semicolon ∷ [])) ∷ roles_beside s opens (class_in s t) (inside ++ semicolon ∷ []))
@@ -219,8 +219,8 @@ path_roles s b (t ∷ inside) semicolon rest h =
 -- ---- behind an instruction word
 
 opening_place : (b c : TokenClass) (x : List ℕ) (n : TokenClass) → is_semicolon_class c ≡ false → is_opening_class c ≡ false
-    → behind place.Instruction b c x n ≡ place.Inside
-unfolding behind behind_word behind_sign
+    → place_behind place.Instruction b c x n ≡ place.Inside
+unfolding place_behind place_behind_word place_behind_sign
 opening_place b class.Semicolon x n e f = absurd (true≢false e)
 opening_place b class.OpenParen x n e f = absurd (true≢false f)
 opening_place b class.Word x n e f = refl
@@ -249,8 +249,8 @@ opening_class class.Pointer e = absurd (false≢true e)
 opening_class class.Other e = absurd (false≢true e)
 
 opened : (b : TokenClass) (x : List ℕ) (n : TokenClass)
-    → (role_of place.Instruction b class.OpenParen x n ≡ role.Stays) × (behind place.Instruction b class.OpenParen x n ≡ place.Path)
-unfolding role_of behind behind_sign
+    → (role_of place.Instruction b class.OpenParen x n ≡ role.Stays) × (place_behind place.Instruction b class.OpenParen x n ≡ place.Path)
+unfolding role_of place_behind place_behind_sign
 opened b x n = (refl, refl)
 
 opening_rest : (s : List ℕ) (inside : List Token) (semicolon : Token) (rest : List Token) → Ends s inside semicolon
@@ -270,7 +270,7 @@ opening_rest s (t ∷ inside) semicolon rest h = by (is_opening_class (class_in 
         let facts = opened class.Word (text_of s t) (next_class s (inside ++ semicolon ∷ rest)) in
         step s place.Instruction place.Path class.Word t (inside ++ semicolon ∷ rest) role.Stays (roles_beside s true class.OpenParen (inside ++ semicolon ∷ []) ++ Next s rest)
         (ap (λ c. role_of place.Instruction class.Word c (text_of s t) (next_class s (inside ++ semicolon ∷ rest))) is ∙ facts.0)
-        (ap (λ c. behind place.Instruction class.Word c (text_of s t) (next_class s (inside ++ semicolon ∷ rest))) is ∙ facts.1)
+        (ap (λ c. place_behind place.Instruction class.Word c (text_of s t) (next_class s (inside ++ semicolon ∷ rest))) is ∙ facts.1)
         (ap (λ c. roles_from s place.Path c (inside ++ semicolon ∷ rest)) is
         ∙ path_roles s class.OpenParen inside semicolon rest (one_less s t inside semicolon h))
     by false e =
@@ -295,8 +295,8 @@ word_class class.Pointer e = absurd (false≢true e)
 word_class class.Other e = absurd (false≢true e)
 
 jump_step : (b c : TokenClass) (x : List ℕ) (n : TokenClass) → is_semicolon_class c ≡ false
-    → (role_of place.Jump b c x n ≡ role.Stays) × (behind place.Jump b c x n ≡ (if is_word_class c then place.Inside else place.Jump))
-unfolding role_of role_of_word behind behind_word behind_sign
+    → (role_of place.Jump b c x n ≡ role.Stays) × (place_behind place.Jump b c x n ≡ (if is_word_class c then place.Inside else place.Jump))
+unfolding role_of role_of_word place_behind place_behind_word place_behind_sign
 jump_step b class.Semicolon x n e = absurd (true≢false e)
 jump_step b class.Word x n e = (refl, refl)
 jump_step b class.Number x n e = (refl, refl)
@@ -335,8 +335,8 @@ label_rest s b (t ∷ inside) semicolon rest h =
 -- ---- behind a `)`
 
 closing_by : (b c : TokenClass) (x : List ℕ) (n : TokenClass) → is_semicolon_class c ≡ false
-    → behind place.Closing b c x n ≡ (if is_word_class c && is_among zone_words x then place.Path else place.Inside)
-unfolding behind behind_word behind_closing behind_sign
+    → place_behind place.Closing b c x n ≡ (if is_word_class c && is_word_in_list zone_words x then place.Path else place.Inside)
+unfolding place_behind place_behind_word place_behind_closing place_behind_sign
 closing_by b class.Semicolon x n e = absurd (true≢false e)
 closing_by b class.Word x n e = refl
 closing_by b class.Number x n e = refl
@@ -402,12 +402,12 @@ sign_rest s c inside semicolon rest h = by (is_number_class c) (is_closing_class
     by false false e = path_roles s c inside semicolon rest h
 
 word_place : List ℕ → Place
-word_place x = if is_jump x then place.Jump else place.Instruction
+word_place x = if is_jump_word x then place.Jump else place.Instruction
 
 word_rest : (s : List ℕ) (x : List ℕ) (inside : List Token) (semicolon : Token) (rest : List Token) → Ends s inside semicolon
     → roles_from s (word_place x) class.Word (inside ++ semicolon ∷ rest) ≡ word_roles s x (inside ++ semicolon ∷ []) ++ Next s rest
 unfolding word_place
-word_rest s x inside semicolon rest h = by (is_jump x)
+word_rest s x inside semicolon rest h = by (is_jump_word x)
   where
     by : (c : Bool) → roles_from s (if c then place.Jump else place.Instruction) class.Word (inside ++ semicolon ∷ rest)
         ≡ (if c then label_roles s (inside ++ semicolon ∷ []) else opening_roles s (inside ++ semicolon ∷ [])) ++ Next s rest
@@ -417,9 +417,9 @@ word_rest s x inside semicolon rest h = by (is_jump x)
 -- a token of an instruction's front leads there
 record IsFront (s : List ℕ) (p : Place) (b : TokenClass) (t : Token) (n : TokenClass) : Type 0 where
   word_role : is_word_class (class_in s t) ≡ true → role_of p b (class_in s t) (text_of s t) n ≡ role.Instruction
-  word_behind : is_word_class (class_in s t) ≡ true → behind p b (class_in s t) (text_of s t) n ≡ word_place (text_of s t)
+  word_behind : is_word_class (class_in s t) ≡ true → place_behind p b (class_in s t) (text_of s t) n ≡ word_place (text_of s t)
   sign_role : is_word_class (class_in s t) ≡ false → role_of p b (class_in s t) (text_of s t) n ≡ role.Stays
-  sign_behind : is_word_class (class_in s t) ≡ false → behind p b (class_in s t) (text_of s t) n ≡ front_place (class_in s t)
+  sign_behind : is_word_class (class_in s t) ≡ false → place_behind p b (class_in s t) (text_of s t) n ≡ front_place (class_in s t)
 
 front_rest : (s : List ℕ) (p : Place) (b : TokenClass) (t : Token) (inside : List Token) (semicolon : Token) (rest : List Token) → Ends s inside semicolon
     → IsFront s p b t (next_class s (inside ++ semicolon ∷ rest))
@@ -441,13 +441,13 @@ front_rest s p b t inside semicolon rest h f = by (is_word_class (class_in s t))
 
 -- behind a label
 labelled_word : (b : TokenClass) (x : List ℕ) (n : TokenClass)
-    → (role_of place.Labelled b class.Word x n ≡ role.Instruction) × (behind place.Labelled b class.Word x n ≡ word_place x)
-unfolding role_of role_of_word behind behind_word behind_instruction word_place
+    → (role_of place.Labelled b class.Word x n ≡ role.Instruction) × (place_behind place.Labelled b class.Word x n ≡ word_place x)
+unfolding role_of role_of_word place_behind place_behind_word place_behind_instruction word_place
 labelled_word b x n = (refl, refl)
 
 labelled_sign : (b c : TokenClass) (x : List ℕ) (n : TokenClass) → is_word_class c ≡ false → is_semicolon_class c ≡ false
-    → (role_of place.Labelled b c x n ≡ role.Stays) × (behind place.Labelled b c x n ≡ front_place c)
-unfolding role_of behind behind_sign front_place
+    → (role_of place.Labelled b c x n ≡ role.Stays) × (place_behind place.Labelled b c x n ≡ front_place c)
+unfolding role_of place_behind place_behind_sign front_place
 labelled_sign b class.Word x n e f = absurd (true≢false e)
 labelled_sign b class.Semicolon x n e f = absurd (true≢false f)
 labelled_sign b class.Number x n e f = (refl, refl)
@@ -464,7 +464,7 @@ labelled_sign b class.Other x n e f = (refl, refl)
 labelled_front : (s : List ℕ) (b : TokenClass) (t : Token) (n : TokenClass) → is_semicolon_class (class_in s t) ≡ false → IsFront s place.Labelled b t n
 labelled_front s b t n e = record {
   word_role = λ word. ap (λ c. role_of place.Labelled b c (text_of s t) n) (word_class (class_in s t) word) ∙ (labelled_word b (text_of s t) n).0;
-  word_behind = λ word. ap (λ c. behind place.Labelled b c (text_of s t) n) (word_class (class_in s t) word) ∙ (labelled_word b (text_of s t) n).1;
+  word_behind = λ word. ap (λ c. place_behind place.Labelled b c (text_of s t) n) (word_class (class_in s t) word) ∙ (labelled_word b (text_of s t) n).1;
   sign_role = λ other. (labelled_sign b (class_in s t) (text_of s t) n other e).0;
   sign_behind = λ other. (labelled_sign b (class_in s t) (text_of s t) n other e).1;
 }
@@ -487,9 +487,9 @@ labelled_rest s b (t ∷ inside) semicolon rest h =
 
 -- ---- the start of a statement
 
-start_word : (b : TokenClass) (x : List ℕ) (n : TokenClass) → is_among endings x ≡ false → is_among network_words x ≡ false → is_colon_class n ≡ false
-    → (role_of place.Start b class.Word x n ≡ role.Instruction) × (behind place.Start b class.Word x n ≡ word_place x)
-unfolding role_of role_of_word role_at_start behind behind_word behind_start behind_instruction word_place
+start_word : (b : TokenClass) (x : List ℕ) (n : TokenClass) → is_word_in_list block_end_words x ≡ false → is_word_in_list network_words x ≡ false → is_colon_class n ≡ false
+    → (role_of place.Start b class.Word x n ≡ role.Instruction) × (place_behind place.Start b class.Word x n ≡ word_place x)
+unfolding role_of role_of_word role_at_start place_behind place_behind_word place_behind_start place_behind_instruction word_place
 start_word b x class.Colon e f g = absurd (true≢false g)
 start_word b x class.Word e f g = rw (e, f) (refl, refl)
 start_word b x class.Number e f g = rw (e, f) (refl, refl)
@@ -504,8 +504,8 @@ start_word b x class.Pointer e f g = rw (e, f) (refl, refl)
 start_word b x class.Other e f g = rw (e, f) (refl, refl)
 
 start_sign : (b c : TokenClass) (x : List ℕ) (n : TokenClass) → is_word_class c ≡ false → is_semicolon_class c ≡ false → is_note_class c ≡ false
-    → (role_of place.Start b c x n ≡ role.Stays) × (behind place.Start b c x n ≡ front_place c)
-unfolding role_of behind behind_sign front_place
+    → (role_of place.Start b c x n ≡ role.Stays) × (place_behind place.Start b c x n ≡ front_place c)
+unfolding role_of place_behind place_behind_sign front_place
 start_sign b class.Word x n e f g = absurd (true≢false e)
 start_sign b class.Semicolon x n e f g = absurd (true≢false f)
 start_sign b class.Note x n e f g = absurd (true≢false g)
@@ -520,9 +520,9 @@ start_sign b class.Pointer x n e f g = (refl, refl)
 start_sign b class.Other x n e f g = (refl, refl)
 
 -- a token with which a statement begins
-begins_word : (x : List ℕ) → not (is_among network_words x && not (is_among endings x)) && not (is_among endings x) ≡ true
-    → (is_among endings x ≡ false) × (is_among network_words x ≡ false)
-begins_word x e = by (is_among network_words x) (is_among endings x) e
+begins_word : (x : List ℕ) → not (is_word_in_list network_words x && not (is_word_in_list block_end_words x)) && not (is_word_in_list block_end_words x) ≡ true
+    → (is_word_in_list block_end_words x ≡ false) × (is_word_in_list network_words x ≡ false)
+begins_word x e = by (is_word_in_list network_words x) (is_word_in_list block_end_words x) e
   where
     by : (a c : Bool) → not (a && not c) && not c ≡ true → (c ≡ false) × (a ≡ false)
     by true true h = absurd (false≢true h)
@@ -530,7 +530,7 @@ begins_word x e = by (is_among network_words x) (is_among endings x) e
     by false true h = absurd (false≢true h)
     by false false h = (refl, refl)
 
-begins_other : (c : TokenClass) (x : List ℕ) → is_word_class c ≡ false → not (is_between c x) && not (is_body_end c x) ≡ true → is_note_class c ≡ false
+begins_other : (c : TokenClass) (x : List ℕ) → is_word_class c ≡ false → not (stands_between_statements c x) && not (is_body_end c x) ≡ true → is_note_class c ≡ false
 begins_other class.Word x e h = absurd (true≢false e)
 begins_other class.Note x e h = absurd (false≢true h)
 begins_other class.Number x e h = refl
@@ -544,12 +544,12 @@ begins_other class.CloseParen x e h = refl
 begins_other class.Pointer x e h = refl
 begins_other class.Other x e h = refl
 
-begins_at : (c : TokenClass) (x : List ℕ) → c ≡ class.Word → not (is_between c x) && not (is_body_end c x) ≡ true
-    → not (is_among network_words x && not (is_among endings x)) && not (is_among endings x) ≡ true
-begins_at c x is h = subst (λ k. not (is_between k x) && not (is_body_end k x) ≡ true) is h
+begins_at : (c : TokenClass) (x : List ℕ) → c ≡ class.Word → not (stands_between_statements c x) && not (is_body_end c x) ≡ true
+    → not (is_word_in_list network_words x && not (is_word_in_list block_end_words x)) && not (is_word_in_list block_end_words x) ≡ true
+begins_at c x is h = subst (λ k. not (stands_between_statements k x) && not (is_body_end k x) ≡ true) is h
 
 start_front : (s : List ℕ) (b : TokenClass) (t : Token) (n : TokenClass) → is_semicolon_class (class_in s t) ≡ false
-    → not (is_between (class_in s t) (text_of s t)) && not (is_body_end (class_in s t) (text_of s t)) ≡ true
+    → not (stands_between_statements (class_in s t) (text_of s t)) && not (is_body_end (class_in s t) (text_of s t)) ≡ true
     → (is_word_class (class_in s t) ≡ true → is_colon_class n ≡ false) → IsFront s place.Start b t n
 start_front s b t n e begins free = record {
   word_role = λ word.
@@ -559,20 +559,20 @@ start_front s b t n e begins free = record {
   word_behind = λ word.
       let is : class_in s t ≡ class.Word = word_class (class_in s t) word in
       let parts = begins_word (text_of s t) (begins_at (class_in s t) (text_of s t) is begins) in
-      ap (λ c. behind place.Start b c (text_of s t) n) is ∙ (start_word b (text_of s t) n parts.0 parts.1 (free word)).1;
+      ap (λ c. place_behind place.Start b c (text_of s t) n) is ∙ (start_word b (text_of s t) n parts.0 parts.1 (free word)).1;
   sign_role = λ other. (start_sign b (class_in s t) (text_of s t) n other e (begins_other (class_in s t) (text_of s t) other begins)).0;
   sign_behind = λ other. (start_sign b (class_in s t) (text_of s t) n other e (begins_other (class_in s t) (text_of s t) other begins)).1;
 }
 
 -- a label and its `:`
-label_word : (b : TokenClass) (x : List ℕ) → is_among endings x ≡ false → is_among network_words x ≡ false
-    → (role_of place.Start b class.Word x class.Colon ≡ role.Stays) × (behind place.Start b class.Word x class.Colon ≡ place.Label)
-unfolding role_of role_of_word role_at_start behind behind_word behind_start
+label_word : (b : TokenClass) (x : List ℕ) → is_word_in_list block_end_words x ≡ false → is_word_in_list network_words x ≡ false
+    → (role_of place.Start b class.Word x class.Colon ≡ role.Stays) × (place_behind place.Start b class.Word x class.Colon ≡ place.Label)
+unfolding role_of role_of_word role_at_start place_behind place_behind_word place_behind_start
 label_word b x e f = rw (e, f) (refl, refl)
 
 label_colon : (b : TokenClass) (x : List ℕ) (n : TokenClass)
-    → (role_of place.Label b class.Colon x n ≡ role.Stays) × (behind place.Label b class.Colon x n ≡ place.Labelled)
-unfolding role_of behind behind_sign
+    → (role_of place.Label b class.Colon x n ≡ role.Stays) × (place_behind place.Label b class.Colon x n ≡ place.Labelled)
+unfolding role_of place_behind place_behind_sign
 label_colon b x n = (refl, refl)
 
 colon_class : (c : TokenClass) → is_colon_class c ≡ true → c ≡ class.Colon
@@ -593,7 +593,7 @@ semicolon_no_colon : (c : TokenClass) → is_semicolon_class c ≡ true → is_c
 semicolon_no_colon c e = ap is_colon_class (semicolon_class c e)
 
 with_label : (s : List ℕ) (b : TokenClass) (t u : Token) (inside : List Token) (semicolon : Token) (rest : List Token) → Ends s inside semicolon
-    → class_in s t ≡ class.Word → class_in s u ≡ class.Colon → (is_among endings (text_of s t) ≡ false) × (is_among network_words (text_of s t) ≡ false)
+    → class_in s t ≡ class.Word → class_in s u ≡ class.Colon → (is_word_in_list block_end_words (text_of s t) ≡ false) × (is_word_in_list network_words (text_of s t) ≡ false)
     → roles_from s place.Start b (t ∷ u ∷ (inside ++ semicolon ∷ rest))
     ≡ role.Stays ∷ role.Stays ∷ (instruction_roles s (inside ++ semicolon ∷ []) ++ Next s rest)
 with_label s b t u inside semicolon rest h word colon free =
@@ -601,10 +601,10 @@ with_label s b t u inside semicolon rest h word colon free =
     let second = label_colon (class_in s t) (text_of s u) (next_class s (inside ++ semicolon ∷ rest)) in
     step s place.Start place.Label b t (u ∷ (inside ++ semicolon ∷ rest)) role.Stays (role.Stays ∷ (instruction_roles s (inside ++ semicolon ∷ []) ++ Next s rest))
     (ap (λ c. role_of place.Start b c (text_of s t) (class_in s u)) word ∙ ap (λ c. role_of place.Start b class.Word (text_of s t) c) colon ∙ first.0)
-    (ap (λ c. behind place.Start b c (text_of s t) (class_in s u)) word ∙ ap (λ c. behind place.Start b class.Word (text_of s t) c) colon ∙ first.1)
+    (ap (λ c. place_behind place.Start b c (text_of s t) (class_in s u)) word ∙ ap (λ c. place_behind place.Start b class.Word (text_of s t) c) colon ∙ first.1)
     (step s place.Label place.Labelled (class_in s t) u (inside ++ semicolon ∷ rest) role.Stays (instruction_roles s (inside ++ semicolon ∷ []) ++ Next s rest)
     (ap (λ c. role_of place.Label (class_in s t) c (text_of s u) (next_class s (inside ++ semicolon ∷ rest))) colon ∙ second.0)
-    (ap (λ c. behind place.Label (class_in s t) c (text_of s u) (next_class s (inside ++ semicolon ∷ rest))) colon ∙ second.1)
+    (ap (λ c. place_behind place.Label (class_in s t) c (text_of s u) (next_class s (inside ++ semicolon ∷ rest))) colon ∙ second.1)
     (labelled_rest s (class_in s u) inside semicolon rest h))
 
 pub statements_have_roles : StatementsHaveRoles
@@ -642,12 +642,12 @@ statements_have_roles s b (t ∷ u ∷ inside) semicolon rest begins none is =
 
 -- ---- between statements, and outside of bodies
 
-between_place : (b c : TokenClass) (x : List ℕ) (n : TokenClass) → is_between c x ≡ true
-    → (role_of place.Start b c x n ≡ role.Stays) × (behind place.Start b c x n ≡ place.Start)
-unfolding role_of role_of_word role_at_start behind behind_word behind_start behind_sign
+between_place : (b c : TokenClass) (x : List ℕ) (n : TokenClass) → stands_between_statements c x ≡ true
+    → (role_of place.Start b c x n ≡ role.Stays) × (place_behind place.Start b c x n ≡ place.Start)
+unfolding role_of role_of_word role_at_start place_behind place_behind_word place_behind_start place_behind_sign
 between_place b class.Word x n e =
-    let parts = and_parts (is_among network_words x) (not (is_among endings x)) e in
-    let free : is_among endings x ≡ false = not-true (is_among endings x) parts.1 in
+    let parts = and_parts (is_word_in_list network_words x) (not (is_word_in_list block_end_words x)) e in
+    let free : is_word_in_list block_end_words x ≡ false = not-true (is_word_in_list block_end_words x) parts.1 in
     rw (free, parts.0) (refl, refl)
 between_place b class.Note x n e = (refl, refl)
 between_place b class.Number x n e = absurd (false≢true e)
@@ -662,8 +662,8 @@ between_place b class.Pointer x n e = absurd (false≢true e)
 between_place b class.Other x n e = absurd (false≢true e)
 
 end_place : (b c : TokenClass) (x : List ℕ) (n : TokenClass) → is_body_end c x ≡ true
-    → (role_of place.Start b c x n ≡ role.Stays) × (behind place.Start b c x n ≡ place.Outside)
-unfolding role_of role_of_word role_at_start behind behind_word behind_start
+    → (role_of place.Start b c x n ≡ role.Stays) × (place_behind place.Start b c x n ≡ place.Outside)
+unfolding role_of role_of_word role_at_start place_behind place_behind_word place_behind_start
 end_place b class.Word x n e = rw e (refl, refl)
 end_place b class.Number x n e = absurd (false≢true e)
 end_place b class.Note x n e = absurd (false≢true e)
@@ -688,8 +688,8 @@ bodies_have_roles = record {
 }
 
 outside_place : (b c : TokenClass) (x : List ℕ) (n : TokenClass)
-    → (role_of place.Outside b c x n ≡ role.Stays) × (behind place.Outside b c x n ≡ place_outside b c x)
-unfolding role_of role_of_word behind behind_word behind_outside behind_sign
+    → (role_of place.Outside b c x n ≡ role.Stays) × (place_behind place.Outside b c x n ≡ place_outside b c x)
+unfolding role_of role_of_word place_behind place_behind_word place_behind_outside place_behind_sign
 outside_place b class.Word x n = (refl, refl)
 outside_place b class.Number x n = (refl, refl)
 outside_place b class.Note x n = (refl, refl)
@@ -703,9 +703,9 @@ outside_place b class.CloseParen x n = (refl, refl)
 outside_place b class.Pointer x n = (refl, refl)
 outside_place b class.Other x n = (refl, refl)
 
-head_word : (b : TokenClass) (x : List ℕ) → behind_head b x ≡ place_in_head b class.Word x
-unfolding behind_head
-head_word b x = by (may_be_keyword b) (is_among begin_words x) (is_among data_openings x)
+head_word : (b : TokenClass) (x : List ℕ) → place_behind_head b x ≡ place_in_head b class.Word x
+unfolding place_behind_head
+head_word b x = by (may_be_keyword b) (is_word_in_list begin_words x) (is_word_in_list data_openings x)
   where
     by : (a c d : Bool) → (if a then (if c then place.Start else (if d then place.Outside else place.Head)) else place.Head)
         ≡ (if a && c then place.Start else (if a && d then place.Outside else place.Head))
@@ -713,8 +713,8 @@ head_word b x = by (may_be_keyword b) (is_among begin_words x) (is_among data_op
     by false c d = refl
 
 head_place : (b c : TokenClass) (x : List ℕ) (n : TokenClass)
-    → (role_of place.Head b c x n ≡ role.Stays) × (behind place.Head b c x n ≡ place_in_head b c x)
-unfolding role_of role_of_word behind behind_word behind_sign
+    → (role_of place.Head b c x n ≡ role.Stays) × (place_behind place.Head b c x n ≡ place_in_head b c x)
+unfolding role_of role_of_word place_behind place_behind_word place_behind_sign
 head_place b class.Word x n = (refl, head_word b x)
 head_place b class.Number x n = (refl, refl)
 head_place b class.Note x n = (refl, refl)

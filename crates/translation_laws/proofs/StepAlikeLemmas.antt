@@ -24,8 +24,8 @@ use Rattle.stl_parser.specs.declared.tables.HeadWord.{HeadWord}
 use Rattle.stl_parser.specs.declared.tables.OperandSyntax.{OperandSyntax}
 use Rattle.stl_parser.specs.declared.tables.OperandSyntax.TheVariants as form
 use Rattle.stl_parser.specs.declared.tables.Keyword.{Keyword}
-use Rattle.stl_parser.specs.Clauses.{based_at, behind_note, clause_at, clause_by_kind, declaration_clause, first_step, free_word_clause, head_word_clause, in_data_head, inside_clause, is_outer, keyword_clause, level_at, other_clause, plain_clause, semicolon_clause, semicolon_place, setting_clause, setting_of, statement_clause, structure_clause, takes_parameters, until_semicolon, value_behind, word_clause}
-use Rattle.stl_parser.specs.Declarations.{declaration_of, declared_at}
+use Rattle.stl_parser.specs.Clauses.{base_block_at, behind_note, clause_at, clause_by_kind, declaration_clause, first_step, free_word_clause, head_word_clause, in_data_head, inside_clause, is_outer, keyword_clause, level_at, other_clause, plain_clause, semicolon_clause, semicolon_place, setting_clause, setting_of, statement_clause, structure_clause, takes_parameters, until_semicolon, value_behind, word_clause}
+use Rattle.stl_parser.specs.Declarations.{declaration_of, declared_name_at}
 use Rattle.stl_parser.specs.Operands.{steps_from}
 use Rattle.stl_parser.specs.Statements.{statement_of}
 use Rattle.stl_parser.specs.Tables.{head_words, keywords, look_up}
@@ -238,7 +238,7 @@ module _ (s e : List ℕ) where
       by (Some first) = path_value line first ps (fits_same s e ps h.1)
 
   declaration_equal : (level : ℕ) (ps : List (Pair s e)) → AllSame s e ps → declaration_of s level (lefts ps) ≡ declaration_of e level (rights ps)
-  unfolding declaration_of declared_at
+  unfolding declaration_of declared_name_at
   declaration_equal level [] h = refl
   declaration_equal level (p ∷ ps) h =
       equal_where _ _ (declaration_agrees s e (Fits s e) (closed s e) (apart s e) level p ps (fits_same s e (p ∷ ps) h) (same_kind s e p.left p.right kind.Word h.0)) h.0
@@ -358,8 +358,8 @@ module _ (s e : List ℕ) where
     unfolding other_clause
     other_gives cp line p ps h same r held = by (in_data_head cp)
       where
-        by : (b : Bool) → (if b then option_or (based_at s (p.left ∷ lefts ps)) (plain_clause s cp line (p.left ∷ lefts ps)) else plain_clause s cp line (p.left ∷ lefts ps)) ≡ Some r
-            → IsFound r (if b then option_or (based_at e (p.right ∷ rights ps)) (plain_clause e cp line (p.right ∷ rights ps)) else plain_clause e cp line (p.right ∷ rights ps))
+        by : (b : Bool) → (if b then option_or (base_block_at s (p.left ∷ lefts ps)) (plain_clause s cp line (p.left ∷ lefts ps)) else plain_clause s cp line (p.left ∷ lefts ps)) ≡ Some r
+            → IsFound r (if b then option_or (base_block_at e (p.right ∷ rights ps)) (plain_clause e cp line (p.right ∷ rights ps)) else plain_clause e cp line (p.right ∷ rights ps))
         by true is = or_gives r _ _ _ _ (agree_gives r _ _ (based_agrees s e F behind beside (p ∷ ps) h)) (none_too _ _ (based_agrees s e F behind beside (p ∷ ps) h))
             (plain_gives cp line p ps h same r held) is
         by false is = plain_gives cp line p ps h same r held is

@@ -12,8 +12,8 @@ use Rattle.stl_symbols.specs.declared.languages.Language.{Language}
 use Rattle.stl_symbols.specs.declared.languages.Language.TheVariants.{English, German}
 use Rattle.stl_parser.specs.Tables.{look_up, addresses, block_kinds, flags, registers, simple_types}
 use Rattle.stl_parser.specs.Addresses.{is_address_word, letter_count}
-use Rattle.de_mnemonics.specs.Tables.{Pairs, operands, results}
-use Rattle.de_mnemonics.specs.Words.{digits, letters, numbered_partner, operand_partner, partner}
+use Rattle.de_mnemonics.specs.Tables.{WordPairs, operand_pairs, result_pairs}
+use Rattle.de_mnemonics.specs.Words.{digits_of_word, letters_of_word, numbered_partner, operand_partner, partner_in_table}
 use Rattle.de_mnemonics.proofs.CaseLemmas.{same_text, same_to}
 use Rattle.translation_laws.proofs.LookUpLemmas.{same_looked_up}
 use Rattle.translation_laws.proofs.LetterLemmas.{count_lower, digit_lower, same_letters}
@@ -83,8 +83,8 @@ address_word_same a b e =
 abbrev pub SeesNoCase : (List ℕ → Bool) → Type 0
 SeesNoCase test = (a b : List ℕ) → Same a b → test a ≡ test b
 
-pub partner_same : (language : Language) (table : Pairs) (a b : List ℕ) → Same a b → partner language table a ≡ partner language table b
-unfolding partner
+pub partner_same : (language : Language) (table : WordPairs) (a b : List ℕ) → Same a b → partner_in_table language table a ≡ partner_in_table language table b
+unfolding partner_in_table
 partner_same German [] a b e = refl
 partner_same English [] a b e = refl
 partner_same German (x ∷ xs) a b e = rw (same_text a b x.0 e) (by x (find (λ f. str_eq_ignore_ascii_case a f.0) xs) (find (λ f. str_eq_ignore_ascii_case b f.0) xs) (str_eq_ignore_ascii_case b x.0) (partner_same German xs a b e))
@@ -106,7 +106,7 @@ is_operand language word = is_some (operand_partner language word)
 
 -- the letters of one
 abbrev pub is_letters : Language → List ℕ → Bool
-is_letters language word = is_some (partner language operands word) || is_some (partner language results word)
+is_letters language word = is_some (partner_in_table language operand_pairs word) || is_some (partner_in_table language result_pairs word)
 
 by_parts : (t : Bool) (o p : Option (List ℕ)) (a b : List ℕ)
     → is_some (option_or (if t then option_map (λ found. found ++ a) o else None) p)
@@ -118,11 +118,11 @@ by_parts false o p a b = refl
 pub operand_same : (language : Language) → SeesNoCase (is_operand language)
 unfolding operand_partner numbered_partner
 operand_same language a b e =
-    rw (all_digits_same a b e, partner_same language operands (letters a) (letters b) (same_letters a b e), partner_same language results a b e)
-    (by_parts (list_all is_ascii_digit (digits b)) (partner language operands (letters b)) (partner language results b) (digits a) (digits b))
+    rw (all_digits_same a b e, partner_same language operand_pairs (letters_of_word a) (letters_of_word b) (same_letters a b e), partner_same language result_pairs a b e)
+    (by_parts (list_all is_ascii_digit (digits_of_word b)) (partner_in_table language operand_pairs (letters_of_word b)) (partner_in_table language result_pairs b) (digits_of_word a) (digits_of_word b))
 
 pub letters_sees_no_case : (language : Language) → SeesNoCase (is_letters language)
-letters_sees_no_case language a b e = rw (partner_same language operands a b e, partner_same language results a b e) refl
+letters_sees_no_case language a b e = rw (partner_same language operand_pairs a b e, partner_same language result_pairs a b e) refl
 
 -- a word of a table that no word of which passes the test passes it not
 pub no_entry : {X : Type 0} (test : List ℕ → Bool) → SeesNoCase test → (table : List (List ℕ × X)) → list_all (λ x. not (test x.0)) table ≡ true
@@ -144,9 +144,9 @@ own German pair = pair.0
 own English pair = pair.1
 
 -- a word with a partner passes a test that all such words of the table pass
-pub partner_passes : (language : Language) (test : List ℕ → Bool) → SeesNoCase test → (table : Pairs)
-    → list_all (λ x. test (own language x)) table ≡ true → (word : List ℕ) → is_some (partner language table word) ≡ true → test word ≡ true
-unfolding partner
+pub partner_passes : (language : Language) (test : List ℕ → Bool) → SeesNoCase test → (table : WordPairs)
+    → list_all (λ x. test (own language x)) table ≡ true → (word : List ℕ) → is_some (partner_in_table language table word) ≡ true → test word ≡ true
+unfolding partner_in_table
 partner_passes German test blind [] all word is = absurd (false≢true is)
 partner_passes English test blind [] all word is = absurd (false≢true is)
 partner_passes German test blind (x ∷ xs) all word is =
@@ -166,23 +166,23 @@ partner_passes English test blind (x ∷ xs) all word is =
     by x o true e h k is = blind word x.1 e ∙ h
     by x o false e h k is = k is
 
-results_are_letters : (language : Language) → list_all (λ x. is_letters language (letters (own language x))) results ≡ true
-unfolding partner operands results
+results_are_letters : (language : Language) → list_all (λ x. is_letters language (letters_of_word (own language x))) result_pairs ≡ true
+unfolding partner_in_table operand_pairs result_pairs
 results_are_letters German = refl
 results_are_letters English = refl
 
 -- an operand word has the letters of one
-pub letters_there : (language : Language) (a : List ℕ) → is_operand language a ≡ true → is_letters language (letters a) ≡ true
+pub letters_there : (language : Language) (a : List ℕ) → is_operand language a ≡ true → is_letters language (letters_of_word a) ≡ true
 unfolding operand_partner numbered_partner
 letters_there language a is =
-    by (list_all is_ascii_digit (digits a)) (partner language operands (letters a)) (partner language results a) refl refl is
+    by (list_all is_ascii_digit (digits_of_word a)) (partner_in_table language operand_pairs (letters_of_word a)) (partner_in_table language result_pairs a) refl refl is
   where
-    by_result : is_some (partner language results a) ≡ true → is_letters language (letters a) ≡ true
-    by_result there = partner_passes language (λ w. is_letters language (letters w))
-        (λ x y same. letters_sees_no_case language (letters x) (letters y) (same_letters x y same)) results (results_are_letters language) a there
+    by_result : is_some (partner_in_table language result_pairs a) ≡ true → is_letters language (letters_of_word a) ≡ true
+    by_result there = partner_passes language (λ w. is_letters language (letters_of_word w))
+        (λ x y same. letters_sees_no_case language (letters_of_word x) (letters_of_word y) (same_letters x y same)) result_pairs (results_are_letters language) a there
 
-    by : (t : Bool) (o p : Option (List ℕ)) → partner language operands (letters a) ≡ o → partner language results a ≡ p
-        → is_some (option_or (if t then option_map (λ found. found ++ digits a) o else None) p) ≡ true → is_letters language (letters a) ≡ true
+    by : (t : Bool) (o p : Option (List ℕ)) → partner_in_table language operand_pairs (letters_of_word a) ≡ o → partner_in_table language result_pairs a ≡ p
+        → is_some (option_or (if t then option_map (λ found. found ++ digits_of_word a) o else None) p) ≡ true → is_letters language (letters_of_word a) ≡ true
     by true (Some x) p e h there = rw e refl
     by true None p e h there = by_result (ap is_some h ∙ there)
     by false o p e h there = by_result (ap is_some h ∙ there)
@@ -190,34 +190,34 @@ letters_there language a is =
 -- ---- tables
 
 blocks_apart : (language : Language) → list_all (λ x. not (is_operand language x.0)) block_kinds ≡ true
-unfolding operand_partner numbered_partner partner operands results block_kinds
+unfolding operand_partner numbered_partner partner_in_table operand_pairs result_pairs block_kinds
 blocks_apart German = refl
 blocks_apart English = refl
 
 block_letters_apart : (language : Language) → list_all (λ x. not (is_letters language x.0)) block_kinds ≡ true
-unfolding partner operands results block_kinds
+unfolding partner_in_table operand_pairs result_pairs block_kinds
 block_letters_apart German = refl
 block_letters_apart English = refl
 
 types_apart : (language : Language) → list_all (λ x. not (is_operand language x.0)) simple_types ≡ true
-unfolding operand_partner numbered_partner partner operands results simple_types
+unfolding operand_partner numbered_partner partner_in_table operand_pairs result_pairs simple_types
 types_apart German = refl
 types_apart English = refl
 
 addresses_apart : list_all (λ x. not (is_operand English x.0)) addresses ≡ true
-unfolding operand_partner numbered_partner partner operands results addresses
+unfolding operand_partner numbered_partner partner_in_table operand_pairs result_pairs addresses
 addresses_apart = refl
 
 address_letters_apart : list_all (λ x. not (is_letters English x.0)) addresses ≡ true
-unfolding partner operands results addresses
+unfolding partner_in_table operand_pairs result_pairs addresses
 address_letters_apart = refl
 
 flags_apart : list_all (λ x. not (is_operand English x.0)) flags ≡ true
-unfolding operand_partner numbered_partner partner operands results flags
+unfolding operand_partner numbered_partner partner_in_table operand_pairs result_pairs flags
 flags_apart = refl
 
 registers_apart : (language : Language) → list_all (λ x. not (is_operand language x.0)) registers ≡ true
-unfolding operand_partner numbered_partner partner operands results registers
+unfolding operand_partner numbered_partner partner_in_table operand_pairs result_pairs registers
 registers_apart German = refl
 registers_apart English = refl
 
@@ -225,9 +225,9 @@ registers_apart English = refl
 pub no_block : (language : Language) (a : List ℕ) → is_operand language a ≡ true → look_up block_kinds a ≡ None
 no_block language a is = no_entry (is_operand language) (operand_same language) block_kinds (blocks_apart language) a is
 
-pub no_block_letters : (language : Language) (a : List ℕ) → is_operand language a ≡ true → look_up block_kinds (letters a) ≡ None
+pub no_block_letters : (language : Language) (a : List ℕ) → is_operand language a ≡ true → look_up block_kinds (letters_of_word a) ≡ None
 no_block_letters language a is =
-    no_entry (is_letters language) (letters_sees_no_case language) block_kinds (block_letters_apart language) (letters a) (letters_there language a is)
+    no_entry (is_letters language) (letters_sees_no_case language) block_kinds (block_letters_apart language) (letters_of_word a) (letters_there language a is)
 
 pub no_type : (language : Language) (a : List ℕ) → is_operand language a ≡ true → look_up simple_types a ≡ None
 no_type language a is = no_entry (is_operand language) (operand_same language) simple_types (types_apart language) a is
@@ -235,9 +235,9 @@ no_type language a is = no_entry (is_operand language) (operand_same language) s
 pub no_address : (a : List ℕ) → is_operand English a ≡ true → look_up addresses a ≡ None
 no_address a is = no_entry (is_operand English) (operand_same English) addresses addresses_apart a is
 
-pub no_address_letters : (a : List ℕ) → is_operand English a ≡ true → look_up addresses (letters a) ≡ None
+pub no_address_letters : (a : List ℕ) → is_operand English a ≡ true → look_up addresses (letters_of_word a) ≡ None
 no_address_letters a is =
-    no_entry (is_letters English) (letters_sees_no_case English) addresses address_letters_apart (letters a) (letters_there English a is)
+    no_entry (is_letters English) (letters_sees_no_case English) addresses address_letters_apart (letters_of_word a) (letters_there English a is)
 
 pub no_flag : (a : List ℕ) → is_operand English a ≡ true → look_up flags a ≡ None
 no_flag a is = no_entry (is_operand English) (operand_same English) flags flags_apart a is
@@ -247,33 +247,33 @@ no_register language a is = no_entry (is_operand language) (operand_same languag
 
 -- ---- English operand words
 
-addresses_there : list_all (λ x. is_some (look_up addresses (own German x))) operands ≡ true
-unfolding look_up addresses operands
+addresses_there : list_all (λ x. is_some (look_up addresses (own German x))) operand_pairs ≡ true
+unfolding look_up addresses operand_pairs
 addresses_there = refl
 
-flags_there : list_all (λ x. is_some (look_up flags (own German x))) results ≡ true
-unfolding look_up flags results
+flags_there : list_all (λ x. is_some (look_up flags (own German x))) result_pairs ≡ true
+unfolding look_up flags result_pairs
 flags_there = refl
 
-pub address_letters : (a : List ℕ) → is_some (partner German operands a) ≡ true → is_some (look_up addresses a) ≡ true
-address_letters a is = partner_passes German (λ w. is_some (look_up addresses w)) (λ x y same. ap is_some (same_looked_up addresses x y same)) operands addresses_there a is
+pub address_letters : (a : List ℕ) → is_some (partner_in_table German operand_pairs a) ≡ true → is_some (look_up addresses a) ≡ true
+address_letters a is = partner_passes German (λ w. is_some (look_up addresses w)) (λ x y same. ap is_some (same_looked_up addresses x y same)) operand_pairs addresses_there a is
 
 -- such a word is an address with its number, or a condition
 pub english_word : (a : List ℕ) → is_operand German a ≡ true → (is_address_word a || is_some (look_up flags a)) ≡ true
 unfolding operand_partner numbered_partner is_address_word
 english_word a is =
-    by (list_all is_ascii_digit (digits a)) (partner German operands (letters a)) (partner German results a) refl refl refl is
+    by (list_all is_ascii_digit (digits_of_word a)) (partner_in_table German operand_pairs (letters_of_word a)) (partner_in_table German result_pairs a) refl refl refl is
   where
     at_end : (t : Bool) → (t || true) ≡ true
     at_end true = refl
     at_end false = refl
 
-    by_result : is_some (partner German results a) ≡ true → (is_address_word a || is_some (look_up flags a)) ≡ true
-    by_result there = rw (partner_passes German (λ w. is_some (look_up flags w)) (λ x y same. ap is_some (same_looked_up flags x y same)) results flags_there a there)
+    by_result : is_some (partner_in_table German result_pairs a) ≡ true → (is_address_word a || is_some (look_up flags a)) ≡ true
+    by_result there = rw (partner_passes German (λ w. is_some (look_up flags w)) (λ x y same. ap is_some (same_looked_up flags x y same)) result_pairs flags_there a there)
         (at_end (is_address_word a))
 
-    by : (t : Bool) (o p : Option (List ℕ)) → list_all is_ascii_digit (digits a) ≡ t → partner German operands (letters a) ≡ o → partner German results a ≡ p
-        → is_some (option_or (if t then option_map (λ found. found ++ digits a) o else None) p) ≡ true → (is_address_word a || is_some (look_up flags a)) ≡ true
-    by true (Some x) p d e h there = rw (address_letters (letters a) (ap is_some e), d) refl
+    by : (t : Bool) (o p : Option (List ℕ)) → list_all is_ascii_digit (digits_of_word a) ≡ t → partner_in_table German operand_pairs (letters_of_word a) ≡ o → partner_in_table German result_pairs a ≡ p
+        → is_some (option_or (if t then option_map (λ found. found ++ digits_of_word a) o else None) p) ≡ true → (is_address_word a || is_some (look_up flags a)) ≡ true
+    by true (Some x) p d e h there = rw (address_letters (letters_of_word a) (ap is_some e), d) refl
     by true None p d e h there = by_result (ap is_some h ∙ there)
     by false o p d e h there = by_result (ap is_some h ∙ there)

@@ -7,8 +7,8 @@ use Rattle.std.specs.Str.{str_eq_ignore_ascii_case}
 use Rattle.std.proofs.lemmas.Bool.{and_parts, and_from, eqb-true, eq-eqb, false≢true, or_cases, or_left, or_right}
 use Rattle.std.proofs.lemmas.Bool.Decides.{nat_tests}
 use Rattle.stl_lexer.specs.Bytes.{hash, is_word_byte, is_word_start}
-use Rattle.stl_lexer.specs.Forms.{begins_with, goes_on, is_word}
-use Rattle.de_mnemonics.specs.Places.{is_among}
+use Rattle.stl_lexer.specs.Forms.{begins_with, continues_word, is_word}
+use Rattle.de_mnemonics.specs.Places.{is_word_in_list}
 
 -- a text begins with an entry
 abbrev pub fronts : List ℕ → List ℕ → Bool
@@ -27,8 +27,8 @@ begins_fronts [] s = refl
 begins_fronts (c ∷ e) [] = refl
 begins_fronts (c ∷ e) (b ∷ s) = ap (λ x. to_ascii_lowercase c == to_ascii_lowercase b && x) (begins_fronts e s)
 
-pub goes_heads : (s : List ℕ) → goes_on s ≡ heads is_word_byte s
-unfolding goes_on
+pub goes_heads : (s : List ℕ) → continues_word s ≡ heads is_word_byte s
+unfolding continues_word
 goes_heads [] = refl
 goes_heads (b ∷ s) = refl
 
@@ -202,8 +202,8 @@ split_word (c ∷ e) (b ∷ w) later all stops h some =
 -- ---- lists of words
 
 -- words alike are in the same lists
-pub among_alike : (table : List (List ℕ)) (a b : List ℕ) → fronts a b ≡ true → length a ≡ length b → is_among table b ≡ true → is_among table a ≡ true
-unfolding is_among
+pub among_alike : (table : List (List ℕ)) (a b : List ℕ) → fronts a b ≡ true → length a ≡ length b → is_word_in_list table b ≡ true → is_word_in_list table a ≡ true
+unfolding is_word_in_list
 among_alike [] a b h e g = g
 among_alike (entry ∷ table) a b h e g = elim (or_cases (str_eq_ignore_ascii_case b entry) (list_any (λ entry. str_eq_ignore_ascii_case b entry) table) g) [
   | inl here ↦

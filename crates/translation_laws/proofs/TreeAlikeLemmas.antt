@@ -19,8 +19,8 @@ use Rattle.stl_parser.specs.declared.clauses.Clause.TheVariants as clause
 use Rattle.stl_parser.specs.declared.places.ClausePlace.{ClausePlace}
 use Rattle.stl_parser.specs.declared.places.ClausePlace.TheVariants as clause_place
 use Rattle.stl_parser.specs.Clauses.{clause_at, semicolon_place}
-use Rattle.stl_parser.specs.Frame.{follow, follow_body}
-use Rattle.stl_parser.specs.Source.{Reads, step_of}
+use Rattle.stl_parser.specs.Frame.{next_place, next_place_in_body}
+use Rattle.stl_parser.specs.Source.{ReadsClauses, step_of}
 use Rattle.stl_parser.specs.Terminals.{has_kind}
 use Rattle.stl_parser.proofs.FrameLemmas.{right_clause}
 use Rattle.de_mnemonics.specs.declared.classes.TokenClass.{TokenClass}
@@ -29,9 +29,9 @@ use Rattle.de_mnemonics.specs.declared.places.Place.{Place}
 use Rattle.de_mnemonics.specs.declared.places.Place.TheVariants as place
 use Rattle.de_mnemonics.specs.declared.roles.Role.{Role}
 use Rattle.de_mnemonics.specs.declared.roles.Role.TheVariants as role
-use Rattle.translation_laws.specs.Alike.{ComesAs, TreesAlike}
-use Rattle.de_mnemonics.specs.Places.{behind, is_among, may_be_keyword, role_of}
-use Rattle.de_mnemonics.specs.Tables.{endings, network_words}
+use Rattle.translation_laws.specs.Alike.{ComesBackInRole, TreesAlike}
+use Rattle.de_mnemonics.specs.Places.{place_behind, is_word_in_list, may_be_keyword, role_of}
+use Rattle.de_mnemonics.specs.Tables.{block_end_words, network_words}
 use Rattle.de_mnemonics.specs.Translation.{class_in, next_class}
 use Rattle.de_mnemonics.specs.Words.{operand_partner}
 use Rattle.translation_laws.proofs.AgreeAlikeLemmas.{IsNamedPair, IsSamePair, OpensNone, Pair, lefts, rights}
@@ -51,22 +51,22 @@ pub record Frame : Type 0 where
       → clause_at s p ts ≡ Some (c, rest, long) → IsCalmClause s ts rest
   pub stands_quiet : (p : ClausePlace) (pl : Place) (b : TokenClass) → is_body p ≡ false → Stands p pl b → (is_quiet pl ≡ true) × (may_be_keyword b ≡ true)
   pub stands_after : (p : ClausePlace) (c : Clause) (next : ClausePlace) (pl : Place) (before after : TokenClass) → is_body p ≡ false → Stands p pl before
-      → follow p c ≡ Some next → may_be_keyword after ≡ true → Stands next (place_after c pl) after
-  pub no_statement : (p : ClausePlace) (c : Clause) (next : ClausePlace) → is_body p ≡ false → follow p c ≡ Some next → is_statement c ≡ false
+      → next_place p c ≡ Some next → may_be_keyword after ≡ true → Stands next (place_after c pl) after
+  pub no_statement : (p : ClausePlace) (c : Clause) (next : ClausePlace) → is_body p ≡ false → next_place p c ≡ Some next → is_statement c ≡ false
   pub first_place : (s : List ℕ) (p : ClausePlace) (t : Token) (ts : List Token) (c : Clause) (rest : List Token) (long : Bool) (pl : Place) (before nc : TokenClass)
       → is_quiet pl ≡ true → may_be_keyword before ≡ true → is_statement c ≡ false → clause_at s p (t ∷ ts) ≡ Some (c, rest, long)
-      → behind pl before (class_in s t) (text_of s t) nc ≡ place_after c pl
+      → place_behind pl before (class_in s t) (text_of s t) nc ≡ place_after c pl
   pub begins_rest : (s : List ℕ) (p : ClausePlace) (t : Token) (ts rest : List Token) (long : Bool)
       → clause_at s p (t ∷ ts) ≡ Some (clause.Begins, rest, long) → rest ≡ ts
-  pub calm_place : (pl : Place) (b c : TokenClass) (text : List ℕ) (nc : TokenClass) → is_quiet pl ≡ true → calm_of b c text ≡ true → behind pl b c text nc ≡ pl
+  pub calm_place : (pl : Place) (b c : TokenClass) (text : List ℕ) (nc : TokenClass) → is_quiet pl ≡ true → calm_of b c text ≡ true → place_behind pl b c text nc ≡ pl
   pub quiet_role : (pl : Place) (b c : TokenClass) (text : List ℕ) (nc : TokenClass) → is_quiet pl ≡ true → role_of pl b c text nc ≡ role.Stays
   pub body_step : (s : List ℕ) (k : BlockKind) (t : Token) (ts : List Token) (c : Clause) (rest : List Token) (long : Bool) (next : ClausePlace) (before nc : TokenClass)
-      → is_code k ≡ true → is_statement c ≡ false → clause_at s (clause_place.Body k) (t ∷ ts) ≡ Some (c, rest, long) → follow (clause_place.Body k) c ≡ Some next
-      → (rest ≡ ts) × Stands next (behind place.Start before (class_in s t) (text_of s t) nc) (class_in s t)
+      → is_code k ≡ true → is_statement c ≡ false → clause_at s (clause_place.Body k) (t ∷ ts) ≡ Some (c, rest, long) → next_place (clause_place.Body k) c ≡ Some next
+      → (rest ≡ ts) × Stands next (place_behind place.Start before (class_in s t) (text_of s t) nc) (class_in s t)
   pub body_free : (s : List ℕ) (k : BlockKind) (t : Token) (ts : List Token) (y : Statement) (rest : List Token) (long : Bool)
       → clause_at s (clause_place.Body k) (t ∷ ts) ≡ Some (clause.Runs y, rest, long)
       → (is_note (class_in s t) ≡ false)
-      × (has_kind t kind.Word ≡ true → (is_among endings (text_of s t) ≡ false) × (is_among network_words (text_of s t) ≡ false))
+      × (has_kind t kind.Word ≡ true → (is_word_in_list block_end_words (text_of s t) ≡ false) × (is_word_in_list network_words (text_of s t) ≡ false))
   pub body_rest : (s : List ℕ) (k : BlockKind) (t : Token) (ts : List Token) (y : Statement) (rest : List Token) (long : Bool)
       → clause_at s (clause_place.Body k) (t ∷ ts) ≡ Some (clause.Runs y, rest, long)
       → (n : ℕ) × (semicolon_place s (t ∷ ts) ≡ Some n) × (rest ≡ drop (n + 1) (t ∷ ts))
@@ -109,8 +109,8 @@ first_or d (t ∷ ts) = t
 module _ (frame : Frame) (s e : List ℕ) where
   -- ---- the walk through a clause outside of bodies
 
-  same_at : (pl : Place) (b nc : TokenClass) (q : Pair s e) → is_quiet pl ≡ true → ComesAs s e (role_of pl b (class_in s q.left) (text_of s q.left) nc) q.left q.right → IsSamePair q
-  same_at pl b nc q quiet h = subst (λ (r : Role). ComesAs s e r q.left q.right) (frame.quiet_role pl b (class_in s q.left) (text_of s q.left) nc quiet) h
+  same_at : (pl : Place) (b nc : TokenClass) (q : Pair s e) → is_quiet pl ≡ true → ComesBackInRole s e (role_of pl b (class_in s q.left) (text_of s q.left) nc) q.left q.right → IsSamePair q
+  same_at pl b nc q quiet h = subst (λ (r : Role). ComesBackInRole s e r q.left q.right) (frame.quiet_role pl b (class_in s q.left) (text_of s q.left) nc quiet) h
 
   calm_pairs : (j : ℕ) (pl : Place) (b : TokenClass) (qs : List (Pair s e)) → is_quiet pl ≡ true → AreCalm s b (lefts (take j qs)) → Walk s e pl b qs
       → AllSame s e (take j qs) × Walk s e pl (last_class s b (lefts (take j qs))) (drop j qs)
@@ -268,7 +268,7 @@ module _ (frame : Frame) (s e : List ℕ) where
       let stays = frame.calm_place pl b (class_in s q.left) (text_of s q.left) (class_in s r.left) quiet (ap (λ (x : TokenClass). calm_of b x (text_of s q.left)) c) in
       same_kind s e r.left r.right kind.Word
       (same_at pl (class_in s q.left) (next_class s (lefts ps)) r quiet
-      (subst (λ (x : Place). ComesAs s e (role_of x (class_in s q.left) (class_in s r.left) (text_of s r.left) (next_class s (lefts ps))) r.left r.right) stays h.1.0))
+      (subst (λ (x : Place). ComesBackInRole s e (role_of x (class_in s q.left) (class_in s r.left) (text_of s r.left) (next_class s (lefts ps))) r.left r.right) stays h.1.0))
 
   abbrev whole : (p : Pair s e) (ps : List (Pair s e)) → Weak s e (p ∷ ps) → IsTail (p ∷ ps) (p ∷ ps)
   whole p ps weak = record { weak = weak; count = 0; at = refl }
@@ -279,7 +279,7 @@ module _ (frame : Frame) (s e : List ℕ) where
   -- BEGIN
   begin_step : (cp : ClausePlace) (next : ClausePlace) (rest : List Token) (pl : Place) (b : TokenClass) (p : Pair s e) (ps : List (Pair s e))
       → is_body cp ≡ false → Stands cp pl b → Walk s e pl b (p ∷ ps) → clause_at s cp (p.left ∷ lefts ps) ≡ Some (clause.Begins, rest, false)
-      → follow cp clause.Begins ≡ Some next → IsStep cp clause.Begins next rest (p ∷ ps)
+      → next_place cp clause.Begins ≡ Some next → IsStep cp clause.Begins next rest (p ∷ ps)
   begin_step cp next rest pl b p ps outside stands h found may =
       let quiet = frame.stands_quiet cp pl b outside stands in
       let same = same_at pl b (next_class s (lefts ps)) p quiet.0 h.0 in
@@ -299,7 +299,7 @@ module _ (frame : Frame) (s e : List ℕ) where
   -- any other clause outside of bodies
   quiet_step : (cp : ClausePlace) (c : Clause) (next : ClausePlace) (rest : List Token) (pl : Place) (b : TokenClass) (p : Pair s e) (ps : List (Pair s e))
       → is_body cp ≡ false → is_begin c ≡ false → Stands cp pl b → Walk s e pl b (p ∷ ps) → clause_at s cp (p.left ∷ lefts ps) ≡ Some (c, rest, false)
-      → follow cp c ≡ Some next → IsStep cp c next rest (p ∷ ps)
+      → next_place cp c ≡ Some next → IsStep cp c next rest (p ∷ ps)
   quiet_step cp c next rest pl b p ps outside plain stands h found may =
       let quiet = frame.stands_quiet cp pl b outside stands in
       let stated = frame.no_statement cp c next outside may in
@@ -324,7 +324,7 @@ module _ (frame : Frame) (s e : List ℕ) where
 
   other_step : (k : BlockKind) (c : Clause) (next : ClausePlace) (rest : List Token) (b : TokenClass) (p : Pair s e) (ps : List (Pair s e))
       → is_code k ≡ true → is_statement c ≡ false → Walk s e place.Start b (p ∷ ps) → clause_at s (clause_place.Body k) (p.left ∷ lefts ps) ≡ Some (c, rest, false)
-      → follow (clause_place.Body k) c ≡ Some next → IsStep (clause_place.Body k) c next rest (p ∷ ps)
+      → next_place (clause_place.Body k) c ≡ Some next → IsStep (clause_place.Body k) c next rest (p ∷ ps)
   other_step k c next rest b p ps code plain h found may =
       let there = frame.body_step s k p.left (lefts ps) c rest false next b (next_class s (lefts ps)) code plain found may in
       let weak = weak_walk place.Start b (p ∷ ps) h in
@@ -339,7 +339,7 @@ module _ (frame : Frame) (s e : List ℕ) where
   statement_step : (k : BlockKind) (y : Statement) (next : ClausePlace) (rest : List Token) (b : TokenClass) (p : Pair s e) (ps : List (Pair s e))
       → AreFormed s (p.left ∷ lefts ps) → (next ≡ clause_place.Body k) → is_code k ≡ true
       → Walk s e place.Start b (p ∷ ps) → clause_at s (clause_place.Body k) (p.left ∷ lefts ps) ≡ Some (clause.Runs y, rest, false)
-      → follow (clause_place.Body k) (clause.Runs y) ≡ Some next → IsStep (clause_place.Body k) (clause.Runs y) next rest (p ∷ ps)
+      → next_place (clause_place.Body k) (clause.Runs y) ≡ Some next → IsStep (clause_place.Body k) (clause.Runs y) next rest (p ∷ ps)
   statement_step k y next rest b p ps shape same code h found may =
       let free = frame.body_free s k p.left (lefts ps) y rest false found in
       let weak = weak_walk place.Start b (p ∷ ps) h in
@@ -358,7 +358,7 @@ module _ (frame : Frame) (s e : List ℕ) where
 
   outside_step : (cp : ClausePlace) (c : Clause) (next : ClausePlace) (rest : List Token) (pl : Place) (b : TokenClass) (p : Pair s e) (ps : List (Pair s e))
       → is_body cp ≡ false → Stands cp pl b → Walk s e pl b (p ∷ ps) → clause_at s cp (p.left ∷ lefts ps) ≡ Some (c, rest, false)
-      → follow cp c ≡ Some next → IsStep cp c next rest (p ∷ ps)
+      → next_place cp c ≡ Some next → IsStep cp c next rest (p ∷ ps)
   outside_step cp c next rest pl b p ps outside stands h found may = by (is_begin c) refl
     where
       by : (t : Bool) → is_begin c ≡ t → IsStep cp c next rest (p ∷ ps)
@@ -368,15 +368,15 @@ module _ (frame : Frame) (s e : List ℕ) where
           subst (λ (x : Clause). IsStep cp x next rest (p ∷ ps)) (sym same)
           (begin_step cp next rest pl b p ps outside stands h
           (subst (λ (x : Clause). clause_at s cp (p.left ∷ lefts ps) ≡ Some (x, rest, false)) same found)
-          (subst (λ (x : Clause). follow cp x ≡ Some next) same may))
+          (subst (λ (x : Clause). next_place cp x ≡ Some next) same may))
 
-  runs_next : (k : BlockKind) (y : Statement) (next : ClausePlace) → follow (clause_place.Body k) (clause.Runs y) ≡ Some next → next ≡ clause_place.Body k
-  unfolding follow follow_body
+  runs_next : (k : BlockKind) (y : Statement) (next : ClausePlace) → next_place (clause_place.Body k) (clause.Runs y) ≡ Some next → next ≡ clause_place.Body k
+  unfolding next_place next_place_in_body
   runs_next k y next may = sym (same_Some (clause_place.Body k) next may)
 
   inside_step : (k : BlockKind) (c : Clause) (next : ClausePlace) (rest : List Token) (b : TokenClass) (p : Pair s e) (ps : List (Pair s e))
       → AreFormed s (p.left ∷ lefts ps) → is_code k ≡ true → Walk s e place.Start b (p ∷ ps)
-      → clause_at s (clause_place.Body k) (p.left ∷ lefts ps) ≡ Some (c, rest, false) → follow (clause_place.Body k) c ≡ Some next
+      → clause_at s (clause_place.Body k) (p.left ∷ lefts ps) ≡ Some (c, rest, false) → next_place (clause_place.Body k) c ≡ Some next
       → IsStep (clause_place.Body k) c next rest (p ∷ ps)
   inside_step k (clause.Runs y) next rest b p ps shape code h found may = statement_step k y next rest b p ps shape (runs_next k y next may) code h found may
   inside_step k (clause.Head line j n r) next rest b p ps shape code h found may = other_step k (clause.Head line j n r) next rest b p ps code refl h found may
@@ -395,7 +395,7 @@ module _ (frame : Frame) (s e : List ℕ) where
 
   place_step : (cp : ClausePlace) (c : Clause) (next : ClausePlace) (rest : List Token) (pl : Place) (b : TokenClass) (p : Pair s e) (ps : List (Pair s e))
       → AreFormed s (p.left ∷ lefts ps) → Stands cp pl b → Walk s e pl b (p ∷ ps) → clause_at s cp (p.left ∷ lefts ps) ≡ Some (c, rest, false)
-      → follow cp c ≡ Some next → IsStep cp c next rest (p ∷ ps)
+      → next_place cp c ≡ Some next → IsStep cp c next rest (p ∷ ps)
   place_step (clause_place.Body k) c next rest pl b p ps shape stands h found may =
       inside_step k c next rest b p ps shape stands.1 (subst (λ (x : Place). Walk s e x b (p ∷ ps)) stands.0 h) found may
   place_step clause_place.Outside c next rest pl b p ps shape stands h found may = outside_step clause_place.Outside c next rest pl b p ps refl stands h found may
@@ -411,13 +411,13 @@ module _ (frame : Frame) (s e : List ℕ) where
   no_clause cp c rest found = cc
 
   one_step : (cp : ClausePlace) (c : Clause) (next : ClausePlace) (rest : List Token) (pl : Place) (b : TokenClass) (ps : List (Pair s e))
-      → AreFormed s (lefts ps) → Stands cp pl b → Walk s e pl b ps → clause_at s cp (lefts ps) ≡ Some (c, rest, false) → follow cp c ≡ Some next
+      → AreFormed s (lefts ps) → Stands cp pl b → Walk s e pl b ps → clause_at s cp (lefts ps) ≡ Some (c, rest, false) → next_place cp c ≡ Some next
       → IsStep cp c next rest ps
   one_step cp c next rest pl b [] shape stands h found may = absurd (no_clause cp c rest found)
   one_step cp c next rest pl b (p ∷ ps) shape stands h found may = place_step cp c next rest pl b p ps shape stands h found may
 
   right_step : (cp : ClausePlace) (ts : List Token) (c : Clause) (rest : List Token) (next : ClausePlace)
-      → clause_at e cp ts ≡ Some (c, rest, false) → follow cp c ≡ Some next → step_of e cp ts ≡ Ok (c, rest, next)
+      → clause_at e cp ts ≡ Some (c, rest, false) → next_place cp c ≡ Some next → step_of e cp ts ≡ Ok (c, rest, next)
   unfolding step_of
   right_step cp ts c rest next found may = rw (found, may) refl
 
@@ -429,7 +429,7 @@ module _ (frame : Frame) (s e : List ℕ) where
   -- ---- all of them
 
   reads_alike : (cs : List Clause) (cp : ClausePlace) (pl : Place) (b : TokenClass) (ps : List (Pair s e)) → AreFormed s (lefts ps) → Stands cp pl b → Walk s e pl b ps
-      → Reads s cp (lefts ps) cs clause_place.Outside [] → Reads e cp (rights ps) cs clause_place.Outside []
+      → ReadsClauses s cp (lefts ps) cs clause_place.Outside [] → ReadsClauses e cp (rights ps) cs clause_place.Outside []
   reads_alike [] cp pl b [] shape stands h reads = (reads.0, refl)
   reads_alike [] cp pl b (p ∷ ps) shape stands h reads = absurd cc
   reads_alike (c ∷ cs) cp pl b ps shape stands h (rest, next, step, more) =
@@ -439,9 +439,9 @@ module _ (frame : Frame) (s e : List ℕ) where
         there.right,
         next,
         right_step cp (rights ps) c there.right next there.found right.1,
-        subst (λ (l : List Token). Reads e next l cs clause_place.Outside []) there.right_is
+        subst (λ (l : List Token). ReadsClauses e next l cs clause_place.Outside []) there.right_is
             (reads_alike cs next there.place there.before there.pairs shape_then there.stands there.walk
-            (subst (λ (l : List Token). Reads s next l cs clause_place.Outside []) (sym there.left) more)),
+            (subst (λ (l : List Token). ReadsClauses s next l cs clause_place.Outside []) (sym there.left) more)),
       )
 
 pub alike_by : Frame → TreesAlike
@@ -449,9 +449,9 @@ alike_by frame s e ts us t are alike is =
     let z = zipped s e place.Outside class.Other ts us alike in
     record {
       clauses = is.clauses;
-      reads = subst (λ (l : List Token). Reads e clause_place.Outside l is.clauses clause_place.Outside []) z.right
+      reads = subst (λ (l : List Token). ReadsClauses e clause_place.Outside l is.clauses clause_place.Outside []) z.right
           (reads_alike frame s e is.clauses clause_place.Outside place.Outside class.Other z.pairs
           (subst (λ (l : List Token). AreFormed s l) (sym z.left) (formed s ts are)) (refl, refl) z.walk
-          (subst (λ (l : List Token). Reads s clause_place.Outside l is.clauses clause_place.Outside []) (sym z.left) is.reads));
+          (subst (λ (l : List Token). ReadsClauses s clause_place.Outside l is.clauses clause_place.Outside []) (sym z.left) is.reads));
       those = is.those;
     }

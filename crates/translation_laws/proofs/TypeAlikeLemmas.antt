@@ -14,10 +14,10 @@ use Rattle.stl_ast.specs.declared.declarations.Init.{Init}
 use Rattle.stl_ast.specs.declared.literals.Literal.{Literal}
 use Rattle.stl_symbols.specs.declared.languages.Language.TheVariants.{English, German}
 use Rattle.stl_parser.specs.declared.keywords.Key.TheVariants as key
-use Rattle.stl_parser.specs.Declarations.{after_attribute, after_colon, after_struct, declaration_of, declared, declared_at, init_behind, structure_at}
+use Rattle.stl_parser.specs.Declarations.{after_attribute, after_colon, after_struct, declaration_of, declaration_from_parts, declared_name_at, init_behind, structure_at}
 use Rattle.stl_parser.specs.Tables.{look_up, simple_types}
 use Rattle.stl_parser.specs.Terminals.{has_kind}
-use Rattle.stl_parser.specs.Types.{array_at, array_end, array_high, arrays_at, arrays_end, at_end, counted_at, counted_end, element_at, init_at, init_list, init_of, next_init, no_array, simple_at, single_init, udt_at, udt_of}
+use Rattle.stl_parser.specs.Types.{array_at, array_end, array_high, arrays_at, arrays_end, end_of_tokens, counted_init_at, counted_init_end, element_at, init_at, init_list, init_of, next_init, no_array, simple_at, single_init, udt_at, udt_of}
 use Rattle.de_mnemonics.specs.Words.{operand_partner}
 use Rattle.translation_laws.proofs.AgreeAlikeLemmas.{Agree, Behind, IsNamedPair, IsSamePair, Like, OpensNone, Pair, Rests, chained, chosen, counts, either, equal, goes_on, if_same, lefts, mapped, nothing, parts_agree, rest, rights, same_option, something, tested, whole_same}
 use Rattle.translation_laws.proofs.LikeAlikeLemmas.{itself, key_like, kind_like, mark_like, named_no_key, of_kind, same_kind}
@@ -110,13 +110,13 @@ module _ (s e : List ℕ) (F : List (Pair s e) → Type 0) (closed : (p : Pair s
 
   -- ---- initial values
 
-  counted_end_agrees : (count : ℕ) (value : Literal) (ps : List (Pair s e)) → F ps → Agree (Behind s e F {X = Init}) (counted_end s count value (lefts ps)) (counted_end e count value (rights ps))
-  unfolding counted_end
+  counted_end_agrees : (count : ℕ) (value : Literal) (ps : List (Pair s e)) → F ps → Agree (Behind s e F {X = Init}) (counted_init_end s count value (lefts ps)) (counted_init_end e count value (rights ps))
+  unfolding counted_init_end
   counted_end_agrees count value [] h = nothing
   counted_end_agrees count value (p ∷ ps) h = tested (mark_like s e p mark.CloseParen) (λ is. something (refl, rest s e F ps (closed p ps h)))
 
-  counted_agrees : (ps : List (Pair s e)) → F ps → Agree (Behind s e F {X = Init}) (counted_at s (lefts ps)) (counted_at e (rights ps))
-  unfolding counted_at
+  counted_agrees : (ps : List (Pair s e)) → F ps → Agree (Behind s e F {X = Init}) (counted_init_at s (lefts ps)) (counted_init_at e (rights ps))
+  unfolding counted_init_at
   counted_agrees (p ∷ q ∷ ps) h =
       tested (mark_like s e q mark.OpenParen)
       (λ is. chained _ _ (equal _ _ (number_of_like s e F closed apart p))
@@ -138,8 +138,8 @@ module _ (s e : List ℕ) (F : List (Pair s e) → Type 0) (closed : (p : Pair s
   next_agrees [] h = nothing
   next_agrees (p ∷ ps) h = tested (mark_like s e p mark.Comma) (λ is. init_agrees ps (closed p ps h))
 
-  at_end_agrees : (ps : List (Pair s e)) → F ps → Agree (Rests s e F) (at_end (lefts ps)) (at_end (rights ps))
-  unfolding at_end
+  at_end_agrees : (ps : List (Pair s e)) → F ps → Agree (Rests s e F) (end_of_tokens (lefts ps)) (end_of_tokens (rights ps))
+  unfolding end_of_tokens
   at_end_agrees [] h = something (rest s e F [] h)
   at_end_agrees (p ∷ ps) h = nothing
 
@@ -147,7 +147,7 @@ module _ (s e : List ℕ) (F : List (Pair s e) → Type 0) (closed : (p : Pair s
   unfolding init_list
   init_list_same ps h = same_option _ _
       (goes_on _ _ (init_agrees ps h) (λ x qs k. equal _ _ (rw (counts qs) (whole_same {s = s} {e = e} {F = F} _ _
-      (parts_agree s e F (Rests s e F) at_end at_end (next_init s) (next_init e) at_end_agrees next_agrees (x ∷ []) (length (rights qs)) qs k)))))
+      (parts_agree s e F (Rests s e F) end_of_tokens end_of_tokens (next_init s) (next_init e) at_end_agrees next_agrees (x ∷ []) (length (rights qs)) qs k)))))
 
   single_same : (ps : List (Pair s e)) → F ps → single_init s (lefts ps) ≡ single_init e (rights ps)
   unfolding single_init
@@ -194,8 +194,8 @@ module _ (s e : List ℕ) (F : List (Pair s e) → Type 0) (closed : (p : Pair s
   Declared p x y = (x.0 ≡ p.left) × (y.0 ≡ p.right) × Rests s e F x.1 y.1
 
   declared_agrees : (p : Pair s e) (ps : List (Pair s e)) → F (p ∷ ps) → HeadKind (p ∷ ps)
-      → Agree (Declared p) (declared_at s (p.left ∷ lefts ps)) (declared_at e (p.right ∷ rights ps))
-  unfolding declared_at
+      → Agree (Declared p) (declared_name_at s (p.left ∷ lefts ps)) (declared_name_at e (p.right ∷ rights ps))
+  unfolding declared_name_at
   declared_agrees p ps h kinds =
       tested kinds (λ is. mapped _ _ (colon_behind (after_attribute (lefts ps)) (after_attribute (rights ps)) (attribute_rests ps (closed p ps h))) (λ x y k. (refl, refl, k)))
 
@@ -206,7 +206,7 @@ module _ (s e : List ℕ) (F : List (Pair s e) → Type 0) (closed : (p : Pair s
 
   -- a declaration is the same where the declared name is
   declaration_is : (level : ℕ) (p : Pair s e) (arrays : List Bounds) (t : ElementType) (x y : List Init) → x ≡ y → IsSamePair p
-      → declared s level p.left arrays t x ≡ declared e level p.right arrays t y
+      → declaration_from_parts s level p.left arrays t x ≡ declaration_from_parts e level p.right arrays t y
   declaration_is level p arrays t x y k same = rw (same.line, same.text, k) refl
 
   -- the declaration of a name

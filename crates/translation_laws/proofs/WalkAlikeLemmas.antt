@@ -26,11 +26,11 @@ use Rattle.de_mnemonics.specs.declared.places.Place.{Place}
 use Rattle.de_mnemonics.specs.declared.places.Place.TheVariants as place
 use Rattle.de_mnemonics.specs.declared.roles.Role.{Role}
 use Rattle.de_mnemonics.specs.declared.roles.Role.TheVariants as role
-use Rattle.translation_laws.specs.Alike.{AreAlike, ComesAs, IsCased, IsNamed, IsSame}
-use Rattle.de_mnemonics.specs.Places.{behind, behind_closing, behind_opening, behind_part, behind_sign, behind_word, class_of, class_of_mark, is_among, is_component, is_dot, is_in, is_numbered, is_operand_place, is_pointer, is_text, opens_number, opens_path, role_at_start, role_first, role_in, role_of, role_of_word}
-use Rattle.de_mnemonics.specs.Tables.{endings, network_words, operands, results, zone_words}
+use Rattle.translation_laws.specs.Alike.{AreTokensAlike, ComesBackInRole, IsSameWordButForCase, IsOperandWordAsLocal, IsSameToken}
+use Rattle.de_mnemonics.specs.Places.{place_behind, place_behind_closing, place_behind_opening, place_behind_part, place_behind_sign, place_behind_word, class_of, class_of_mark, is_word_in_list, is_component, is_dot, is_word_in_pairs, is_numbered_operand, is_operand_place, is_pointer, is_mark_text, opens_number, opens_path, role_at_start, role_first, role_in, role_of, role_of_word}
+use Rattle.de_mnemonics.specs.Tables.{block_end_words, network_words, operand_pairs, result_pairs, zone_words}
 use Rattle.de_mnemonics.specs.Translation.{class_in, next_class}
-use Rattle.de_mnemonics.specs.Words.{digits, letters, numbered_partner, operand_partner, partner}
+use Rattle.de_mnemonics.specs.Words.{digits_of_word, letters_of_word, numbered_partner, operand_partner, partner_in_table}
 use Rattle.translation_laws.proofs.AgreeAlikeLemmas.{IsName, IsNamedPair, Like, OpensNone, Pair, lefts, rights}
 use Rattle.translation_laws.proofs.LikeAlikeLemmas.{of_kind}
 use Rattle.translation_laws.proofs.OperandAlikeLemmas.{Fits, IsKnown, Joined, JoinedTo, second}
@@ -75,7 +75,7 @@ path_word : (p : Place) (before : TokenClass) (text : List ℕ) (next : TokenCla
 unfolding role_of_word role_at_start
 path_word place.Outside before text next is = absurd cc
 path_word place.Head before text next is = absurd cc
-path_word place.Start before text next is = absurd (no_path_first (is_among endings text || is_among network_words text) next is)
+path_word place.Start before text next is = absurd (no_path_first (is_word_in_list block_end_words text || is_word_in_list network_words text) next is)
 path_word place.Label before text next is = absurd cc
 path_word place.Labelled before text next is = absurd cc
 path_word place.Jump before text next is = absurd cc
@@ -103,44 +103,44 @@ none_some : {X : Type 0} (o : Option X) → is_some o ≡ false → o ≡ None
 none_some None e = refl
 none_some (Some x) e = absurd (false≢true (sym e))
 
-operand_flags : list_all (λ x. not (is_some (look_up flags (own German x)))) operands ≡ true
-unfolding look_up flags operands
+operand_flags : list_all (λ x. not (is_some (look_up flags (own German x)))) operand_pairs ≡ true
+unfolding look_up flags operand_pairs
 operand_flags = refl
 
-no_operand_flag : (a : List ℕ) → is_some (partner German operands a) ≡ true → look_up flags a ≡ None
+no_operand_flag : (a : List ℕ) → is_some (partner_in_table German operand_pairs a) ≡ true → look_up flags a ≡ None
 no_operand_flag a is = none_some (look_up flags a)
-    (turn (is_some (look_up flags a)) (partner_passes German (λ w. not (is_some (look_up flags w))) (λ x y same. ap (λ (o : Option Flag). not (is_some o)) (same_looked_up flags x y same)) operands operand_flags a is))
+    (turn (is_some (look_up flags a)) (partner_passes German (λ w. not (is_some (look_up flags w))) (λ x y same. ap (λ (o : Option Flag). not (is_some o)) (same_looked_up flags x y same)) operand_pairs operand_flags a is))
   where
     turn : (b : Bool) → not b ≡ true → b ≡ false
     turn true e = sym e
     turn false e = refl
 
-all_letters : (a : List ℕ) → digits a ≡ [] → letters a ≡ a
-all_letters a none = sym (append-nil (letters a)) ∙ ap (λ (l : List ℕ). letters a ++ l) (sym none) ∙ take-append-drop (letter_count a) a
+all_letters : (a : List ℕ) → digits_of_word a ≡ [] → letters_of_word a ≡ a
+all_letters a none = sym (append-nil (letters_of_word a)) ∙ ap (λ (l : List ℕ). letters_of_word a ++ l) (sym none) ∙ take-append-drop (letter_count a) a
 
 pub record IsAlone (text : List ℕ) (next : TokenClass) : Type 0 where
-  pub bare : digits text ≡ []
+  pub bare : digits_of_word text ≡ []
   pub flag : look_up flags text ≡ None
   pub opens : opens_number next ≡ false
 
-english_alone : (text : List ℕ) (next : TokenClass) → is_operand German text ≡ true → is_numbered text next ≡ false → is_in results text ≡ false → IsAlone text next
-unfolding is_numbered is_in operand_partner numbered_partner
+english_alone : (text : List ℕ) (next : TokenClass) → is_operand German text ≡ true → is_numbered_operand text next ≡ false → is_word_in_pairs result_pairs text ≡ false → IsAlone text next
+unfolding is_numbered_operand is_word_in_pairs operand_partner numbered_partner
 english_alone text next is apart result =
-    by (list_all is_ascii_digit (digits text)) (partner German operands (letters text)) (partner German results text) refl refl (neither (is_some (partner German results text)) (is_some (partner English results text)) result).0 is apart
+    by (list_all is_ascii_digit (digits_of_word text)) (partner_in_table German operand_pairs (letters_of_word text)) (partner_in_table German result_pairs text) refl refl (neither (is_some (partner_in_table German result_pairs text)) (is_some (partner_in_table English result_pairs text)) result).0 is apart
   where
-    found : (x : List ℕ) → partner German operands (letters text) ≡ Some x → (nat_lt 0 (length (digits text)) || opens_number next) ≡ false → IsAlone text next
+    found : (x : List ℕ) → partner_in_table German operand_pairs (letters_of_word text) ≡ Some x → (nat_lt 0 (length (digits_of_word text)) || opens_number next) ≡ false → IsAlone text next
     found x e none =
-        let parts = neither (nat_lt 0 (length (digits text))) (opens_number next) none in
-        let bare = no_bytes (digits text) parts.0 in
+        let parts = neither (nat_lt 0 (length (digits_of_word text))) (opens_number next) none in
+        let bare = no_bytes (digits_of_word text) parts.0 in
         record {
           bare = bare;
-          flag = ap (look_up flags) (sym (all_letters text bare)) ∙ no_operand_flag (letters text) (ap is_some e);
+          flag = ap (look_up flags) (sym (all_letters text bare)) ∙ no_operand_flag (letters_of_word text) (ap is_some e);
           opens = parts.1;
         }
 
-    by : (t : Bool) (o p : Option (List ℕ)) → list_all is_ascii_digit (digits text) ≡ t → partner German operands (letters text) ≡ o → is_some p ≡ false
-        → is_some (option_or (if t then option_map (λ found. found ++ digits text) o else None) p) ≡ true
-        → ((is_some o || is_some (partner English operands (letters text))) && t && (nat_lt 0 (length (digits text)) || opens_number next)) ≡ false
+    by : (t : Bool) (o p : Option (List ℕ)) → list_all is_ascii_digit (digits_of_word text) ≡ t → partner_in_table German operand_pairs (letters_of_word text) ≡ o → is_some p ≡ false
+        → is_some (option_or (if t then option_map (λ found. found ++ digits_of_word text) o else None) p) ≡ true
+        → ((is_some o || is_some (partner_in_table English operand_pairs (letters_of_word text))) && t && (nat_lt 0 (length (digits_of_word text)) || opens_number next)) ≡ false
         → IsAlone text next
     by true (Some x) p d e r is n = found x e n
     by true None None d e r is n = absurd (false≢true is)
@@ -151,8 +151,8 @@ english_alone text next is apart result =
 pub alone_on_path : (before : TokenClass) (text : List ℕ) (next : TokenClass) → IsPath before text next → is_operand German text ≡ true → IsAlone text next
 unfolding is_operand_place
 alone_on_path before text next path is =
-    let parts = neither (is_pointer before || is_numbered text next) (is_in results text) path.place in
-    english_alone text next is (neither (is_pointer before) (is_numbered text next) parts.0).1 parts.1
+    let parts = neither (is_pointer before || is_numbered_operand text next) (is_word_in_pairs result_pairs text) path.place in
+    english_alone text next is (neither (is_pointer before) (is_numbered_operand text next) parts.0).1 parts.1
 
 -- ---- marks
 
@@ -193,19 +193,19 @@ semicolon_class = refl
 -- ---- pairs
 
 module _ (s e : List ℕ) where
-  pub name_not_same : (t u : Token) → IsNamed s e t u → IsSame s e t u → ⊥
+  pub name_not_same : (t u : Token) → IsOperandWordAsLocal s e t u → IsSameToken s e t u → ⊥
   name_not_same t u named same = by (sym named.word ∙ same.kind ∙ named.other)
     where
       by : kind.Word ≡ kind.Local → ⊥
       by e = cc
 
-  pub name_not_cased : (t u : Token) → IsNamed s e t u → IsCased s e t u → ⊥
+  pub name_not_cased : (t u : Token) → IsOperandWordAsLocal s e t u → IsSameWordButForCase s e t u → ⊥
   name_not_cased t u named cased = by (sym cased.other ∙ named.other)
     where
       by : kind.Word ≡ kind.Local → ⊥
       by e = cc
 
-  name_on_path : (p : Place) (before c : TokenClass) (next : TokenClass) (t u : Token) → IsNamed s e t u → role_of p before c (text_of s t) next ≡ role.Path → IsName s e t u
+  name_on_path : (p : Place) (before c : TokenClass) (next : TokenClass) (t u : Token) → IsOperandWordAsLocal s e t u → role_of p before c (text_of s t) next ≡ role.Path → IsName s e t u
   name_on_path p before c next t u named is = record { named = named; alone = by named.operand }
     where
       by : (is_some (operand_partner English (text_of s t)) ≡ true) ⊎ (is_some (operand_partner German (text_of s t)) ≡ true)
@@ -213,10 +213,10 @@ module _ (s e : List ℕ) where
       by (inl german) = inl german
       by (inr english) = let alone = alone_on_path before (text_of s t) next (path_role p before c (text_of s t) next is) english in inr (alone.bare, alone.flag)
 
-  known_like : (p : Place) (before c next : TokenClass) (t u : Token) → ComesAs s e (role_of p before c (text_of s t) next) t u → Like s e t u
+  known_like : (p : Place) (before c next : TokenClass) (t u : Token) → ComesBackInRole s e (role_of p before c (text_of s t) next) t u → Like s e t u
   known_like p before c next t u h = by (role_of p before c (text_of s t) next) refl h
     where
-      by : (r : Role) → role_of p before c (text_of s t) next ≡ r → ComesAs s e r t u → Like s e t u
+      by : (r : Role) → role_of p before c (text_of s t) next ≡ r → ComesBackInRole s e r t u → Like s e t u
       by role.Instruction is (inl k) = inl k
       by role.Instruction is (inr k) = inr (inl k)
       by role.Operand is (inl k) = inl k
@@ -229,8 +229,8 @@ module _ (s e : List ℕ) where
   abbrev pub Walk : Place → TokenClass → List (Pair s e) → Type 0
   Walk p before [] = Unit {0}
   Walk p before (q ∷ qs) =
-      ComesAs s e (role_of p before (class_in s q.left) (text_of s q.left) (next_class s (lefts qs))) q.left q.right
-      × Walk (behind p before (class_in s q.left) (text_of s q.left) (next_class s (lefts qs))) (class_in s q.left) qs
+      ComesBackInRole s e (role_of p before (class_in s q.left) (text_of s q.left) (next_class s (lefts qs))) q.left q.right
+      × Walk (place_behind p before (class_in s q.left) (text_of s q.left) (next_class s (lefts qs))) (class_in s q.left) qs
 
   pub record IsZipped (p : Place) (before : TokenClass) (ts us : List Token) : Type 0 where
     pub pairs : List (Pair s e)
@@ -238,17 +238,17 @@ module _ (s e : List ℕ) where
     pub right : rights pairs ≡ us
     pub walk : Walk p before pairs
 
-  pub zipped : (p : Place) (before : TokenClass) (ts us : List Token) → AreAlike s e p before ts us → IsZipped p before ts us
+  pub zipped : (p : Place) (before : TokenClass) (ts us : List Token) → AreTokensAlike s e p before ts us → IsZipped p before ts us
   zipped p before [] [] h = record { pairs = []; left = refl; right = refl; walk = tt }
   zipped p before [] (u ∷ us) h = absurd h
   zipped p before (t ∷ ts) [] h = absurd h
   zipped p before (t ∷ ts) (u ∷ us) h =
-      let z = zipped (behind p before (class_in s t) (text_of s t) (next_class s ts)) (class_in s t) ts us h.1 in record {
+      let z = zipped (place_behind p before (class_in s t) (text_of s t) (next_class s ts)) (class_in s t) ts us h.1 in record {
         pairs = record { left = t; right = u; like = known_like p before (class_in s t) (next_class s ts) t u h.0 } ∷ z.pairs;
         left = ap (λ (l : List Token). t ∷ l) z.left;
         right = ap (λ (l : List Token). u ∷ l) z.right;
-        walk = subst (λ (l : List Token). ComesAs s e (role_of p before (class_in s t) (text_of s t) (next_class s l)) t u
-            × Walk (behind p before (class_in s t) (text_of s t) (next_class s l)) (class_in s t) z.pairs) (sym z.left) (h.0, z.walk);
+        walk = subst (λ (l : List Token). ComesBackInRole s e (role_of p before (class_in s t) (text_of s t) (next_class s l)) t u
+            × Walk (place_behind p before (class_in s t) (text_of s t) (next_class s l)) (class_in s t) z.pairs) (sym z.left) (h.0, z.walk);
       }
 
   -- ---- classes
@@ -308,16 +308,16 @@ module _ (s e : List ℕ) where
   cascade false false false false false false true = refl
   cascade false false false false false false false = refl
 
-  no_end_mark : (a : List ℕ) → is_text a mark.Semicolon ≡ false → is_end (class_of_mark a) ≡ false
+  no_end_mark : (a : List ℕ) → is_mark_text a mark.Semicolon ≡ false → is_end (class_of_mark a) ≡ false
   unfolding class_of_mark
   no_end_mark a isnt = rw isnt
-      (cascade (is_text a mark.Dot) (is_text a mark.Assign) (is_text a mark.Colon) (is_text a mark.OpenBracket) (is_text a mark.OpenParen) (is_text a mark.CloseParen) (is_text a mark.Pointer))
+      (cascade (is_mark_text a mark.Dot) (is_mark_text a mark.Assign) (is_mark_text a mark.Colon) (is_mark_text a mark.OpenBracket) (is_mark_text a mark.OpenParen) (is_mark_text a mark.CloseParen) (is_mark_text a mark.Pointer))
 
   no_end_kind : (t : Token) (k : TokenKind) → t.kind ≡ k → is_mark s t mark.Semicolon ≡ false → is_end (class_of k (text_of s t)) ≡ false
   unfolding class_of is_mark
   no_end_kind t kind.Mark e isnt = no_end_mark (text_of s t) (by (has_kind t kind.Mark) (of_kind t kind.Mark kind.Mark e) isnt)
     where
-      by : (b : Bool) → b ≡ true → (b && str_eq_ignore_ascii_case (text_of s t) (mark_text mark.Semicolon)) ≡ false → is_text (text_of s t) mark.Semicolon ≡ false
+      by : (b : Bool) → b ≡ true → (b && str_eq_ignore_ascii_case (text_of s t) (mark_text mark.Semicolon)) ≡ false → is_mark_text (text_of s t) mark.Semicolon ≡ false
       by true is isnt = isnt
       by false is isnt = absurd (false≢true is)
   no_end_kind t _ e isnt = refl
@@ -381,25 +381,25 @@ module _ (s e : List ℕ) where
   no_instruction place.Labelled before class.Word text next inside is = absurd (false≢true inside)
   no_instruction p before _ text next inside is = cc
 
-  opening_stays : (c : TokenClass) → is_end c ≡ false → in_statement (behind_opening c) ≡ true
+  opening_stays : (c : TokenClass) → is_end c ≡ false → in_statement (place_behind_opening c) ≡ true
   opening_stays class.Semicolon e = absurd (false≢true (sym e))
   opening_stays class.OpenParen e = refl
   opening_stays _ e = refl
 
-  part_stays : (p : Place) (c : TokenClass) → in_statement p ≡ true → is_end c ≡ false → in_statement (behind_part p c) ≡ true
+  part_stays : (p : Place) (c : TokenClass) → in_statement p ≡ true → is_end c ≡ false → in_statement (place_behind_part p c) ≡ true
   part_stays p class.Semicolon h e = absurd (false≢true (sym e))
   part_stays p _ h e = h
 
-  closing_stays : (text : List ℕ) → in_statement (behind_closing text) ≡ true
-  unfolding behind_closing
-  closing_stays text = by (is_among zone_words text)
+  closing_stays : (text : List ℕ) → in_statement (place_behind_closing text) ≡ true
+  unfolding place_behind_closing
+  closing_stays text = by (is_word_in_list zone_words text)
     where
       by : (b : Bool) → in_statement (if b then place.Path else place.Inside) ≡ true
       by true = refl
       by false = refl
 
-  sign_stays : (p : Place) (c : TokenClass) → in_statement p ≡ true → is_end c ≡ false → in_statement (behind_sign p c) ≡ true
-  unfolding behind_sign
+  sign_stays : (p : Place) (c : TokenClass) → in_statement p ≡ true → is_end c ≡ false → in_statement (place_behind_sign p c) ≡ true
+  unfolding place_behind_sign
   sign_stays place.Jump c inside e = part_stays place.Jump c refl e
   sign_stays place.Instruction c inside e = opening_stays c e
   sign_stays place.Closing c inside e = part_stays place.Inside c refl e
@@ -411,8 +411,8 @@ module _ (s e : List ℕ) where
   sign_stays place.Label c inside e = absurd (false≢true inside)
   sign_stays place.Labelled c inside e = absurd (false≢true inside)
 
-  word_stays : (p : Place) (before : TokenClass) (text : List ℕ) (next : TokenClass) → in_statement p ≡ true → in_statement (behind_word p before text next) ≡ true
-  unfolding behind_word
+  word_stays : (p : Place) (before : TokenClass) (text : List ℕ) (next : TokenClass) → in_statement p ≡ true → in_statement (place_behind_word p before text next) ≡ true
+  unfolding place_behind_word
   word_stays place.Jump before text next inside = refl
   word_stays place.Instruction before text next inside = refl
   word_stays place.Closing before text next inside = closing_stays text
@@ -425,8 +425,8 @@ module _ (s e : List ℕ) where
   word_stays place.Labelled before text next inside = absurd (false≢true inside)
 
   pub stays : (p : Place) (before c : TokenClass) (text : List ℕ) (next : TokenClass) → in_statement p ≡ true → is_end c ≡ false
-      → in_statement (behind p before c text next) ≡ true
-  unfolding behind
+      → in_statement (place_behind p before c text next) ≡ true
+  unfolding place_behind
   stays p before class.Word text next inside e = word_stays p before text next inside
   stays p before class.Number text next inside e = sign_stays p class.Number inside e
   stays p before class.Note text next inside e = sign_stays p class.Note inside e
@@ -446,10 +446,10 @@ module _ (s e : List ℕ) where
   NoEnd (suc n) [] = Unit {0}
   NoEnd (suc n) (q ∷ qs) = (is_mark s q.left mark.Semicolon ≡ false) × NoEnd n qs
 
-  known : (p : Place) (before c next : TokenClass) (q : Pair s e) → in_statement p ≡ true → ComesAs s e (role_of p before c (text_of s q.left) next) q.left q.right → IsKnown q
+  known : (p : Place) (before c next : TokenClass) (q : Pair s e) → in_statement p ≡ true → ComesBackInRole s e (role_of p before c (text_of s q.left) next) q.left q.right → IsKnown q
   known p before c next q inside h = by (role_of p before c (text_of s q.left) next) refl h
     where
-      by : (r : Role) → role_of p before c (text_of s q.left) next ≡ r → ComesAs s e r q.left q.right → IsKnown q
+      by : (r : Role) → role_of p before c (text_of s q.left) next ≡ r → ComesBackInRole s e r q.left q.right → IsKnown q
       by role.Instruction is k = absurd (no_instruction p before c (text_of s q.left) next inside is)
       by role.Operand is (inl k) = inl k
       by role.Operand is (inr k) = inr (inl k)
@@ -458,7 +458,7 @@ module _ (s e : List ℕ) where
       by role.Stays is k = inl k
 
   -- a name stands where a path begins
-  pub name_opens_none : (p : Place) (before c next : TokenClass) (q : Pair s e) → ComesAs s e (role_of p before c (text_of s q.left) next) q.left q.right
+  pub name_opens_none : (p : Place) (before c next : TokenClass) (q : Pair s e) → ComesBackInRole s e (role_of p before c (text_of s q.left) next) q.left q.right
       → IsNamedPair q → is_operand English (text_of s q.left) ≡ false → opens_number next ≡ false
   name_opens_none p before c next q h named isnt = by (role_of p before c (text_of s q.left) next) refl h
     where
@@ -466,7 +466,7 @@ module _ (s e : List ℕ) where
       english (inl there) = absurd (false≢true (sym isnt ∙ there))
       english (inr is) = is
 
-      by : (r : Role) → role_of p before c (text_of s q.left) next ≡ r → ComesAs s e r q.left q.right → opens_number next ≡ false
+      by : (r : Role) → role_of p before c (text_of s q.left) next ≡ r → ComesBackInRole s e r q.left q.right → opens_number next ≡ false
       by role.Instruction is (inl k) = absurd (name_not_same q.left q.right named.named k)
       by role.Instruction is (inr k) = absurd (name_not_cased q.left q.right named.named k)
       by role.Operand is (inl k) = absurd (name_not_same q.left q.right named.named k)
@@ -482,11 +482,11 @@ module _ (s e : List ℕ) where
 
   joined : (p : Place) (before : TokenClass) (q r : Pair s e) (rs : List (Pair s e)) → in_statement p ≡ true → is_mark s q.left mark.Semicolon ≡ false → Walk p before (q ∷ r ∷ rs) → Joined q r
   joined p before q r rs inside isnt h = record {
-    dotted = λ is. subst (λ (x : Role). ComesAs s e x r.left r.right)
-        (component_stays (behind p before (class_in s q.left) (text_of s q.left) (class_in s r.left)) (class_in s q.left) (class_in s r.left) (text_of s r.left) (next_class s (lefts rs))
+    dotted = λ is. subst (λ (x : Role). ComesBackInRole s e x r.left r.right)
+        (component_stays (place_behind p before (class_in s q.left) (text_of s q.left) (class_in s r.left)) (class_in s q.left) (class_in s r.left) (text_of s r.left) (next_class s (lefts rs))
         (stays p before (class_in s q.left) (text_of s q.left) (class_in s r.left) inside (no_end q.left isnt))
         (component_dot (class_in s q.left) (next_class s (lefts rs)) (class_mark q.left mark.Dot is ∙ dot_class))) h.1.0;
-    assigned = λ is. subst (λ (x : Role). ComesAs s e x q.left q.right)
+    assigned = λ is. subst (λ (x : Role). ComesBackInRole s e x q.left q.right)
         (component_stays p before (class_in s q.left) (text_of s q.left) (class_in s r.left) inside
         (component_assign before (class_in s r.left) (class_mark r.left mark.Assign is ∙ assign_class))) h.0;
     apart = λ named none. opens_none r (name_opens_none p before (class_in s q.left) (class_in s r.left) q h.0 named none);
@@ -498,7 +498,7 @@ module _ (s e : List ℕ) where
   fits_until (suc n) p before (q ∷ qs) inside none h = (
     known p before (class_in s q.left) (next_class s (lefts qs)) q inside h.0,
     beside n qs none h,
-    fits_until n (behind p before (class_in s q.left) (text_of s q.left) (next_class s (lefts qs))) (class_in s q.left) qs
+    fits_until n (place_behind p before (class_in s q.left) (text_of s q.left) (next_class s (lefts qs))) (class_in s q.left) qs
         (stays p before (class_in s q.left) (text_of s q.left) (next_class s (lefts qs)) inside (no_end q.left none.0)) none.1 h.1,
   )
     where
@@ -510,7 +510,7 @@ module _ (s e : List ℕ) where
   -- the walk within a statement comes to its `;`, and behind it to the start of the next
   pub walked : (n : ℕ) (p : Place) (before : TokenClass) (ps : List (Pair s e)) (q : Pair s e) (qs : List (Pair s e)) → in_statement p ≡ true → NoEnd n ps → Walk p before ps
       → drop n ps ≡ q ∷ qs → is_mark s q.left mark.Semicolon ≡ true → Walk place.Start class.Semicolon qs
-  unfolding behind behind_sign
+  unfolding place_behind place_behind_sign
   walked zero p before [] q qs inside none h there is = absurd cc
   walked zero p before (r ∷ rs) q qs inside none h there is =
       ended (subst (λ (l : List (Pair s e)). Walk p before l) there h)
@@ -518,7 +518,7 @@ module _ (s e : List ℕ) where
       here : class_in s q.left ≡ class.Semicolon
       here = class_mark q.left mark.Semicolon is ∙ semicolon_class
 
-      ends : (p : Place) → in_statement p ≡ true → behind_sign p class.Semicolon ≡ place.Start
+      ends : (p : Place) → in_statement p ≡ true → place_behind_sign p class.Semicolon ≡ place.Start
       ends place.Jump inside = refl
       ends place.Instruction inside = refl
       ends place.Closing inside = refl
@@ -533,8 +533,8 @@ module _ (s e : List ℕ) where
       ended : Walk p before (q ∷ qs) → Walk place.Start class.Semicolon qs
       ended h = subst (λ (c : TokenClass). Walk place.Start c qs) here
           (subst (λ (x : Place). Walk x (class_in s q.left) qs)
-          (ap (λ (c : TokenClass). behind p before c (text_of s q.left) (next_class s (lefts qs))) here ∙ ends p inside) h.1)
+          (ap (λ (c : TokenClass). place_behind p before c (text_of s q.left) (next_class s (lefts qs))) here ∙ ends p inside) h.1)
   walked (suc n) p before [] q qs inside none h there is = absurd cc
   walked (suc n) p before (r ∷ rs) q qs inside none h there is =
-      walked n (behind p before (class_in s r.left) (text_of s r.left) (next_class s (lefts rs))) (class_in s r.left) rs q qs
+      walked n (place_behind p before (class_in s r.left) (text_of s r.left) (next_class s (lefts rs))) (class_in s r.left) rs q qs
       (stays p before (class_in s r.left) (text_of s r.left) (next_class s (lefts rs)) inside (no_end r.left none.0)) none.1 h.1 there is

@@ -11,14 +11,14 @@ use Rattle.std.proofs.Math.Seq.{drop-append_seam, take-append_seam}
 use Rattle.stl_lexer.specs.declared.kinds.TokenKind.{TokenKind}
 use Rattle.stl_lexer.specs.declared.kinds.TokenKind.TheVariants.{Word, Number, Quoted, Local, Characters, Based, NumberLiteral, TimeLiteral, Mark, SignWord, Attribute, Title}
 use Rattle.stl_lexer.specs.Bytes.{hash, double_quote, single_quote, open_brace, close_brace, is_line_byte, is_word_byte, is_word_start}
-use Rattle.stl_lexer.specs.Forms.{has_form, is_word, is_number, is_local, is_quoted, is_run, is_closed, is_inner, is_enclosed, behind_sign, goes_on, based_prefixes, long_prefixes, count_prefixes, time_prefixes, s5time_prefixes, sign_words, title_words}
-use Rattle.stl_lexer.specs.Longest.{IsLongest, IsLongestOf, IsFormAt, HasNone, rank_of}
+use Rattle.stl_lexer.specs.Forms.{has_form, is_word, is_number, is_local, is_quoted, is_run, is_closed, is_inner, is_enclosed, behind_sign, continues_word, based_prefixes, long_prefixes, count_prefixes, time_prefixes, s5time_prefixes, sign_words, title_words}
+use Rattle.stl_lexer.specs.Longest.{IsLongestToken, IsLongestOfForm, IsFormAt, HasNoneOfForm, rank_of_kind}
 use Rattle.stl_lexer.specs.Marks.{marks, mark_text}
 use Rattle.stl_lexer.proofs.FrontLemmas.{attribute_alone, best_found, characters_alone, local_alone, number_alone, quoted_alone}
 use Rattle.stl_lexer.proofs.QuoteLemmas.{not_opened, not_quoted}
 use Rattle.stl_lexer.proofs.RunLemmas.{run_none}
-use Rattle.de_mnemonics.specs.Places.{is_among}
-use Rattle.translation_laws.specs.Rewritten.{is_quiet, joining_words}
+use Rattle.de_mnemonics.specs.Places.{is_word_in_list}
+use Rattle.translation_laws.specs.Rewritten.{is_non_joining_word, joining_words}
 use Rattle.translation_laws.proofs.TextLemmas.{alike_fronts, among_alike, first_same, fronts, fronts_back, fronts_cons, fronts_cut, fronts_join, fronts_trans, fronts_within, goes_heads, heads, lower_hash, run_words, same_digit, same_start, split_word, whole_word}
 use Rattle.translation_laws.proofs.AheadLemmas.{Front, Over, Same, Words, Named, IsNameFront, fits_here, heads_other, heads_same}
 use Rattle.translation_laws.proofs.EndingLemmas.{Tail, Nothing, Apart, Run, SignedRun, Line, is_tail, all_rows, is_table, row_of, run_form, word_ends}
@@ -42,7 +42,7 @@ run_inside p (b ∷ x) s (suc m) h e =
     and_from (p b) (list_all p x) parts.0 (run_inside p x s m (omega (arith, h)) parts.1)
 
 -- a run that no byte of its own follows is the longest
-pub run_stands : (f p : ℕ → Bool) (x s : List ℕ) → is_run f p x ≡ true → heads p s ≡ false → IsLongestOf (λ y after. is_run f p y) (x ++ s) (length x)
+pub run_stands : (f p : ℕ → Bool) (x s : List ℕ) → is_run f p x ≡ true → heads p s ≡ false → IsLongestOfForm (λ y after. is_run f p y) (x ++ s) (length x)
 run_stands f p [] s e h = absurd (false≢true e)
 run_stands f p (b ∷ x) s e h = record {
   fits = record {
@@ -86,18 +86,18 @@ free_tail Line z e = absurd (false≢true e)
 hashed : Tail → List ℕ → List ℕ → Bool
 hashed tail word behind =
     heads (λ b. b == hash) behind
-    && (heads (λ b. not (is_word_start b)) (drop 1 behind) || length behind == 1 && (is_among joining_words word && is_free tail))
+    && (heads (λ b. not (is_word_start b)) (drop 1 behind) || length behind == 1 && (is_word_in_list joining_words word && is_free tail))
 
 -- an entry begins with no word, or has a `#` behind one, or is the word of a title
 word_row : Tail → List ℕ → Bool
 word_row tail e =
     nat_lt 0 (length e) && not (heads is_word_start e)
     || (nat_lt (prefix_len is_word_byte e) (length e) && hashed tail (take (prefix_len is_word_byte e) e) (drop (prefix_len is_word_byte e) e)
-    || nat_lt 0 (length e) && list_all is_word_byte e && (is_among joining_words e && is_line tail))
+    || nat_lt 0 (length e) && list_all is_word_byte e && (is_word_in_list joining_words e && is_line tail))
 
 -- a token longer than a word that begins with it: the word is one of those that join, and where a word alike stood, such a token stood there
 record IsJoined (k : TokenKind) (w later : List ℕ) : Type 0 where
-  among : is_among joining_words w ≡ true
+  among : is_word_in_list joining_words w ≡ true
   before : (x after : List ℕ) → fronts w x ≡ true → length w ≡ length x → heads (λ b. b == hash) after ≡ heads (λ b. b == hash) later → heads is_word_byte after ≡ false
       → (m : ℕ) × (length x ≤ m) × IsFormAt (has_form k) (x ++ after) m
 
@@ -138,7 +138,7 @@ form_at k y z some e = record {
 
 -- an entry with `#` alone behind a word
 bare_joined : (k : TokenKind) (tail : Tail) (e w later : List ℕ) → ((y z : List ℕ) → fronts e y ≡ true → is_tail tail (drop (length e) y) z ≡ true → has_form k y z ≡ true)
-    → prefix_len is_word_byte e ≡ length w → fronts (take (length w) e) w ≡ true → drop (length w) e ≡ hash ∷ [] → length e ≡ length w + 1 → is_among joining_words (take (length w) e) ≡ true → is_free tail ≡ true → heads (λ c. c == hash) later ≡ true → IsJoined k w later
+    → prefix_len is_word_byte e ≡ length w → fronts (take (length w) e) w ≡ true → drop (length w) e ≡ hash ∷ [] → length e ≡ length w + 1 → is_word_in_list joining_words (take (length w) e) ≡ true → is_free tail ≡ true → heads (λ c. c == hash) later ≡ true → IsJoined k w later
 bare_joined k tail e w later form size begins behind whole among free mark = record {
   among = among_alike joining_words w (take (length w) e) (fronts_back (take (length w) e) w begins short) (sym short) among;
   before = λ x after alike same marks stops.
@@ -163,17 +163,17 @@ unfolding hashed
 hash_joined k tail e w later word stops name form some tested h =
     let n : ℕ = prefix_len is_word_byte e in
     let split = split_word e w later word stops h some in
-    let parts = and_parts (heads (λ b. b == hash) (drop n e)) (heads (λ b. not (is_word_start b)) (drop 1 (drop n e)) || length (drop n e) == 1 && (is_among joining_words (take n e) && is_free tail)) tested in
+    let parts = and_parts (heads (λ b. b == hash) (drop n e)) (heads (λ b. not (is_word_start b)) (drop 1 (drop n e)) || length (drop n e) == 1 && (is_word_in_list joining_words (take n e) && is_free tail)) tested in
     let behind : fronts (drop n e) later ≡ true = ap (λ k. fronts (drop k e) later) split.0 ∙ split.2 in
     let begun = hash_begun (drop n e) later parts.0 behind in
-    elim (or_cases (heads (λ b. not (is_word_start b)) (drop 1 (drop n e))) (length (drop n e) == 1 && (is_among joining_words (take n e) && is_free tail)) parts.1) [
+    elim (or_cases (heads (λ b. not (is_word_start b)) (drop 1 (drop n e))) (length (drop n e) == 1 && (is_word_in_list joining_words (take n e) && is_free tail)) parts.1) [
       | inl far ↦ absurd (no_start (drop 1 (drop n e)) (drop 1 later) far begun.1 (name (drop 1 later) (hash_cons later begun.0)))
       | inr bare ↦
-          let two = and_parts (length (drop n e) == 1) (is_among joining_words (take n e) && is_free tail) bare in
-          let more = and_parts (is_among joining_words (take n e)) (is_free tail) two.1 in
+          let two = and_parts (length (drop n e) == 1) (is_word_in_list joining_words (take n e) && is_free tail) bare in
+          let more = and_parts (is_word_in_list joining_words (take n e)) (is_free tail) two.1 in
           let one : length (drop n e) ≡ 1 = eqb-true (length (drop n e)) 1 two.0 in
           bare_joined k tail e w later form split.0 split.1 (ap (λ k. drop k e) (sym split.0) ∙ only_hash (drop n e) parts.0 one)
-          (omega (arith, one, length-drop n e, split.0, some)) (ap (λ k. is_among joining_words (take k e)) (sym split.0) ∙ more.0) more.1 begun.0
+          (omega (arith, one, length-drop n e, split.0, some)) (ap (λ k. is_word_in_list joining_words (take k e)) (sym split.0) ∙ more.0) more.1 begun.0
     ]
 
 line_tail : (tail : Tail) (s z : List ℕ) → is_line tail ≡ true → is_tail tail s z ≡ true → heads is_word_byte (s ++ z) ≡ false
@@ -182,7 +182,7 @@ line_tail Nothing s z l e = absurd (false≢true l)
 line_tail Apart s z l e = absurd (false≢true l)
 line_tail Run s z l e = absurd (false≢true l)
 line_tail SignedRun s z l e = absurd (false≢true l)
-line_tail Line s z l e = sym (goes_heads (s ++ z)) ∙ not-true (goes_on (s ++ z)) (and_parts (list_all is_line_byte s) (not (goes_on (s ++ z))) e).1
+line_tail Line s z l e = sym (goes_heads (s ++ z)) ∙ not-true (continues_word (s ++ z)) (and_parts (list_all is_line_byte s) (not (continues_word (s ++ z))) e).1
 
 line_free : (tail : Tail) (z : List ℕ) → is_line tail ≡ true → heads is_word_byte z ≡ false → is_tail tail [] z ≡ true
 unfolding is_line is_tail
@@ -190,11 +190,11 @@ line_free Nothing z l e = absurd (false≢true l)
 line_free Apart z l e = absurd (false≢true l)
 line_free Run z l e = absurd (false≢true l)
 line_free SignedRun z l e = absurd (false≢true l)
-line_free Line z l e = not_from_false (goes_on z) (goes_heads z ∙ e)
+line_free Line z l e = not_from_false (continues_word z) (goes_heads z ∙ e)
 
 title_joined : (k : TokenKind) (tail : Tail) (e w later : List ℕ) → list_all is_word_byte w ≡ true → heads is_word_byte later ≡ false
     → ((y z : List ℕ) → fronts e y ≡ true → is_tail tail (drop (length e) y) z ≡ true → has_form k y z ≡ true)
-    → 0 < length e → list_all is_word_byte e ≡ true → is_among joining_words e ≡ true → is_line tail ≡ true → fronts e (w ++ later) ≡ true → heads is_word_byte (drop (length e) (w ++ later)) ≡ false → IsJoined k w later
+    → 0 < length e → list_all is_word_byte e ≡ true → is_word_in_list joining_words e ≡ true → is_line tail ≡ true → fronts e (w ++ later) ≡ true → heads is_word_byte (drop (length e) (w ++ later)) ≡ false → IsJoined k w later
 title_joined k tail e w later word stops form some words among line h ends =
     let whole = whole_word e w later words word stops h ends in
     record {
@@ -216,18 +216,18 @@ joined k w later m t all word stops name at =
     let e : List ℕ = row.entry in
     let text : y ++ z ≡ w ++ later = take-append-drop m (w ++ later) in
     let begun : fronts e (w ++ later) ≡ true = ap (fronts e) (sym text) ∙ fronts_cut e y z (fronts_within e y row.begins) ∙ row.begins in
-    elim (or_cases (nat_lt 0 (length e) && not (heads is_word_start e)) (nat_lt (prefix_len is_word_byte e) (length e) && hashed row.tail (take (prefix_len is_word_byte e) e) (drop (prefix_len is_word_byte e) e) || nat_lt 0 (length e) && list_all is_word_byte e && (is_among joining_words e && is_line row.tail)) row.tested) [
+    elim (or_cases (nat_lt 0 (length e) && not (heads is_word_start e)) (nat_lt (prefix_len is_word_byte e) (length e) && hashed row.tail (take (prefix_len is_word_byte e) e) (drop (prefix_len is_word_byte e) e) || nat_lt 0 (length e) && list_all is_word_byte e && (is_word_in_list joining_words e && is_line row.tail)) row.tested) [
       | inl other ↦
           let parts = and_parts (nat_lt 0 (length e)) (not (heads is_word_start e)) other in
           absurd (false≢true (sym (not-true (heads is_word_start e) parts.1) ∙ front_start e w later (ltb-true 0 (length e) parts.0) word begun))
-      | inr more ↦ elim (or_cases (nat_lt (prefix_len is_word_byte e) (length e) && hashed row.tail (take (prefix_len is_word_byte e) e) (drop (prefix_len is_word_byte e) e)) (nat_lt 0 (length e) && list_all is_word_byte e && (is_among joining_words e && is_line row.tail)) more) [
+      | inr more ↦ elim (or_cases (nat_lt (prefix_len is_word_byte e) (length e) && hashed row.tail (take (prefix_len is_word_byte e) e) (drop (prefix_len is_word_byte e) e)) (nat_lt 0 (length e) && list_all is_word_byte e && (is_word_in_list joining_words e && is_line row.tail)) more) [
         | inl mark ↦
             let parts = and_parts (nat_lt (prefix_len is_word_byte e) (length e)) (hashed row.tail (take (prefix_len is_word_byte e) e) (drop (prefix_len is_word_byte e) e)) mark in
             hash_joined k row.tail e w later (run_words w word) stops name row.form (ltb-true (prefix_len is_word_byte e) (length e) parts.0) parts.1 begun
         | inr title ↦
-            let parts = and_parts (nat_lt 0 (length e) && list_all is_word_byte e) (is_among joining_words e && is_line row.tail) title in
+            let parts = and_parts (nat_lt 0 (length e) && list_all is_word_byte e) (is_word_in_list joining_words e && is_line row.tail) title in
             let front = and_parts (nat_lt 0 (length e)) (list_all is_word_byte e) parts.0 in
-            let last = and_parts (is_among joining_words e) (is_line row.tail) parts.1 in
+            let last = and_parts (is_word_in_list joining_words e) (is_line row.tail) parts.1 in
             let behind : drop (length e) (w ++ later) ≡ drop (length e) y ++ z =
             ap (drop (length e)) (sym text) ∙ drop-append-le (length e) y z (fronts_within e y row.begins) in
             title_joined k row.tail e w later (run_words w word) stops row.form (ltb-true 0 (length e) front.0) front.1 last.0 last.1 begun
@@ -237,10 +237,10 @@ joined k w later m t all word stops name at =
 
 -- nothing of a table stands where this word does
 abbrev pub IsAlone : List ℕ → List ℕ → Type 0
-IsAlone w later = (k : TokenKind) → is_table k ≡ true → HasNone (has_form k) (w ++ later)
+IsAlone w later = (k : TokenKind) → is_table k ≡ true → HasNoneOfForm (has_form k) (w ++ later)
 
 rows_word : (k : TokenKind) → is_table k ≡ true → all_rows k word_row ≡ true
-unfolding word_row hashed is_free is_line joining_words is_among is_word_byte is_word_start based_prefixes long_prefixes count_prefixes time_prefixes s5time_prefixes marks mark_text sign_words title_words
+unfolding word_row hashed is_free is_line joining_words is_word_in_list is_word_byte is_word_start based_prefixes long_prefixes count_prefixes time_prefixes s5time_prefixes marks mark_text sign_words title_words
 rows_word Word t = refl
 rows_word Number t = refl
 rows_word Quoted t = refl
@@ -254,12 +254,12 @@ rows_word SignWord t = refl
 rows_word Attribute t = refl
 rows_word Title t = refl
 
-quiet_alone : (w later : List ℕ) → is_word w ≡ true → heads is_word_byte later ≡ false → IsNameFront later → is_quiet w ≡ true → IsAlone w later
-unfolding is_quiet
+quiet_alone : (w later : List ℕ) → is_word w ≡ true → heads is_word_byte later ≡ false → IsNameFront later → is_non_joining_word w ≡ true → IsAlone w later
+unfolding is_non_joining_word
 quiet_alone w later word stops name quiet k t m at =
-    false≢true (sym (not-true (is_among joining_words w) quiet) ∙ (joined k w later m t (rows_word k t) word stops name at).among)
+    false≢true (sym (not-true (is_word_in_list joining_words w) quiet) ∙ (joined k w later m t (rows_word k t) word stops name at).among)
 
-above_word : (k : TokenKind) → is_table k ≡ true → rank_of k ≤ 0 → ⊥
+above_word : (k : TokenKind) → is_table k ≡ true → rank_of_kind k ≤ 0 → ⊥
 above_word Word t h = false≢true t
 above_word Number t h = false≢true t
 above_word Quoted t h = false≢true t
@@ -274,7 +274,7 @@ above_word Attribute t h = false≢true t
 above_word Title t h = absurd (omega (arith, h))
 
 alike_alone : (x w after later : List ℕ) → is_word w ≡ true → heads is_word_byte later ≡ false → IsNameFront later → fronts w x ≡ true → length w ≡ length x
-    → heads (λ b. b == hash) after ≡ heads (λ b. b == hash) later → IsLongest (x ++ after) Word (length x) → IsAlone w later
+    → heads (λ b. b == hash) after ≡ heads (λ b. b == hash) later → IsLongestToken (x ++ after) Word (length x) → IsAlone w later
 alike_alone x w after later word stops name alike same marks l k t m at =
     let there = (joined k w later m t (rows_word k t) word stops name at).before x after alike same marks (word_ends x after l) in
     elim (l.longest k there.0 there.2) [
@@ -291,14 +291,14 @@ no_digit : (b : ℕ) → is_word_start b ≡ true → is_ascii_digit b ≡ false
 unfolding is_word_start
 no_digit b e = grind (arith, nat_tests)
 
-no_local : (text : List ℕ) → is_word_start (get_or text 0 0) ≡ true → HasNone (λ s after. is_local s) text
+no_local : (text : List ℕ) → is_word_start (get_or text 0 0) ≡ true → HasNoneOfForm (λ s after. is_local s) text
 unfolding is_word_start
 no_local text h zero at = absurd (omega (arith, at.some))
 no_local [] h (suc n) at = absurd (omega (arith, at.within))
 no_local (b ∷ s) h (suc n) at = false≢true (ap is_word_start (sym (eqb-true b hash (and_parts (b == hash) (is_word (take n s)) at.fits).0)) ∙ h)
 
 -- a word that nothing of a table begins with is the token
-word_alone : (w later : List ℕ) → is_word w ≡ true → heads is_word_byte later ≡ false → IsAlone w later → IsLongest (w ++ later) Word (length w)
+word_alone : (w later : List ℕ) → is_word w ≡ true → heads is_word_byte later ≡ false → IsAlone w later → IsLongestToken (w ++ later) Word (length w)
 unfolding has_form is_word_start
 word_alone w later word stops alone =
     let text : List ℕ = w ++ later in
@@ -319,10 +319,10 @@ word_alone w later word stops alone =
     (alone Title refl)
 
 -- a word's text, anew or not, stands where it stood
-pub word_stands : (k : TokenKind) (x w after later : List ℕ) → k ≡ Word → IsLongest (x ++ after) k (length x) → Front Word after later → IsNameFront later → is_word w ≡ true
-    → (str_eq_ignore_ascii_case x w ≡ true) ⊎ (is_quiet w ≡ true) → IsLongest (w ++ later) Word (length w)
+pub word_stands : (k : TokenKind) (x w after later : List ℕ) → k ≡ Word → IsLongestToken (x ++ after) k (length x) → Front Word after later → IsNameFront later → is_word w ≡ true
+    → (str_eq_ignore_ascii_case x w ≡ true) ⊎ (is_non_joining_word w ≡ true) → IsLongestToken (w ++ later) Word (length w)
 word_stands k x w after later is l f name word why =
-    let long = subst (λ kind. IsLongest (x ++ after) kind (length x)) is l in
+    let long = subst (λ kind. IsLongestToken (x ++ after) kind (length x)) is l in
     let ends = word_ends x after long in
     let stops : heads is_word_byte later ≡ false = heads_same is_word_byte Word after later ends f ∙ ends in
     elim why [
@@ -334,7 +334,7 @@ word_stands k x w after later is l f name word why =
 
 -- ---- local names
 
-name_found : (w later : List ℕ) → is_word w ≡ true → heads is_word_byte later ≡ false → IsLongestOf (λ s after. is_local s) (hash ∷ (w ++ later)) (length (hash ∷ w))
+name_found : (w later : List ℕ) → is_word w ≡ true → heads is_word_byte later ≡ false → IsLongestOfForm (λ s after. is_local s) (hash ∷ (w ++ later)) (length (hash ∷ w))
 name_found w later word stops =
     let there = run_stands is_word_start is_word_byte w later word stops in
     record {
@@ -346,13 +346,13 @@ name_found w later word stops =
       longest = longest there;
     }
   where
-    longest : IsLongestOf (λ y after. is_word y) (w ++ later) (length w) → (m : ℕ) → IsFormAt (λ s after. is_local s) (hash ∷ (w ++ later)) m → m ≤ length (hash ∷ w)
+    longest : IsLongestOfForm (λ y after. is_word y) (w ++ later) (length w) → (m : ℕ) → IsFormAt (λ s after. is_local s) (hash ∷ (w ++ later)) m → m ≤ length (hash ∷ w)
     longest there zero at = omega arith
     longest there (suc zero) at = omega arith
     longest there (suc (suc m)) at = omega (arith, there.longest (suc m) (record { some = omega arith; within = omega (arith, at.within); fits = at.fits }))
 
 -- `#` and a word is the token where no byte of a word follows
-pub name_stands : (w later : List ℕ) → is_word w ≡ true → heads is_word_byte later ≡ false → IsLongest ((hash ∷ w) ++ later) Local (length (hash ∷ w))
+pub name_stands : (w later : List ℕ) → is_word w ≡ true → heads is_word_byte later ≡ false → IsLongestToken ((hash ∷ w) ++ later) Local (length (hash ∷ w))
 unfolding is_word_start
 name_stands w later word stops =
     local_alone (hash ∷ (w ++ later)) (Some (length (hash ∷ w)))
@@ -362,7 +362,7 @@ name_stands w later word stops =
     (name_found w later word stops)
 
 -- a local name ends where no byte of a word follows
-pub name_ends : (w after : List ℕ) → is_word w ≡ true → IsLongest ((hash ∷ w) ++ after) Local (length (hash ∷ w)) → heads is_word_byte after ≡ false
+pub name_ends : (w after : List ℕ) → is_word w ≡ true → IsLongestToken ((hash ∷ w) ++ after) Local (length (hash ∷ w)) → heads is_word_byte after ≡ false
 unfolding has_form
 name_ends w after word l = false_from_ne_true (heads is_word_byte after) (λ h.
     let one = run_form is_word_start is_word_byte w after word h in
@@ -386,7 +386,7 @@ unfolding number_row is_free based_prefixes
 rows_number = refl
 
 -- where a number stood, no literal of its digits stands
-no_based : (x after later : List ℕ) → is_number x ≡ true → IsLongest (x ++ after) Number (length x) → Front Number after later → HasNone (has_form Based) (x ++ later)
+no_based : (x after later : List ℕ) → is_number x ≡ true → IsLongestToken (x ++ after) Number (length x) → Front Number after later → HasNoneOfForm (has_form Based) (x ++ later)
 unfolding number_row is_word_start
 no_based [] after later number l f m at = false≢true number
 no_based (b ∷ x) after later number l f m at =
@@ -422,7 +422,7 @@ no_based (b ∷ x) after later number l f m at =
     hash_was after later (Words b c s t x y sb sc) h = absurd (start_no_hash c sc (eqb-true c hash (sym (ap (heads (λ b. b == hash)) y) ∙ h)))
     hash_was after later (Named b s t n x y sb) h = absurd (n refl)
 
-    binary : (b : ℕ) (x after later : List ℕ) (tail : Tail) (e : List ℕ) → is_number (b ∷ x) ≡ true → IsLongest ((b ∷ x) ++ after) Number (length (b ∷ x)) → Front Number after later
+    binary : (b : ℕ) (x after later : List ℕ) (tail : Tail) (e : List ℕ) → is_number (b ∷ x) ≡ true → IsLongestToken ((b ∷ x) ++ after) Number (length (b ∷ x)) → Front Number after later
         → ((y z : List ℕ) → fronts e y ≡ true → is_tail tail (drop (length e) y) z ≡ true → has_form Based y z ≡ true) → length e ≡ 2 → heads (λ b. b == hash) (drop 1 e) ≡ true → is_free tail ≡ true → fronts e ((b ∷ x) ++ later) ≡ true → ⊥
     binary b x after later tail [] number l f form size mark free h = absurd (omega (arith, size))
     binary b x after later tail (c ∷ []) number l f form size mark free h = absurd (omega (arith, size))
@@ -445,7 +445,7 @@ no_based (b ∷ x) after later number l f m at =
         ]
 
 -- digits stay the longest number
-number_stops : (x after later : List ℕ) → is_number x ≡ true → IsLongest (x ++ after) Number (length x) → Front Number after later → heads is_ascii_digit later ≡ false
+number_stops : (x after later : List ℕ) → is_number x ≡ true → IsLongestToken (x ++ after) Number (length x) → Front Number after later → heads is_ascii_digit later ≡ false
 number_stops x after later number l f = false_from_ne_true (heads is_ascii_digit later) (λ h.
     let was : heads is_ascii_digit after ≡ true = heads_other is_ascii_digit Number after later (λ b start digit. false≢true (sym (no_digit b start) ∙ digit)) (λ e. false≢true e) f h in
     elim (l.longest Number (length x + 1) (number_form x after number was)) [
@@ -453,11 +453,11 @@ number_stops x after later number l f = false_from_ne_true (heads is_ascii_digit
       | inr same ↦ absurd (omega (arith, same.0))
     ])
 
-number_text : (x after : List ℕ) → IsLongest (x ++ after) Number (length x) → is_number x ≡ true
+number_text : (x after : List ℕ) → IsLongestToken (x ++ after) Number (length x) → is_number x ≡ true
 unfolding has_form
 number_text x after l = fits_here Number x after l
 
-pub number_stands : (x after later : List ℕ) → IsLongest (x ++ after) Number (length x) → Front Number after later → IsLongest (x ++ later) Number (length x)
+pub number_stands : (x after later : List ℕ) → IsLongestToken (x ++ after) Number (length x) → Front Number after later → IsLongestToken (x ++ later) Number (length x)
 unfolding has_form
 number_stands x after later l f =
     let number = number_text x after l in
@@ -495,7 +495,7 @@ enclosed_first opening close one_line [] s e = absurd (false≢true e)
 enclosed_first opening close one_line (b ∷ x) s e = eqb-true b opening (and_parts (b == opening) (is_closed (is_inner close one_line) close x) e).0
 
 -- a form that no longer text has is the longest
-only_longest : (form : List ℕ → List ℕ → Bool) (x s : List ℕ) → 0 < length x → form x s ≡ true → ((m : ℕ) → length x < m → IsFormAt form (x ++ s) m → ⊥) → IsLongestOf form (x ++ s) (length x)
+only_longest : (form : List ℕ → List ℕ → Bool) (x s : List ℕ) → 0 < length x → form x s ≡ true → ((m : ℕ) → length x < m → IsFormAt form (x ++ s) m → ⊥) → IsLongestOfForm form (x ++ s) (length x)
 only_longest form x s some e once = record {
   fits = record {
     some = some;
@@ -506,10 +506,10 @@ only_longest form x s some e once = record {
 }
 
 -- no word and no number begins with such a byte
-no_run : (f p : ℕ → Bool) (text : List ℕ) (b : ℕ) → get_or text 0 0 ≡ b → f b ≡ false → HasNone (λ s after. is_run f p s) text
+no_run : (f p : ℕ → Bool) (text : List ℕ) (b : ℕ) → get_or text 0 0 ≡ b → f b ≡ false → HasNoneOfForm (λ s after. is_run f p s) text
 no_run f p text b first none = run_none f p text (λ _. ap f first ∙ none)
 
-pub quoted_stands : (x after later : List ℕ) → IsLongest (x ++ after) Quoted (length x) → IsLongest (x ++ later) Quoted (length x)
+pub quoted_stands : (x after later : List ℕ) → IsLongestToken (x ++ after) Quoted (length x) → IsLongestToken (x ++ later) Quoted (length x)
 unfolding has_form is_word_start
 quoted_stands x after later l =
     let e : is_quoted x ≡ true = fits_here Quoted x after l in
@@ -519,7 +519,7 @@ quoted_stands x after later l =
     (only_longest (λ s after. is_quoted s) x later l.fits.some e (λ m lt at.
     enclosed_once double_quote double_quote true x later m parts.0 lt (and_parts (is_enclosed double_quote double_quote true (take m (x ++ later))) (nat_lt 2 (length (take m (x ++ later)))) at.fits).0 at.within))
 
-pub characters_stand : (x after later : List ℕ) → IsLongest (x ++ after) Characters (length x) → IsLongest (x ++ later) Characters (length x)
+pub characters_stand : (x after later : List ℕ) → IsLongestToken (x ++ after) Characters (length x) → IsLongestToken (x ++ later) Characters (length x)
 unfolding has_form is_word_start
 characters_stand x after later l =
     let e : is_enclosed single_quote single_quote true x ≡ true = fits_here Characters x after l in
@@ -527,7 +527,7 @@ characters_stand x after later l =
     characters_alone (x ++ later) (Some (length x)) (no_run is_word_start is_word_byte (x ++ later) single_quote first refl) (no_run is_ascii_digit is_ascii_digit (x ++ later) single_quote first refl) first
     (only_longest (λ s after. is_enclosed single_quote single_quote true s) x later l.fits.some e (λ m lt at. enclosed_once single_quote single_quote true x later m e lt at.fits at.within))
 
-pub attribute_stands : (x after later : List ℕ) → IsLongest (x ++ after) Attribute (length x) → IsLongest (x ++ later) Attribute (length x)
+pub attribute_stands : (x after later : List ℕ) → IsLongestToken (x ++ after) Attribute (length x) → IsLongestToken (x ++ later) Attribute (length x)
 unfolding has_form is_word_start
 attribute_stands x after later l =
     let e : is_enclosed open_brace close_brace false x ≡ true = fits_here Attribute x after l in

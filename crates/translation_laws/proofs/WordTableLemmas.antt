@@ -10,13 +10,13 @@ use Rattle.std.proofs.Math.Seq.{drop-append_seam, take-append_seam, take-append-
 use Rattle.stl_lexer.specs.declared.kinds.TokenKind.{TokenKind}
 use Rattle.stl_lexer.specs.declared.kinds.TokenKind.TheVariants.{Word, Number, Quoted, Local, Characters, Based, NumberLiteral, TimeLiteral, Mark, SignWord, Attribute, Title}
 use Rattle.stl_lexer.specs.Bytes.{hash, slash, is_separator, double_quote, single_quote, open_brace, close_brace, is_line_byte, is_sign, is_word_byte, is_word_start}
-use Rattle.stl_lexer.specs.Forms.{has_form, is_word, is_local, is_run, is_closed, is_inner, is_enclosed, behind_sign, goes_on, based_prefixes, long_prefixes, count_prefixes, time_prefixes, s5time_prefixes, sign_words, title_words}
-use Rattle.stl_lexer.specs.Longest.{IsLongest, IsFormAt, rank_of}
+use Rattle.stl_lexer.specs.Forms.{has_form, is_word, is_local, is_run, is_closed, is_inner, is_enclosed, behind_sign, continues_word, based_prefixes, long_prefixes, count_prefixes, time_prefixes, s5time_prefixes, sign_words, title_words}
+use Rattle.stl_lexer.specs.Longest.{IsLongestToken, IsFormAt, rank_of_kind}
 use Rattle.stl_lexer.specs.Marks.{marks, mark_text}
-use Rattle.stl_lexer.specs.Pieces.{Piece, AreStanding, spelled}
+use Rattle.stl_lexer.specs.Pieces.{Piece, ArePiecesStanding, text_of_pieces}
 use Rattle.stl_lexer.specs.Tokens.{is_minus}
-use Rattle.de_mnemonics.specs.Places.{is_among}
-use Rattle.translation_laws.specs.Rewritten.{IsRewritten, joining_words}
+use Rattle.de_mnemonics.specs.Places.{is_word_in_list}
+use Rattle.translation_laws.specs.Rewritten.{IsRewrittenText, joining_words}
 use Rattle.translation_laws.proofs.GapsLemmas.{IsGapFront, gap_front}
 use Rattle.translation_laws.proofs.TextLemmas.{first_same, fronts, fronts_both, fronts_cons, fronts_cut, fronts_join, fronts_over, fronts_within, goes_heads, heads, lower_hash, same_start, same_word_byte, start_word}
 use Rattle.translation_laws.proofs.AheadLemmas.{ArePiecesAnew, Front, anew, fits_here, heads_more, heads_other}
@@ -38,17 +38,17 @@ tail_later : (tail : Tail) (s a l : List ℕ) → (heads is_word_byte l ≡ true
 unfolding is_tail
 tail_later Nothing s a l goes e = e
 tail_later Apart s a l goes e =
-    let parts = and_parts (length s == 0) (not (goes_on a)) e in
-    and_from (length s == 0) (not (goes_on l)) parts.0 (not_from_false (goes_on l) (false_from_ne_true (goes_on l) (λ h.
-    false≢true (sym (not-true (goes_on a) parts.1) ∙ goes_heads a ∙ goes (sym (goes_heads l) ∙ h)))))
+    let parts = and_parts (length s == 0) (not (continues_word a)) e in
+    and_from (length s == 0) (not (continues_word l)) parts.0 (not_from_false (continues_word l) (false_from_ne_true (continues_word l) (λ h.
+    false≢true (sym (not-true (continues_word a) parts.1) ∙ goes_heads a ∙ goes (sym (goes_heads l) ∙ h)))))
 tail_later Run s a l goes e = e
 tail_later SignedRun s a l goes e = e
 tail_later Line [] a l goes e =
-    let stops = not-true (goes_on a) e in
-    not_from_false (goes_on l) (false_from_ne_true (goes_on l) (λ h. false≢true (sym stops ∙ goes_heads a ∙ goes (sym (goes_heads l) ∙ h))))
+    let stops = not-true (continues_word a) e in
+    not_from_false (continues_word l) (false_from_ne_true (continues_word l) (λ h. false≢true (sym stops ∙ goes_heads a ∙ goes (sym (goes_heads l) ∙ h))))
 tail_later Line (b ∷ s) a l goes e =
-    let parts = and_parts (list_all is_line_byte (b ∷ s)) (not (goes_on ((b ∷ s) ++ a))) e in
-    and_from (list_all is_line_byte (b ∷ s)) (not (goes_on ((b ∷ s) ++ l))) parts.0 (ap not (goes_heads ((b ∷ s) ++ l) ∙ sym (goes_heads ((b ∷ s) ++ a))) ∙ parts.1)
+    let parts = and_parts (list_all is_line_byte (b ∷ s)) (not (continues_word ((b ∷ s) ++ a))) e in
+    and_from (list_all is_line_byte (b ∷ s)) (not (continues_word ((b ∷ s) ++ l))) parts.0 (ap not (goes_heads ((b ∷ s) ++ l) ∙ sym (goes_heads ((b ∷ s) ++ a))) ∙ parts.1)
 
 empty_list : (s : List ℕ) → (length s == 0) ≡ true → length s ≡ 0
 empty_list s e = eqb-true (length s) 0 e
@@ -114,15 +114,15 @@ record GoesOn (a l : List ℕ) : Type 0 where
 suc_one : (n : ℕ) → suc n + 1 ≡ suc (n + 1)
 suc_one n = omega arith
 
-line_one : (s a l : List ℕ) → (heads is_word_byte a ≡ true → heads is_word_byte l ≡ true) → list_all is_line_byte s ≡ true → heads is_line_byte a ≡ true → goes_on (s ++ l) ≡ false
+line_one : (s a l : List ℕ) → (heads is_word_byte a ≡ true → heads is_word_byte l ≡ true) → list_all is_line_byte s ≡ true → heads is_line_byte a ≡ true → continues_word (s ++ l) ≡ false
     → is_tail Line (take (length s + 1) (s ++ a)) (drop (length s + 1) (s ++ a)) ≡ true
 unfolding is_tail
 line_one s a l back all head stops =
-    and_from (list_all is_line_byte (take (length s + 1) (s ++ a))) (not (goes_on (take (length s + 1) (s ++ a) ++ drop (length s + 1) (s ++ a))))
+    and_from (list_all is_line_byte (take (length s + 1) (s ++ a))) (not (continues_word (take (length s + 1) (s ++ a) ++ drop (length s + 1) (s ++ a))))
     (all_one is_line_byte s a all head)
-    (not_from_false (goes_on (take (length s + 1) (s ++ a) ++ drop (length s + 1) (s ++ a))) (ap goes_on (take-append-drop (length s + 1) (s ++ a)) ∙ same_stop s stops))
+    (not_from_false (continues_word (take (length s + 1) (s ++ a) ++ drop (length s + 1) (s ++ a))) (ap continues_word (take-append-drop (length s + 1) (s ++ a)) ∙ same_stop s stops))
   where
-    same_stop : (s : List ℕ) → goes_on (s ++ l) ≡ false → goes_on (s ++ a) ≡ false
+    same_stop : (s : List ℕ) → continues_word (s ++ l) ≡ false → continues_word (s ++ a) ≡ false
     same_stop [] e = goes_heads a ∙ false_from_ne_true (heads is_word_byte a) (λ h. false≢true (sym (sym (goes_heads l) ∙ e) ∙ back h))
     same_stop (b ∷ s) e = goes_heads ((b ∷ s) ++ a) ∙ sym (goes_heads ((b ∷ s) ++ l)) ∙ e
 
@@ -132,7 +132,7 @@ tail_over : (tail : Tail) (s a l : List ℕ) (m : ℕ) → length s < m → m �
 unfolding is_tail
 tail_over Nothing s a l m h within g back e = absurd (omega (arith, h, within, length-take-le m (s ++ l) within, empty_list (take m (s ++ l)) e))
 tail_over Apart s a l m h within g back e =
-    absurd (omega (arith, h, within, length-take-le m (s ++ l) within, empty_list (take m (s ++ l)) (and_parts (length (take m (s ++ l)) == 0) (not (goes_on (drop m (s ++ l)))) e).0))
+    absurd (omega (arith, h, within, length-take-le m (s ++ l) within, empty_list (take m (s ++ l)) (and_parts (length (take m (s ++ l)) == 0) (not (continues_word (drop m (s ++ l)))) e).0))
 tail_over Run s a l m h within g back e =
     let head = g.word (run_over is_word_byte s l m h within e) in
     (all_one is_word_byte s a (run_inside is_word_byte s l m (omega (arith, h)) e) head, head_some is_word_byte a head)
@@ -144,8 +144,8 @@ tail_over SignedRun (c ∷ s) a l (suc m) h within g back e =
     let more = signed_more c s a l m (omega (arith, h)) (omega (arith, within)) g.word e in
     (rw (suc_one (length s)) more.0, head_some is_word_byte a more.1)
 tail_over Line s a l m h within g back e =
-    let parts = and_parts (list_all is_line_byte (take m (s ++ l))) (not (goes_on (take m (s ++ l) ++ drop m (s ++ l)))) e in
-    let stops : goes_on (s ++ l) ≡ false = ap goes_on (sym (take-append-drop m (s ++ l))) ∙ not-true (goes_on (take m (s ++ l) ++ drop m (s ++ l))) parts.1 in
+    let parts = and_parts (list_all is_line_byte (take m (s ++ l))) (not (continues_word (take m (s ++ l) ++ drop m (s ++ l)))) e in
+    let stops : continues_word (s ++ l) ≡ false = ap continues_word (sym (take-append-drop m (s ++ l))) ∙ not-true (continues_word (take m (s ++ l) ++ drop m (s ++ l))) parts.1 in
     let head = g.line (run_over is_line_byte s l m h within parts.0) in
     (line_one s a l back (run_inside is_line_byte s l m (omega (arith, h)) parts.0) head stops, head_some is_line_byte a head)
 
@@ -170,7 +170,7 @@ tail_more : (tail : Tail) (s a : List ℕ) → is_nothing tail ≡ false → is_
 unfolding is_nothing is_tail behind_sign
 tail_more Nothing s a other e h = absurd (false≢true (sym other))
 tail_more Apart s a other e h =
-    absurd (false≢true (sym (not-true (goes_on a) (and_parts (length s == 0) (not (goes_on a)) e).1) ∙ goes_heads a ∙ h))
+    absurd (false≢true (sym (not-true (continues_word a) (and_parts (length s == 0) (not (continues_word a)) e).1) ∙ goes_heads a ∙ h))
 tail_more Run s a other e h = all_one is_word_byte s a e h
 tail_more SignedRun [] a other e h = signed_one a (heads_by is_word_byte signed_byte a word_signed h)
 tail_more SignedRun (c ∷ s) a other e h = rw (suc_one (length s)) (signed_all c s a h e)
@@ -183,8 +183,8 @@ tail_more SignedRun (c ∷ s) a other e h = rw (suc_one (length s)) (signed_all 
           rw no_ (and_from (is_word_byte c) (list_all is_word_byte (take (length s + 1) (s ++ a))) parts.0 (all_one is_word_byte s a parts.1 h))
     ]
 tail_more Line s a other e h =
-    let parts = and_parts (list_all is_line_byte s) (not (goes_on (s ++ a))) e in
-    line_one s a a (λ x. x) parts.0 (heads_by is_word_byte is_line_byte a word_line h) (not-true (goes_on (s ++ a)) parts.1)
+    let parts = and_parts (list_all is_line_byte s) (not (continues_word (s ++ a))) e in
+    line_one s a a (λ x. x) parts.0 (heads_by is_word_byte is_line_byte a word_line h) (not-true (continues_word (s ++ a)) parts.1)
 
 -- ---- pairs of entries
 
@@ -218,7 +218,7 @@ own_row own mine =
     && all_rows Mark (pair_row own mine) && all_rows SignWord (pair_row own mine) && all_rows Title (pair_row own mine))
 
 rows_own : (k : TokenKind) → all_rows k own_row ≡ true
-unfolding own_row pair_row plain_first may_extend is_nothing is_apart is_other_byte is_sign_rest is_ending joining_words is_among is_word_byte is_word_start based_prefixes long_prefixes count_prefixes time_prefixes s5time_prefixes marks mark_text sign_words title_words
+unfolding own_row pair_row plain_first may_extend is_nothing is_apart is_other_byte is_sign_rest is_ending joining_words is_word_in_list is_word_byte is_word_start based_prefixes long_prefixes count_prefixes time_prefixes s5time_prefixes marks mark_text sign_words title_words
 rows_own Word = refl
 rows_own Number = refl
 rows_own Quoted = refl
@@ -310,8 +310,8 @@ apart_stops : (tail : Tail) (s z : List ℕ) → is_apart tail ≡ true → is_t
 unfolding is_apart is_tail
 apart_stops Nothing s z h e = absurd (false≢true h)
 apart_stops Apart s z h e =
-    let parts = and_parts (length s == 0) (not (goes_on z)) e in
-    (empty_list s parts.0, sym (goes_heads z) ∙ not-true (goes_on z) parts.1)
+    let parts = and_parts (length s == 0) (not (continues_word z)) e in
+    (empty_list s parts.0, sym (goes_heads z) ∙ not-true (continues_word z) parts.1)
 apart_stops Run s z h e = absurd (false≢true h)
 apart_stops SignedRun s z h e = absurd (false≢true h)
 apart_stops Line s z h e = absurd (false≢true h)
@@ -319,7 +319,7 @@ apart_stops Line s z h e = absurd (false≢true h)
 apart_tail : (tail : Tail) (z : List ℕ) → is_apart tail ≡ true → heads is_word_byte z ≡ false → is_tail tail [] z ≡ true
 unfolding is_apart is_tail
 apart_tail Nothing z h e = absurd (false≢true h)
-apart_tail Apart z h e = not_from_false (goes_on z) (goes_heads z ∙ e)
+apart_tail Apart z h e = not_from_false (continues_word z) (goes_heads z ∙ e)
 apart_tail Run z h e = absurd (false≢true h)
 apart_tail SignedRun z h e = absurd (false≢true h)
 apart_tail Line z h e = absurd (false≢true h)
@@ -467,7 +467,7 @@ start_digit : (b : ℕ) → is_word_start b ≡ true → is_ascii_digit b ≡ tr
 unfolding is_word_start
 start_digit b e d = grind (arith, nat_tests)
 
-table_rank : (k : TokenKind) → is_table k ≡ true → 5 ≤ rank_of k
+table_rank : (k : TokenKind) → is_table k ≡ true → 5 ≤ rank_of_kind k
 table_rank Word t = absurd (false≢true t)
 table_rank Number t = absurd (false≢true t)
 table_rank Quoted t = absurd (false≢true t)
@@ -483,7 +483,7 @@ table_rank Title t = omega arith
 
 -- a token of a table before two texts
 record IsTableToken (k : TokenKind) (x a l : List ℕ) : Type 0 where
-  longest : IsLongest (x ++ a) k (length x)
+  longest : IsLongestToken (x ++ a) k (length x)
   front : Front k a l
   signs : KeepsSigns a l
   row : IsRowOf k own_row x a
@@ -496,7 +496,7 @@ goes_of k a l f = record {
   line = heads_more is_line_byte k a l (λ b e. word_line b (start_word b e)) f;
 }
 
-table_token : (k : TokenKind) (x a l : List ℕ) → is_table k ≡ true → IsLongest (x ++ a) k (length x) → Front k a l → KeepsSigns a l → IsTableToken k x a l
+table_token : (k : TokenKind) (x a l : List ℕ) → is_table k ≡ true → IsLongestToken (x ++ a) k (length x) → Front k a l → KeepsSigns a l → IsTableToken k x a l
 table_token k x a l t longest f signs =
     let row = row_of k own_row x a t (rows_own k) (fits_here k x a longest) in
     let short = fits_within row.entry x row.begins in
@@ -568,17 +568,17 @@ table_was k other x a l m token t le at =
     ]
 
 -- no token that is longer than one of a table stands there
-over_longest : (k other : TokenKind) (x a : List ℕ) (m : ℕ) → IsLongest (x ++ a) k (length x) → length x < m → IsFormAt (has_form other) (x ++ a) m → ⊥
+over_longest : (k other : TokenKind) (x a : List ℕ) (m : ℕ) → IsLongestToken (x ++ a) k (length x) → length x < m → IsFormAt (has_form other) (x ++ a) m → ⊥
 over_longest k other x a m l h at = elim (l.longest other m at) [
   | inl lt ↦ absurd (omega (arith, lt, h))
   | inr same ↦ absurd (omega (arith, same.0, h))
 ]
 
 abbrev Placed : TokenKind → TokenKind → ℕ → ℕ → Type 0
-Placed other k m n = (m < n) ⊎ ((m ≡ n) × (rank_of other ≤ rank_of k))
+Placed other k m n = (m < n) ⊎ ((m ≡ n) × (rank_of_kind other ≤ rank_of_kind k))
 
 -- a kind that stands before those of tables, and is no longer
-low_placed : (k other : TokenKind) (m n : ℕ) → is_table k ≡ true → rank_of other ≤ 5 → (n < m → ⊥) → Placed other k m n
+low_placed : (k other : TokenKind) (m n : ℕ) → is_table k ≡ true → rank_of_kind other ≤ 5 → (n < m → ⊥) → Placed other k m n
 low_placed k other m n t low no_longer = elim (cases_lt m n) [
   | inl lt ↦ inl lt
   | inr ge ↦ elim (cases_lt n m) [ inl over ↦ absurd (no_longer over) | inr le ↦ inr (omega (arith, ge, le), omega (arith, low, table_rank k t)) ]
@@ -633,7 +633,7 @@ placed k x a l t token other m at =
     by_kind Title some plain at = table_placed k Title x a l m token refl at
 
 -- a token of a table stands before a text that goes on like the one before which it stood
-pub table_stands : (k : TokenKind) (x a l : List ℕ) → is_table k ≡ true → IsLongest (x ++ a) k (length x) → Front k a l → KeepsSigns a l → IsLongest (x ++ l) k (length x)
+pub table_stands : (k : TokenKind) (x a l : List ℕ) → is_table k ≡ true → IsLongestToken (x ++ a) k (length x) → Front k a l → KeepsSigns a l → IsLongestToken (x ++ l) k (length x)
 table_stands k x a l t longest f signs =
     let token = table_token k x a l t longest f signs in
     let row = token.row in
@@ -711,7 +711,7 @@ equal_there rest b s e h =
     let parts = and_parts (fronts rest s) (not (heads is_word_byte (drop (length rest) s))) h in
     and_from (fronts (equals ∷ rest) (b ∷ s)) (not (heads is_word_byte (drop (length rest) s))) (fronts_cons equals rest b s (ap to_ascii_lowercase (sym e)) parts.0) parts.1
 
-equal_at : (before kind : TokenKind) (gap x w after later rest : List ℕ) → 0 < length x → has_form kind x after ≡ true → IsGapFront gap → IsRewritten before kind x w → is_ending rest ≡ true
+equal_at : (before kind : TokenKind) (gap x w after later rest : List ℕ) → 0 < length x → has_form kind x after ≡ true → IsGapFront gap → IsRewrittenText before kind x w → is_ending rest ≡ true
     → (ends_word rest later ≡ true → ends_word rest after ≡ true) → ends_word (equals ∷ rest) (gap ++ (w ++ later)) ≡ true → ends_word (equals ∷ rest) (gap ++ (x ++ after)) ≡ true
 equal_at before kind (c ∷ gap) x w after later rest some fits gap_is r ending inner h = absurd (gap_equals c (equal_first rest c (gap ++ (w ++ later)) h).0 (gap_is c gap refl))
 equal_at before kind [] [] w after later rest some fits gap_is r ending inner h = absurd (omega (arith, some))
@@ -733,25 +733,25 @@ equal_at before kind [] (b ∷ x) w after later rest some fits gap_is (inr (is, 
     hash_equals : hash ≡ equals → ⊥
     hash_equals e = absurd (omega (arith, e))
 
-equal_of : (before : TokenKind) (minus : Bool) (ps : List Piece) (ws : List (List ℕ)) (end rest : List ℕ) → AreStanding minus ps end → ArePiecesAnew before ps ws → is_ending rest ≡ true
-    → ends_word (equals ∷ rest) (spelled (anew ps ws) end) ≡ true → ends_word (equals ∷ rest) (spelled ps end) ≡ true
+equal_of : (before : TokenKind) (minus : Bool) (ps : List Piece) (ws : List (List ℕ)) (end rest : List ℕ) → ArePiecesStanding minus ps end → ArePiecesAnew before ps ws → is_ending rest ≡ true
+    → ends_word (equals ∷ rest) (text_of_pieces (anew ps ws) end) ≡ true → ends_word (equals ∷ rest) (text_of_pieces ps end) ≡ true
 equal_of before minus [] [] end rest s r e h = h
 equal_of before minus [] (w ∷ ws) end rest s r e h = absurd r
 equal_of before minus (p ∷ ps) [] end rest s r e h = absurd r
 equal_of before minus (p ∷ ps) (w ∷ ws) end rest (s, ss) (r, rs) e h =
-    equal_at before p.kind p.gap p.text w (spelled ps end) (spelled (anew ps ws) end) rest s.longest.fits.some (fits_here p.kind p.text (spelled ps end) s.longest) (gap_front p minus (spelled ps end) s) r e
+    equal_at before p.kind p.gap p.text w (text_of_pieces ps end) (text_of_pieces (anew ps ws) end) rest s.longest.fits.some (fits_here p.kind p.text (text_of_pieces ps end) s.longest) (gap_front p minus (text_of_pieces ps end) s) r e
     (ending_of p.kind (is_minus p.kind p.text) ps ws end rest ss rs e) h
 
 -- what goes on with a sign behind a token did so before
-pub signs_of : (before : TokenKind) (minus : Bool) (ps : List Piece) (ws : List (List ℕ)) (end : List ℕ) → AreStanding minus ps end → ArePiecesAnew before ps ws → KeepsSigns (spelled ps end) (spelled (anew ps ws) end)
+pub signs_of : (before : TokenKind) (minus : Bool) (ps : List Piece) (ws : List (List ℕ)) (end : List ℕ) → ArePiecesStanding minus ps end → ArePiecesAnew before ps ws → KeepsSigns (text_of_pieces ps end) (text_of_pieces (anew ps ws) end)
 unfolding is_sign_rest
 signs_of before minus ps ws end s r rest sign h = elim (or_cases (is_ending rest) (heads (λ b. b == equals) rest && is_ending (drop 1 rest)) sign) [
   | inl ending ↦ ending_of before minus ps ws end rest s r ending h
   | inr equal ↦ by_equal rest (and_parts (heads (λ b. b == equals) rest) (is_ending (drop 1 rest)) equal) h
 ] where
-  by_equal : (rest : List ℕ) → (heads (λ b. b == equals) rest ≡ true) × (is_ending (drop 1 rest) ≡ true) → ends_word rest (spelled (anew ps ws) end) ≡ true → ends_word rest (spelled ps end) ≡ true
+  by_equal : (rest : List ℕ) → (heads (λ b. b == equals) rest ≡ true) × (is_ending (drop 1 rest) ≡ true) → ends_word rest (text_of_pieces (anew ps ws) end) ≡ true → ends_word rest (text_of_pieces ps end) ≡ true
   by_equal [] (first, ending) h = absurd (false≢true first)
   by_equal (c ∷ rest) (first, ending) h =
       let is : c ≡ equals = eqb-true c equals first in
-      subst (λ b. ends_word (b ∷ rest) (spelled ps end) ≡ true) (sym is)
-      (equal_of before minus ps ws end rest s r ending (subst (λ b. ends_word (b ∷ rest) (spelled (anew ps ws) end) ≡ true) is h))
+      subst (λ b. ends_word (b ∷ rest) (text_of_pieces ps end) ≡ true) (sym is)
+      (equal_of before minus ps ws end rest s r ending (subst (λ b. ends_word (b ∷ rest) (text_of_pieces (anew ps ws) end) ≡ true) is h))

@@ -10,18 +10,18 @@ use Rattle.std.proofs.lemmas.Option.{same_Some}
 use Rattle.stl_lexer.specs.Bytes.{is_word_byte, is_word_start}
 use Rattle.stl_lexer.specs.Forms.{is_word}
 use Rattle.stl_symbols.specs.declared.languages.Language.TheVariants.{English, German}
-use Rattle.de_mnemonics.specs.Places.{is_among}
-use Rattle.de_mnemonics.specs.Tables.{Pairs, instructions, jumps, operands, results}
-use Rattle.de_mnemonics.specs.Words.{digits, exchanged, instruction_partner, letters, numbered_partner, operand_partner, partner}
-use Rattle.translation_laws.specs.Rewritten.{IsOtherWord, is_quiet, joining_words}
+use Rattle.de_mnemonics.specs.Places.{is_word_in_list}
+use Rattle.de_mnemonics.specs.Tables.{WordPairs, instruction_pairs, jump_pairs, operand_pairs, result_pairs}
+use Rattle.de_mnemonics.specs.Words.{digits_of_word, exchanged_word, instruction_partner, letters_of_word, numbered_partner, operand_partner, partner_in_table}
+use Rattle.translation_laws.specs.Rewritten.{IsOtherWord, is_non_joining_word, joining_words}
 use Rattle.translation_laws.proofs.TextLemmas.{alike_fronts, alike_self, first_same, fronts, fronts_alike, same_digit}
 
 none≢some : {A : Type 0} (a : A) → None ≡ Some a → ⊥
 none≢some a e = cc
 
 -- the German word that is found passes a test that all of its table pass
-found_passes : (test : List ℕ → Bool) (table : Pairs) (word found : List ℕ) → list_all (λ pair. test pair.1) table ≡ true → partner German table word ≡ Some found → test found ≡ true
-unfolding partner
+found_passes : (test : List ℕ → Bool) (table : WordPairs) (word found : List ℕ) → list_all (λ pair. test pair.1) table ≡ true → partner_in_table German table word ≡ Some found → test found ≡ true
+unfolding partner_in_table
 found_passes test [] word found all is = absurd (none≢some found is)
 found_passes test (p ∷ ps) word found all is =
     let parts = and_parts (test p.1) (list_all (λ pair. test pair.1) ps) all in
@@ -37,16 +37,16 @@ found_passes test (p ∷ ps) word found all is =
 
 -- a word that joins none beside it
 is_safe : List ℕ → Bool
-is_safe word = is_word word && is_quiet word
+is_safe word = is_word word && is_non_joining_word word
 
-safe_tables : (list_all (λ pair. is_safe pair.1) instructions ≡ true) × (list_all (λ pair. is_safe pair.1) jumps ≡ true) × (list_all (λ pair. is_safe pair.1) results ≡ true)
-unfolding is_safe is_quiet is_among joining_words is_word_byte is_word_start instructions jumps results
+safe_tables : (list_all (λ pair. is_safe pair.1) instruction_pairs ≡ true) × (list_all (λ pair. is_safe pair.1) jump_pairs ≡ true) × (list_all (λ pair. is_safe pair.1) result_pairs ≡ true)
+unfolding is_safe is_non_joining_word is_word_in_list joining_words is_word_byte is_word_start instruction_pairs jump_pairs result_pairs
 safe_tables = (refl, refl, refl)
 
 safe_other : (old new : List ℕ) → is_safe new ≡ true → IsOtherWord old new
 unfolding is_safe
 safe_other old new e =
-    let parts = and_parts (is_word new) (is_quiet new) e in
+    let parts = and_parts (is_word new) (is_non_joining_word new) e in
     (parts.0, inr parts.1)
 
 -- ---- words with digits
@@ -55,8 +55,8 @@ safe_other old new e =
 no_digits : List ℕ → Bool
 no_digits word = is_word word && list_all (λ entry. not (fronts word entry && list_all is_ascii_digit (drop (length word) entry))) joining_words
 
-digits_table : list_all (λ pair. no_digits pair.1) operands ≡ true
-unfolding no_digits joining_words is_word_byte is_word_start operands
+digits_table : list_all (λ pair. no_digits pair.1) operand_pairs ≡ true
+unfolding no_digits joining_words is_word_byte is_word_start operand_pairs
 digits_table = refl
 
 digit_word : (b : ℕ) → is_ascii_digit b ≡ true → is_word_byte b ≡ true
@@ -97,8 +97,8 @@ digits_alike (a ∷ f) ds (c ∷ entry) d h e =
     let rest = digits_alike f ds entry d parts.1 (omega (arith, e)) in
     (and_from (to_ascii_lowercase a == to_ascii_lowercase c) (fronts f entry) parts.0 rest.0, rest.1)
 
-none_among : (table : List (List ℕ)) (f ds : List ℕ) → list_all is_ascii_digit ds ≡ true → list_all (λ entry. not (fronts f entry && list_all is_ascii_digit (drop (length f) entry))) table ≡ true → is_among table (f ++ ds) ≡ false
-unfolding is_among
+none_among : (table : List (List ℕ)) (f ds : List ℕ) → list_all is_ascii_digit ds ≡ true → list_all (λ entry. not (fronts f entry && list_all is_ascii_digit (drop (length f) entry))) table ≡ true → is_word_in_list table (f ++ ds) ≡ false
+unfolding is_word_in_list
 none_among table f ds d all = false_from_ne_true (list_any (λ entry. str_eq_ignore_ascii_case (f ++ ds) entry) table) (λ e. absurd (none_there table all e))
   where
     none_there : (table : List (List ℕ)) → list_all (λ entry. not (fronts f entry && list_all is_ascii_digit (drop (length f) entry))) table ≡ true → list_any (λ entry. str_eq_ignore_ascii_case (f ++ ds) entry) table ≡ true → ⊥
@@ -114,10 +114,10 @@ none_among table f ds d all = false_from_ne_true (list_any (λ entry. str_eq_ign
         ]
 
 digits_other : (old f ds : List ℕ) → list_all is_ascii_digit ds ≡ true → no_digits f ≡ true → IsOtherWord old (f ++ ds)
-unfolding no_digits is_quiet
+unfolding no_digits is_non_joining_word
 digits_other old f ds d e =
     let parts = and_parts (is_word f) (list_all (λ entry. not (fronts f entry && list_all is_ascii_digit (drop (length f) entry))) joining_words) e in
-    (word_digits f ds parts.0 d, inr (not_from_false (is_among joining_words (f ++ ds)) (none_among joining_words f ds d parts.1)))
+    (word_digits f ds parts.0 d, inr (not_from_false (is_word_in_list joining_words (f ++ ds)) (none_among joining_words f ds d parts.1)))
 
 -- ---- what is written
 
@@ -127,40 +127,40 @@ kept_other old word = (word, inl (fronts_alike old old (alike_self old) refl))
 
 instruction_other : (old found : List ℕ) → instruction_partner German old ≡ Some found → IsOtherWord old found
 unfolding instruction_partner
-instruction_other old found is = by_first (partner German instructions old) (partner German jumps old) refl refl is
+instruction_other old found is = by_first (partner_in_table German instruction_pairs old) (partner_in_table German jump_pairs old) refl refl is
   where
-    by_first : (a b : Option (List ℕ)) → partner German instructions old ≡ a → partner German jumps old ≡ b → option_or a b ≡ Some found → IsOtherWord old found
-    by_first (Some x) b a_is b_is e = safe_other old found (found_passes is_safe instructions old found safe_tables.0 (a_is ∙ e))
-    by_first None b a_is b_is e = safe_other old found (found_passes is_safe jumps old found safe_tables.1 (b_is ∙ e))
+    by_first : (a b : Option (List ℕ)) → partner_in_table German instruction_pairs old ≡ a → partner_in_table German jump_pairs old ≡ b → option_or a b ≡ Some found → IsOtherWord old found
+    by_first (Some x) b a_is b_is e = safe_other old found (found_passes is_safe instruction_pairs old found safe_tables.0 (a_is ∙ e))
+    by_first None b a_is b_is e = safe_other old found (found_passes is_safe jump_pairs old found safe_tables.1 (b_is ∙ e))
 
 numbered_other : (old found : List ℕ) → numbered_partner German old ≡ Some found → IsOtherWord old found
 unfolding numbered_partner
-numbered_other old found is = elim (cases_Bool (list_all is_ascii_digit (digits old))) [
-  | inl yes_ ↦ by_letters (partner German operands (letters old)) refl yes_ (rw yes_ at is)
+numbered_other old found is = elim (cases_Bool (list_all is_ascii_digit (digits_of_word old))) [
+  | inl yes_ ↦ by_letters (partner_in_table German operand_pairs (letters_of_word old)) refl yes_ (rw yes_ at is)
   | inr no_ ↦ absurd (none≢some found (rw no_ at is))
 ] where
-  by_letters : (a : Option (List ℕ)) → partner German operands (letters old) ≡ a → list_all is_ascii_digit (digits old) ≡ true → option_map (λ found. found ++ digits old) a ≡ Some found → IsOtherWord old found
+  by_letters : (a : Option (List ℕ)) → partner_in_table German operand_pairs (letters_of_word old) ≡ a → list_all is_ascii_digit (digits_of_word old) ≡ true → option_map (λ found. found ++ digits_of_word old) a ≡ Some found → IsOtherWord old found
   by_letters None a_is d e = absurd (none≢some found e)
   by_letters (Some f) a_is d e =
-      subst (λ s. IsOtherWord old s) (same_Some (f ++ digits old) found e) (digits_other old f (digits old) d (found_passes no_digits operands (letters old) f digits_table a_is))
+      subst (λ s. IsOtherWord old s) (same_Some (f ++ digits_of_word old) found e) (digits_other old f (digits_of_word old) d (found_passes no_digits operand_pairs (letters_of_word old) f digits_table a_is))
 
 operand_other : (old found : List ℕ) → operand_partner German old ≡ Some found → IsOtherWord old found
 unfolding operand_partner
-operand_other old found is = by_first (numbered_partner German old) (partner German results old) refl refl is
+operand_other old found is = by_first (numbered_partner German old) (partner_in_table German result_pairs old) refl refl is
   where
-    by_first : (a b : Option (List ℕ)) → numbered_partner German old ≡ a → partner German results old ≡ b → option_or a b ≡ Some found → IsOtherWord old found
+    by_first : (a b : Option (List ℕ)) → numbered_partner German old ≡ a → partner_in_table German result_pairs old ≡ b → option_or a b ≡ Some found → IsOtherWord old found
     by_first (Some x) b a_is b_is e = numbered_other old found (a_is ∙ e)
-    by_first None b a_is b_is e = safe_other old found (found_passes is_safe results old found safe_tables.2 (b_is ∙ e))
+    by_first None b a_is b_is e = safe_other old found (found_passes is_safe result_pairs old found safe_tables.2 (b_is ∙ e))
 
-exchanged_other : (o : Option (List ℕ)) (foreign : Bool) (old new : List ℕ) → is_word old ≡ true → ((found : List ℕ) → o ≡ Some found → IsOtherWord old found) → exchanged o foreign old ≡ Some new → IsOtherWord old new
+exchanged_other : (o : Option (List ℕ)) (foreign : Bool) (old new : List ℕ) → is_word old ≡ true → ((found : List ℕ) → o ≡ Some found → IsOtherWord old found) → exchanged_word o foreign old ≡ Some new → IsOtherWord old new
 exchanged_other (Some found) foreign old new word other e = subst (λ s. IsOtherWord old s) (same_Some found new e) (other found refl)
 exchanged_other None true old new word other e = absurd (none≢some new e)
 exchanged_other None false old new word other e = subst (λ s. IsOtherWord old s) (same_Some old new e) (kept_other old word)
 
 -- an instruction word
-pub instruction_quiet : (old new : List ℕ) → is_word old ≡ true → exchanged (instruction_partner German old) (is_some (instruction_partner English old)) old ≡ Some new → IsOtherWord old new
+pub instruction_quiet : (old new : List ℕ) → is_word old ≡ true → exchanged_word (instruction_partner German old) (is_some (instruction_partner English old)) old ≡ Some new → IsOtherWord old new
 instruction_quiet old new word e = exchanged_other (instruction_partner German old) (is_some (instruction_partner English old)) old new word (instruction_other old) e
 
 -- a word in an operand place
-pub operand_quiet : (old new : List ℕ) → is_word old ≡ true → exchanged (operand_partner German old) (is_some (operand_partner English old)) old ≡ Some new → IsOtherWord old new
+pub operand_quiet : (old new : List ℕ) → is_word old ≡ true → exchanged_word (operand_partner German old) (is_some (operand_partner English old)) old ≡ Some new → IsOtherWord old new
 operand_quiet old new word e = exchanged_other (operand_partner German old) (is_some (operand_partner English old)) old new word (operand_other old) e

@@ -14,25 +14,25 @@ use Rattle.de_mnemonics.specs.declared.places.Place.{Place}
 use Rattle.de_mnemonics.specs.declared.places.Place.TheVariants as place
 use Rattle.de_mnemonics.specs.declared.roles.Role.{Role}
 use Rattle.de_mnemonics.specs.declared.roles.Role.TheVariants as role
-use Rattle.de_mnemonics.specs.Places.{behind, role_of}
+use Rattle.de_mnemonics.specs.Places.{place_behind, role_of}
 use Rattle.de_mnemonics.specs.Translation.{class_in, next_class}
 use Rattle.de_mnemonics.specs.Words.{operand_partner}
 
 -- two tokens, each of its source, of the same kind and text on the same line
-pub record IsSame (s e : List ℕ) (t u : Token) : Type 0 where
+pub record IsSameToken (s e : List ℕ) (t u : Token) : Type 0 where
   pub kind : t.kind ≡ u.kind
   pub line : t.line ≡ u.line
   pub text : text_of s t ≡ text_of e u
 
 -- two words that are the same but for the case of their letters
-pub record IsCased (s e : List ℕ) (t u : Token) : Type 0 where
+pub record IsSameWordButForCase (s e : List ℕ) (t u : Token) : Type 0 where
   pub word : t.kind ≡ kind.Word
   pub other : u.kind ≡ kind.Word
   pub line : t.line ≡ u.line
   pub text : str_eq_ignore_ascii_case (text_of s t) (text_of e u) ≡ true
 
 -- a word that is an operand word of one of the languages, and the same with `#` in front, a local name
-pub record IsNamed (s e : List ℕ) (t u : Token) : Type 0 where
+pub record IsOperandWordAsLocal (s e : List ℕ) (t u : Token) : Type 0 where
   pub word : t.kind ≡ kind.Word
   pub other : u.kind ≡ kind.Local
   pub line : t.line ≡ u.line
@@ -41,22 +41,22 @@ pub record IsNamed (s e : List ℕ) (t u : Token) : Type 0 where
       (is_some (operand_partner English (text_of s t)) ≡ true) ⊎ (is_some (operand_partner German (text_of s t)) ≡ true)
 
 -- how a token in this role comes back
-abbrev pub ComesAs : (s e : List ℕ) → Role → Token → Token → Type 0
-ComesAs s e role.Instruction t u = IsSame s e t u ⊎ IsCased s e t u
-ComesAs s e role.Operand t u = IsSame s e t u ⊎ (IsCased s e t u × (is_some (operand_partner German (text_of s t)) ≡ true))
-ComesAs s e role.Path t u = IsSame s e t u ⊎ IsNamed s e t u
-ComesAs s e role.Stays t u = IsSame s e t u
+abbrev pub ComesBackInRole : (s e : List ℕ) → Role → Token → Token → Type 0
+ComesBackInRole s e role.Instruction t u = IsSameToken s e t u ⊎ IsSameWordButForCase s e t u
+ComesBackInRole s e role.Operand t u = IsSameToken s e t u ⊎ (IsSameWordButForCase s e t u × (is_some (operand_partner German (text_of s t)) ≡ true))
+ComesBackInRole s e role.Path t u = IsSameToken s e t u ⊎ IsOperandWordAsLocal s e t u
+ComesBackInRole s e role.Stays t u = IsSameToken s e t u
 
 -- tokens come back one by one, from a place on; `before` is the class of the token in front of it
-abbrev pub AreAlike : (s e : List ℕ) → Place → TokenClass → List Token → List Token → Type 0
-AreAlike s e p before [] [] = Unit {0}
-AreAlike s e p before (t ∷ ts) (u ∷ us) =
-    ComesAs s e (role_of p before (class_in s t) (text_of s t) (next_class s ts)) t u
-    × AreAlike s e (behind p before (class_in s t) (text_of s t) (next_class s ts)) (class_in s t) ts us
-AreAlike s e p before _ _ = ⊥
+abbrev pub AreTokensAlike : (s e : List ℕ) → Place → TokenClass → List Token → List Token → Type 0
+AreTokensAlike s e p before [] [] = Unit {0}
+AreTokensAlike s e p before (t ∷ ts) (u ∷ us) =
+    ComesBackInRole s e (role_of p before (class_in s t) (text_of s t) (next_class s ts)) t u
+    × AreTokensAlike s e (place_behind p before (class_in s t) (text_of s t) (next_class s ts)) (class_in s t) ts us
+AreTokensAlike s e p before _ _ = ⊥
 
 -- such tokens have the same tree
 abbrev pub TreesAlike : Type 0
 TreesAlike =
     (s e : List ℕ) (ts us : List Token) (t : Tree)
-    → AreTokens s ts → AreAlike s e place.Outside class.Other ts us → IsTree s ts t → IsTree e us t
+    → AreTokens s ts → AreTokensAlike s e place.Outside class.Other ts us → IsTree s ts t → IsTree e us t

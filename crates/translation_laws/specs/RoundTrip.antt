@@ -14,7 +14,7 @@ pub record HasTree (text : List ℕ) (tree : Tree) : Type 0 where
   pub is : IsTree text tokens tree
 
 -- a German text has a translation to English with this tree
-pub record ComesBack (german : List ℕ) (tree : Tree) : Type 0 where
+pub record ComesBackWithTree (german : List ℕ) (tree : Tree) : Type 0 where
   pub english : List ℕ
   pub translation : IsTranslation English german english
   pub same : HasTree english tree
@@ -22,4 +22,4 @@ pub record ComesBack (german : List ℕ) (tree : Tree) : Type 0 where
 -- of each source with a tree, whose clauses so break no rule, each translation to German comes back
 abbrev pub RoundTrips : Type 0
 RoundTrips =
-    (source german : List ℕ) (tree : Tree) → HasTree source tree → IsTranslation German source german → ComesBack german tree
+    (source german : List ℕ) (tree : Tree) → HasTree source tree → IsTranslation German source german → ComesBackWithTree german tree

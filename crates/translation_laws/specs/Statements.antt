@@ -9,8 +9,8 @@ use Rattle.de_mnemonics.specs.declared.places.Place.{Place}
 use Rattle.de_mnemonics.specs.declared.places.Place.TheVariants as place
 use Rattle.de_mnemonics.specs.declared.roles.Role.{Role}
 use Rattle.de_mnemonics.specs.declared.roles.Role.TheVariants as role
-use Rattle.de_mnemonics.specs.Places.{behind, is_among, is_assign, is_component, is_jump, is_operand_place, may_be_keyword, role_of}
-use Rattle.de_mnemonics.specs.Tables.{begin_words, code_openings, data_openings, endings, network_words, zone_words}
+use Rattle.de_mnemonics.specs.Places.{place_behind, is_word_in_list, is_assign, is_component, is_jump_word, is_operand_place, may_be_keyword, role_of}
+use Rattle.de_mnemonics.specs.Tables.{begin_words, code_openings, data_openings, block_end_words, network_words, zone_words}
 use Rattle.de_mnemonics.specs.Translation.{class_in, next_class}
 
 -- ---- the rule
@@ -59,11 +59,11 @@ opening_roles s (t ∷ ts) =
 
 -- tokens behind an instruction word
 abbrev pub word_roles : List ℕ → List ℕ → List Token → List Role
-word_roles s word ts = if is_jump word then label_roles s ts else opening_roles s ts
+word_roles s word ts = if is_jump_word word then label_roles s ts else opening_roles s ts
 
 -- a token is the word of `)MCR`
 abbrev pub is_zone_end : List ℕ → Token → Bool
-is_zone_end s t = is_word_class (class_in s t) && is_among zone_words (text_of s t)
+is_zone_end s t = is_word_class (class_in s t) && is_word_in_list zone_words (text_of s t)
 
 -- tokens behind a `)` that is an instruction: a path may begin there, or behind the word of `)MCR`
 abbrev pub closing_roles : List ℕ → List Token → List Role
@@ -125,24 +125,24 @@ HasNoSemicolon s [] = Unit {0}
 HasNoSemicolon s (t ∷ ts) = (is_semicolon_class (class_in s t) ≡ false) × HasNoSemicolon s ts
 
 -- what stands between statements of a body: titles and attributes, and the word of a network
-abbrev pub is_between : TokenClass → List ℕ → Bool
-is_between class.Word word = is_among network_words word && not (is_among endings word)
-is_between c word = is_note_class c
+abbrev pub stands_between_statements : TokenClass → List ℕ → Bool
+stands_between_statements class.Word word = is_word_in_list network_words word && not (is_word_in_list block_end_words word)
+stands_between_statements c word = is_note_class c
 
 -- the word that ends a body
 abbrev pub is_body_end : TokenClass → List ℕ → Bool
-is_body_end class.Word word = is_among endings word
+is_body_end class.Word word = is_word_in_list block_end_words word
 is_body_end c word = false
 
 -- a statement begins with neither
 abbrev pub begins_statement : List ℕ → List Token → Bool
 begins_statement s [] = true
 begins_statement s (t ∷ ts) =
-    not (is_between (class_in s t) (text_of s t)) && not (is_body_end (class_in s t) (text_of s t))
+    not (stands_between_statements (class_in s t) (text_of s t)) && not (is_body_end (class_in s t) (text_of s t))
 
 -- a word that opens a block or a body, where no `:` and no `.` stands before it
 abbrev pub is_keyword_of : List (List ℕ) → TokenClass → TokenClass → List ℕ → Bool
-is_keyword_of table before class.Word word = may_be_keyword before && is_among table word
+is_keyword_of table before class.Word word = may_be_keyword before && is_word_in_list table word
 is_keyword_of table before c word = false
 
 -- ---- the roles that a translation goes by
@@ -152,7 +152,7 @@ abbrev pub roles_from : List ℕ → Place → TokenClass → List Token → Lis
 roles_from s p before [] = []
 roles_from s p before (t ∷ ts) =
     role_of p before (class_in s t) (text_of s t) (next_class s ts)
-    ∷ roles_from s (behind p before (class_in s t) (text_of s t) (next_class s ts)) (class_in s t) ts
+    ∷ roles_from s (place_behind p before (class_in s t) (text_of s t) (next_class s ts)) (class_in s t) ts
 
 -- a statement of a body, up to its `;`, has the roles of the rule, and behind it the next one begins
 abbrev pub StatementsHaveRoles : Type 0
@@ -165,7 +165,7 @@ StatementsHaveRoles =
 -- between statements all stays, and the word that ends a body leads out of the block
 pub record BodiesHaveRoles : Type 0 where
   pub between :
-      (s : List ℕ) (before : TokenClass) (t : Token) (rest : List Token) → is_between (class_in s t) (text_of s t) ≡ true
+      (s : List ℕ) (before : TokenClass) (t : Token) (rest : List Token) → stands_between_statements (class_in s t) (text_of s t) ≡ true
       → roles_from s place.Start before (t ∷ rest) ≡ role.Stays ∷ roles_from s place.Start (class_in s t) rest
   pub ends :
       (s : List ℕ) (before : TokenClass) (t : Token) (rest : List Token) → is_body_end (class_in s t) (text_of s t) ≡ true

@@ -3,25 +3,25 @@ use Rattle.std.proofs.Common.{◌≡◌, ◌≤◌, ◌<◌, ◌+◌, ℕ, zero,
 use Rattle.std.specs.Prelude.{IfOk}
 use Rattle.std.proofs.lemmas.Bool.{le-leb, lt-leb}
 use Rattle.std.proofs.lemmas.List.{map-append, length-map}
-use Rattle.var_access.specs.Readings.{Reading, all_read, both, reading_map}
+use Rattle.var_access.specs.Readings.{Reading, all_readings, both_readings, reading_map}
 use Rattle.var_access.specs.Requests.{few_vars}
 use Rattle.var_access.specs.declared.requests.Var.{Var}
 
 -- one part more
 abbrev pub with_more : {A : Type 0} → Reading (List A) → Reading A → Reading (List A)
-with_more all r = reading_map (λ p. p.0 ++ p.1 ∷ []) (both all r)
+with_more all r = reading_map (λ p. p.0 ++ p.1 ∷ []) (both_readings all r)
 
 least_same : (a b c : ℕ) → min a (min b c) ≡ min (min a b) c
 least_same a b c = omega arith
 
 -- a further part stands behind the others
-pub all_read-more : {A : Type 0} → (rs : List (Reading A)) (r : Reading A) → all_read (rs ++ r ∷ []) ≡ with_more (all_read rs) r
+pub all_read-more : {A : Type 0} → (rs : List (Reading A)) (r : Reading A) → all_readings (rs ++ r ∷ []) ≡ with_more (all_readings rs) r
 all_read-more [] (Ok a) = refl
 all_read-more [] (Err rule) = refl
-all_read-more {A} (s ∷ rs) r = ap (λ x. reading_map (λ p. p.0 ∷ p.1) (both s x)) (all_read-more rs r) ∙ by s (all_read rs) r
+all_read-more {A} (s ∷ rs) r = ap (λ x. reading_map (λ p. p.0 ∷ p.1) (both_readings s x)) (all_read-more rs r) ∙ by s (all_readings rs) r
   where
     by : (s : Reading A) (all : Reading (List A)) (r : Reading A)
-        → reading_map (λ p. p.0 ∷ p.1) (both s (with_more all r)) ≡ with_more (reading_map (λ p. p.0 ∷ p.1) (both s all)) r
+        → reading_map (λ p. p.0 ∷ p.1) (both_readings s (with_more all r)) ≡ with_more (reading_map (λ p. p.0 ∷ p.1) (both_readings s all)) r
     by (Ok a) (Ok xs) (Ok b) = refl
     by (Ok a) (Ok xs) (Err k) = refl
     by (Ok a) (Err j) (Ok b) = refl
@@ -66,14 +66,14 @@ more_left (y ∷ ys) (suc i) some = omega (arith, more_left ys i some)
 
 -- the reading of one more part
 pub read_more : {A : Type 0} (f : List ℕ → Reading A) (parts : List (List ℕ)) (i : ℕ) (part : List ℕ) (more : List (List ℕ)) (all : Reading (List A))
-    → drop i parts ≡ part ∷ more → all ≡ all_read (map f (take i parts))
-    → with_more all (f part) ≡ all_read (map f (take (i + 1) parts))
+    → drop i parts ≡ part ∷ more → all ≡ all_readings (map f (take i parts))
+    → with_more all (f part) ≡ all_readings (map f (take (i + 1) parts))
 read_more f parts i part more all at is =
     ap (λ r. with_more r (f part)) is
     ∙ sym (all_read-more (map f (take i parts)) (f part))
-    ∙ ap all_read (sym (map-append f (take i parts) (part ∷ [])))
-    ∙ ap (λ ps. all_read (map f ps)) (sym (taken parts i part more at))
-    ∙ ap (λ (n : ℕ). all_read (map f (take n parts))) (next i)
+    ∙ ap all_readings (sym (map-append f (take i parts) (part ∷ [])))
+    ∙ ap (λ ps. all_readings (map f ps)) (sym (taken parts i part more at))
+    ∙ ap (λ (n : ℕ). all_readings (map f (take n parts))) (next i)
 
 -- the parts that are left then
 pub read_rest : (parts : List (List ℕ)) (i : ℕ) (part : List ℕ) (more : List (List ℕ))
@@ -90,14 +90,14 @@ read_length n (Err rule) (Err other) is = tt
 
 -- the last part
 pub read_last : (f : List ℕ → Reading Var) (parts : List (List ℕ)) (i : ℕ) (part : List ℕ) (all : Reading (List Var))
-    → drop i parts ≡ part ∷ [] → i < 8 → all ≡ all_read (map f (take i parts))
+    → drop i parts ≡ part ∷ [] → i < 8 → all ≡ all_readings (map f (take i parts))
     → with_more all (f part) ≡ few_vars (map f parts)
 read_last f parts i part all at few is =
     let whole = all_taken parts i part at in
     let len : length (map f parts) ≡ suc i = length-map parts f ∙ whole.1 in
     read_more f parts i part [] all at is
-    ∙ ap (λ (n : ℕ). all_read (map f (take n parts))) (sym (next i))
-    ∙ ap (λ ps. all_read (map f ps)) (sym whole.0)
+    ∙ ap (λ (n : ℕ). all_readings (map f (take n parts))) (sym (next i))
+    ∙ ap (λ ps. all_readings (map f ps)) (sym whole.0)
     ∙ sym (rw (le-leb (length (map f parts)) 8 (omega (arith, len, few))) refl)
 
 -- a ninth part

@@ -10,18 +10,18 @@ use Rattle.var_access.specs.declared.entries.Entry.{Entry}
 use Rattle.var_access.specs.declared.entries.What.{What}
 use Rattle.var_access.specs.declared.entries.What.TheVariants.{Step, Input, Arrive, Tick, Ask}
 use Rattle.var_access.specs.declared.runs.Run.{Run}
-use Rattle.var_access.specs.Runs.{written_out, FollowFrom, is_step, is_step_what, joins, IsRun, StandApart, AreRuns, run_behind, run_at, entry_by}
+use Rattle.var_access.specs.Runs.{entries_of_runs, FollowFrom, is_step, is_step_what, are_steps_of_one_worker, IsHistoryRun, StandApart, AreRuns, run_behind, run_at, entry_by}
 
 abbrev pub one_run : (e : Entry) (first count : ℕ) → Run
 one_run e first count = record { entry = e; first = first; count = count }
 
-written_more : (runs more : List Run) → written_out (runs ++ more) ≡ written_out runs ++ written_out more
+written_more : (runs more : List Run) → entries_of_runs (runs ++ more) ≡ entries_of_runs runs ++ entries_of_runs more
 written_more [] more = refl
 written_more (r ∷ rest) more =
     ap (λ (es : List Entry). replicate r.count r.entry ++ es) (written_more rest more)
-    ∙ sym (append_assoc (replicate r.count r.entry) (written_out rest) (written_out more))
+    ∙ sym (append_assoc (replicate r.count r.entry) (entries_of_runs rest) (entries_of_runs more))
 
-written_one : (r : Run) → written_out (r ∷ []) ≡ replicate r.count r.entry
+written_one : (r : Run) → entries_of_runs (r ∷ []) ≡ replicate r.count r.entry
 written_one r = append-nil (replicate r.count r.entry)
 
 -- steps of one worker are the same entry
@@ -124,7 +124,7 @@ behind (suc n) i e more =
 found_from : (first : ℕ) (runs : List Run) (best : Run) (i : ℕ) → FollowFrom first runs
     → best.first + best.count ≡ first → best.first ≤ i
     → entry_by (run_behind (Some best) runs i) i
-    ≡ slice_get (replicate best.count best.entry ++ written_out runs) (i - best.first)
+    ≡ slice_get (replicate best.count best.entry ++ entries_of_runs runs) (i - best.first)
 found_from first [] best i follow is le = by (nat_lt (i - best.first) best.count) refl
   where
     by : (test : Bool) → nat_lt (i - best.first) best.count ≡ test
@@ -144,32 +144,32 @@ found_from first (r ∷ rest) best i follow is le =
     (nat_le r.first i) refl
   where
     by : (r.first ≤ i → entry_by (run_behind (Some r) rest i) i
-        ≡ slice_get (replicate r.count r.entry ++ written_out rest) (i - r.first))
+        ≡ slice_get (replicate r.count r.entry ++ entries_of_runs rest) (i - r.first))
         → (test : Bool) → nat_le r.first i ≡ test
         → entry_by (if test then run_behind (Some r) rest i else Some best) i
-        ≡ slice_get (replicate best.count best.entry ++ written_out (r ∷ rest)) (i - best.first)
+        ≡ slice_get (replicate best.count best.entry ++ entries_of_runs (r ∷ rest)) (i - best.first)
     by next true t =
         let early : r.first ≤ i = leb-true r.first i t in
         let there : (i - best.first) ≡ best.count + (i - r.first) =
         omega (arith, early, follow.0, is, le) in
         next early
-        ∙ sym (ap (λ (n : ℕ). slice_get (replicate best.count best.entry ++ written_out (r ∷ rest)) n) there
-        ∙ behind best.count (i - r.first) best.entry (written_out (r ∷ rest)))
+        ∙ sym (ap (λ (n : ℕ). slice_get (replicate best.count best.entry ++ entries_of_runs (r ∷ rest)) n) there
+        ∙ behind best.count (i - r.first) best.entry (entries_of_runs (r ∷ rest)))
     by next false t =
         let less : i < r.first = leb-false r.first i t in
         let within : (i - best.first) < best.count = omega (arith, less, follow.0, is, le) in
         rw (lt-ltb (i - best.first) best.count within)
-        (sym (in_front best.count (i - best.first) best.entry (written_out (r ∷ rest)) within))
+        (sym (in_front best.count (i - best.first) best.entry (entries_of_runs (r ∷ rest)) within))
 
 pub found_entry : (runs : List Run) (i : ℕ) → AreRuns runs
-    → entry_by (run_at runs i) i ≡ slice_get (written_out runs) i
+    → entry_by (run_at runs i) i ≡ slice_get (entries_of_runs runs) i
 found_entry [] i are = refl
 found_entry (r ∷ rest) i are =
     let early : nat_le r.first i ≡ true = le-leb r.first i (omega (arith, are.follow.0)) in
     rw early
     (found_from (0 + r.count) rest r i are.follow.1
     (omega (arith, are.follow.0)) (omega (arith, are.follow.0))
-    ∙ ap (λ (n : ℕ). slice_get (written_out (r ∷ rest)) n) (omega (arith, are.follow.0)))
+    ∙ ap (λ (n : ℕ). slice_get (entries_of_runs (r ∷ rest)) n) (omega (arith, are.follow.0)))
 
 -- a run that is found begins at the number or before it
 begins_by : (runs : List Run) (best : Option Run) (i : ℕ) (found : Run)
@@ -198,7 +198,7 @@ begins_early runs i (Some r) is = begins runs i r (sym is)
 -- ---- adding
 
 follow_more : (first : ℕ) (runs more : List Run) → FollowFrom first runs
-    → FollowFrom (first + length (written_out runs)) more → FollowFrom first (runs ++ more)
+    → FollowFrom (first + length (entries_of_runs runs)) more → FollowFrom first (runs ++ more)
 follow_more first [] more one other = subst (λ (n : ℕ). FollowFrom n more) (omega arith) other
 follow_more first (r ∷ rest) more one other = (
   one.0,
@@ -206,31 +206,31 @@ follow_more first (r ∷ rest) more one other = (
       (subst (λ (n : ℕ). FollowFrom n more) (omega (arith, len)) other),
 )
   where
-    len : length (written_out (r ∷ rest)) ≡ r.count + length (written_out rest)
+    len : length (entries_of_runs (r ∷ rest)) ≡ r.count + length (entries_of_runs rest)
     len =
-        length-append (replicate r.count r.entry) (written_out rest)
-        ∙ ap (λ (n : ℕ). n + length (written_out rest)) (length-replicate r.count r.entry)
+        length-append (replicate r.count r.entry) (entries_of_runs rest)
+        ∙ ap (λ (n : ℕ). n + length (entries_of_runs rest)) (length-replicate r.count r.entry)
 
 follow_front : (first : ℕ) (runs more : List Run) → FollowFrom first (runs ++ more)
-    → FollowFrom first runs × FollowFrom (first + length (written_out runs)) more
+    → FollowFrom first runs × FollowFrom (first + length (entries_of_runs runs)) more
 follow_front first [] more follow = (tt, subst (λ (n : ℕ). FollowFrom n more) (omega arith) follow)
 follow_front first (r ∷ rest) more follow =
     let back = follow_front (first + r.count) rest more follow.1 in
     ((follow.0, back.0), subst (λ (n : ℕ). FollowFrom n more) (omega (arith, len)) back.1)
   where
-    len : length (written_out (r ∷ rest)) ≡ r.count + length (written_out rest)
+    len : length (entries_of_runs (r ∷ rest)) ≡ r.count + length (entries_of_runs rest)
     len =
-        length-append (replicate r.count r.entry) (written_out rest)
-        ∙ ap (λ (n : ℕ). n + length (written_out rest)) (length-replicate r.count r.entry)
+        length-append (replicate r.count r.entry) (entries_of_runs rest)
+        ∙ ap (λ (n : ℕ). n + length (entries_of_runs rest)) (length-replicate r.count r.entry)
 
-each_front : (runs more : List Run) → AllByRecursion IsRun (runs ++ more)
-    → AllByRecursion IsRun runs × AllByRecursion IsRun more
+each_front : (runs more : List Run) → AllByRecursion IsHistoryRun (runs ++ more)
+    → AllByRecursion IsHistoryRun runs × AllByRecursion IsHistoryRun more
 each_front [] more all = (tt, all)
 each_front (r ∷ rest) more all =
     let back = each_front rest more all.1 in ((all.0, back.0), back.1)
 
-each_more : (runs more : List Run) → AllByRecursion IsRun runs → AllByRecursion IsRun more
-    → AllByRecursion IsRun (runs ++ more)
+each_more : (runs more : List Run) → AllByRecursion IsHistoryRun runs → AllByRecursion IsHistoryRun more
+    → AllByRecursion IsHistoryRun (runs ++ more)
 each_more [] more one other = other
 each_more (r ∷ rest) more one other = (one.0, each_more rest more one.1 other)
 
@@ -243,7 +243,7 @@ apart_same (f ∷ g ∷ rest) r count apart = (apart.0, apart_same (g ∷ rest) 
 
 -- a further run that doesn't join the last one
 apart_more : (front : List Run) (r next : Run) → StandApart (front ++ r ∷ [])
-    → joins r.entry next.entry ≡ false → StandApart ((front ++ r ∷ []) ++ next ∷ [])
+    → are_steps_of_one_worker r.entry next.entry ≡ false → StandApart ((front ++ r ∷ []) ++ next ∷ [])
 apart_more [] r next apart not = (not, (tt, tt))
 apart_more (f ∷ []) r next apart not = (apart.0, (not, (tt, tt)))
 apart_more (f ∷ g ∷ rest) r next apart not = (apart.0, apart_more (g ∷ rest) r next apart.1 not)
@@ -253,48 +253,48 @@ entry_is : (e : Entry) (who : ℕ) (what : What) → e.who ≡ who → e.what �
 entry_is e who what one other = rw (sym one) (rw (sym other) refl)
 
 -- entries that join are the same
-joined_same : (one next : Entry) → joins one next ≡ true → one ≡ next
+joined_same : (one next : Entry) → are_steps_of_one_worker one next ≡ true → one ≡ next
 joined_same one next is =
     let parts = and_parts (is_step one && is_step next) (one.who == next.who) is in
     let steps = and_parts (is_step one) (is_step next) parts.0 in
     entry_is one next.who next.what (eqb-true one.who next.who parts.1)
     (step_is one.what steps.0 ∙ sym (step_is next.what steps.1))
 
-joined_step : (one next : Entry) → joins one next ≡ true → is_step one ≡ true
+joined_step : (one next : Entry) → are_steps_of_one_worker one next ≡ true → is_step one ≡ true
 joined_step one next is =
     let parts = and_parts (is_step one && is_step next) (one.who == next.who) is in
     (and_parts (is_step one) (is_step next) parts.0).0
 
 -- what is written out of the first run, of a run that was joined, and of one more
 first_written : (e : Entry) (first count : ℕ)
-    → written_out (one_run e first count ∷ []) ≡ replicate count e
+    → entries_of_runs (one_run e first count ∷ []) ≡ replicate count e
 first_written e first count = written_one (one_run e first count)
 
-joined_written : (front : List Run) (r : Run) (e : Entry) (count : ℕ) → joins r.entry e ≡ true
-    → written_out (front ++ record r { count = r.count + count } ∷ [])
-    ≡ written_out (front ++ r ∷ []) ++ replicate count e
+joined_written : (front : List Run) (r : Run) (e : Entry) (count : ℕ) → are_steps_of_one_worker r.entry e ≡ true
+    → entries_of_runs (front ++ record r { count = r.count + count } ∷ [])
+    ≡ entries_of_runs (front ++ r ∷ []) ++ replicate count e
 joined_written front r e count is =
     written_more front (record r { count = r.count + count } ∷ [])
-    ∙ ap (λ (es : List Entry). written_out front ++ es)
+    ∙ ap (λ (es : List Entry). entries_of_runs front ++ es)
     (written_one (record r { count = r.count + count })
     ∙ sym (replicate-append-replicate r.count count r.entry)
     ∙ ap (λ (x : Entry). replicate r.count r.entry ++ replicate count x) (joined_same r.entry e is))
-    ∙ sym (append_assoc (written_out front) (replicate r.count r.entry) (replicate count e))
+    ∙ sym (append_assoc (entries_of_runs front) (replicate r.count r.entry) (replicate count e))
     ∙ ap (λ (es : List Entry). es ++ replicate count e)
     (sym (written_more front (r ∷ [])
-    ∙ ap (λ (es : List Entry). written_out front ++ es) (written_one r)))
+    ∙ ap (λ (es : List Entry). entries_of_runs front ++ es) (written_one r)))
 
 pub apart_written : (runs : List Run) (e : Entry) (first count : ℕ)
-    → written_out (runs ++ one_run e first count ∷ []) ≡ written_out runs ++ replicate count e
+    → entries_of_runs (runs ++ one_run e first count ∷ []) ≡ entries_of_runs runs ++ replicate count e
 apart_written runs e first count =
     written_more runs (one_run e first count ∷ [])
-    ∙ ap (λ (es : List Entry). written_out runs ++ es) (first_written e first count)
+    ∙ ap (λ (es : List Entry). entries_of_runs runs ++ es) (first_written e first count)
 
 run_is : (e : Entry) (first count : ℕ) → 1 ≤ count → (is_step e ≡ false → count ≡ 1)
-    → IsRun (one_run e first count)
+    → IsHistoryRun (one_run e first count)
 run_is e first count some one = record { some = some; one = one }
 
-joined_runs : (front : List Run) (r : Run) (e : Entry) (count : ℕ) → joins r.entry e ≡ true
+joined_runs : (front : List Run) (r : Run) (e : Entry) (count : ℕ) → are_steps_of_one_worker r.entry e ≡ true
     → AreRuns (front ++ r ∷ []) → AreRuns (front ++ record r { count = r.count + count } ∷ [])
 joined_runs front r e count is are =
     let runs = each_front front (r ∷ []) are.each in
@@ -326,7 +326,7 @@ first_runs e first count is some one = record {
 }
 
 apart_runs : (front : List Run) (r : Run) (e : Entry) (first count : ℕ)
-    → joins r.entry e ≡ false → first ≡ length (written_out (front ++ r ∷ [])) → 1 ≤ count
+    → are_steps_of_one_worker r.entry e ≡ false → first ≡ length (entries_of_runs (front ++ r ∷ [])) → 1 ≤ count
     → (is_step e ≡ false → count ≡ 1) → AreRuns (front ++ r ∷ [])
     → AreRuns ((front ++ r ∷ []) ++ one_run e first count ∷ [])
 apart_runs front r e first count not is some one are = record {
@@ -335,18 +335,18 @@ apart_runs front r e first count not is some one are = record {
       (run_is e first count some one, tt);
   follow =
       follow_more 0 (front ++ r ∷ []) (one_run e first count ∷ []) are.follow
-      (is ∙ sym (zero_more (length (written_out (front ++ r ∷ [])))), tt);
+      (is ∙ sym (zero_more (length (entries_of_runs (front ++ r ∷ [])))), tt);
   apart = apart_more front r (one_run e first count) are.apart not;
 }
 
 -- no run is longer than what is written out
-few : (front : List Run) (r : Run) → r.count ≤ length (written_out (front ++ r ∷ []))
+few : (front : List Run) (r : Run) → r.count ≤ length (entries_of_runs (front ++ r ∷ []))
 few front r =
-    let len : length (written_out (front ++ r ∷ [])) ≡ length (written_out front) + r.count =
+    let len : length (entries_of_runs (front ++ r ∷ [])) ≡ length (entries_of_runs front) + r.count =
     ap (λ (es : List Entry). length es)
-    (written_more front (r ∷ []) ∙ ap (λ (es : List Entry). written_out front ++ es) (written_one r))
-    ∙ length-append (written_out front) (replicate r.count r.entry)
-    ∙ ap (λ (n : ℕ). length (written_out front) + n) (length-replicate r.count r.entry) in
+    (written_more front (r ∷ []) ∙ ap (λ (es : List Entry). entries_of_runs front ++ es) (written_one r))
+    ∙ length-append (entries_of_runs front) (replicate r.count r.entry)
+    ∙ ap (λ (n : ℕ). length (entries_of_runs front) + n) (length-replicate r.count r.entry) in
     omega (arith, len)
 
 -- ---- the last run in its place
@@ -380,33 +380,33 @@ pub none_there : (n : ℕ) → (0 < n → false ≡ true) → n ≡ 0
 none_there zero none = refl
 none_there (suc n) none = let so = none (omega arith) in absurd cc
 
-pub last_few : (runs : List Run) (k : ℕ) (r : Run) → IsLast runs k r → r.count ≤ length (written_out runs)
+pub last_few : (runs : List Run) (k : ℕ) (r : Run) → IsLast runs k r → r.count ≤ length (entries_of_runs runs)
 last_few runs k r is =
-    subst (λ (rs : List Run). r.count ≤ length (written_out rs)) (sym (front_last runs k r is.0 is.1)) (few (take k runs) r)
+    subst (λ (rs : List Run). r.count ≤ length (entries_of_runs rs)) (sym (front_last runs k r is.0 is.1)) (few (take k runs) r)
 
-pub last_written : (runs : List Run) (k : ℕ) (r : Run) (e : Entry) (count : ℕ) → IsLast runs k r → joins r.entry e ≡ true
-    → written_out (slice_set runs k (record r { count = r.count + count })) ≡ written_out runs ++ replicate count e
+pub last_written : (runs : List Run) (k : ℕ) (r : Run) (e : Entry) (count : ℕ) → IsLast runs k r → are_steps_of_one_worker r.entry e ≡ true
+    → entries_of_runs (slice_set runs k (record r { count = r.count + count })) ≡ entries_of_runs runs ++ replicate count e
 last_written runs k r e count is one =
-    ap (λ (rs : List Run). written_out rs) (front_set runs k (record r { count = r.count + count }) is.0)
+    ap (λ (rs : List Run). entries_of_runs rs) (front_set runs k (record r { count = r.count + count }) is.0)
     ∙ joined_written (take k runs) r e count one
-    ∙ ap (λ (rs : List Run). written_out rs ++ replicate count e) (sym (front_last runs k r is.0 is.1))
+    ∙ ap (λ (rs : List Run). entries_of_runs rs ++ replicate count e) (sym (front_last runs k r is.0 is.1))
 
-pub last_runs : (runs : List Run) (k : ℕ) (r : Run) (e : Entry) (count : ℕ) → IsLast runs k r → joins r.entry e ≡ true
+pub last_runs : (runs : List Run) (k : ℕ) (r : Run) (e : Entry) (count : ℕ) → IsLast runs k r → are_steps_of_one_worker r.entry e ≡ true
     → AreRuns runs → AreRuns (slice_set runs k (record r { count = r.count + count }))
 last_runs runs k r e count is one are =
     subst AreRuns (sym (front_set runs k (record r { count = r.count + count }) is.0))
     (joined_runs (take k runs) r e count one (subst AreRuns (front_last runs k r is.0 is.1) are))
 
 pub next_runs : (runs : List Run) (k : ℕ) (r : Run) (e : Entry) (first count : ℕ) → IsLast runs k r
-    → joins r.entry e ≡ false → first ≡ length (written_out runs) → 1 ≤ count → (is_step e ≡ false → count ≡ 1)
+    → are_steps_of_one_worker r.entry e ≡ false → first ≡ length (entries_of_runs runs) → 1 ≤ count → (is_step e ≡ false → count ≡ 1)
     → AreRuns runs → AreRuns (runs ++ one_run e first count ∷ [])
 next_runs runs k r e first count is not at some one are =
     let whole = front_last runs k r is.0 is.1 in
     subst (λ (rs : List Run). AreRuns (rs ++ one_run e first count ∷ [])) (sym whole)
-    (apart_runs (take k runs) r e first count not (at ∙ ap (λ (rs : List Run). length (written_out rs)) whole) some one (subst AreRuns whole are))
+    (apart_runs (take k runs) r e first count not (at ∙ ap (λ (rs : List Run). length (entries_of_runs rs)) whole) some one (subst AreRuns whole are))
 
 pub only_runs : (runs : List Run) (e : Entry) (first count : ℕ) → length runs ≡ 0
-    → first ≡ length (written_out runs) → 1 ≤ count → (is_step e ≡ false → count ≡ 1)
+    → first ≡ length (entries_of_runs runs) → 1 ≤ count → (is_step e ≡ false → count ≡ 1)
     → AreRuns (runs ++ one_run e first count ∷ [])
 only_runs [] e first count none at some one = first_runs e first count at some one
 only_runs (r ∷ rest) e first count none at some one = absurd (omega (arith, none))

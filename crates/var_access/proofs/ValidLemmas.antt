@@ -15,11 +15,11 @@ use Rattle.plc_base.specs.declared.places.Area.{Area}
 use Rattle.plc_base.specs.declared.places.Place.{Place}
 use Rattle.plc_base.specs.declared.places.Width.{Width}
 use Rattle.plc_base.specs.declared.places.Width.TheVariants.{Bit, Byte, Word, Dword}
-use Rattle.var_access.specs.Entry.{has_bit, has_variables, is_var, IsRequest}
-use Rattle.var_access.specs.Readings.{Reading, address_number, all_read, both, first_word, hex_of, is_hex, number_in, reading_map, trim, words_of}
+use Rattle.var_access.specs.Entry.{is_bit_of_width, has_variables, is_var, IsRequest}
+use Rattle.var_access.specs.Readings.{Reading, address_number, all_readings, both_readings, first_word, hex_of, is_hex, number_in, reading_map, trim, words_of}
 use Rattle.std.proofs.lemmas.Result.{IfOk-weaker}
-use Rattle.var_access.specs.Requests.{few_vars, kind_of_word, monitor_of, monitor_on, one_word, parts_from, read_of, request_by, request_line, request_of, vars_of, write_of, write_to}
-use Rattle.var_access.specs.Variables.{Names, area_of_letters, behind_letters, bit_number, bit_value, bit_var, block_bit, block_var, closed_name, db_width_of, is_point, is_quote, letters_of, named_var, two_parts, var_at, var_of, var_of_parts, wide_in, wide_of, wide_var, width_of_letters, width_value}
+use Rattle.var_access.specs.Requests.{few_vars, kind_of_word, monitor_request, monitor_on, one_word, comma_parts, read_request, request_by, request_line, request_of, vars_of, write_request, write_to}
+use Rattle.var_access.specs.Variables.{Names, area_of_letters, behind_letters, bit_number, bit_value, bit_var, block_bit, block_var, closed_name, db_width_of, is_point, is_quote, leading_letters, named_var, two_parts, var_at, var_of, var_of_parts, wide_in, wide_of, wide_var, width_of_letters, width_value}
 use Rattle.var_access.specs.declared.requests.Request.{Request}
 use Rattle.var_access.specs.declared.requests.Request.TheVariants.{ReadVars, WriteVar, Stop, Restart, MonitorOff, Diag}
 use Rattle.var_access.specs.declared.requests.Var.{Var}
@@ -37,7 +37,7 @@ map-valid f P Q (Ok a) each is = each a is
 map-valid f P Q (Err rule) each is = tt
 
 both-valid : {A B : Type 0} (P : A → Type 0) (Q : B → Type 0) (r : Reading A) (s : Reading B) → IfOk r P → IfOk s Q
-    → IfOk (both r s) (λ p. P p.0 × Q p.1)
+    → IfOk (both_readings r s) (λ p. P p.0 × Q p.1)
 both-valid P Q (Ok a) (Ok b) is also = (is, also)
 both-valid P Q (Ok a) (Err rule) is also = tt
 both-valid P Q (Err rule) (Ok b) is also = tt
@@ -74,7 +74,7 @@ IsVar v = is_var v ≡ true
 abbrev Whole : Area → Type 0
 Whole a = has_variables a 0 ≡ true
 
-first_bit : (width : Width) → has_bit width 0 ≡ true
+first_bit : (width : Width) → is_bit_of_width width 0 ≡ true
 first_bit Bit = refl
 first_bit Byte = refl
 first_bit Word = refl
@@ -97,49 +97,49 @@ wide_var-valid : (w : Option (Area × Width)) (byte : List ℕ) → IfSome w (λ
 wide_var-valid None byte is = tt
 wide_var-valid (Some w) byte is =
     map-valid (λ n. var_at w.0 0 n 0 w.1) (λ n. Unit {0}) IsVar (address_number byte)
-    (λ n _. and-true (has_variables w.0 0) (has_bit w.1 0) is (first_bit w.1)) (any (address_number byte))
+    (λ n _. and-true (has_variables w.0 0) (is_bit_of_width w.1 0) is (first_bit w.1)) (any (address_number byte))
 
-bit-below : (word : List ℕ) → IfOk (bit_number word) (λ n. has_bit Bit n ≡ true)
+bit-below : (word : List ℕ) → IfOk (bit_number word) (λ n. is_bit_of_width Bit n ≡ true)
 bit-below word = weaker (bit_number word) (number_range 0 7 2 word)
   where
-    weaker : (r : Reading ℕ) → IfOk r (λ n. (0 ≤ n) × (n ≤ 7)) → IfOk r (λ n. has_bit Bit n ≡ true)
+    weaker : (r : Reading ℕ) → IfOk r (λ n. (0 ≤ n) × (n ≤ 7)) → IfOk r (λ n. is_bit_of_width Bit n ≡ true)
     weaker (Ok n) is = le-leb n 7 is.1
     weaker (Err rule) is = tt
 
 bit_var-valid : (area : Area) (byte bit : List ℕ) → Whole area → IfOk (bit_var area byte bit) IsVar
 bit_var-valid area byte bit is =
-    map-valid (λ n. var_at area 0 n.0 n.1 Bit) (λ n. Unit {0} × (has_bit Bit n.1 ≡ true)) IsVar (both (address_number byte) (bit_number bit))
-    (λ n within. and-true (has_variables area 0) (has_bit Bit n.1) is within.1)
-    (both-valid (λ n. Unit {0}) (λ n. has_bit Bit n ≡ true) (address_number byte) (bit_number bit) (any (address_number byte)) (bit-below bit))
+    map-valid (λ n. var_at area 0 n.0 n.1 Bit) (λ n. Unit {0} × (is_bit_of_width Bit n.1 ≡ true)) IsVar (both_readings (address_number byte) (bit_number bit))
+    (λ n within. and-true (has_variables area 0) (is_bit_of_width Bit n.1) is within.1)
+    (both-valid (λ n. Unit {0}) (λ n. is_bit_of_width Bit n ≡ true) (address_number byte) (bit_number bit) (any (address_number byte)) (bit-below bit))
 
 block_var-valid : (width : Option Width) (number byte : List ℕ) → IfOk (block_var width number byte) IsVar
 block_var-valid None number byte = tt
 block_var-valid (Some width) number byte =
-    map-valid _ (λ n. Unit {0}) IsVar (both (address_number number) (address_number byte)) (λ n _. first_bit width)
-    (any (both (address_number number) (address_number byte)))
+    map-valid _ (λ n. Unit {0}) IsVar (both_readings (address_number number) (address_number byte)) (λ n _. first_bit width)
+    (any (both_readings (address_number number) (address_number byte)))
 
 block_bit-valid : (number byte bit : List ℕ) → IfOk (block_bit number byte bit) IsVar
 block_bit-valid number byte bit =
-    map-valid _ (λ n. Unit {0} × (Unit {0} × (has_bit Bit n.1.1 ≡ true))) IsVar
-    (both (address_number number) (both (address_number byte) (bit_number bit))) (λ n within. within.1.1)
-    (both-valid (λ n. Unit {0}) (λ n. Unit {0} × (has_bit Bit n.1 ≡ true)) (address_number number) (both (address_number byte) (bit_number bit))
+    map-valid _ (λ n. Unit {0} × (Unit {0} × (is_bit_of_width Bit n.1.1 ≡ true))) IsVar
+    (both_readings (address_number number) (both_readings (address_number byte) (bit_number bit))) (λ n within. within.1.1)
+    (both-valid (λ n. Unit {0}) (λ n. Unit {0} × (is_bit_of_width Bit n.1 ≡ true)) (address_number number) (both_readings (address_number byte) (bit_number bit))
     (any (address_number number))
-    (both-valid (λ n. Unit {0}) (λ n. has_bit Bit n ≡ true) (address_number byte) (bit_number bit) (any (address_number byte)) (bit-below bit)))
+    (both-valid (λ n. Unit {0}) (λ n. is_bit_of_width Bit n ≡ true) (address_number byte) (bit_number bit) (any (address_number byte)) (bit-below bit)))
 
 two_parts-valid : (area : Option Area) (first second : List ℕ) → IfSome area Whole → IfOk (two_parts area first second) IsVar
 two_parts-valid (Some area) first second is = bit_var-valid area (behind_letters first) second is
 two_parts-valid None first second is =
-    if-valid IsVar (bytes_eq (letters_of first) (codes "DB")) _ (Err 1)
-    (λ _. block_var-valid (db_width_of (letters_of second)) (behind_letters first) (behind_letters second)) (λ _. tt)
+    if-valid IsVar (bytes_eq (leading_letters first) (codes "DB")) _ (Err 1)
+    (λ _. block_var-valid (db_width_of (leading_letters second)) (behind_letters first) (behind_letters second)) (λ _. tt)
 
 var_of_parts-valid : (parts : List (List ℕ)) → IfOk (var_of_parts parts) IsVar
 var_of_parts-valid [] = tt
 var_of_parts-valid (first ∷ []) =
-    wide_var-valid (wide_of (letters_of first)) (behind_letters first)
-    (wide-whole (area_of_letters (take 1 (letters_of first))) (width_of_letters (drop 1 (letters_of first))) (area-whole (take 1 (letters_of first))))
-var_of_parts-valid (first ∷ second ∷ []) = two_parts-valid (area_of_letters (letters_of first)) first second (area-whole (letters_of first))
+    wide_var-valid (wide_of (leading_letters first)) (behind_letters first)
+    (wide-whole (area_of_letters (take 1 (leading_letters first))) (width_of_letters (drop 1 (leading_letters first))) (area-whole (take 1 (leading_letters first))))
+var_of_parts-valid (first ∷ second ∷ []) = two_parts-valid (area_of_letters (leading_letters first)) first second (area-whole (leading_letters first))
 var_of_parts-valid (first ∷ second ∷ third ∷ []) =
-    if-valid IsVar (bytes_eq (letters_of first) (codes "DB") && bytes_eq (letters_of second) (codes "DBX")) _ (Err 1)
+    if-valid IsVar (bytes_eq (leading_letters first) (codes "DB") && bytes_eq (leading_letters second) (codes "DBX")) _ (Err 1)
     (λ _. block_bit-valid (behind_letters first) (behind_letters second) third) (λ _. tt)
 var_of_parts-valid (first ∷ second ∷ third ∷ fourth ∷ more) = tt
 
@@ -205,33 +205,33 @@ write_to-valid (Ok var) word is =
     (λ value fits. (is, fits)) (value-below var.width word)
 write_to-valid (Err rule) word is = if-valid IsRequest (is_hex word) (Err rule) (Err 1) (λ _. tt) (λ _. tt)
 
-write-valid : (names : Names) (text : List ℕ) → IfOk (write_of names text) IsRequest
-unfolding write_of
+write-valid : (names : Names) (text : List ℕ) → IfOk (write_request names text) IsRequest
+unfolding write_request
 write-valid names text = write_to-valid _ _ (var-valid names _)
 
 vars-valid : (f : List ℕ → Reading Var) → ((part : List ℕ) → IfOk (f part) IsVar) → (parts : List (List ℕ))
-    → IfOk (all_read (map f parts)) (λ vars. (list_all is_var vars ≡ true) × (length vars ≡ length parts))
+    → IfOk (all_readings (map f parts)) (λ vars. (list_all is_var vars ≡ true) × (length vars ≡ length parts))
 vars-valid f each [] = (refl, refl)
 vars-valid f each (part ∷ parts) =
     map-valid _ (λ p. IsVar p.0 × ((list_all is_var p.1 ≡ true) × (length p.1 ≡ length parts))) _
-    (both (f part) (all_read (map f parts)))
+    (both_readings (f part) (all_readings (map f parts)))
     (λ p are. (and-true (is_var p.0) (list_all is_var p.1) are.0 are.1.0, ap suc are.1.1))
-    (both-valid IsVar (λ vars. (list_all is_var vars ≡ true) × (length vars ≡ length parts)) (f part) (all_read (map f parts)) (each part) (vars-valid f each parts))
+    (both-valid IsVar (λ vars. (list_all is_var vars ≡ true) × (length vars ≡ length parts)) (f part) (all_readings (map f parts)) (each part) (vars-valid f each parts))
 
 few-valid : (f : List ℕ → Reading Var) → ((part : List ℕ) → IfOk (f part) IsVar) → (parts : List (List ℕ)) → 0 < length parts
     → IfOk (few_vars (map f parts)) (λ vars. IsRequest (ReadVars vars))
 few-valid f each parts some =
     if-valid (λ vars. IsRequest (ReadVars vars)) (nat_le (length (map f parts)) 8) _ (Err 1)
-    (λ few. IfOk-weaker (all_read (map f parts)) (λ vars. (list_all is_var vars ≡ true) × (length vars ≡ length parts)) (λ vars. IsRequest (ReadVars vars))
+    (λ few. IfOk-weaker (all_readings (map f parts)) (λ vars. (list_all is_var vars ≡ true) × (length vars ≡ length parts)) (λ vars. IsRequest (ReadVars vars))
     (λ vars are. (omega (arith, some, are.1), omega (arith, are.1, length-map parts f, leb-true (length (map f parts)) 8 few), are.0))
     (vars-valid f each parts))
     (λ _. tt)
 
-read-valid : (names : Names) (text : List ℕ) → IfOk (read_of names text) IsRequest
-unfolding read_of
+read-valid : (names : Names) (text : List ℕ) → IfOk (read_request names text) IsRequest
+unfolding read_request
 read-valid names text =
     map-valid ReadVars (λ vars. IsRequest (ReadVars vars)) IsRequest (vars_of names text) (λ vars are. are)
-    (few-valid (λ part. var_of names (trim part)) (λ part. var-valid names (trim part)) (parts_from false text) (parts_some text))
+    (few-valid (λ part. var_of names (trim part)) (λ part. var-valid names (trim part)) (comma_parts false text) (parts_some text))
 
 kind-valid : (word : List ℕ) → IfOk (kind_of_word word) (λ kind. is_code kind ≡ true)
 unfolding kind_of_word
@@ -243,12 +243,12 @@ kind-valid word =
 monitor_on-valid : (how kind number : List ℕ) → IfOk (monitor_on how kind number) IsRequest
 monitor_on-valid how kind number =
     if-valid IsRequest (bytes_eq how (codes "on")) _ (Err 1)
-    (λ _. map-valid _ (λ b. (is_code b.0 ≡ true) × Unit {0}) IsRequest (both (kind_of_word kind) (address_number number)) (λ b is. is.0)
+    (λ _. map-valid _ (λ b. (is_code b.0 ≡ true) × Unit {0}) IsRequest (both_readings (kind_of_word kind) (address_number number)) (λ b is. is.0)
     (both-valid (λ k. is_code k ≡ true) (λ n. Unit {0}) (kind_of_word kind) (address_number number) (kind-valid kind) (any (address_number number))))
     (λ _. tt)
 
-monitor-valid : (words : List (List ℕ)) → IfOk (monitor_of words) IsRequest
-unfolding monitor_of
+monitor-valid : (words : List (List ℕ)) → IfOk (monitor_request words) IsRequest
+unfolding monitor_request
 monitor-valid [] = tt
 monitor-valid (how ∷ []) = if-valid IsRequest (bytes_eq how (codes "off")) (Ok MonitorOff) (Err 1) (λ _. tt) (λ _. tt)
 monitor-valid (how ∷ kind ∷ []) = tt

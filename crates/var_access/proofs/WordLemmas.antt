@@ -8,7 +8,7 @@ use Rattle.std.proofs.lemmas.Grind.{common_steps}
 use Rattle.std.proofs.Math.Seq.{drop-cons}
 use Rattle.plc_base.specs.Texts.{is_blank}
 use Rattle.plc_base.proofs.LineLemmas.{slice_split_whole}
-use Rattle.var_access.specs.Readings.{before_blanks, behind_blanks, is_word, onto_end, words_of}
+use Rattle.var_access.specs.Readings.{before_blanks, behind_blanks, is_nonempty_part, onto_end, words_of}
 
 -- ---- blanks at the end
 
@@ -35,7 +35,7 @@ before_none (b ∷ c ∷ t) (suc k) len solid = ap (onto_end b) (before_none (c 
 -- a blank at the front doesn't matter
 pub words_of-blank : (b : ℕ) (line : List ℕ) → is_blank b ≡ true → words_of (b ∷ line) ≡ words_of line
 unfolding words_of
-words_of-blank b line blank = ap (filter is_word) (slice_split-cons_yes is_blank b line blank)
+words_of-blank b line blank = ap (filter is_nonempty_part) (slice_split-cons_yes is_blank b line blank)
 
 -- nor do blanks at the front
 pub words_of-drop_blanks : (line : List ℕ) → words_of (drop (prefix_len is_blank line) line) ≡ words_of line
@@ -51,16 +51,16 @@ word_positive (b ∷ line) some behind =
     (elim (is_blank b) as (λ v. cond v (1 + prefix_len is_blank line) 0 ≡ 0 → 0 < cond (not v) (1 + position_or_len is_blank line) 0)
     [ true ↦ λ e. absurd (omega arith) | false ↦ λ e. omega arith ]) behind
 
-filter-word : (w : List ℕ) (ws : List (List ℕ)) → 0 < length w → filter is_word (w ∷ ws) ≡ w ∷ filter is_word ws
+filter-word : (w : List ℕ) (ws : List (List ℕ)) → 0 < length w → filter is_nonempty_part (w ∷ ws) ≡ w ∷ filter is_nonempty_part ws
 filter-word [] ws some = absurd (omega arith)
 filter-word (x ∷ xs) ws some = refl
 
 -- the first word ends before a blank
-words_of-first_of : (line word : List ℕ) (parts : List (List ℕ)) → slice_split is_blank line ≡ word ∷ parts → 0 < length word → words_of line ≡ word ∷ filter is_word parts
+words_of-first_of : (line word : List ℕ) (parts : List (List ℕ)) → slice_split is_blank line ≡ word ∷ parts → 0 < length word → words_of line ≡ word ∷ filter is_nonempty_part parts
 unfolding words_of
-words_of-first_of line word parts e some = ap (filter is_word) e ∙ filter-word word parts some
+words_of-first_of line word parts e some = ap (filter is_nonempty_part) e ∙ filter-word word parts some
 
-words_of-parts : (line : List ℕ) → words_of line ≡ filter is_word (slice_split is_blank line)
+words_of-parts : (line : List ℕ) → words_of line ≡ filter is_nonempty_part (slice_split is_blank line)
 unfolding words_of
 words_of-parts line = refl
 

@@ -24,13 +24,13 @@ has_variables area.Db number = true
 has_variables _ number = false
 
 -- a bit of a byte is one of 0 to 7; a byte, word or double word has none
-abbrev pub has_bit : Width → (bit : ℕ) → Bool
-has_bit Bit bit = nat_le bit 7
-has_bit width bit = bit == 0
+abbrev pub is_bit_of_width : Width → (bit : ℕ) → Bool
+is_bit_of_width Bit bit = nat_le bit 7
+is_bit_of_width width bit = bit == 0
 
 -- whether an operator may read and write a variable
 abbrev pub is_var : Var → Bool
-is_var v = has_variables v.place.area v.place.number && has_bit v.width v.place.bit
+is_var v = has_variables v.place.area v.place.number && is_bit_of_width v.width v.place.bit
 
 -- a read has one to eight variables, a value fits its variable, and a monitored block is an OB, FC
 -- or FB

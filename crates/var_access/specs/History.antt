@@ -2,7 +2,7 @@
 use Rattle.std.specs.Prelude.{◌≡◌, ℕ, ◌+◌, ◌^◌, ◌<◌, ◌≤◌, List, vec_len, vec_capacity, length}
 use Rattle.var_access.specs.declared.entries.Entry.{Entry}
 use Rattle.var_access.specs.declared.runs.Entries.TheInside.{Inside}
-use Rattle.var_access.specs.Runs.{AreRuns, written_out}
+use Rattle.var_access.specs.Runs.{AreRuns, entries_of_runs}
 
 -- the entries, and for how many further ones there is room
 pub record History : Type 0 where
@@ -11,11 +11,11 @@ pub record History : Type 0 where
 
 -- what the fields stand for
 abbrev pub history_of : Inside → History
-history_of h = record { entries = written_out h.runs.items; spare = h.spare }
+history_of h = record { entries = entries_of_runs h.runs.items; spare = h.spare }
 
 -- the fields belong together; each further entry makes one run more at most
 pub record IsHistory (h : Inside) : Type 0 where
   pub runs_are : AreRuns h.runs.items
-  pub len_is : h.len ≡ length (written_out h.runs.items)
+  pub len_is : h.len ≡ length (entries_of_runs h.runs.items)
   pub room : vec_len h.runs + h.spare ≤ vec_capacity h.runs
-  pub bounded : length (written_out h.runs.items) + h.spare < 2 ^ 64
+  pub bounded : length (entries_of_runs h.runs.items) + h.spare < 2 ^ 64

@@ -11,11 +11,11 @@ abbrev pub Reading : Type 0 → Type 0
 Reading A = Result A ℕ
 
 -- two parts together: of two rules the lesser is told
-abbrev pub both : {A B : Type 0} → Reading A → Reading B → Reading (A × B)
-both (Ok a) (Ok b) = Ok (a, b)
-both (Ok a) (Err rule) = Err rule
-both (Err rule) (Ok b) = Err rule
-both (Err rule) (Err other) = Err (min rule other)
+abbrev pub both_readings : {A B : Type 0} → Reading A → Reading B → Reading (A × B)
+both_readings (Ok a) (Ok b) = Ok (a, b)
+both_readings (Ok a) (Err rule) = Err rule
+both_readings (Err rule) (Ok b) = Err rule
+both_readings (Err rule) (Err other) = Err (min rule other)
 
 -- what is made of a part that spells something
 abbrev pub reading_map : {A B : Type 0} → (A → B) → Reading A → Reading B
@@ -23,9 +23,9 @@ reading_map f (Ok a) = Ok (f a)
 reading_map f (Err rule) = Err rule
 
 -- parts one behind the other: of all rules the least is told
-abbrev pub all_read : {A : Type 0} → List (Reading A) → Reading (List A)
-all_read [] = Ok []
-all_read (r ∷ rs) = reading_map (λ p. p.0 ∷ p.1) (both r (all_read rs))
+abbrev pub all_readings : {A : Type 0} → List (Reading A) → Reading (List A)
+all_readings [] = Ok []
+all_readings (r ∷ rs) = reading_map (λ p. p.0 ∷ p.1) (both_readings r (all_readings rs))
 
 -- rule 1: not in the grammar
 abbrev pub no_line : {A : Type 0} → Reading A
@@ -71,20 +71,20 @@ abbrev pub trim : List ℕ → List ℕ
 trim text = behind_blanks (before_blanks text)
 
 -- the word that a text begins with, up to the first blank, and what follows it
-abbrev pub word_at : List ℕ → Option (List ℕ × List ℕ)
-word_at [] = None
-word_at (b ∷ t) =
+abbrev pub leading_word : List ℕ → Option (List ℕ × List ℕ)
+leading_word [] = None
+leading_word (b ∷ t) =
     Some (take (position_or_len is_blank (b ∷ t)) (b ∷ t), drop (position_or_len is_blank (b ∷ t)) (b ∷ t))
 
 -- the first word of a text and what follows it; none where no word is left
 unfoldable pub first_word : List ℕ → Option (List ℕ × List ℕ)
-first_word text = word_at (behind_blanks text)
+first_word text = leading_word (behind_blanks text)
 
 -- an empty part, as between two blanks, is no word
-abbrev pub is_word : List ℕ → Bool
-is_word [] = false
-is_word (b ∷ part) = true
+abbrev pub is_nonempty_part : List ℕ → Bool
+is_nonempty_part [] = false
+is_nonempty_part (b ∷ part) = true
 
 -- the words of a text, which blanks and tabs separate
 unfoldable pub words_of : List ℕ → List (List ℕ)
-words_of text = filter is_word (slice_split is_blank text)
+words_of text = filter is_nonempty_part (slice_split is_blank text)

@@ -4,7 +4,7 @@ use Rattle.std.specs.List.{position_or_len, onto_first}
 use Rattle.plc_base.specs.Texts.{is_blank}
 use Rattle.plc_base.specs.declared.blocks.BlockKind.{BlockKind}
 use Rattle.plc_base.specs.declared.blocks.BlockKind.TheVariants.{Ob, Fc, Fb}
-use Rattle.var_access.specs.Readings.{Reading, both, reading_map, all_read, no_line, address_number, first_word, is_hex, trim, words_of}
+use Rattle.var_access.specs.Readings.{Reading, both_readings, reading_map, all_readings, no_line, address_number, first_word, is_hex, trim, words_of}
 use Rattle.var_access.specs.Variables.{Names, var_of, width_value, is_quote}
 use Rattle.var_access.specs.declared.requests.Request.{Request}
 use Rattle.var_access.specs.declared.requests.Request.TheVariants.{ReadVars, WriteVar, Stop, Restart, MonitorOn, MonitorOff, Diag}
@@ -15,11 +15,11 @@ abbrev pub is_comma : ℕ → Bool
 is_comma b = b == 44
 
 -- the parts between commas that don't stand between quotes
-abbrev pub parts_from : (quoted : Bool) → List ℕ → List (List ℕ)
-parts_from quoted [] = [] ∷ []
-parts_from quoted (b ∷ t) =
-    if is_quote b then onto_first b (parts_from (not quoted) t)
-    else if is_comma b && not quoted then [] ∷ parts_from quoted t else onto_first b (parts_from quoted t)
+abbrev pub comma_parts : (quoted : Bool) → List ℕ → List (List ℕ)
+comma_parts quoted [] = [] ∷ []
+comma_parts quoted (b ∷ t) =
+    if is_quote b then onto_first b (comma_parts (not quoted) t)
+    else if is_comma b && not quoted then [] ∷ comma_parts quoted t else onto_first b (comma_parts quoted t)
 
 -- how many bytes stand before the first comma that doesn't stand between quotes
 abbrev pub part_len : (quoted : Bool) → List ℕ → ℕ
@@ -30,15 +30,15 @@ part_len quoted (b ∷ t) =
 
 -- at most eight variables; more are not in the grammar
 abbrev pub few_vars : List (Reading Var) → Reading (List Var)
-few_vars vars = if nat_le (length vars) 8 then all_read vars else no_line
+few_vars vars = if nat_le (length vars) 8 then all_readings vars else no_line
 
 -- the variables of a read, with commas between
 abbrev pub vars_of : Names → List ℕ → Reading (List Var)
-vars_of names text = few_vars (map (λ part. var_of names (trim part)) (parts_from false text))
+vars_of names text = few_vars (map (λ part. var_of names (trim part)) (comma_parts false text))
 
 -- `read V, V ..`
-unfoldable pub read_of : Names → List ℕ → Reading Request
-read_of names rest = reading_map ReadVars (vars_of names rest)
+unfoldable pub read_request : Names → List ℕ → Reading Request
+read_request names rest = reading_map ReadVars (vars_of names rest)
 
 -- the value that a variable is to take; for a variable that breaks a rule it is any hexadecimal number
 abbrev pub write_to : Reading Var → List ℕ → Reading Request
@@ -52,8 +52,8 @@ write_in names backwards =
     (reverse (take (position_or_len is_blank backwards) backwards))
 
 -- `write V h`
-unfoldable pub write_of : Names → List ℕ → Reading Request
-write_of names rest = write_in names (reverse (trim rest))
+unfoldable pub write_request : Names → List ℕ → Reading Request
+write_request names rest = write_in names (reverse (trim rest))
 
 -- the kind of a block that can be monitored
 unfoldable pub kind_of_word : List ℕ → Reading BlockKind
@@ -66,14 +66,14 @@ kind_of_word word =
 abbrev pub monitor_on : (how kind number : List ℕ) → Reading Request
 monitor_on how kind number =
     if bytes_eq how (codes "on")
-    then reading_map (λ b. MonitorOn (record { kind = b.0; number = b.1 })) (both (kind_of_word kind) (address_number number))
+    then reading_map (λ b. MonitorOn (record { kind = b.0; number = b.1 })) (both_readings (kind_of_word kind) (address_number number))
     else no_line
 
 -- `monitor on KIND n`, `monitor off`
-unfoldable pub monitor_of : List (List ℕ) → Reading Request
-monitor_of (how ∷ []) = if bytes_eq how (codes "off") then Ok MonitorOff else no_line
-monitor_of (how ∷ kind ∷ number ∷ []) = monitor_on how kind number
-monitor_of words = no_line
+unfoldable pub monitor_request : List (List ℕ) → Reading Request
+monitor_request (how ∷ []) = if bytes_eq how (codes "off") then Ok MonitorOff else no_line
+monitor_request (how ∷ kind ∷ number ∷ []) = monitor_on how kind number
+monitor_request words = no_line
 
 -- a request of one word, behind which no other stands
 abbrev pub one_word : Request → List (List ℕ) → Reading Request
@@ -83,11 +83,11 @@ one_word r (word ∷ words) = no_line
 -- a request by its first word and what follows it
 unfoldable pub request_of : Names → (word rest : List ℕ) → Reading Request
 request_of names word rest =
-    if bytes_eq word (codes "read") then read_of names rest
-    else if bytes_eq word (codes "write") then write_of names rest
+    if bytes_eq word (codes "read") then read_request names rest
+    else if bytes_eq word (codes "write") then write_request names rest
     else if bytes_eq word (codes "stop") then one_word Stop (words_of rest)
     else if bytes_eq word (codes "restart") then one_word Restart (words_of rest)
-    else if bytes_eq word (codes "monitor") then monitor_of (words_of rest)
+    else if bytes_eq word (codes "monitor") then monitor_request (words_of rest)
     else if bytes_eq word (codes "diag") then one_word Diag (words_of rest) else no_line
 
 -- a request by its words

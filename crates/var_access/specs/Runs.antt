@@ -7,9 +7,9 @@ use Rattle.var_access.specs.declared.entries.What.TheVariants.{Step}
 use Rattle.var_access.specs.declared.runs.Run.{Run}
 
 -- the entries of runs, one run behind the other
-abbrev pub written_out : List Run → List Entry
-written_out [] = []
-written_out (r ∷ rest) = replicate r.count r.entry ++ written_out rest
+abbrev pub entries_of_runs : List Run → List Entry
+entries_of_runs [] = []
+entries_of_runs (r ∷ rest) = replicate r.count r.entry ++ entries_of_runs rest
 
 -- each run begins with the number behind the run before it
 abbrev pub FollowFrom : (first : ℕ) → List Run → Type 0
@@ -26,18 +26,18 @@ abbrev pub is_step : Entry → Bool
 is_step e = is_step_what e.what
 
 -- steps of one worker
-abbrev pub joins : (one next : Entry) → Bool
-joins one next = is_step one && is_step next && one.who == next.who
+abbrev pub are_steps_of_one_worker : (one next : Entry) → Bool
+are_steps_of_one_worker one next = is_step one && is_step next && one.who == next.who
 
 -- a run has one entry at least; only steps come in runs of more than one
-pub record IsRun (r : Run) : Type 0 where
+pub record IsHistoryRun (r : Run) : Type 0 where
   pub some : 1 ≤ r.count
   pub one : is_step r.entry ≡ false → r.count ≡ 1
 
 -- a run of steps isn't followed by a run of steps of the same worker
 abbrev pub StandsApart : Run → List Run → Type 0
 StandsApart r [] = Unit {0}
-StandsApart r (next ∷ rest) = joins r.entry next.entry ≡ false
+StandsApart r (next ∷ rest) = are_steps_of_one_worker r.entry next.entry ≡ false
 
 -- so it is with each of them
 abbrev pub StandApart : List Run → Type 0
@@ -46,7 +46,7 @@ StandApart (r ∷ rest) = StandsApart r rest × StandApart rest
 
 -- the runs of a history, whose numbers are counted from 0
 pub record AreRuns (runs : List Run) : Type 0 where
-  pub each : AllByRecursion IsRun runs
+  pub each : AllByRecursion IsHistoryRun runs
   pub follow : FollowFrom 0 runs
   pub apart : StandApart runs
 

@@ -8,7 +8,7 @@ use Rattle.plc_base.specs.declared.places.Place.{Place}
 use Rattle.plc_base.specs.declared.places.Width.{Width}
 use Rattle.plc_base.specs.declared.places.Width.TheVariants.{Bit, Byte, Word, Dword}
 use Rattle.var_access.specs.Entry.{is_var}
-use Rattle.var_access.specs.Readings.{Reading, both, reading_map, no_line, number_in, address_number, hex_of, is_hex, behind_blanks}
+use Rattle.var_access.specs.Readings.{Reading, both_readings, reading_map, no_line, number_in, address_number, hex_of, is_hex, behind_blanks}
 use Rattle.var_access.specs.declared.requests.Var.{Var}
 
 -- names of variables: what each of them stands for
@@ -20,8 +20,8 @@ abbrev pub is_letter : ℕ → Bool
 is_letter b = nat_le 65 b && nat_le b 90
 
 -- the letters at the front
-abbrev pub letters_of : List ℕ → List ℕ
-letters_of part = take (prefix_len is_letter part) part
+abbrev pub leading_letters : List ℕ → List ℕ
+leading_letters part = take (prefix_len is_letter part) part
 
 -- what stands behind them; blanks may stand between
 abbrev pub behind_letters : List ℕ → List ℕ
@@ -71,32 +71,32 @@ wide_var (Some w) byte = reading_map (λ n. var_at w.0 0 n 0 w.1) (address_numbe
 
 -- `M n.b`
 abbrev pub bit_var : Area → (byte bit : List ℕ) → Reading Var
-bit_var area byte bit = reading_map (λ n. var_at area 0 n.0 n.1 Bit) (both (address_number byte) (bit_number bit))
+bit_var area byte bit = reading_map (λ n. var_at area 0 n.0 n.1 Bit) (both_readings (address_number byte) (bit_number bit))
 
 -- `DBn.DBW n`
 abbrev pub block_var : Option Width → (number byte : List ℕ) → Reading Var
 block_var None number byte = no_line
 block_var (Some width) number byte =
-    reading_map (λ n. var_at Db n.0 n.1 0 width) (both (address_number number) (address_number byte))
+    reading_map (λ n. var_at Db n.0 n.1 0 width) (both_readings (address_number number) (address_number byte))
 
 -- `DBn.DBX n.b`
 abbrev pub block_bit : (number byte bit : List ℕ) → Reading Var
 block_bit number byte bit =
-    reading_map (λ n. var_at Db n.0 n.1.0 n.1.1 Bit) (both (address_number number) (both (address_number byte) (bit_number bit)))
+    reading_map (λ n. var_at Db n.0 n.1.0 n.1.1 Bit) (both_readings (address_number number) (both_readings (address_number byte) (bit_number bit)))
 
 -- two parts with a point between: a bit, or a wider operand of a data block
 abbrev pub two_parts : Option Area → (first second : List ℕ) → Reading Var
 two_parts (Some area) first second = bit_var area (behind_letters first) second
 two_parts None first second =
-    if bytes_eq (letters_of first) (codes "DB")
-    then block_var (db_width_of (letters_of second)) (behind_letters first) (behind_letters second) else no_line
+    if bytes_eq (leading_letters first) (codes "DB")
+    then block_var (db_width_of (leading_letters second)) (behind_letters first) (behind_letters second) else no_line
 
 -- a variable by what stands between its points
 abbrev pub var_of_parts : List (List ℕ) → Reading Var
-var_of_parts (first ∷ []) = wide_var (wide_of (letters_of first)) (behind_letters first)
-var_of_parts (first ∷ second ∷ []) = two_parts (area_of_letters (letters_of first)) first second
+var_of_parts (first ∷ []) = wide_var (wide_of (leading_letters first)) (behind_letters first)
+var_of_parts (first ∷ second ∷ []) = two_parts (area_of_letters (leading_letters first)) first second
 var_of_parts (first ∷ second ∷ third ∷ []) =
-    if bytes_eq (letters_of first) (codes "DB") && bytes_eq (letters_of second) (codes "DBX")
+    if bytes_eq (leading_letters first) (codes "DB") && bytes_eq (leading_letters second) (codes "DBX")
     then block_bit (behind_letters first) (behind_letters second) third else no_line
 var_of_parts parts = no_line
 

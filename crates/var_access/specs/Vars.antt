@@ -16,5 +16,5 @@ pub record IsFilled (v : Inside) : Type 0 where
   pub rest : drop v.count v.list ≡ replicate (8 - v.count) no_var
 
 -- the places that a list of variables fills
-abbrev pub inside_of : List Var → Inside
-inside_of vars = record { list = vars ++ replicate (8 - length vars) no_var; count = length vars }
+abbrev pub places_of_variables : List Var → Inside
+places_of_variables vars = record { list = vars ++ replicate (8 - length vars) no_var; count = length vars }

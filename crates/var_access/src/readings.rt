@@ -5,7 +5,7 @@ ghost use Rattle.std.specs.List.{list_all, position_or_len, prefix_len};
 ghost use Rattle.std.specs.Str.Parse.{digits_value};
 ghost use Rattle.plc_base.specs.Decimal.{is_decimal};
 ghost use Rattle.plc_base.specs.Texts.{is_blank};
-ghost use Rattle.var_access.specs.Readings.{address_number, before_blanks, behind_blanks, both, first_word, hex_of, is_hex, number_in, trim, words_of};
+ghost use Rattle.var_access.specs.Readings.{address_number, before_blanks, behind_blanks, both_readings, first_word, hex_of, is_hex, number_in, trim, words_of};
 
 use crate::text_rules::{NOT_IN_GRAMMAR, OUT_OF_RANGE};
 use plc_base::{are_digits, decimal_up_to, is_blank};
@@ -16,7 +16,7 @@ use plc_base::{are_digits, decimal_up_to, is_blank};
 ///
 /// The least rule that one of them breaks.
 pub fn both<A: Drop, B: Drop>(a: Result<A, u16>, b: Result<B, u16>) -> Result<(A, B), u16>
-    ensures { result ≡ both a b }
+    ensures { result ≡ both_readings a b }
 {
     match (a, b) {
         (Ok(a), Ok(b)) => Ok((a, b)),

@@ -2,9 +2,9 @@
 ghost use Rattle.std.specs.Prelude.{◌≡◌, ◌∷◌, ◌++◌, ◌≤◌, ◌<◌, [], length, false, IfOk, MatchOption};
 ghost use Rattle.flat_code.specs.Names.{find};
 ghost use Rattle.var_access.specs.Entry.{IsRequest};
-ghost use Rattle.var_access.specs.Readings.{both as both_of, reading_map, words_of};
+ghost use Rattle.var_access.specs.Readings.{both_readings as both_of, reading_map, words_of};
 ghost use Rattle.var_access.specs.RequestFault.{request_or_fault};
-ghost use Rattle.var_access.specs.Requests.{kind_of_word, monitor_of, monitor_on, one_word, part_len, parts_from, read_of, request_line, request_of, vars_of, write_of, write_to};
+ghost use Rattle.var_access.specs.Requests.{kind_of_word, monitor_request, monitor_on, one_word, part_len, comma_parts, read_request, request_line, request_of, vars_of, write_request, write_to};
 
 use crate::readings::{address_number, both, first_word, is_hex, last_word, trim};
 use crate::requests::{MOST_VARS, Request, Var, Vars};
@@ -45,8 +45,8 @@ fn part_len(text: &[u8]) -> usize
 /// What stands before the first comma outside of quotes, and what follows it, if there is one.
 #[tactic(auto, using(crate::proofs::PartLemmas::part_last))]
 fn first_part(text: &[u8]) -> (&[u8], Option<&[u8]>)
-    ensures { MatchOption result.1 (parts_from false text.now ≡ result.0.now ∷ [])
-        (λ rest. parts_from false text.now ≡ result.0.now ∷ parts_from false rest.now) }
+    ensures { MatchOption result.1 (comma_parts false text.now ≡ result.0.now ∷ [])
+        (λ rest. comma_parts false text.now ≡ result.0.now ∷ comma_parts false rest.now) }
 {
     let (part, rest) = text.split_at(part_len(text));
     match rest {
@@ -83,9 +83,9 @@ fn read_vars(names: &Names, text: &[u8]) -> Result<Vars, u16>
 }
 
 /// `read V, V ..`, behind its first word.
-#[tactic(auto, unfolding(crate::specs::Requests::read_of))]
+#[tactic(auto, unfolding(crate::specs::Requests::read_request))]
 fn read_of(names: &Names, text: &[u8]) -> Result<Request, u16>
-    ensures { result ≡ read_of (find names.now) text.now }
+    ensures { result ≡ read_request (find names.now) text.now }
 {
     let vars = read_vars(names, text)?;
     Ok(Request::ReadVars { vars })
@@ -112,9 +112,9 @@ fn write_to(var: Result<Var, u16>, word: &[u8]) -> Result<Request, u16>
 }
 
 /// `write V h`, behind its first word.
-#[tactic(auto, unfolding(crate::specs::Requests::write_of))]
+#[tactic(auto, unfolding(crate::specs::Requests::write_request))]
 fn write_of(names: &Names, text: &[u8]) -> Result<Request, u16>
-    ensures { result ≡ write_of (find names.now) text.now }
+    ensures { result ≡ write_request (find names.now) text.now }
 {
     let (var, value) = last_word(trim(text));
     write_to(var_of(names, trim(var)), value)
@@ -150,9 +150,9 @@ fn monitor_on(how: &[u8], kind: &[u8], number: &[u8]) -> Result<Request, u16>
 }
 
 /// `monitor on KIND n` or `monitor off`, behind its first word.
-#[tactic(auto, unfolding(crate::specs::Requests::monitor_of))]
+#[tactic(auto, unfolding(crate::specs::Requests::monitor_request))]
 fn monitor_of(text: &[u8]) -> Result<Request, u16>
-    ensures { result ≡ monitor_of (words_of text.now) }
+    ensures { result ≡ monitor_request (words_of text.now) }
 {
     let Some((how, rest)) = first_word(text) else {
         return Err(NOT_IN_GRAMMAR);

@@ -60,13 +60,13 @@ impl Model for Vars {
 
     ghost Value = { List Var };
 
-    ghost use Rattle.var_access.specs.Vars.{IsFilled, inside_of, no_var};
+    ghost use Rattle.var_access.specs.Vars.{IsFilled, places_of_variables, no_var};
 
     ghost view = { λ v. take v.count v.list };
 
     ghost invariant = { IsFilled };
 
-    ghost inverse = { inside_of };
+    ghost inverse = { places_of_variables };
 
     ghost inverse_ok = { λ a h i. record {
       list = (ap (λ n. take a.count a.list ++ replicate (8 - n) no_var)

@@ -1,5 +1,5 @@
 ghost use Rattle.std.specs.Prelude.{◌≡◌, ◌+◌, ◌-◌, ◌^◌, ◌<◌, ◌≤◌, ◌++◌, ◌∷◌, [], length, max, replicate, slice_get, true, false, OnOk, OnErr, IfSome, vec_len, vec_capacity};
-ghost use Rattle.var_access.specs.Runs.{AreRuns, entry_by as entry_of, is_step as is_step_of, joins, run_at as run_at_of, written_out};
+ghost use Rattle.var_access.specs.Runs.{AreRuns, entry_by as entry_of, is_step as is_step_of, are_steps_of_one_worker, run_at as run_at_of, entries_of_runs};
 
 use crate::entries::Entry;
 use plc_base::NoMemory;
@@ -36,11 +36,11 @@ impl Model for Entries {
 
 impl Run {
     ghost use Rattle.std.specs.Prelude.{◌≡◌};
-    ghost use Rattle.var_access.specs.Runs.{joins};
+    ghost use Rattle.var_access.specs.Runs.{are_steps_of_one_worker};
 
     /// Whether an entry behind the run is one more of it: both are steps of one worker.
     fn joins(&self, next: &Entry) -> bool
-        ensures { result ≡ joins self.now.entry next.now }
+        ensures { result ≡ are_steps_of_one_worker self.now.entry next.now }
     {
         self.entry.is_step() && next.is_step() && self.entry.who == next.who
     }
@@ -60,13 +60,13 @@ fn push_reserved<T: Copy>(list: &mut Vec<T>, element: T)
 // Adds equal entries behind those of runs.
 fn add(runs: &mut Vec<Run>, entry: &Entry, first: u64, count: u64)
     requires are { AreRuns runs.old.items }
-    requires first { first ≡ length (written_out runs.old.items) }
+    requires first { first ≡ length (entries_of_runs runs.old.items) }
     requires some { 1 ≤ count }
     requires one { is_step_of entry.now ≡ false → count ≡ 1 }
     requires bounded { first + count < 2 ^ 64 }
     requires room { vec_len runs.old < vec_capacity runs.old }
-    ensures written { written_out runs.new.items
-        ≡ written_out runs.old.items ++ replicate count entry.now }
+    ensures written { entries_of_runs runs.new.items
+        ≡ entries_of_runs runs.old.items ++ replicate count entry.now }
     ensures are { AreRuns runs.new.items }
     ensures len { vec_len runs.new ≤ vec_len runs.old + 1 }
     ensures capacity { vec_capacity runs.new ≡ vec_capacity runs.old }
@@ -124,7 +124,7 @@ fn entry_by(run: Option<Run>, i: u64) -> Option<Entry>
 #[tactic(auto, using(crate::proofs::RunLemmas::found_entry))]
 fn entry_at(runs: &[Run], i: u64) -> Option<Entry>
     requires { AreRuns runs.now }
-    ensures { result ≡ slice_get (written_out runs.now) i }
+    ensures { result ≡ slice_get (entries_of_runs runs.now) i }
 {
     entry_by(run_at(runs, i), i)
 }
@@ -221,7 +221,7 @@ impl Entries {
     /// The entries as runs: written out in their order these are the entries, and no run of steps is
     /// followed by one of the same worker. It takes no memory.
     pub fn runs(&self) -> &[Run]
-        ensures out { written_out result.now ≡ self.now.entries }
+        ensures out { entries_of_runs result.now ≡ self.now.entries }
         ensures are { AreRuns result.now }
     {
         self.runs.as_slice()

@@ -5,7 +5,7 @@ ghost use Rattle.plc_base.specs.Widths.{bit_count};
 ghost use Rattle.flat_code.specs.Names.{find};
 ghost use Rattle.var_access.specs.Entry.{is_var};
 ghost use Rattle.var_access.specs.Readings.{no_line};
-ghost use Rattle.var_access.specs.Variables.{area_of_letters, behind_letters, bit_number, bit_value, bit_var, block_bit, block_var, db_width_of, is_letter, is_point, is_quote, letters_of, named_var, symbol_var, two_parts, var_at, var_of, var_of_parts, wide_of, wide_var, width_of_letters, width_value};
+ghost use Rattle.var_access.specs.Variables.{area_of_letters, behind_letters, bit_number, bit_value, bit_var, block_bit, block_var, db_width_of, is_letter, is_point, is_quote, leading_letters, named_var, symbol_var, two_parts, var_at, var_of, var_of_parts, wide_of, wide_var, width_of_letters, width_value};
 
 use crate::readings::{address_number, behind_blanks, both, hex_of, is_hex, number_in};
 use crate::requests::Var;
@@ -30,7 +30,7 @@ fn letters_len(text: &[u8]) -> usize
 
 /// The letters at the front, and what stands behind them and blanks.
 fn lettered(part: &[u8]) -> (&[u8], &[u8])
-    ensures letters { result.0.now ≡ letters_of part.now }
+    ensures letters { result.0.now ≡ leading_letters part.now }
     ensures behind { result.1.now ≡ behind_letters part.now }
 {
     let (letters, rest) = part.split_at(letters_len(part));
@@ -108,7 +108,7 @@ fn bit_number(word: &[u8]) -> Result<u8, u16>
 
 /// `MW n`, which has no point.
 fn wide_var(part: &[u8]) -> Result<Var, u16>
-    ensures { result ≡ wide_var (wide_of (letters_of part.now)) (behind_letters part.now) }
+    ensures { result ≡ wide_var (wide_of (leading_letters part.now)) (behind_letters part.now) }
 {
     let (letters, byte) = lettered(part);
     let Some((area, width)) = wide_of(letters) else {
@@ -150,7 +150,7 @@ fn block_bit(number: &[u8], byte: &[u8], bit: &[u8]) -> Result<Var, u16>
 
 /// Two parts with a point between.
 fn two_parts(first: &[u8], second: &[u8]) -> Result<Var, u16>
-    ensures { result ≡ two_parts (area_of_letters (letters_of first.now)) first.now second.now }
+    ensures { result ≡ two_parts (area_of_letters (leading_letters first.now)) first.now second.now }
 {
     let (letters, number) = lettered(first);
     if let Some(area) = area_of_letters(letters) {

@@ -8,8 +8,8 @@ use prog.Atomic.{either}
 use Rattle.logbook.specs.Pages.{Cell, cell, keeps, no_nib, step, Moves, Goes}
 use Rattle.tracked_lock.proofs.Prefixes.{prefix_whole}
 use Rattle.watch_board.specs.declared.shown.Shown.{Shown}
-use Rattle.watch_board.specs.BoardList.{Rising, MayFollow, last_of}
-use Rattle.watch_board.specs.ListRule.{IsKept, Appends}
+use Rattle.watch_board.specs.BoardList.{HasRisingLengths, MayFollow, last_item_of}
+use Rattle.watch_board.specs.ListRule.{KeepsListRule, AppendsItem}
 
 -- the book shows nothing of its list to clients, and they ask for nothing
 abbrev shown : List Shown → List Shown
@@ -23,23 +23,23 @@ last_behind o [] e = refl
 last_behind o (x ∷ xs) e = last_behind (Some x) xs e
 
 -- an item that is added is the last
-pub last_more : (xs : List Shown) (e : Shown) → last_of (xs ++ e ∷ []) ≡ Some e
+pub last_more : (xs : List Shown) (e : Shown) → last_item_of (xs ++ e ∷ []) ≡ Some e
 last_more xs e = last_behind None xs e
 
 -- an item above the last one goes behind a rising list
-rising_more : (xs : List Shown) (e : Shown) → Rising xs → MayFollow xs e → Rising (xs ++ e ∷ [])
+rising_more : (xs : List Shown) (e : Shown) → HasRisingLengths xs → MayFollow xs e → HasRisingLengths (xs ++ e ∷ [])
 rising_more [] e r may = tt
 rising_more (x ∷ []) e r may = (may, tt)
 rising_more (x ∷ y ∷ ys) e r may = (r.0, rising_more (y ∷ ys) e r.1 may)
 
 -- of a list that all that was seen begins: the word, which counts it, is as expected only where all of it was seen
-appends_goes : (log v : List Shown) (e : Shown) (old : ℕ) → length v ≡ old → MayFollow v e → Rising log → IsPrefix v log
+appends_goes : (log v : List Shown) (e : Shown) (old : ℕ) → length v ≡ old → MayFollow v e → HasRisingLengths log → IsPrefix v log
     → (b : Bool) → (length log == old) ≡ b
-    → Goes IsKept shown moved 0 (v, (no_nib, None)) (λ n. either (n == old) (old + 1) n) (Appends (step 0 old (old + 1) e) (v, (no_nib, None))) ((length log, true) ∷ (0, true) ∷ []) log
+    → Goes KeepsListRule shown moved 0 (v, (no_nib, None)) (λ n. either (n == old) (old + 1) n) (AppendsItem (step 0 old (old + 1) e) (v, (no_nib, None))) ((length log, true) ∷ (0, true) ∷ []) log
 appends_goes log v e old len may rising pre true is =
     let here : length log ≡ old = grind (arith, nat_tests) in
     let same : v ≡ log = prefix_whole v log pre (omega arith) in
-    let rising' : Rising (log ++ e ∷ []) = rising_more log e rising (subst (λ l. MayFollow l e) same may) in
+    let rising' : HasRisingLengths (log ++ e ∷ []) = rising_more log e rising (subst (λ l. MayFollow l e) same may) in
     let n : either (length log == old) (old + 1) (length log) ≡ length (log ++ e ∷ []) = rw is (omega (arith, length-append log (e ∷ []))) in (
       keeps,
       e ∷ [],
@@ -51,7 +51,7 @@ appends_goes log v e old len may rising pre true is =
     )
 appends_goes log v e old len may rising pre false is =
     let all : log ++ [] ≡ log = append-nil log in
-    let rising' : Rising (log ++ []) = subst Rising (sym all) rising in
+    let rising' : HasRisingLengths (log ++ []) = subst HasRisingLengths (sym all) rising in
     let n : either (length log == old) (old + 1) (length log) ≡ length (log ++ []) = rw is (ap length (sym all)) in (
       keeps,
       [],
@@ -64,7 +64,7 @@ appends_goes log v e old len may rising pre false is =
 
 -- whatever the book is, the exchange adds the item to all that was seen, or finds that the list is longer
 pub appends_moves : (v : List Shown) (e : Shown) (old : ℕ) → length v ≡ old → MayFollow v e
-    → Moves IsKept shown moved 0 (v, (no_nib, None)) (λ n. either (n == old) (old + 1) n) (Appends (step 0 old (old + 1) e) (v, (no_nib, None)))
+    → Moves KeepsListRule shown moved 0 (v, (no_nib, None)) (λ n. either (n == old) (old + 1) n) (AppendsItem (step 0 old (old + 1) e) (v, (no_nib, None)))
 appends_moves v e old len may cs log kept pre away =
-    let P : List Cell → Type 0 = λ c. (0 < length c) × ((cell c 0).1 ≡ true) × Goes IsKept shown moved 0 (v, (no_nib, None)) (λ n. either (n == old) (old + 1) n) (Appends (step 0 old (old + 1) e) (v, (no_nib, None))) c log in
+    let P : List Cell → Type 0 = λ c. (0 < length c) × ((cell c 0).1 ≡ true) × Goes KeepsListRule shown moved 0 (v, (no_nib, None)) (λ n. either (n == old) (old + 1) n) (AppendsItem (step 0 old (old + 1) e) (v, (no_nib, None))) c log in
     subst P (sym kept.words) (omega arith, refl, appends_goes log v e old len may kept.rising pre (length log == old) refl)

@@ -6,28 +6,28 @@ use Rattle.logbook.specs.Pages.{Book}
 use Rattle.watch_board.specs.declared.shown.Shown.{Shown}
 
 -- what a board shows at first: no entry, no reply
-abbrev pub opening : Shown
-opening = record { length = 0; reply = None }
+abbrev pub initial_item : Shown
+initial_item = record { length = 0; reply = None }
 
 -- lengths rise from each item to the next
-abbrev pub Rising : List Shown → Type 0
-Rising [] = Unit {0}
-Rising (x ∷ []) = Unit {0}
-Rising (x ∷ y ∷ ys) = (x.length < y.length) × Rising (y ∷ ys)
+abbrev pub HasRisingLengths : List Shown → Type 0
+HasRisingLengths [] = Unit {0}
+HasRisingLengths (x ∷ []) = Unit {0}
+HasRisingLengths (x ∷ y ∷ ys) = (x.length < y.length) × HasRisingLengths (y ∷ ys)
 
 -- the last item, if there is one
-abbrev pub last_of : List Shown → Option Shown
-last_of list = last_or None list
+abbrev pub last_item_of : List Shown → Option Shown
+last_item_of list = last_or None list
 
 -- the item may be published behind this list: its length is above that of the last item
 abbrev pub MayFollow : List Shown → Shown → Type 0
-MayFollow list item = IfSome (last_of list) (λ last. last.length < item.length)
+MayFollow list item = IfSome (last_item_of list) (λ last. last.length < item.length)
 
 -- of two prefixes of one list the shorter is a prefix of the longer: whether the other one is longer, decides
 abbrev pub ShorterBegins : Bool → (list other : List Shown) → Type 0
 ShorterBegins is_shorter list other = MatchBool is_shorter (IsPrefix list other) (IsPrefix other list)
 
 -- What contracts see of a publisher, a viewer and a note: which board, and a list of what was published on it, the opening item first.
-pub record Known : Type 0 where
+pub record KnownBoard : Type 0 where
   pub board : Book
   pub list : List Shown

@@ -2,17 +2,17 @@
 use Rattle.std.specs.Prelude.{ℕ, ◌≡◌, ◌==◌, true, List, [], ◌∷◌, ◌++◌, length, MatchBool}
 use Rattle.logbook.specs.Pages.{Cell, Step, View, Book, Named}
 use Rattle.watch_board.specs.declared.shown.Shown.{Shown}
-use Rattle.watch_board.specs.BoardList.{Rising}
+use Rattle.watch_board.specs.BoardList.{HasRisingLengths}
 
 -- the rule: the first word counts the items of the list, whose lengths rise. The second word, which a book has from the start, stays 0
-pub record IsKept (cells : List Cell) (list : List Shown) : Type 0 where
+pub record KeepsListRule (cells : List Cell) (list : List Shown) : Type 0 where
   pub words : cells ≡ (length list, true) ∷ (0, true) ∷ []
-  pub rising : Rising list
+  pub rising : HasRisingLengths list
 
 -- the word of the board that counts the items
-abbrev pub count_of : Book → Named
-count_of b = record { tracked = true; key = 0; book = b }
+abbrev pub item_count_word : Book → Named
+item_count_word b = record { tracked = true; key = 0; book = b }
 
 -- the word was as expected: the item was added to all that had been seen. Else the list was longer
-abbrev pub Appends : Step Shown → View Shown ℕ → ℕ → View Shown ℕ → Type 0
-Appends s v found w = MatchBool (found == s.old) ((w.0 ≡ v.0 ++ s.ask ∷ []) × Rising w.0) (Unit {0})
+abbrev pub AppendsItem : Step Shown → View Shown ℕ → ℕ → View Shown ℕ → Type 0
+AppendsItem s v found w = MatchBool (found == s.old) ((w.0 ≡ v.0 ++ s.ask ∷ []) × HasRisingLengths w.0) (Unit {0})

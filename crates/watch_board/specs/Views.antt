@@ -4,28 +4,28 @@ use mathlib.Core.Option.{some}
 use lib.ListN.{get_elem?}
 use Rattle.logbook.specs.Pages.{Book}
 use Rattle.watch_board.specs.declared.last_items.LastItem.{LastItem}
-use Rattle.watch_board.specs.BoardList.{Known}
+use Rattle.watch_board.specs.BoardList.{KnownBoard}
 
 -- each of these is of the board
-abbrev pub IsOn : Book → List Known → Type 0
-IsOn board [] = Unit {0}
-IsOn board (k ∷ ks) = (k.board ≡ board) × IsOn board ks
+abbrev pub AreOfBoard : Book → List KnownBoard → Type 0
+AreOfBoard board [] = Unit {0}
+AreOfBoard board (k ∷ ks) = (k.board ≡ board) × AreOfBoard board ks
 
 -- the rule of the copies: whatever is known, is of the board
-abbrev pub AllOn : Book → List (List Known) → Type 0
-AllOn board views = (seat : ℕ) (v : List Known) → get_elem? views seat ≡ some v → IsOn board v
+abbrev pub AreAllOfBoard : Book → List (List KnownBoard) → Type 0
+AreAllOfBoard board views = (seat : ℕ) (v : List KnownBoard) → get_elem? views seat ≡ some v → AreOfBoard board v
 
 -- a list was read, of the board that was known, and is known now
-abbrev pub Reads : List Known → Known → List Known → Type 0
-Reads v seen w = IsOn seen.board v × (w ≡ seen ∷ [])
+abbrev pub ReadsBoardList : List KnownBoard → KnownBoard → List KnownBoard → Type 0
+ReadsBoardList v seen w = AreOfBoard seen.board v × (w ≡ seen ∷ [])
 
 -- something is known, of this board
-abbrev pub IsOneOf : Book → List Known → Type 0
-IsOneOf board [] = ⊥
-IsOneOf board (k ∷ ks) = k.board ≡ board
+abbrev pub KnowsOneBoard : Book → List KnownBoard → Type 0
+KnowsOneBoard board [] = ⊥
+KnowsOneBoard board (k ∷ ks) = k.board ≡ board
 
 -- exactly one item waits to be shown, of this board
-abbrev pub Pends : Book → List LastItem → Type 0
-Pends board [] = ⊥
-Pends board (x ∷ []) = x.prefix.board ≡ board
-Pends board (x ∷ y ∷ ys) = ⊥
+abbrev pub HasOnePendingItem : Book → List LastItem → Type 0
+HasOnePendingItem board [] = ⊥
+HasOnePendingItem board (x ∷ []) = x.prefix.board ≡ board
+HasOnePendingItem board (x ∷ y ∷ ys) = ⊥

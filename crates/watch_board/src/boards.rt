@@ -1,8 +1,8 @@
 //! Publishing and viewing.
 ghost use Rattle.std.specs.Prelude.{◌≡◌, [], ◌∷◌, ◌++◌, drop, Some, IfOk, OnOk, OnErr};
 ghost use mathlib.Core.List.{IsPrefix};
-ghost use Rattle.watch_board.specs.BoardList.{MayFollow, Rising, last_of, opening};
-ghost use Rattle.watch_board.specs.Views.{Pends};
+ghost use Rattle.watch_board.specs.BoardList.{MayFollow, HasRisingLengths, last_item_of, initial_item};
+ghost use Rattle.watch_board.specs.Views.{HasOnePendingItem};
 
 use crate::copies::{BoardReader, BoardWriter, append, opened, read, show};
 use crate::last_items::LastItem;
@@ -19,7 +19,7 @@ use std::sync::Wait;
 pub struct Board;
 
 /// Puts items on a board. It can't be let go: `close` ends it. Contracts see the board, and the list of
-/// all that was published on it, the opening item first (`specs/BoardList`, `Known`).
+/// all that was published on it, the opening item first (`specs/BoardList`, `KnownBoard`).
 pub struct Publisher {
     count: Count,
     prefix: Prefix,
@@ -28,9 +28,9 @@ pub struct Publisher {
 
 impl Model for Publisher {
     ghost use Rattle.std.specs.Prelude.{◌≡◌, [], drop};
-    ghost use Rattle.watch_board.specs.BoardList.{Known};
+    ghost use Rattle.watch_board.specs.BoardList.{KnownBoard};
 
-    ghost Value = { Known };
+    ghost Value = { KnownBoard };
 
     ghost view = { λ p. p.prefix };
 
@@ -51,14 +51,14 @@ pub struct Viewer {
 impl Model for Viewer {
     ghost use Rattle.std.specs.Prelude.{IfSome};
     ghost use Rattle.left_right.specs.Sides.{view as known_at};
-    ghost use Rattle.watch_board.specs.BoardList.{Known};
-    ghost use Rattle.watch_board.specs.Views.{IsOneOf};
+    ghost use Rattle.watch_board.specs.BoardList.{KnownBoard};
+    ghost use Rattle.watch_board.specs.Views.{KnowsOneBoard};
 
-    ghost Value = { Known };
+    ghost Value = { KnownBoard };
 
     ghost view = { λ v. v.last.prefix };
 
-    ghost invariant = { λ v. IfSome v.reader (λ r. IsOneOf v.last.prefix.board (known_at r.place)) };
+    ghost invariant = { λ v. IfSome v.reader (λ r. KnowsOneBoard v.last.prefix.board (known_at r.place)) };
 }
 
 /// Word of what was published. Contracts see the board, and the list that ends with the item.
@@ -68,9 +68,9 @@ pub struct Note {
 }
 
 impl Model for Note {
-    ghost use Rattle.watch_board.specs.BoardList.{Known};
+    ghost use Rattle.watch_board.specs.BoardList.{KnownBoard};
 
-    ghost Value = { Known };
+    ghost Value = { KnownBoard };
 
     ghost view = { λ n. n.last.prefix };
 }
@@ -83,7 +83,7 @@ impl Board {
     ///
     /// `NoMemory` for want of memory.
     pub fn new<R: Wait>(rt: &R, alloc: Global) -> Result<(Publisher, Viewer), NoMemory>
-        ensures list { IfOk result (λ r. r.0.list ≡ opening ∷ []) }
+        ensures list { IfOk result (λ r. r.0.list ≡ initial_item ∷ []) }
         ensures same { IfOk result (λ r. r.1 ≡ r.0) }
     {
         let (count, prefix) = Prefix::open();
@@ -118,7 +118,7 @@ impl Publisher {
         ensures board { self.new.board ≡ self.old.board }
         ensures ok { OnOk result (self.new.list ≡ self.old.list ++ shown ∷ []) }
         ensures note { IfOk result (λ note. note ≡ self.new) }
-        ensures last { OnOk result (last_of self.new.list ≡ Some shown) }
+        ensures last { OnOk result (last_item_of self.new.list ≡ Some shown) }
         ensures err { OnErr result (self.new ≡ self.old) }
     {
         let Some(prefix) = self.prefix.with(&self.count, &shown) else {
@@ -130,7 +130,7 @@ impl Publisher {
             &mut self.copies,
             rt,
             |copies, rt| -> (BoardWriter, ())
-                requires { Pends copies.desk.shown.value.prefix.board
+                requires { HasOnePendingItem copies.desk.shown.value.prefix.board
                     (drop copies.behind copies.log.items) }
                 ensures { (drop result.0.behind result.0.log.items ≡ [])
                     × (result.0.desk.shown.value.prefix.board ≡ copies.desk.shown.value.prefix.board) }
@@ -160,8 +160,8 @@ impl Viewer {
     pub fn view(&mut self) -> Shown
         ensures board { self.new.board ≡ self.old.board }
         ensures seen { IsPrefix self.old.list self.new.list }
-        ensures last { last_of self.new.list ≡ Some result }
-        ensures rising { Rising self.new.list }
+        ensures last { last_item_of self.new.list ≡ Some result }
+        ensures rising { HasRisingLengths self.new.list }
     {
         if let Some(reader) = self.reader.take() {
             self.reader = read(reader, &mut self.last);

@@ -2,8 +2,8 @@
 ghost use Rattle.std.specs.Prelude.{◌≡◌, ◌∷◌, [], drop, IfOk, IfSome, OnOk, OnErr};
 ghost use Rattle.left_right.specs.Sides.{view};
 ghost use mathlib.Core.List.{IsPrefix};
-ghost use Rattle.watch_board.specs.BoardList.{opening};
-ghost use Rattle.watch_board.specs.Views.{IsOneOf, Pends};
+ghost use Rattle.watch_board.specs.BoardList.{initial_item};
+ghost use Rattle.watch_board.specs.Views.{KnowsOneBoard, HasOnePendingItem};
 
 use crate::last_items::LastItem;
 use crate::prefixes::Prefix;
@@ -23,7 +23,7 @@ pub type BoardReader = Reader<LastItem, LinkedList<Prefix>, SameBoard>;
 /// Copies that show the opening item, whose writer knows the board. No reader is there yet, so it waits
 /// for nobody.
 pub fn opened<R: Wait>(rt: &R, alloc: Global, prefix: &Prefix) -> Result<BoardWriter, NoMemory>
-    requires { prefix.now.list ≡ opening ∷ [] }
+    requires { prefix.now.list ≡ initial_item ∷ [] }
     ensures clear { IfOk result (λ c. drop c.behind c.log.items ≡ []) }
     ensures board { IfOk result (λ c. c.desk.shown.value.prefix.board ≡ prefix.now.board) }
     ensures knows { IfOk result (λ c. view c.desk.place ≡ c.desk.shown.value.prefix ∷ []) }
@@ -61,7 +61,7 @@ fn show_first<R: Wait>(
 pub fn append(copies: &mut BoardWriter, item: LastItem) -> Result<(), NoMemory>
     requires { drop copies.old.behind copies.old.log.items ≡ [] }
     ensures ok { OnOk result
-        (Pends item.prefix.board (drop copies.new.behind copies.new.log.items)) }
+        (HasOnePendingItem item.prefix.board (drop copies.new.behind copies.new.log.items)) }
     ensures err { OnErr result (drop copies.new.behind copies.new.log.items ≡ []) }
     ensures same { copies.new.desk ≡ copies.old.desk }
 {
@@ -74,7 +74,7 @@ pub fn append(copies: &mut BoardWriter, item: LastItem) -> Result<(), NoMemory>
 /// Shows the one item that was noted. It waits for a reader that still reads the other copy.
 #[tactic(auto, using(crate::proofs::ViewLemmas::last_shown))]
 pub fn show<R: Wait>(copies: BoardWriter, rt: &R) -> BoardWriter
-    requires { Pends copies.desk.shown.value.prefix.board (drop copies.behind copies.log.items) }
+    requires { HasOnePendingItem copies.desk.shown.value.prefix.board (drop copies.behind copies.log.items) }
     ensures clear { drop result.behind result.log.items ≡ [] }
     ensures board { result.desk.shown.value.prefix.board ≡ copies.desk.shown.value.prefix.board }
     ensures knows { view result.desk.place ≡ result.desk.shown.value.prefix ∷ [] }
@@ -86,10 +86,10 @@ pub fn show<R: Wait>(copies: BoardWriter, rt: &R) -> BoardWriter
 
 /// Takes in the item that the copies show. None, with the reader let go, where there is no writer any more.
 pub fn read(reader: BoardReader, last: &mut LastItem) -> Option<BoardReader>
-    requires { IsOneOf last.old.prefix.board (view reader.place) }
+    requires { KnowsOneBoard last.old.prefix.board (view reader.place) }
     ensures board { last.new.prefix.board ≡ last.old.prefix.board }
     ensures seen { IsPrefix last.old.prefix.list last.new.prefix.list }
-    ensures knows { IfSome result (λ r. IsOneOf last.new.prefix.board (view r.place)) }
+    ensures knows { IfSome result (λ r. KnowsOneBoard last.new.prefix.board (view r.place)) }
 {
     match reader.enter_as::<Read>() {
         Ok(reading) => {

@@ -1,7 +1,7 @@
 //! An item with the prefix that it ends.
 ghost use Rattle.std.specs.Prelude.{◌≡◌, Some};
 ghost use mathlib.Core.List.{IsPrefix};
-ghost use Rattle.watch_board.specs.BoardList.{last_of};
+ghost use Rattle.watch_board.specs.BoardList.{last_item_of};
 
 use crate::prefixes::Prefix;
 use crate::shown::Shown;
@@ -13,12 +13,12 @@ use std::alloc::AllocError;
 pub struct LastItem {
     pub shown: Shown,
     pub prefix: Prefix,
-    ghost last: { last_of prefix.list ≡ Some shown },
+    ghost last: { last_item_of prefix.list ≡ Some shown },
 }
 
 impl LastItem {
     pub fn new(shown: Shown, prefix: Prefix) -> LastItem
-        requires { last_of prefix.list ≡ Some shown }
+        requires { last_item_of prefix.list ≡ Some shown }
         ensures { (result.shown ≡ shown) × (result.prefix ≡ prefix) }
     {
         LastItem { shown, prefix }

@@ -1,6 +1,6 @@
 //! The list of a board, which exists in proofs alone: what threads share of it is its length.
 ghost use Rattle.std.specs.Prelude.{◌≡◌, ◌++◌, ◌∷◌, [], IfSome};
-ghost use Rattle.watch_board.specs.BoardList.{MayFollow, Rising, ShorterBegins, opening};
+ghost use Rattle.watch_board.specs.BoardList.{MayFollow, HasRisingLengths, ShorterBegins, initial_item};
 
 use crate::shown::Shown;
 use logbook::{Gain, Offer, Plain, Play, Rule, Seen, Start, Word};
@@ -12,12 +12,12 @@ pub struct RisingList;
 impl Rule<Shown, u64> for RisingList {
     ghost use Rattle.std.specs.Prelude.{[], ◌∷◌};
     ghost use base.Fml.{ftrue};
-    ghost use Rattle.watch_board.specs.ListRule.{IsKept};
-    ghost use Rattle.watch_board.specs.BoardList.{opening};
+    ghost use Rattle.watch_board.specs.ListRule.{KeepsListRule};
+    ghost use Rattle.watch_board.specs.BoardList.{initial_item};
 
-    ghost holds = { λ cells list. IsKept cells list };
+    ghost holds = { λ cells list. KeepsListRule cells list };
 
-    ghost first = { opening ∷ [] };
+    ghost first = { initial_item ∷ [] };
 
     ghost hinted = { λ n list. Unit {0} };
 
@@ -41,9 +41,9 @@ impl Gain<Shown, u64> for NoGain {
 pub struct Append;
 
 impl Play<Shown, u64> for Append {
-    ghost use Rattle.watch_board.specs.ListRule.{Appends};
+    ghost use Rattle.watch_board.specs.ListRule.{AppendsItem};
 
-    ghost then = { Appends };
+    ghost then = { AppendsItem };
 }
 
 impl Plain<Shown, Shown, u64> for Append {
@@ -63,13 +63,13 @@ pub struct Count {
 impl Model for Count {
     ghost use Rattle.std.specs.Prelude.{◌≡◌};
     ghost use Rattle.logbook.specs.Pages.{Book};
-    ghost use Rattle.watch_board.specs.ListRule.{count_of};
+    ghost use Rattle.watch_board.specs.ListRule.{item_count_word};
 
     ghost Value = { Book };
 
     ghost view = { λ c. c.word.book };
 
-    ghost invariant = { λ c. c.word ≡ count_of c.word.book };
+    ghost invariant = { λ c. c.word ≡ item_count_word c.word.book };
 }
 
 /// A prefix of a board's list. It has no bytes but its length. Contracts see the board and the prefix.
@@ -81,20 +81,20 @@ pub struct Prefix {
 
 impl Model for Prefix {
     ghost use Rattle.std.specs.Prelude.{◌≡◌, length};
-    ghost use Rattle.watch_board.specs.BoardList.{Known, Rising};
+    ghost use Rattle.watch_board.specs.BoardList.{KnownBoard, HasRisingLengths};
 
-    ghost Value = { Known };
+    ghost Value = { KnownBoard };
 
     ghost view = { λ p. record { board = p.seen.book; list = p.seen.log } };
 
-    ghost invariant = { λ p. (p.items ≡ length p.seen.log) × Rising p.seen.log };
+    ghost invariant = { λ p. (p.items ≡ length p.seen.log) × HasRisingLengths p.seen.log };
 }
 
 impl Prefix {
     /// The list of a new board, and the word that counts it.
     pub fn open() -> (Count, Prefix)
         ensures board { result.0 ≡ result.1.board }
-        ensures list { result.1.list ≡ opening ∷ [] }
+        ensures list { result.1.list ≡ initial_item ∷ [] }
     {
         let (seen, mut first, _second) = Seen::open(Start::alone(), 1, 0);
         let word = Word::tracked(1, &mut first);
@@ -149,7 +149,7 @@ impl Prefix {
 
     /// Lengths rise in it.
     pub fn law_of_rising(&self)
-        ensures { Rising self.now.list }
+        ensures { HasRisingLengths self.now.list }
     {
         let _ = &self.items;
     }

@@ -10,9 +10,9 @@ pub struct SameBoard;
 
 impl Protocol<LastItem, LinkedList<Prefix>> for SameBoard {
     ghost use Rattle.std.specs.Prelude.{[]};
-    ghost use Rattle.watch_board.specs.Views.{AllOn};
+    ghost use Rattle.watch_board.specs.Views.{AreAllOfBoard};
 
-    ghost holds = { λ item views. AllOn item.prefix.board views };
+    ghost holds = { λ item views. AreAllOfBoard item.prefix.board views };
 
     ghost first = { [] };
 }
@@ -21,9 +21,9 @@ impl Protocol<LastItem, LinkedList<Prefix>> for SameBoard {
 pub struct Read;
 
 impl Outcome<LastItem, LinkedList<Prefix>> for Read {
-    ghost use Rattle.watch_board.specs.Views.{Reads};
+    ghost use Rattle.watch_board.specs.Views.{ReadsBoardList};
 
-    ghost then = { λ v x y w. Reads v y.prefix w };
+    ghost then = { λ v x y w. ReadsBoardList v y.prefix w };
 }
 
 /// What showing an item tells: its prefix is known.

@@ -1,6 +1,6 @@
 //! What a board shows.
 ghost use Rattle.std.specs.Prelude.{◌≡◌};
-ghost use Rattle.watch_board.specs.BoardList.{opening};
+ghost use Rattle.watch_board.specs.BoardList.{initial_item};
 
 use var_access::Reply;
 
@@ -14,7 +14,7 @@ pub struct Shown {
 impl Shown {
     /// The item that a board begins with.
     pub(crate) fn opening() -> Shown
-        ensures { result ≡ opening }
+        ensures { result ≡ initial_item }
     {
         Shown {
             length: 0,

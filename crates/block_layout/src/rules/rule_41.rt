@@ -1,6 +1,6 @@
 ghost use Rattle.std.specs.Prelude.{◌≡◌, IfOk};
 ghost use Rattle.plc_base.specs.Least.{least};
-ghost use Rattle.block_layout.specs.Rule41.{rule_41, fits_kind, misfits};
+ghost use Rattle.block_layout.specs.Rule41.{rule_41, fits_kind, misfits_component};
 
 use crate::alone::{Alone, least_alone};
 use crate::blocks::BlockLayout;
@@ -38,7 +38,7 @@ fn fits_kind(value: &Literal, kind: Option<Simple>) -> bool
 
 /// Whether the value doesn't fit what a path leads to.
 pub(crate) fn misfits(layouts: &[BlockLayout], value: &Literal, target: PathEnd) -> bool
-    ensures { result ≡ misfits layouts.now value.now target }
+    ensures { result ≡ misfits_component layouts.now value.now target }
 {
     match target {
         PathEnd::Reaches { spot } => !fits_kind(value, elementary_at(layouts, spot)),

@@ -1,5 +1,5 @@
 ghost use Rattle.std.specs.Prelude.{◌≡◌, []};
-ghost use Rattle.block_layout.specs.Heads.{flagged};
+ghost use Rattle.block_layout.specs.Heads.{breach_flags};
 ghost use Rattle.block_layout.specs.Types.{Types};
 ghost use Rattle.block_layout.specs.Rule43.{contains_itself, rule_43};
 ghost use Rattle.plc_base.specs.Least.{least};
@@ -12,7 +12,7 @@ use stl_ast::Block;
 /// contains itself.
 #[tactic(auto, unfolding(crate::specs::Rule43::rule_43))]
 pub(crate) fn least_in_itself(in_itself: &[bool], blocks: &[Block]) -> Option<Refusal>
-    ensures { (y : Types) → in_itself.now ≡ flagged (contains_itself y blocks.now) [] blocks.now
+    ensures { (y : Types) → in_itself.now ≡ breach_flags (contains_itself y blocks.now) [] blocks.now
         → result ≡ least (rule_43 y blocks.now) }
 {
     let mut found = None;

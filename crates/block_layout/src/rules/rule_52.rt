@@ -1,7 +1,7 @@
 ghost use Rattle.std.specs.Prelude.{◌≡◌, ◌^◌, ◌-◌, min, sum_by};
 ghost use Rattle.stl_ast.specs.Blocks.{is_parameter};
 ghost use Rattle.plc_base.specs.Least.{least};
-ghost use Rattle.block_layout.specs.Rule52.{declared_in, has_too_many_parameters, returned, rule_52};
+ghost use Rattle.block_layout.specs.Rule52.{parameters_in_section, has_too_many_parameters, return_value_count, rule_52};
 
 use plc_base::{Refusal, broken_if, least_of};
 use stl_ast::{Block, Part, PartKind, Simple};
@@ -18,7 +18,7 @@ pub fn is_parameter(kind: PartKind) -> bool
 
 /// The parameters that a section declares.
 fn declared_in(part: &Part) -> usize
-    ensures { result ≡ declared_in part.now }
+    ensures { result ≡ parameters_in_section part.now }
 {
     if is_parameter(part.kind) {
         part.items
@@ -33,7 +33,7 @@ fn declared_in(part: &Part) -> usize
 
 /// The return value of a function is one parameter.
 fn returned(of: Option<Simple>) -> u64
-    ensures { result ≡ returned of }
+    ensures { result ≡ return_value_count of }
 {
     match of {
         None => 0,
@@ -43,7 +43,7 @@ fn returned(of: Option<Simple>) -> u64
 
 /// The parameters of sections, or the greatest number where they are more.
 fn parameters_in(parts: &[Part]) -> u64
-    ensures { result ≡ min (sum_by declared_in parts.now) (2 ^ 64 - 1) }
+    ensures { result ≡ min (sum_by parameters_in_section parts.now) (2 ^ 64 - 1) }
 {
     let mut count = 0u64;
     for part in parts {

@@ -1,7 +1,7 @@
 ghost use Rattle.std.specs.Prelude.{◌≡◌, ◌+◌, ◌-◌, ◌^◌, ◌&&◌, ℕ, map, min, nat_lt, if◌then◌else◌};
 ghost use Rattle.plc_base.specs.Kinds.{is_data_block};
 ghost use Rattle.plc_base.specs.Least.{least};
-ghost use Rattle.block_layout.specs.Lengths.{length_of};
+ghost use Rattle.block_layout.specs.Lengths.{length_of_block};
 ghost use Rattle.block_layout.specs.Rule54.{rule_54};
 ghost use Rattle.block_layout.specs.Types.{Types};
 
@@ -30,7 +30,7 @@ pub(crate) fn exceeds(block: &Block, before: u64, len: u64) -> bool
 /// The least refusal by rule 54.
 #[tactic(auto, unfolding(crate::specs::Rule54::rule_54))]
 pub(crate) fn least_exceeding(lens: &[u64], blocks: &[Block]) -> Option<Refusal>
-    ensures { (y : Types) → lens.now ≡ map (length_of y blocks.now) blocks.now
+    ensures { (y : Types) → lens.now ≡ map (length_of_block y blocks.now) blocks.now
         → result ≡ least (rule_54 y blocks.now) }
 {
     let mut found = None;

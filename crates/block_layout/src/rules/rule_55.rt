@@ -1,6 +1,6 @@
 ghost use Rattle.std.specs.Prelude.{◌≡◌, not, if◌then◌else◌};
 ghost use Rattle.std.specs.List.{count_by};
-ghost use Rattle.stl_ast.specs.Statements.{is_empty};
+ghost use Rattle.stl_ast.specs.Statements.{is_empty_statement};
 ghost use Rattle.plc_base.specs.Least.{least};
 ghost use Rattle.block_layout.specs.Rule55.{has_too_many_statements, rule_55};
 
@@ -11,21 +11,21 @@ use stl_ast::{Block, Mnemonic, Statement};
 const MOST_STATEMENTS: usize = 65_534;
 
 fn is_empty(code: Mnemonic) -> bool
-    ensures { result ≡ is_empty code }
+    ensures { result ≡ is_empty_statement code }
 {
     matches!(code, Mnemonic::Empty)
 }
 
 /// An empty statement doesn't count.
 fn counted(statement: &Statement) -> usize
-    ensures { result ≡ (if not (is_empty statement.now.code) then 1 else 0) }
+    ensures { result ≡ (if not (is_empty_statement statement.now.code) then 1 else 0) }
 {
     if is_empty(statement.code) { 0 } else { 1 }
 }
 
 /// How many statements aren't empty.
 fn statement_count(body: &[Statement]) -> usize
-    ensures { result ≡ count_by (λ s. not (is_empty s.code)) body.now }
+    ensures { result ≡ count_by (λ s. not (is_empty_statement s.code)) body.now }
 {
     let mut count = 0;
     for statement in body {

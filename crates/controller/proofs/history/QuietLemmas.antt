@@ -11,8 +11,8 @@ use Rattle.var_access.specs.declared.What.{What}
 use Rattle.var_access.specs.declared.What.TheVariants.{Step}
 use Rattle.controller.specs.Fitting.{EntriesKeepFit, IsFit}
 use Rattle.controller.specs.Quiet.{ShowNothing}
-use Rattle.controller.specs.Replay.{ContinuesByMore, SeenByMore, happens, last_seen, replay, run_from, seen_from}
-use Rattle.controller.specs.Shown.{Watched, nothing_shown, watched_state}
+use Rattle.controller.specs.Replay.{ContinuesByMore, SeenByMore, entry_result, last_observed, replay, state_after_entries, last_observed_from}
+use Rattle.controller.specs.Shown.{WatchedState, nothing_shown, watched_state}
 use Rattle.controller.specs.State.{State}
 use Rattle.controller.specs.declared.observing.Observed.{Observed}
 use Rattle.controller.specs.Replayed.{entry_events}
@@ -20,7 +20,7 @@ use Rattle.controller.specs.Replayed.{entry_events}
 -- ---- entries behind others
 
 pub replay-more : ContinuesByMore → (profile : Profile) (code : Code) (history more : List Entry)
-    → replay profile code (entry_events (history ++ more)) ≡ run_from code (replay profile code (entry_events history)) (entry_events more)
+    → replay profile code (entry_events (history ++ more)) ≡ state_after_entries code (replay profile code (entry_events history)) (entry_events more)
 replay-more continues profile code history more =
     ap (λ (es : List What). replay profile code es) (map-append (λ (e : Entry). e.what) history more)
     ∙ continues profile code (entry_events history) (entry_events more)
@@ -29,19 +29,19 @@ replay-more continues profile code history more =
 
 -- nothing, if nothing was seen before
 none-still : (code : Code) (s : State) (whats : List What) → ShowNothing code s whats
-    → seen_from code s nothing_shown whats ≡ nothing_shown
+    → last_observed_from code s nothing_shown whats ≡ nothing_shown
 none-still code s [] quiet = refl
 none-still code s (what ∷ rest) quiet =
-    ap (λ (o : Observed). seen_from code (happens code s what).state o rest) quiet.0
-    ∙ none-still code (happens code s what).state rest quiet.1
+    ap (λ (o : Observed). last_observed_from code (entry_result code s what).state o rest) quiet.0
+    ∙ none-still code (entry_result code s what).state rest quiet.1
 
 -- nothing, if they are some
 none-now : (code : Code) (s : State) (seen : Observed) (n : ℕ) → ShowNothing code s (replicate n Step) → 1 ≤ n
-    → seen_from code s seen (replicate n Step) ≡ nothing_shown
+    → last_observed_from code s seen (replicate n Step) ≡ nothing_shown
 none-now code s seen zero quiet some = absurd (omega arith)
 none-now code s seen (suc n) quiet some =
-    ap (λ (o : Observed). seen_from code (happens code s Step).state o (replicate n Step)) quiet.0
-    ∙ none-still code (happens code s Step).state (replicate n Step) quiet.1
+    ap (λ (o : Observed). last_observed_from code (entry_result code s Step).state o (replicate n Step)) quiet.0
+    ∙ none-still code (entry_result code s Step).state (replicate n Step) quiet.1
 
 -- ---- steps
 
@@ -54,13 +54,13 @@ pub steps-are : (e : Entry) (n : ℕ) → e.what ≡ Step → entry_events (repl
 steps-are e n step = same-entries e n ∙ ap (λ (what : What). replicate n what) step
 
 fits-steps : (p : Program) (s : State) (n : ℕ) → EntriesKeepFit → Verifies p → IsFit p s
-    → IsFit p (run_from (code_of p) s (replicate n Step))
+    → IsFit p (state_after_entries (code_of p) s (replicate n Step))
 fits-steps p s zero keeps h fit = fit
 fits-steps p s (suc n) keeps h fit =
-    fits-steps p (happens (code_of p) s Step).state n keeps h (keeps p s Step h tt fit)
+    fits-steps p (entry_result (code_of p) s Step).state n keeps h (keeps p s Step h tt fit)
 
 pub fits-behind : (p : Program) (s t : State) (n : ℕ) → EntriesKeepFit → Verifies p → IsFit p s
-    → t ≡ run_from (code_of p) s (replicate n Step) → IsFit p t
+    → t ≡ state_after_entries (code_of p) s (replicate n Step) → IsFit p t
 fits-behind p s t n keeps h fit after = subst (IsFit p) (sym after) (fits-steps p s n keeps h fit)
 
 pub quiet-behind : (profile : Profile) (code : Code) (history : List Entry) (s : State) (n : ℕ) → s ≡ replay profile code (entry_events history)
@@ -70,30 +70,30 @@ quiet-behind profile code history s n before quiet =
     subst (λ (u : State). ShowNothing code u (replicate n Step)) before quiet
 
 pub state-behind : ContinuesByMore → (profile : Profile) (code : Code) (history more : List Entry) (s t : State) (n : ℕ) → s ≡ replay profile code (entry_events history)
-    → entry_events more ≡ replicate n Step → t ≡ run_from code s (replicate n Step)
+    → entry_events more ≡ replicate n Step → t ≡ state_after_entries code s (replicate n Step)
     → t ≡ replay profile code (entry_events (history ++ more))
 state-behind continues profile code history more s t n before steps after =
     after
-    ∙ ap (λ (u : State). run_from code u (replicate n Step)) before
-    ∙ ap (λ (whats : List What). run_from code (replay profile code (entry_events history)) whats) (sym steps)
+    ∙ ap (λ (u : State). state_after_entries code u (replicate n Step)) before
+    ∙ ap (λ (whats : List What). state_after_entries code (replay profile code (entry_events history)) whats) (sym steps)
     ∙ sym (replay-more continues profile code history more)
 
 pub seen-behind : SeenByMore → (profile : Profile) (code : Code) (history more : List Entry) (s : State) (n : ℕ) → s ≡ replay profile code (entry_events history)
     → entry_events more ≡ replicate n Step → ShowNothing code s (replicate n Step) → 1 ≤ n
-    → nothing_shown ≡ last_seen profile code (entry_events (history ++ more))
+    → nothing_shown ≡ last_observed profile code (entry_events (history ++ more))
 seen-behind continues profile code history more s n before steps quiet some = sym (
-    ap (λ (es : List What). last_seen profile code es) (map-append (λ (e : Entry). e.what) history more)
+    ap (λ (es : List What). last_observed profile code es) (map-append (λ (e : Entry). e.what) history more)
     ∙ continues profile code (entry_events history) (entry_events more)
-    ∙ ap (λ (u : State). seen_from code u (last_seen profile code (entry_events history)) (entry_events more)) (sym before)
-    ∙ ap (λ (whats : List What). seen_from code s (last_seen profile code (entry_events history)) whats) steps
-    ∙ none-now code s (last_seen profile code (entry_events history)) n quiet some)
+    ∙ ap (λ (u : State). last_observed_from code u (last_observed profile code (entry_events history)) (entry_events more)) (sym before)
+    ∙ ap (λ (whats : List What). last_observed_from code s (last_observed profile code (entry_events history)) whats) steps
+    ∙ none-now code s (last_observed profile code (entry_events history)) n quiet some)
 
 -- outputs and mode are as before
-pub observer-behind : (s t : State) (w w' : Watched) (seen : Observed) → w ≡ watched_state s seen
+pub observer-behind : (s t : State) (w w' : WatchedState) (seen : Observed) → w ≡ watched_state s seen
     → w' ≡ record w { seen = nothing_shown }
     → t.world.memory.peripheral_outputs ≡ s.world.memory.peripheral_outputs → t.mode ≡ s.mode
     → w' ≡ watched_state t nothing_shown
 observer-behind s t w w' seen before passed outputs mode =
     passed
-    ∙ ap (λ (v : Watched). record v { seen = nothing_shown }) before
+    ∙ ap (λ (v : WatchedState). record v { seen = nothing_shown }) before
     ∙ cc

@@ -11,7 +11,7 @@ use Rattle.plc_base.specs.declared.blocks.BlockKind.TheVariants as kinds
 use Rattle.flat_code.specs.Image.{record_of_param}
 use Rattle.flat_code.specs.Programs.{CodeBlock}
 use Rattle.flat_code.specs.declared.programs.Param.{Param}
-use Rattle.stl_ast.specs.Statements.{is_call, is_called as is_called_operand}
+use Rattle.stl_ast.specs.Statements.{is_call, names_called_block as is_called_operand}
 use Rattle.stl_ast.specs.declared.blocks.Block.{Block}
 use Rattle.stl_ast.specs.declared.blocks.Tree.{Tree}
 use Rattle.stl_ast.specs.declared.declarations.Simple.{Simple}
@@ -22,21 +22,21 @@ use Rattle.stl_ast.specs.declared.operands.Operand.{Operand}
 use Rattle.stl_ast.specs.declared.operands.Operand.TheVariants as operand
 use Rattle.stl_ast.specs.declared.statements.Statement.{Statement}
 use Rattle.stl_symbols.specs.Symbol.{Symbol}
-use Rattle.block_layout.specs.Blocks.{block_place, id_of, is_block_number, is_id, known_block, named_block}
+use Rattle.block_layout.specs.Blocks.{place_of_block, id_of, is_block_number, is_id, known_block, named_block}
 use Rattle.block_layout.specs.Cells.{components_of}
 use Rattle.block_layout.specs.Layouts.{block_layout, layouts_of}
-use Rattle.block_layout.specs.Measures.{types_of}
+use Rattle.block_layout.specs.Measures.{types_of_source}
 use Rattle.block_layout.specs.Paths.{cells_at, if_whole, whole_at}
-use Rattle.block_layout.specs.Rule44.{is_beyond}
+use Rattle.block_layout.specs.Rule44.{is_number_beyond_limits}
 use Rattle.block_layout.specs.declared.blocks.BlockLayout.{BlockLayout}
 use Rattle.block_layout.specs.declared.cells.Cell.{Cell}
-use Rattle.stl_types.specs.Context.{Context, ids, in_function, is_of_function, whole_place}
+use Rattle.stl_types.specs.Context.{Context, source_block_ids, in_function, is_of_function, whole_place}
 use Rattle.stl_types.specs.Forms.{form_of}
-use Rattle.stl_types.specs.Kinds.{is_called}
-use Rattle.stl_types.specs.Operands.{operand_rule, rule_of, rule_seen, statement_rule, takes}
+use Rattle.stl_types.specs.Kinds.{is_operand_of_call}
+use Rattle.stl_types.specs.Operands.{operand_rule, rule_of_resolved_operand, rule_seen, statement_rule, takes_operand}
 use Rattle.stl_types.specs.Parameters.{Callee, callee_at, callee_by, callee_of, formals_of, is_sound_formal, source_callee, system_callee, system_formals}
-use Rattle.stl_types.specs.Resolution.{called_seen, id_at, instance_number, seen, whole_block}
-use Rattle.stl_types.specs.Resolved.{resolved, seen_view}
+use Rattle.stl_types.specs.Resolution.{called_seen, id_at, instance_number, resolution_of, whole_called_block}
+use Rattle.stl_types.specs.Resolved.{resolved_operand, seen_view}
 use Rattle.stl_types.specs.declared.forms.OperandRule.{OperandRule}
 use Rattle.stl_types.specs.declared.forms.OperandRule.TheVariants as form
 use Rattle.stl_types.specs.declared.parameters.Formal.{Formal}
@@ -44,9 +44,9 @@ use Rattle.stl_types.specs.declared.views.Resolution.{Resolution}
 use Rattle.stl_types.specs.declared.views.Resolution.TheVariants.{Resolved, Unknown, Unjudged}
 use Rattle.stl_types.specs.declared.views.ResolvedOperand.{ResolvedOperand}
 use Rattle.stl_types.specs.declared.views.ResolvedOperand.TheVariants as view
-use Rattle.stl_codegen.specs.Compiled.{StatedBlock, compiled}
+use Rattle.stl_codegen.specs.Compiled.{StatedBlock, compiled_block}
 use Rattle.stl_codegen.specs.Generated.{code_blocks_of, params_of}
-use Rattle.stl_codegen.specs.Instruction.{in_order}
+use Rattle.stl_codegen.specs.Instruction.{in_parameter_order}
 use Rattle.stl_list.specs.Joined.{system_parameters}
 use Rattle.sem_kept.proofs.accepted.Accepted.{AllLaid, IsSound, IsSoundStatement, IsSoundTree, context_at, right_tree}
 use Rattle.sem_kept.proofs.accepted.OperandsCells.{block_unbroken, cells_are, known_there, measured_symbols, place_there}
@@ -57,7 +57,7 @@ use Rattle.sem_kept.proofs.accepted.OperandsPlaces.{AreParameters, function_comp
 use Rattle.sem_kept.proofs.accepted.OperandsViews.{IsThere, id_there, id_there_is, ids_same, layout_id}
 use Rattle.sem_kept.proofs.accepted.Shared.{callable_by}
 use Rattle.listing_laws.specs.AcceptedTypes.{AreAcceptedTypesKept, AreAcceptedTypesOwed, declared_kinds, kinds_at}
-use Rattle.listing_laws.specs.HandedOn.{IsFoundAmong, SeesOwn, called_kinds, ordered}
+use Rattle.listing_laws.specs.HandedOn.{IsFoundAmong, SeesOwn, called_kinds, formals_by_index}
 use Rattle.listing_laws.specs.Owned.{IsParameterCell, own_kinds}
 use Rattle.listing_laws.specs.SourceTypes.{OweBodies, OwesBody, OwesStatement}
 use Rattle.listing_laws.proofs.IdLemmas.{id_itself}
@@ -74,15 +74,15 @@ record IsNamed (c : Context) (o : Operand) (id : BlockId) : Type 0 where
   named : named_block c.symbols name ≡ Some id
   whole : is_system_function id.kind ≡ false → (p : ℕ) × (whole_place c id ≡ Some p)
 
-pub taken_calls : (f : OperandRule) (id : BlockId) (instance : Option ℕ) → takes f (view.Called id instance) ≡ true
+pub taken_calls : (f : OperandRule) (id : BlockId) (instance : Option ℕ) → takes_operand f (view.Called id instance) ≡ true
     → f ≡ form.Calls
-unfolding takes
+unfolding takes_operand
 taken_calls form.Calls id instance e = refl
 taken_calls _ id instance e = absurd cc
 
-pub calls_take : (id : BlockId) (instance : Option ℕ) → takes form.Calls (view.Called id instance) ≡ true
-    → is_called (view.Called id instance) ≡ true
-unfolding takes
+pub calls_take : (id : BlockId) (instance : Option ℕ) → takes_operand form.Calls (view.Called id instance) ≡ true
+    → is_operand_of_call (view.Called id instance) ≡ true
+unfolding takes_operand
 calls_take id instance e = e
 
 pub form_calls : (m : Mnemonic) → form_of m ≡ form.Calls → is_call m ≡ true
@@ -111,9 +111,9 @@ abbrev pub IsWhole : Context → BlockId → Option BlockId → Type 0
 IsWhole c id o = (o ≡ Some id) × (is_system_function id.kind ≡ false → (p : ℕ) × (whole_place c id ≡ Some p))
 
 pub seen_named : (c : Context) (name : BlockName) (inst : Option BlockName) (id : BlockId) (instance : Option ℕ)
-    → seen c (operand.Called name inst) ≡ Resolved (view.Called id instance)
+    → resolution_of c (operand.Called name inst) ≡ Resolved (view.Called id instance)
     → IsWhole c id (named_block c.symbols name)
-unfolding seen
+unfolding resolution_of
 seen_named c name inst id instance e = by (named_block c.symbols name) e
   where
     made : (x : BlockId) → x ≡ id → (is_system_function x.kind ≡ false → (p : ℕ) × (whole_place c x ≡ Some p)) → IsWhole c id (Some x)
@@ -129,7 +129,7 @@ seen_named c name inst id instance e = by (named_block c.symbols name) e
     whether x true sys h = made x (seen_id x id inst (instance_number c inst) instance h) (λ k. absurd cc)
     whether x false sys h = placed x (whole_place c x) refl h
 
-    by : (o : Option BlockId) → called_seen (whole_block c o) inst (instance_number c inst) ≡ Resolved (view.Called id instance) → IsWhole c id o
+    by : (o : Option BlockId) → called_seen (whole_called_block c o) inst (instance_number c inst) ≡ Resolved (view.Called id instance) → IsWhole c id o
     by None h = absurd cc
     by (Some x) h = whether x (is_system_function x.kind) refl h
 
@@ -138,17 +138,17 @@ view_seen (Resolved w) v e = ap (λ (z : ResolvedOperand). Resolved z) (same_Som
 view_seen Unknown v e = absurd cc
 view_seen Unjudged v e = absurd cc
 
-pub resolved_seen : (c : Context) (s : Statement) (v : ResolvedOperand) → resolved c s ≡ Some v → seen c s.operand ≡ Resolved v
-unfolding resolved
+pub resolved_seen : (c : Context) (s : Statement) (v : ResolvedOperand) → resolved_operand c s ≡ Some v → resolution_of c s.operand ≡ Resolved v
+unfolding resolved_operand
 resolved_seen c s v e = by (is_none (statement_rule c s)) e
   where
-    by : (t : Bool) → (if t then seen_view (seen c s.operand) else None) ≡ Some v → seen c s.operand ≡ Resolved v
-    by true h = view_seen (seen c s.operand) v h
+    by : (t : Bool) → (if t then seen_view (resolution_of c s.operand) else None) ≡ Some v → resolution_of c s.operand ≡ Resolved v
+    by true h = view_seen (resolution_of c s.operand) v h
     by false h = absurd cc
 
 pub rule_called : (c : Context) (f : OperandRule) (o : Operand) (id : BlockId) (instance : Option ℕ)
-    → seen c o ≡ Resolved (view.Called id instance) → operand_rule c f o ≡ None → rule_of f (view.Called id instance) ≡ None
-unfolding seen
+    → resolution_of c o ≡ Resolved (view.Called id instance) → operand_rule c f o ≡ None → rule_of_resolved_operand f (view.Called id instance) ≡ None
+unfolding resolution_of
 rule_called c f (operand.Constant value) id instance e h = absurd cc
 rule_called c f _ id instance e h = sym (ap (λ (r : Resolution). rule_seen f r) e) ∙ h
 
@@ -176,17 +176,17 @@ got_mapped (x ∷ ls) zero l e = ap (λ (z : BlockLayout). Some z.id) (same_Some
 got_mapped (x ∷ ls) (suc k) l e = got_mapped ls k l e
 
 place_known : (id : BlockId) (is : List (Option BlockId)) (k : ℕ) → slice_get is k ≡ Some (Some id)
-    → (m : ℕ) × (block_place id is ≡ Some m)
+    → (m : ℕ) × (place_of_block id is ≡ Some m)
 place_known id [] k e = absurd cc
 place_known id (i ∷ is) zero e = (
   0,
-  ap (λ (t : Bool). if t then Some 0 else option_map (λ k. suc k) (block_place id is))
+  ap (λ (t : Bool). if t then Some 0 else option_map (λ k. suc k) (place_of_block id is))
       (ap (is_id id) (same_Some i (Some id) e) ∙ id_itself id),
 )
 place_known id (i ∷ is) (suc k) e = by (is_id id i) (place_known id is k e)
   where
-    by : (t : Bool) → (m : ℕ) × (block_place id is ≡ Some m)
-        → (m : ℕ) × ((if t then Some 0 else option_map (λ k. suc k) (block_place id is)) ≡ Some m)
+    by : (t : Bool) → (m : ℕ) × (place_of_block id is ≡ Some m)
+        → (m : ℕ) × ((if t then Some 0 else option_map (λ k. suc k) (place_of_block id is)) ≡ Some m)
     by true h = (0, refl)
     by false h = (suc h.0, ap (λ (o : Option ℕ). option_map (λ k. suc k) o) h.1)
 
@@ -198,23 +198,23 @@ whole_known l (Some q) p e = by (is_some (whole_at l q)) e
     by true h = h
     by false h = absurd cc
 
-not_any : (P : CodeBlock → Bool) (bs : List StatedBlock) → list_any P (map compiled bs) ≡ false
-    → AllByRecursion (λ (b : StatedBlock). P (compiled b) ≡ false) bs
+not_any : (P : CodeBlock → Bool) (bs : List StatedBlock) → list_any P (map compiled_block bs) ≡ false
+    → AllByRecursion (λ (b : StatedBlock). P (compiled_block b) ≡ false) bs
 not_any P [] e = tt
-not_any P (b ∷ bs) e = by (P (compiled b)) refl e (not_any P bs)
+not_any P (b ∷ bs) e = by (P (compiled_block b)) refl e (not_any P bs)
   where
-    by : (t : Bool) → P (compiled b) ≡ t → (t || list_any P (map compiled bs)) ≡ false
-        → (list_any P (map compiled bs) ≡ false → AllByRecursion (λ (b : StatedBlock). P (compiled b) ≡ false) bs)
-        → (P (compiled b) ≡ false) × AllByRecursion (λ (b : StatedBlock). P (compiled b) ≡ false) bs
+    by : (t : Bool) → P (compiled_block b) ≡ t → (t || list_any P (map compiled_block bs)) ≡ false
+        → (list_any P (map compiled_block bs) ≡ false → AllByRecursion (λ (b : StatedBlock). P (compiled_block b) ≡ false) bs)
+        → (P (compiled_block b) ≡ false) × AllByRecursion (λ (b : StatedBlock). P (compiled_block b) ≡ false) bs
     by true is h more = absurd cc
     by false is h more = (is, more h)
 
 pub components_same : (symbols : List Symbol) (t : Tree) (k : ℕ) (b : Block) (l : BlockLayout)
-    → IsSound symbols t k b l → l.components ≡ components_of (types_of symbols t.blocks) b
+    → IsSound symbols t k b l → l.components ≡ components_of (types_of_source symbols t.blocks) b
 unfolding block_layout
 components_same symbols t k b l h = ap (λ (z : BlockLayout). z.components) h.layout
 
-beyond_number : (o : Option BlockId) (id : BlockId) → o ≡ Some id → is_beyond o ≡ false → is_block_number id.kind id.number ≡ true
+beyond_number : (o : Option BlockId) (id : BlockId) → o ≡ Some id → is_number_beyond_limits o ≡ false → is_block_number id.kind id.number ≡ true
 beyond_number None id e h = absurd cc
 beyond_number (Some x) id e h = subst (λ (z : BlockId). is_block_number z.kind z.number ≡ true) (same_Some x id e) (by (is_block_number x.kind x.number) h)
   where
@@ -229,7 +229,7 @@ module _ (symbols : List Symbol) (t : Tree) (tree : IsSoundTree symbols t) where
       → (b : Block) × (l : BlockLayout) × (l.id ≡ Some id) × IsSound symbols t p b l
   found_at id p e code = (there.block, there.layout, there.is ∙ ap (λ (z : BlockId). Some z) one, there.sound)
     where
-      listed : slice_get (types_of symbols t.blocks).ids p ≡ Some (Some id)
+      listed : slice_get (types_of_source symbols t.blocks).ids p ≡ Some (Some id)
       listed = ap (λ (is : List (Option BlockId)). slice_get is p) (sym (ids_same symbols t)) ∙ e
 
       there : IsThere symbols t is_code p
@@ -239,31 +239,31 @@ module _ (symbols : List Symbol) (t : Tree) (tree : IsSoundTree symbols t) where
       one = id_there_is symbols t tree is_code p id listed code
 
   known_at : (k : ℕ) (b : Block) (l : BlockLayout) (id : BlockId) → IsSound symbols t k b l → l.id ≡ Some id
-      → is_code id.kind ≡ true → known_block id (ids (context_at symbols t k)) ≡ Some k
+      → is_code id.kind ≡ true → known_block id (source_block_ids (context_at symbols t k)) ≡ Some k
   known_at k b l id sound e code =
-      ap (λ (t' : Bool). if t' then block_place id (ids (context_at symbols t k)) else None) number
+      ap (λ (t' : Bool). if t' then place_of_block id (source_block_ids (context_at symbols t k)) else None) number
       ∙ at.1 ∙ ap (λ (n : ℕ). Some n) same
     where
       number : is_block_number id.kind id.number ≡ true
-      number = beyond_number (id_of (types_of symbols t.blocks).symbols b) id
+      number = beyond_number (id_of (types_of_source symbols t.blocks).symbols b) id
           (ap (λ (s : List Symbol). id_of s b) (measured_symbols symbols t.blocks) ∙ sym (layout_id symbols t k b l sound) ∙ e)
           sound.head.by_44
 
-      at : (m : ℕ) × (block_place id (ids (context_at symbols t k)) ≡ Some m)
-      at = place_known id (ids (context_at symbols t k)) k
+      at : (m : ℕ) × (place_of_block id (source_block_ids (context_at symbols t k)) ≡ Some m)
+      at = place_known id (source_block_ids (context_at symbols t k)) k
           (got_mapped (layouts_of t symbols) k l sound.layout_there ∙ ap (λ (o : Option BlockId). Some o) e)
 
       same : at.0 ≡ k
       same =
-          let f = found_at id at.0 (place_there id (ids (context_at symbols t k)) at.0 at.1) code in
+          let f = found_at id at.0 (place_there id (source_block_ids (context_at symbols t k)) at.0 at.1) code in
           one_block symbols t id at.0 k f.0 b f.1 l f.3 sound f.2 e
 
   -- its parameters are found by their names
   all_found : (p : ℕ) (b : Block) (l : BlockLayout) → IsSound symbols t p b l
       → AllByRecursion (IsFoundAmong (formals_of (cells_at (layouts_of t symbols) p false)))
-      (in_order (slice_get t.blocks p) (formals_of (cells_at (layouts_of t symbols) p false)))
+      (in_parameter_order (slice_get t.blocks p) (formals_of (cells_at (layouts_of t symbols) p false)))
   all_found p b l sound =
-      subst (λ (o : Option Block). AllByRecursion (IsFoundIn fs) (in_order o fs)) (sym sound.block_there)
+      subst (λ (o : Option Block). AllByRecursion (IsFoundIn fs) (in_parameter_order o fs)) (sym sound.block_there)
       (return_all (IsFoundIn fs) b.result fs (found_each fs distinct))
     where
       fs : List Formal
@@ -271,9 +271,9 @@ module _ (symbols : List Symbol) (t : Tree) (tree : IsSoundTree symbols t) where
 
       distinct : Distinct fs
       distinct = subst (λ (cs : List Cell). Distinct (formals_of cs)) (sym (cells_are symbols t p b l sound false))
-          (fresh_distinct [] (formals_of (components_of (types_of symbols t.blocks) b))
-          (block_formals (types_of symbols t.blocks) b sound.well_formed
-          (block_unbroken (types_of symbols t.blocks) b sound.declarations)))
+          (fresh_distinct [] (formals_of (components_of (types_of_source symbols t.blocks) b))
+          (block_formals (types_of_source symbols t.blocks) b sound.well_formed
+          (block_unbroken (types_of_source symbols t.blocks) b sound.declarations)))
 
   -- ---- a block and its types
 
@@ -283,8 +283,8 @@ module _ (symbols : List Symbol) (t : Tree) (tree : IsSoundTree symbols t) where
 
     own_long : length (own_kinds c) ≡ length (params_of b l)
     own_long =
-        ap (λ (o : Option Block). length (map (λ (f : Formal). f.kind) (in_order o (formals_of (cells_at (layouts_of t symbols) k false))))) sound.block_there
-        ∙ matched_long (in_order (Some b) (formals_of (cells_at (layouts_of t symbols) k false))) (params_of b l)
+        ap (λ (o : Option Block). length (map (λ (f : Formal). f.kind) (in_parameter_order o (formals_of (cells_at (layouts_of t symbols) k false))))) sound.block_there
+        ∙ matched_long (in_parameter_order (Some b) (formals_of (cells_at (layouts_of t symbols) k false))) (params_of b l)
         (source_matched b l (cells_at (layouts_of t symbols) k false)
         (components_same symbols t k b l sound ∙ sym (cells_are symbols t k b l sound false)))
 
@@ -292,7 +292,7 @@ module _ (symbols : List Symbol) (t : Tree) (tree : IsSoundTree symbols t) where
     own_parameters e =
         cells_parameters (cells_at (layouts_of t symbols) k false)
         (subst AreParameters (sym (cells_are symbols t k b l sound false))
-        (function_components (types_of symbols t.blocks) b sound.well_formed
+        (function_components (types_of_source symbols t.blocks) b sound.well_formed
         (kind_function b.kind (ap is_of_function (sym sound.block_there) ∙ e))))
 
     own_sees : SeesOwn c (own_kinds c)
@@ -301,7 +301,7 @@ module _ (symbols : List Symbol) (t : Tree) (tree : IsSoundTree symbols t) where
     -- ---- a statement
 
     abbrev all : List CodeBlock
-    all = map compiled (code_blocks_of t symbols (layouts_of t symbols))
+    all = map compiled_block (code_blocks_of t symbols (layouts_of t symbols))
 
     abbrev types : BlockId → List Simple
     types = declared_kinds t symbols
@@ -319,7 +319,7 @@ module _ (symbols : List Symbol) (t : Tree) (tree : IsSoundTree symbols t) where
     in_program id p whole code = by (list_any (λ (x : CodeBlock). is_same_block x.id id) all) refl
       where
         f : (b : Block) × (l : BlockLayout) × (l.id ≡ Some id) × IsSound symbols t p b l
-        f = found_at id p (known_there id (ids c) p (whole_known (layouts_of t symbols) (known_block id (ids c)) p whole)) code
+        f = found_at id p (known_there id (source_block_ids c) p (whole_known (layouts_of t symbols) (known_block id (source_block_ids c)) p whole)) code
 
         by : (t' : Bool) → list_any (λ (x : CodeBlock). is_same_block x.id id) all ≡ t' → t' ≡ true
         by true e = refl
@@ -334,8 +334,8 @@ module _ (symbols : List Symbol) (t : Tree) (tree : IsSoundTree symbols t) where
     -- what is owed for a block that is called, as the rules find it
     abbrev IsRight : BlockId → Callee → Type 0
     IsRight id callee =
-        AllByRecursion (IsFoundAmong callee.formals) (ordered c callee)
-        × (called_kinds types id ≡ map (λ (f : Formal). f.kind) (ordered c callee))
+        AllByRecursion (IsFoundAmong callee.formals) (formals_by_index c callee)
+        × (called_kinds types id ≡ map (λ (f : Formal). f.kind) (formals_by_index c callee))
 
     system_right : (id : BlockId) (callee : Callee) → is_system_function id.kind ≡ true → system_callee id ≡ Some callee
         → IsRight id callee
@@ -360,8 +360,8 @@ module _ (symbols : List Symbol) (t : Tree) (tree : IsSoundTree symbols t) where
             (if t' then Some (formals_of (cells_at (layouts_of t symbols) p false)) else None) ≡ Some callee → IsRight id callee
         at p whole false h = absurd cc
         at p whole true h =
-            let known = whole_known (layouts_of t symbols) (known_block id (ids c)) p whole in
-            let f = found_at id p (known_there id (ids c) p known) code in
+            let known = whole_known (layouts_of t symbols) (known_block id (source_block_ids c)) p whole in
+            let f = found_at id p (known_there id (source_block_ids c) p known) code in
             subst (IsRight id) (same_Some (record { id = id; place = Some p; formals = formals_of (cells_at (layouts_of t symbols) p false) }) callee h) (
               all_found p f.0 f.1 f.3,
               ap (λ (t' : Bool). if t' then map (λ (f : Formal). f.kind) (system_parameters id.number) else types id) other
@@ -390,7 +390,7 @@ module _ (symbols : List Symbol) (t : Tree) (tree : IsSoundTree symbols t) where
         sym (ap (λ (z : Option BlockId). option_and_then (λ id. callee_by c id id.kind) z) n.named)
         ∙ sym (ap (callee_of c) n.is) ∙ e
 
-    pub owed : (s : Statement) → IsSoundStatement (types_of symbols t.blocks) c s → OwesStatement types all c s
+    pub owed : (s : Statement) → IsSoundStatement (types_of_source symbols t.blocks) c s → OwesStatement types all c s
     owed s h id instance e = (
       (callable, either (is_system_function id.kind) refl),
       λ callee is.
@@ -398,31 +398,31 @@ module _ (symbols : List Symbol) (t : Tree) (tree : IsSoundTree symbols t) where
           (right.0, (h.calls callee is).fits, right.1),
     )
       where
-        at : seen c s.operand ≡ Resolved (view.Called id instance)
+        at : resolution_of c s.operand ≡ Resolved (view.Called id instance)
         at = resolved_seen c s (view.Called id instance) e
 
-        taken : takes (form_of s.code) (view.Called id instance) ≡ true
+        taken : takes_operand (form_of s.code) (view.Called id instance) ≡ true
         taken = (allowed (form_of s.code) (view.Called id instance) (rule_called c (form_of s.code) s.operand id instance at h.allowed)).taken
 
         calls : form_of s.code ≡ form.Calls
         calls = taken_calls (form_of s.code) id instance taken
 
         callable : is_callable id.kind ≡ true
-        callable = callable_by id instance (calls_take id instance (ap (λ (f : OperandRule). takes f (view.Called id instance)) (sym calls) ∙ taken))
+        callable = callable_by id instance (calls_take id instance (ap (λ (f : OperandRule). takes_operand f (view.Called id instance)) (sym calls) ∙ taken))
 
         o : (name : BlockName) × (inst : Option BlockName) × (s.operand ≡ operand.Called name inst)
         o = operand_called s.operand (h.well_formed.called ∙ form_calls s.code calls)
 
         named : IsNamed c s.operand id
         named =
-            let n = seen_named c o.0 o.1 id instance (ap (seen c) (sym o.2) ∙ at) in
+            let n = seen_named c o.0 o.1 id instance (ap (resolution_of c) (sym o.2) ∙ at) in
             record { name = o.0; inst = o.1; is = o.2; named = n.0; whole = n.1 }
 
         either : (t' : Bool) → is_system_function id.kind ≡ t' → (t' || list_any (λ (x : CodeBlock). is_same_block x.id id) all) ≡ true
         either true sys = refl
         either false other = let p = named.whole other in in_program id p.0 p.1 (source_code id.kind callable other)
 
-    all_owed : (ss : List Statement) → AllByRecursion (IsSoundStatement (types_of symbols t.blocks) c) ss
+    all_owed : (ss : List Statement) → AllByRecursion (IsSoundStatement (types_of_source symbols t.blocks) c) ss
         → AllByRecursion (OwesStatement types all c) ss
     all_owed [] h = tt
     all_owed (s ∷ ss) h = (owed s h.0, all_owed ss h.1)
@@ -438,7 +438,7 @@ module _ (symbols : List Symbol) (t : Tree) (tree : IsSoundTree symbols t) where
         }
 
   bodies_owed : (k : ℕ) (bs : List Block) (ls : List BlockLayout) → AllLaid (IsSound symbols t) k bs ls
-      → OweBodies (declared_kinds t symbols) (map compiled (code_blocks_of t symbols (layouts_of t symbols))) (context_at symbols t k) bs ls
+      → OweBodies (declared_kinds t symbols) (map compiled_block (code_blocks_of t symbols (layouts_of t symbols))) (context_at symbols t k) bs ls
   bodies_owed k [] ls h = tt
   bodies_owed k (b ∷ bs) [] h = tt
   bodies_owed k (b ∷ bs) (l ∷ ls) h = (body_owed k b l h.0, bodies_owed (suc k) bs ls h.1)

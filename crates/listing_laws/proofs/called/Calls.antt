@@ -18,14 +18,14 @@ use Rattle.stl_types.specs.Context.{whole_data_place}
 use Rattle.stl_types.specs.Parameters.{Callee}
 use Rattle.stl_types.specs.declared.parameters.Formal.{Formal}
 use Rattle.stl_types.specs.declared.views.ResolvedOperand.TheVariants as view
-use Rattle.stl_codegen.specs.Emitted.{instance_number}
+use Rattle.stl_codegen.specs.Emitted.{instance_number_or_zero}
 use Rattle.stl_codegen.specs.Instruction.{instr_by, instruction, passings_to, resolved_instr, view_instr}
-use Rattle.stl_codegen.specs.Operations.{call_of, jump_of}
-use Rattle.stl_list.specs.Operands.{data_block_name, instance_name, operand_by, plain_operand}
-use Rattle.listing_laws.specs.Calls.{AreCallsKept, AreCallsListed, AreCallsWhole, AreFunctionsKnown, AreInstancesRight, AreStatementsListed, IsNumbered}
-use Rattle.stl_codegen.specs.Emitted.{passing}
+use Rattle.stl_codegen.specs.Operations.{call_operation_of, jump_operation_of}
+use Rattle.stl_list.specs.Operands.{name_of_data_block, instance_name, operand_by, plain_operand}
+use Rattle.listing_laws.specs.Calls.{AreCallsKept, AreCallsListed, AreCallsWhole, AreFunctionsKnown, AreInstancesRight, AreStatementsListed, IsInstanceNumbered}
+use Rattle.stl_codegen.specs.Emitted.{pass_ops}
 use Rattle.stl_list.specs.Actuals.{actuals_before, actuals_by}
-use Rattle.stl_list.specs.Lines.{line_at}
+use Rattle.stl_list.specs.Lines.{line_of_statement}
 use Rattle.stl_list.specs.Signatures.{called_formals}
 use Rattle.listing_laws.proofs.WordLemmas.{call_words_found}
 use Rattle.listing_laws.proofs.called.HandedOn.{called_is}
@@ -33,10 +33,10 @@ use Rattle.listing_laws.proofs.called.Passings.{passings_kept}
 
 -- ---- operands
 
-pub instance_is : (instance : Option ℕ) → IsNumbered instance → instance_name (instance_number instance) ≡ option_map data_block_name instance
+pub instance_is : (instance : Option ℕ) → IsInstanceNumbered instance → instance_name (instance_number_or_zero instance) ≡ option_map name_of_data_block instance
 instance_is None h = refl
 instance_is (Some zero) h = absurd (h refl)
-instance_is (Some (suc n)) h = ap (λ (t : Bool). if t then None else Some (data_block_name (suc n))) (ne_eqb (suc n) 0 (λ e. absurd (omega (arith, e))))
+instance_is (Some (suc n)) h = ap (λ (t : Bool). if t then None else Some (name_of_data_block (suc n))) (ne_eqb (suc n) 0 (λ e. absurd (omega (arith, e))))
 
 pub calls_listed : AreCallsListed
 unfolding operand_by plain_operand
@@ -49,12 +49,12 @@ pub statements_listed : AreStatementsListed
 unfolding actuals_by
 statements_listed sur n f m how id instance ps callable call = (
   call_words_found m how call,
-  ap (λ (i : BlockId). actuals_before (line_at sur.lines n) sur.formals (called_formals sur.signatures i) (passing ps)) (called_is id callable),
+  ap (λ (i : BlockId). actuals_before (line_of_statement sur.lines n) sur.formals (called_formals sur.signatures i) (pass_ops ps)) (called_is id callable),
 )
 
 -- ---- instructions
 
-no_jump : (m : Mnemonic) (how : CallOperation) → call_of m ≡ Some how → jump_of m ≡ None
+no_jump : (m : Mnemonic) (how : CallOperation) → call_operation_of m ≡ Some how → jump_operation_of m ≡ None
 no_jump code.Call how e = refl
 no_jump code.Uc how e = refl
 no_jump code.Cc how e = refl

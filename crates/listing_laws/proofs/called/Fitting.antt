@@ -7,7 +7,7 @@ use Rattle.plc_base.specs.declared.places.Area.{Area}
 use Rattle.plc_base.specs.declared.places.Area.TheVariants as area
 use Rattle.plc_base.specs.declared.places.Width.{Width}
 use Rattle.plc_base.specs.declared.places.Width.TheVariants as width
-use Rattle.flat_code.specs.Blocks.{Around, is_bad_actual, is_in_parameter, lacks_own, literal_fits, parameter_meant}
+use Rattle.flat_code.specs.Blocks.{Environment, is_bad_actual, is_in_parameter, lacks_own_parameter, literal_fits, parameter_meant}
 use Rattle.flat_code.specs.declared.image_fields.ParameterRecord.{ParameterRecord}
 use Rattle.flat_code.specs.declared.operands.Passed.TheVariants as passed
 use Rattle.stl_ast.specs.declared.blocks.PartKind.TheVariants as part
@@ -52,7 +52,7 @@ taken true own e = refl
 taken false true e = absurd cc
 taken false false e = refl
 
-in_block_is : (a : Around) (number : ℕ) (g : Area) (w : Width) (byte bit : ℕ) → is_bad_actual a (passed.InBlock number g w byte bit) ≡ false → g ≡ area.Db
+in_block_is : (a : Environment) (number : ℕ) (g : Area) (w : Width) (byte bit : ℕ) → is_bad_actual a (passed.InBlock number g w byte bit) ≡ false → g ≡ area.Db
 in_block_is a number area.Db w byte bit e = refl
 in_block_is a number area.I w byte bit e = absurd cc
 in_block_is a number area.Q w byte bit e = absurd cc
@@ -75,7 +75,7 @@ fitting_listed a c own f r (passed.InBlock number g w byte bit) h few right fits
 fitting_listed a c own f r (passed.Parameter index w) h few right fits backed =
     let parts = or_parts (not (r.width == width_number w)) (not (r.section == 1) && is_in_parameter (parameter_meant a index)) fits in (
       backed.0,
-      width_is backed.0 backed.1 w backed.3 (ap (λ o. lacks_own o w) (sym backed.2) ∙ right),
+      width_is backed.0 backed.1 w backed.3 (ap (λ o. lacks_own_parameter o w) (sym backed.2) ∙ right),
       backed.4,
       taken (is_input_section f.section) (is_input_section backed.0.section)
           (ap (λ (t : Bool). not t && is_input_section backed.0.section) (section_is f r h)

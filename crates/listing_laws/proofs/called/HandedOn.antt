@@ -19,15 +19,15 @@ use Rattle.flat_code.specs.declared.operands.Passed.TheVariants as passed
 use Rattle.stl_ast.specs.declared.declarations.Simple.{Simple}
 use Rattle.stl_ast.specs.declared.declarations.Simple.TheVariants as simple
 use Rattle.stl_types.specs.declared.parameters.Formal.{Formal}
-use Rattle.stl_codegen.specs.Compiled.{Stated, StatedBlock, aimed, code_in, compiled}
-use Rattle.stl_codegen.specs.Emitted.{opening, passing}
+use Rattle.stl_codegen.specs.Compiled.{SourceInstruction, StatedBlock, operand_with_target, code_in, compiled_block}
+use Rattle.stl_codegen.specs.Emitted.{use_db_ops, pass_ops}
 use Rattle.stl_list.specs.declared.links.Link.{Link}
 use Rattle.stl_list.specs.declared.links.Link.TheVariants.{Joins, Has}
-use Rattle.stl_list.specs.Joined.{block_links, call_links, called_id, first_of, joined_link, joined_links, links, links_from, links_of_runs, parameter_count, passed_own, run_links, system_link, system_links, system_parameters, typed_link}
+use Rattle.stl_list.specs.Joined.{block_links, call_links, called_id, first_of, joined_link, joined_links, links, links_from, links_of_runs, total_parameter_count, passed_own, run_links, system_link, system_links, system_parameters, typed_link}
 use Rattle.stl_list.specs.Runs.{Run}
-use Rattle.listing_laws.specs.Chains.{IsBelow, IsKeptBy}
-use Rattle.listing_laws.specs.HandedOn.{AreLinksHandedOn, AreTypesListed, HandOn, HandsOn, IsCallable, IsHandedOn, called_kinds, declared_in, kinds_in}
-use Rattle.listing_laws.specs.Statements.{offset_in, run_of}
+use Rattle.listing_laws.specs.Chains.{IsLinkBelow, IsKeptBy}
+use Rattle.listing_laws.specs.HandedOn.{AreLinksHandedOn, AreTypesListed, HandOn, HandsOn, IsCallable, IsHandedOn, called_kinds, declared_type_in, kinds_in}
+use Rattle.listing_laws.specs.Statements.{statement_offset, run_of}
 use Rattle.listing_laws.proofs.RunLemmas.{runs_found}
 use Rattle.listing_laws.proofs.called.Chains.{types_kept}
 
@@ -93,7 +93,7 @@ module _ (types : BlockId → List Simple) where
   abbrev AreLong : List CodeBlock → Type 0
   AreLong bs = AllByRecursion (λ (b : CodeBlock). length (types b.id) ≡ length b.params) bs
 
-  all_long : (bs : List CodeBlock) → AreLong bs → length (kinds_in types bs) ≡ parameter_count bs
+  all_long : (bs : List CodeBlock) → AreLong bs → length (kinds_in types bs) ≡ total_parameter_count bs
   all_long [] h = refl
   all_long (b ∷ bs) h =
       let front = h.0 in
@@ -124,12 +124,12 @@ module _ (types : BlockId → List Simple) where
     IsOf n kind = slice_get (kinds_in types all) n ≡ Some kind
 
     abbrev IsFine : Link → Type 0
-    IsFine l = IsBelow (parameter_count all) l × IsKeptBy (declared_in types all) l
+    IsFine l = IsLinkBelow (total_parameter_count all) l × IsKeptBy (declared_type_in types all) l
 
-    few : (n : ℕ) (kind : Simple) → IsOf n kind → n < parameter_count all
+    few : (n : ℕ) (kind : Simple) → IsOf n kind → n < total_parameter_count all
     few n kind e = subst (λ (k : ℕ). n < k) (all_long all long) (slice_get_within (kinds_in types all) n kind e)
 
-    of_type : (n : ℕ) (kind : Simple) → IsOf n kind → declared_in types all n ≡ kind
+    of_type : (n : ℕ) (kind : Simple) → IsOf n kind → declared_type_in types all n ≡ kind
     of_type n kind e = ap (λ (o : Option Simple). unwrap_or o simple.Bool) e
 
     joins_fine : (m n : ℕ) (kind : Simple) → IsOf m kind → IsOf n kind → IsFine (Joins m n)
@@ -145,10 +145,10 @@ module _ (types : BlockId → List Simple) where
     joined_fine : (own : List Simple) (first : ℕ) (id : BlockId) → IsFirst own first
         → list_any (λ (b : CodeBlock). is_same_block b.id id) all ≡ true
         → (ps : List Passing) → AllByRecursion (λ (p : Passing). IsHandedOn own (types id) p.index p.actual) ps
-        → AllByRecursion IsFine (joined_links first (first_of all id) (passing ps))
+        → AllByRecursion IsFine (joined_links first (first_of all id) (pass_ops ps))
     joined_fine own first id at any [] h = tt
     joined_fine own first id at any (p ∷ ps) h =
-        all_append IsFine (joined_link first (first_of all id) (passed_own p.index p.actual)) (joined_links first (first_of all id) (passing ps))
+        all_append IsFine (joined_link first (first_of all id) (passed_own p.index p.actual)) (joined_links first (first_of all id) (pass_ops ps))
         (one p.actual h.0) (joined_fine own first id at any ps h.1)
       where
         one : (a : Passed) → IsHandedOn own (types id) p.index a → AllByRecursion IsFine (joined_link first (first_of all id) (passed_own p.index a))
@@ -160,10 +160,10 @@ module _ (types : BlockId → List Simple) where
 
     system_fine : (own : List Simple) (first : ℕ) (formals : List Formal) → IsFirst own first
         → (ps : List Passing) → AllByRecursion (λ (p : Passing). IsHandedOn own (map (λ (f : Formal). f.kind) formals) p.index p.actual) ps
-        → AllByRecursion IsFine (system_links formals first (passing ps))
+        → AllByRecursion IsFine (system_links formals first (pass_ops ps))
     system_fine own first formals at [] h = tt
     system_fine own first formals at (p ∷ ps) h =
-        all_append IsFine (system_link formals first (passed_own p.index p.actual)) (system_links formals first (passing ps))
+        all_append IsFine (system_link formals first (passed_own p.index p.actual)) (system_links formals first (pass_ops ps))
         (one p.actual h.0) (system_fine own first formals at ps h.1)
       where
         one : (a : Passed) → IsHandedOn own (map (λ (f : Formal). f.kind) formals) p.index a → AllByRecursion IsFine (system_link formals first (passed_own p.index a))
@@ -177,17 +177,17 @@ module _ (types : BlockId → List Simple) where
 
     call_fine : (own : List Simple) (first : ℕ) (id : BlockId) → IsFirst own first → IsCallable all id
         → (ps : List Passing) → AllByRecursion (λ (p : Passing). IsHandedOn own (called_kinds types id) p.index p.actual) ps
-        → AllByRecursion IsFine (call_links all id first (passing ps))
+        → AllByRecursion IsFine (call_links all id first (pass_ops ps))
     call_fine own first id at callable ps h = by (is_system_function id.kind) callable.1 h
       where
         by : (t : Bool) → (t || list_any (λ (b : CodeBlock). is_same_block b.id id) all) ≡ true
             → AllByRecursion (λ (p : Passing). IsHandedOn own (if t then map (λ (f : Formal). f.kind) (system_parameters id.number) else types id) p.index p.actual) ps
-            → AllByRecursion IsFine (if t then system_links (system_parameters id.number) first (passing ps) else joined_links first (first_of all id) (passing ps))
+            → AllByRecursion IsFine (if t then system_links (system_parameters id.number) first (pass_ops ps) else joined_links first (first_of all id) (pass_ops ps))
         by true any k = system_fine own first (system_parameters id.number) at ps k
         by false any k = joined_fine own first id at any ps k
 
     -- an instruction that calls nothing has no links
-    no_links : (first : ℕ) (use_db : Option ℕ) (o : Operand) → AllByRecursion IsFine (run_links all first (opening use_db) o)
+    no_links : (first : ℕ) (use_db : Option ℕ) (o : Operand) → AllByRecursion IsFine (run_links all first (use_db_ops use_db) o)
     no_links first None (flat.Called kind number instance) = by (is_system_function (called_id kind number).kind)
       where
         by : (t : Bool) → AllByRecursion IsFine (if t then system_links (system_parameters (called_id kind number).number) first [] else joined_links first (first_of all (called_id kind number)) [])
@@ -195,46 +195,46 @@ module _ (types : BlockId → List Simple) where
         by false = tt
     no_links first (Some n) (flat.Called kind number instance) = by (is_system_function (called_id kind number).kind)
       where
-        by : (t : Bool) → AllByRecursion IsFine (if t then system_links (system_parameters (called_id kind number).number) first (opening (Some n)) else joined_links first (first_of all (called_id kind number)) (opening (Some n)))
+        by : (t : Bool) → AllByRecursion IsFine (if t then system_links (system_parameters (called_id kind number).number) first (use_db_ops (Some n)) else joined_links first (first_of all (called_id kind number)) (use_db_ops (Some n)))
         by true = tt
         by false = tt
     no_links first use_db _ = tt
 
     instr_fine : (own : List Simple) (first : ℕ) (f : ℕ → ℕ) → IsFirst own first → (i : Instr) → HandsOn types all own i
         → AllByRecursion IsFine (run_links all first (run_of f i).before (run_of f i).op.operand)
-    instr_fine own first f at (Does use_db w o) h = no_links first use_db (aimed f o)
+    instr_fine own first f at (Does use_db w o) h = no_links first use_db (operand_with_target f o)
     instr_fine own first f at (Jumps how target) h = tt
     instr_fine own first f at (JumpsByList targets otherwise) h = tt
     instr_fine own first f at (Returns how) h = tt
     instr_fine own first f at (Calls how id instance ps) h =
-        subst (λ (i : BlockId). AllByRecursion IsFine (call_links all i first (passing ps))) (sym (called_is id h.0.0))
+        subst (λ (i : BlockId). AllByRecursion IsFine (call_links all i first (pass_ops ps))) (sym (called_is id h.0.0))
         (call_fine own first id at h.0 ps h.1)
 
-    runs_fine : (own : List Simple) (first : ℕ) (f : ℕ → ℕ) → IsFirst own first → (ss : List Stated)
-        → AllByRecursion (λ (s : Stated). HandsOn types all own s.instr) ss
-        → AllByRecursion IsFine (links_of_runs all first (map (λ (s : Stated). run_of f s.instr) ss))
+    runs_fine : (own : List Simple) (first : ℕ) (f : ℕ → ℕ) → IsFirst own first → (ss : List SourceInstruction)
+        → AllByRecursion (λ (s : SourceInstruction). HandsOn types all own s.instr) ss
+        → AllByRecursion IsFine (links_of_runs all first (map (λ (s : SourceInstruction). run_of f s.instr) ss))
     runs_fine own first f at [] h = tt
     runs_fine own first f at (s ∷ ss) h =
         all_append IsFine (run_links all first (run_of f s.instr).before (run_of f s.instr).op.operand)
-        (links_of_runs all first (map (λ (s : Stated). run_of f s.instr) ss))
+        (links_of_runs all first (map (λ (s : SourceInstruction). run_of f s.instr) ss))
         (instr_fine own first f at s.instr h.0) (runs_fine own first f at ss h.1)
 
     block_fine : (first : ℕ) (b : StatedBlock) → IsFirst (types b.id) first
-        → AllByRecursion (λ (s : Stated). HandsOn types all (types b.id) s.instr) b.statements
+        → AllByRecursion (λ (s : SourceInstruction). HandsOn types all (types b.id) s.instr) b.statements
         → AllByRecursion IsFine (block_links all first (code_in b.statements))
     block_fine first b at h =
         subst (λ (rs : List Run). AllByRecursion IsFine (links_of_runs all first rs)) (sym (runs_found b.statements))
-        (runs_fine (types b.id) first (offset_in b.statements) at b.statements h)
+        (runs_fine (types b.id) first (statement_offset b.statements) at b.statements h)
 
     blocks_fine : (front : List Simple) (first : ℕ) (bs : List StatedBlock) → length front ≡ first
-        → kinds_in types all ≡ front ++ kinds_in types (map compiled bs) → AreLong (map compiled bs)
-        → AllByRecursion (λ (b : StatedBlock). AllByRecursion (λ (s : Stated). HandsOn types all (types b.id) s.instr) b.statements) bs
-        → AllByRecursion IsFine (links_from all first (map compiled bs))
+        → kinds_in types all ≡ front ++ kinds_in types (map compiled_block bs) → AreLong (map compiled_block bs)
+        → AllByRecursion (λ (b : StatedBlock). AllByRecursion (λ (s : SourceInstruction). HandsOn types all (types b.id) s.instr) b.statements) bs
+        → AllByRecursion IsFine (links_from all first (map compiled_block bs))
     blocks_fine front first [] n e l h = tt
     blocks_fine front first (b ∷ bs) n e l h =
-        all_append IsFine (block_links all first (code_in b.statements)) (links_from all (first + length b.params) (map compiled bs))
+        all_append IsFine (block_links all first (code_in b.statements)) (links_from all (first + length b.params) (map compiled_block bs))
         (block_fine first b at h.0)
-        (blocks_fine (front ++ types b.id) (first + length b.params) bs longer (e ∙ sym (append_assoc front (types b.id) (kinds_in types (map compiled bs)))) l.1 h.1)
+        (blocks_fine (front ++ types b.id) (first + length b.params) bs longer (e ∙ sym (append_assoc front (types b.id) (kinds_in types (map compiled_block bs)))) l.1 h.1)
       where
         longer : length (front ++ types b.id) ≡ first + length b.params
         longer = length-append front (types b.id) ∙ ap₂ (λ (x y : ℕ). x + y) n l.0
@@ -242,19 +242,19 @@ module _ (types : BlockId → List Simple) where
         at : IsFirst (types b.id) first
         at number kind k =
             ap (λ (z : List Simple). slice_get z (first + number)) e
-            ∙ got_behind front (types b.id ++ kinds_in types (map compiled bs)) first number (first + number) n refl
-            ∙ got_front (types b.id) (kinds_in types (map compiled bs)) number kind k
+            ∙ got_behind front (types b.id ++ kinds_in types (map compiled_block bs)) first number (first + number) n refl
+            ∙ got_front (types b.id) (kinds_in types (map compiled_block bs)) number kind k
 
-  long_compiled : (bs : List StatedBlock) → AllByRecursion (λ (b : StatedBlock). length (types b.id) ≡ length b.params) bs → AreLong (map compiled bs)
+  long_compiled : (bs : List StatedBlock) → AllByRecursion (λ (b : StatedBlock). length (types b.id) ≡ length b.params) bs → AreLong (map compiled_block bs)
   long_compiled [] h = tt
   long_compiled (b ∷ bs) h = (h.0, long_compiled bs h.1)
 
   all_fine : (bs : List StatedBlock) → (h : HandOn types bs)
-      → AllByRecursion (λ (l : Link). IsBelow (parameter_count (map compiled bs)) l × IsKeptBy (declared_in types (map compiled bs)) l) (links (map compiled bs))
+      → AllByRecursion (λ (l : Link). IsLinkBelow (total_parameter_count (map compiled_block bs)) l × IsKeptBy (declared_type_in types (map compiled_block bs)) l) (links (map compiled_block bs))
   unfolding links
   all_fine bs h =
       let long = long_compiled bs h.lengths in
-      blocks_fine (map compiled bs) long [] 0 bs refl refl long h.calls
+      blocks_fine (map compiled_block bs) long [] 0 bs refl refl long h.calls
 
 parted : (P Q : Link → Type 0) (ls : List Link) → AllByRecursion (λ (l : Link). P l × Q l) ls → AllByRecursion P ls × AllByRecursion Q ls
 parted P Q [] h = (tt, tt)
@@ -262,9 +262,9 @@ parted P Q (l ∷ ls) h = let rest = parted P Q ls h.1 in ((h.0.0, rest.0), (h.0
 
 pub links_handed_on : AreLinksHandedOn
 links_handed_on types blocks h =
-    parted (IsBelow (parameter_count (map compiled blocks))) (IsKeptBy (declared_in types (map compiled blocks))) (links (map compiled blocks)) (all_fine types blocks h)
+    parted (IsLinkBelow (total_parameter_count (map compiled_block blocks))) (IsKeptBy (declared_type_in types (map compiled_block blocks))) (links (map compiled_block blocks)) (all_fine types blocks h)
 
 pub types_listed : AreTypesListed
 types_listed types blocks h =
     let fine = links_handed_on types blocks h in
-    types_kept (map compiled blocks) (declared_in types (map compiled blocks)) fine.0 fine.1
+    types_kept (map compiled_block blocks) (declared_type_in types (map compiled_block blocks)) fine.0 fine.1

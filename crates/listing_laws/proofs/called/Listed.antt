@@ -10,10 +10,10 @@ use Rattle.flat_code.specs.Programs.{CodeBlock}
 use Rattle.flat_code.specs.declared.programs.Param.{Param}
 use Rattle.block_layout.specs.Offsets.{width_of}
 use Rattle.stl_types.specs.declared.parameters.Formal.{Formal}
-use Rattle.stl_list.specs.Joined.{Chains, chains_of, first_of, kind_at, kind_by, mark_at, parameter_count}
+use Rattle.stl_list.specs.Joined.{Chains, chains_of, first_of, kind_at, kind_by, mark_at, total_parameter_count}
 use Rattle.stl_list.specs.Parameters.{section_of}
-use Rattle.stl_list.specs.Signatures.{formals_from, formals_of, is_behind, signatures, signatures_from}
-use Rattle.listing_laws.specs.Chains.{is_listed}
+use Rattle.stl_list.specs.Signatures.{formals_from, formals_of_block, is_behind, signatures, signatures_from}
+use Rattle.listing_laws.specs.Chains.{is_listed_type}
 use Rattle.listing_laws.specs.Listed.{AreEndsAlike, AreListedAs, AreParametersListed, params_in}
 
 -- a parameter among those of a block, whose first has a number
@@ -49,10 +49,10 @@ record IsOf (c : Chains) (first : ℕ) (bs : List CodeBlock) (id : BlockId) (i :
   there : slice_get (params_in bs id) i ≡ Some param
   section : f.section ≡ section_of param.section
   kind : f.kind ≡ kind_at c (first + (first_of bs id + i)) param.width
-  few : first_of bs id + i < parameter_count bs
+  few : first_of bs id + i < total_parameter_count bs
 
 block_at : (c : Chains) (first : ℕ) (bs : List CodeBlock) (id : BlockId) (i : ℕ) (f : Formal)
-    → slice_get (formals_of (signatures_from c first bs) id) i ≡ Some f → IsOf c first bs id i f
+    → slice_get (formals_of_block (signatures_from c first bs) id) i ≡ Some f → IsOf c first bs id i f
 block_at c first [] id i f e = absurd cc
 block_at c first (b ∷ bs) id i f e = by (is_same_block b.id id) refl e (λ h. block_at c (first + length b.params) bs id i f h)
   where
@@ -60,8 +60,8 @@ block_at c first (b ∷ bs) id i f e = by (is_same_block b.id id) refl e (λ h. 
     own = formals_from c (is_function b.id.kind) false 0 first b.params
 
     by : (t : Bool) → is_same_block b.id id ≡ t
-        → slice_get (if t then formals_from c (is_function b.id.kind) false 0 first b.params else formals_of (signatures_from c (first + length b.params) bs) id) i ≡ Some f
-        → (slice_get (formals_of (signatures_from c (first + length b.params) bs) id) i ≡ Some f → IsOf c (first + length b.params) bs id i f)
+        → slice_get (if t then formals_from c (is_function b.id.kind) false 0 first b.params else formals_of_block (signatures_from c (first + length b.params) bs) id) i ≡ Some f
+        → (slice_get (formals_of_block (signatures_from c (first + length b.params) bs) id) i ≡ Some f → IsOf c (first + length b.params) bs id i f)
         → IsOf c first (b ∷ bs) id i f
     by true is e more =
         let h = formal_at c (is_function b.id.kind) false 0 first b.params i f e in
@@ -98,7 +98,7 @@ parameters_listed c blocks id index f e =
       few = h.few;
     }
 
-listed_by : (int time : Bool) (w : Width) → is_listed (kind_by int time w) ≡ true
+listed_by : (int time : Bool) (w : Width) → is_listed_type (kind_by int time w) ≡ true
 listed_by true time w = refl
 listed_by false true w = refl
 listed_by false false width.Bit = refl
@@ -106,7 +106,7 @@ listed_by false false width.Byte = refl
 listed_by false false width.Word = refl
 listed_by false false width.Dword = refl
 
-pub kind_listed : (c : Chains) (n : ℕ) (w : Width) → is_listed (kind_at c n w) ≡ true
+pub kind_listed : (c : Chains) (n : ℕ) (w : Width) → is_listed_type (kind_at c n w) ≡ true
 unfolding kind_at
 kind_listed c n w = listed_by (mark_at c.ints (slice_get c.labels n)) (mark_at c.times (slice_get c.labels n)) w
 
@@ -117,7 +117,7 @@ listed_as blocks declared id index f kept h wide = record {
       (wide ∙ sym (kept.widths (first_of blocks id + index) h.few)
       ∙ ap (λ (w : Width). width_of (kind_at (chains_of blocks) (first_of blocks id + index) w)) (sym wide)
       ∙ sym (ap width_of h.kind));
-  kind = ap is_listed h.kind ∙ kind_listed (chains_of blocks) (first_of blocks id + index) h.param.width;
+  kind = ap is_listed_type h.kind ∙ kind_listed (chains_of blocks) (first_of blocks id + index) h.param.width;
 }
 
 pub ends_alike : AreEndsAlike

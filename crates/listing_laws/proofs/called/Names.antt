@@ -12,7 +12,7 @@ use Rattle.plc_base.specs.Folding.{upper_case_name}
 use Rattle.flat_code.specs.declared.image_fields.TheConstants.{SECTION_OUT}
 use Rattle.flat_code.specs.declared.programs.Param.{Param}
 use Rattle.stl_ast.specs.declared.declarations.Simple.TheVariants as simple
-use Rattle.stl_types.specs.Parameters.{dtime, mode, ob_nr, returns, sign, system_formals}
+use Rattle.stl_types.specs.Parameters.{dtime_formal, mode_formal, ob_nr_formal, return_value_formal, sign_formal, system_formals}
 use Rattle.stl_types.specs.declared.parameters.Formal.{Formal}
 use Rattle.stl_list.specs.Joined.{Chains}
 use Rattle.stl_list.specs.Parameters.{name_of, parameter_name, return_name}
@@ -165,12 +165,12 @@ apart (x ∷ fs) d (suc i) (suc j) f g e k = apart fs d.1 i j f g e k ∙ next i
 
 abbrev formals_by : (a b c d e f g h i : Bool) → Option (List Formal)
 formals_by a b c d e f g h i =
-    if a then Some (ob_nr ∷ dtime ∷ sign ∷ returns simple.Int ∷ [])
-    else if b then Some (ob_nr ∷ returns simple.Int ∷ [])
-    else if (if c then true else if d then true else false) then Some (mode ∷ ob_nr ∷ returns simple.Int ∷ [])
-    else if (if e then true else if f then true else false) then Some (returns simple.Int ∷ [])
+    if a then Some (ob_nr_formal ∷ dtime_formal ∷ sign_formal ∷ return_value_formal simple.Int ∷ [])
+    else if b then Some (ob_nr_formal ∷ return_value_formal simple.Int ∷ [])
+    else if (if c then true else if d then true else false) then Some (mode_formal ∷ ob_nr_formal ∷ return_value_formal simple.Int ∷ [])
+    else if (if e then true else if f then true else false) then Some (return_value_formal simple.Int ∷ [])
     else if (if g then true else if h then true else false) then Some []
-    else if i then Some (returns simple.Time ∷ [])
+    else if i then Some (return_value_formal simple.Time ∷ [])
     else None
 
 distinct_as : (fs gs : List Formal) → AreDistinct fs → Some fs ≡ Some gs → AreDistinct gs
@@ -178,18 +178,18 @@ distinct_as fs gs d e = subst AreDistinct (same_Some fs gs e) d
 
 distinct_by : (a b c d e f g h i : Bool) (fs : List Formal) → formals_by a b c d e f g h i ≡ Some fs → AreDistinct fs
 distinct_by true b c d e f g h i fs s =
-    distinct_as (ob_nr ∷ dtime ∷ sign ∷ returns simple.Int ∷ []) fs
+    distinct_as (ob_nr_formal ∷ dtime_formal ∷ sign_formal ∷ return_value_formal simple.Int ∷ []) fs
     (((refl, refl), ((refl, refl), ((refl, refl), tt))), (((refl, refl), ((refl, refl), tt)), (((refl, refl), tt), (tt, tt)))) s
-distinct_by false true c d e f g h i fs s = distinct_as (ob_nr ∷ returns simple.Int ∷ []) fs (((refl, refl), tt), (tt, tt)) s
+distinct_by false true c d e f g h i fs s = distinct_as (ob_nr_formal ∷ return_value_formal simple.Int ∷ []) fs (((refl, refl), tt), (tt, tt)) s
 distinct_by false false true d e f g h i fs s =
-    distinct_as (mode ∷ ob_nr ∷ returns simple.Int ∷ []) fs (((refl, refl), ((refl, refl), tt)), (((refl, refl), tt), (tt, tt))) s
+    distinct_as (mode_formal ∷ ob_nr_formal ∷ return_value_formal simple.Int ∷ []) fs (((refl, refl), ((refl, refl), tt)), (((refl, refl), tt), (tt, tt))) s
 distinct_by false false false true e f g h i fs s =
-    distinct_as (mode ∷ ob_nr ∷ returns simple.Int ∷ []) fs (((refl, refl), ((refl, refl), tt)), (((refl, refl), tt), (tt, tt))) s
-distinct_by false false false false true f g h i fs s = distinct_as (returns simple.Int ∷ []) fs (tt, tt) s
-distinct_by false false false false false true g h i fs s = distinct_as (returns simple.Int ∷ []) fs (tt, tt) s
+    distinct_as (mode_formal ∷ ob_nr_formal ∷ return_value_formal simple.Int ∷ []) fs (((refl, refl), ((refl, refl), tt)), (((refl, refl), tt), (tt, tt))) s
+distinct_by false false false false true f g h i fs s = distinct_as (return_value_formal simple.Int ∷ []) fs (tt, tt) s
+distinct_by false false false false false true g h i fs s = distinct_as (return_value_formal simple.Int ∷ []) fs (tt, tt) s
 distinct_by false false false false false false true h i fs s = distinct_as [] fs tt s
 distinct_by false false false false false false false true i fs s = distinct_as [] fs tt s
-distinct_by false false false false false false false false true fs s = distinct_as (returns simple.Time ∷ []) fs (tt, tt) s
+distinct_by false false false false false false false false true fs s = distinct_as (return_value_formal simple.Time ∷ []) fs (tt, tt) s
 distinct_by false false false false false false false false false fs s = absurd cc
 
 pub system_names_apart : AreSystemNamesApart

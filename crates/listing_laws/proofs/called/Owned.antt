@@ -23,9 +23,9 @@ use Rattle.stl_symbols.specs.Symbol.{Symbol, symbol_named}
 use Rattle.stl_symbols.specs.declared.targets.Target.{Target}
 use Rattle.stl_symbols.specs.declared.targets.Target.TheVariants as target
 use Rattle.block_layout.specs.Blocks.{named_block}
-use Rattle.block_layout.specs.Members.{component}
-use Rattle.block_layout.specs.Offsets.{place_at, placed, width_of}
-use Rattle.block_layout.specs.Paths.{cells_at, elementary_at, entered, folded_path, found_at, goes_on, in_sections, indexed, indexed_behind, is_beyond, kind_of, named, named_behind, named_in, outermost, plain_kind, step_of, walked, walked_data, walked_local, whole_at, within}
+use Rattle.block_layout.specs.Members.{component_of_name}
+use Rattle.block_layout.specs.Offsets.{place_at, elementary_place, width_of}
+use Rattle.block_layout.specs.Paths.{cells_at, elementary_at, path_end_at_cell, folded_path, path_end_at_member, path_end_and_then, in_sections, path_end_by_index, indexed_behind, is_beyond, kind_of, path_end_by_name, named_behind, named_in, outermost_path_end, plain_kind, path_end_by_step, path_end_behind, path_end_in_data_block, walked_local, whole_at, path_end_in_bounds}
 use Rattle.block_layout.specs.declared.cells.Cell.{Cell}
 use Rattle.block_layout.specs.declared.cells.Element.{Element}
 use Rattle.block_layout.specs.declared.cells.Element.TheVariants as element
@@ -33,17 +33,17 @@ use Rattle.block_layout.specs.declared.members.Member.{Member}
 use Rattle.block_layout.specs.declared.walks.ComponentAt.{ComponentAt}
 use Rattle.block_layout.specs.declared.walks.PathEnd.{PathEnd}
 use Rattle.block_layout.specs.declared.walks.PathEnd.TheVariants as walk
-use Rattle.stl_types.specs.Addresses.{address_in}
+use Rattle.stl_types.specs.Addresses.{address_in_block}
 use Rattle.stl_types.specs.Context.{Context, data_number, data_place, in_function}
 use Rattle.stl_types.specs.Parameters.{formal, formal_here, formal_of, formals_of}
-use Rattle.stl_types.specs.Resolution.{called_seen, direct_seen, instance_number, opened_seen, path_seen, seen, symbol_seen, target_view, whole_block}
-use Rattle.stl_types.specs.Variables.{behind_others, composite, data_at, data_path, data_variable, data_walked, date_or_composite, in_area, own_at, own_variable, own_walked, parameter, parameter_at, parameter_index}
+use Rattle.stl_types.specs.Resolution.{called_seen, direct_seen, instance_number, opened_seen, path_seen, resolution_of, symbol_seen, target_view, whole_called_block}
+use Rattle.stl_types.specs.Variables.{behind_others, composite_operand, data_at, data_path, data_variable, data_walked, date_or_composite, variable_in_area, own_at, own_variable, own_walked, parameter_resolution, parameter_at, parameter_index}
 use Rattle.stl_types.specs.declared.parameters.Formal.{Formal}
 use Rattle.stl_types.specs.declared.views.Resolution.{Resolution}
 use Rattle.stl_types.specs.declared.views.Resolution.TheVariants.{Resolved}
 use Rattle.stl_types.specs.declared.views.ResolvedOperand.{ResolvedOperand}
 use Rattle.stl_types.specs.declared.views.ResolvedOperand.TheVariants as view
-use Rattle.stl_codegen.specs.Instruction.{in_order, return_last}
+use Rattle.stl_codegen.specs.Instruction.{in_parameter_order, return_last}
 use Rattle.listing_laws.specs.Owned.{AreOwnSeen, IsParameterCell}
 use Rattle.listing_laws.proofs.NameLemmas.{either_way}
 
@@ -92,7 +92,7 @@ at_seam [] x = refl
 at_seam (y ∷ front) x = at_seam front x
 
 pub in_order_at : (o : Option Block) (fs : List Formal) (count k : ℕ) (f : Formal) → length fs ≡ count → slice_get fs k ≡ Some f
-    → slice_get (in_order o fs) (parameter_index count k o) ≡ Some f
+    → slice_get (in_parameter_order o fs) (parameter_index count k o) ≡ Some f
 in_order_at None fs count k f n e = e
 in_order_at (Some b) fs count k f n e = by b.result fs k n e
   where
@@ -116,7 +116,7 @@ kind_at (g ∷ fs) (suc i) f e = kind_at fs i f e
 module _ (c : Context) (own : in_function c ≡ true → AllByRecursion IsParameterCell (cells_at c.layouts c.block false)) where
   abbrev IsOwn : ResolvedOperand → Type 0
   IsOwn (view.Parameter index section kind) =
-      (f : Formal) × (slice_get (in_order (slice_get c.blocks c.block) (formals_of (cells_at c.layouts c.block false))) index ≡ Some f)
+      (f : Formal) × (slice_get (in_parameter_order (slice_get c.blocks c.block) (formals_of (cells_at c.layouts c.block false))) index ≡ Some f)
       × (f.kind ≡ kind) × (f.section ≡ section)
   IsOwn _ = Unit {0}
 
@@ -124,14 +124,14 @@ module _ (c : Context) (own : in_function c ≡ true → AllByRecursion IsParame
   SeenOwn (Resolved v) = IsOwn v
   SeenOwn _ = Unit {0}
 
-  in_area_own : (kind : Simple) (a : Area) (n bits : ℕ) → SeenOwn (in_area kind (placed a n bits (Some kind)))
+  in_area_own : (kind : Simple) (a : Area) (n bits : ℕ) → SeenOwn (variable_in_area kind (elementary_place a n bits (Some kind)))
   in_area_own kind a n bits = by (leb (bits / 8) 65535)
     where
-      by : (b : Bool) → SeenOwn (in_area kind (if b then Some (place_at a n bits, width_of kind) else None))
+      by : (b : Bool) → SeenOwn (variable_in_area kind (if b then Some (place_at a n bits, width_of kind) else None))
       by true = tt
       by false = tt
 
-  composite_own : (found : Option Cell) → IsOwn (composite found)
+  composite_own : (found : Option Cell) → IsOwn (composite_operand found)
   composite_own None = tt
   composite_own (Some cell) = of_ cell.of
     where
@@ -145,15 +145,15 @@ module _ (c : Context) (own : in_function c ≡ true → AllByRecursion IsParame
   IsHere (walk.Reaches spot) = (spot.block ≡ c.block) × (spot.temporary ≡ false)
   IsHere _ = Unit {0}
 
-  outermost_here : (name : List ℕ) → IsHere (outermost c.layouts c.block false 0 name)
-  unfolding outermost
-  outermost_here name = by (component 0 0 0 name (cells_at c.layouts c.block false))
+  outermost_here : (name : List ℕ) → IsHere (outermost_path_end c.layouts c.block false 0 name)
+  unfolding outermost_path_end
+  outermost_here name = by (component_of_name 0 0 0 name (cells_at c.layouts c.block false))
     where
-      at : (place offset : ℕ) (o : Option Cell) → IsHere (entered c.block false place offset o)
+      at : (place offset : ℕ) (o : Option Cell) → IsHere (path_end_at_cell c.block false place offset o)
       at place offset None = tt
       at place offset (Some cell) = either_way IsHere cell.sound _ walk.Rests (refl, refl) tt
 
-      by : (o : Option Member) → IsHere (found_at (cells_at c.layouts c.block false) c.block false 0 0 o)
+      by : (o : Option Member) → IsHere (path_end_at_member (cells_at c.layouts c.block false) c.block false 0 0 o)
       by None = tt
       by (Some m) = at _ _ (slice_get (cells_at c.layouts c.block false) (0 + m.place))
 
@@ -173,8 +173,8 @@ module _ (c : Context) (own : in_function c ≡ true → AllByRecursion IsParame
         all_at (x ∷ cells) h zero e = (h.0.0, ap (λ (z : Cell). z.of) (sym (same_Some x cell e)) ∙ h.0.2)
         all_at (x ∷ cells) h (suc k) e = all_at cells h.1 k e
 
-    step_here : (spot : ComponentAt) (s : PathStep) → (spot.block ≡ c.block) × (spot.temporary ≡ false) → IsHere (step_of c.layouts spot s)
-    unfolding step_of named indexed
+    step_here : (spot : ComponentAt) (s : PathStep) → (spot.block ≡ c.block) × (spot.temporary ≡ false) → IsHere (path_end_by_step c.layouts spot s)
+    unfolding path_end_by_step path_end_by_name path_end_by_index
     step_here spot (step.Named name) h = by (slice_get (cells_at c.layouts spot.block spot.temporary) spot.place) refl
       where
         by : (o : Option Cell) → slice_get (cells_at c.layouts spot.block spot.temporary) spot.place ≡ o → IsHere (named_behind c.layouts spot name o)
@@ -185,7 +185,7 @@ module _ (c : Context) (own : in_function c ≡ true → AllByRecursion IsParame
             (either_way IsHere (nat_eq spot.depth (length cell.bounds)) walk.Unknown walk.Unknown tt tt)
     step_here spot (step.Index i) h = by (slice_get (cells_at c.layouts spot.block spot.temporary) spot.place)
       where
-        at : (cell : Cell) (behind : List Cell) (o : Option Bounds) → IsHere (within spot cell behind i o)
+        at : (cell : Cell) (behind : List Cell) (o : Option Bounds) → IsHere (path_end_in_bounds spot cell behind i o)
         at cell behind None = tt
         at cell behind (Some b) = either_way IsHere (is_beyond b i) _ _ h h
 
@@ -193,25 +193,25 @@ module _ (c : Context) (own : in_function c ≡ true → AllByRecursion IsParame
         by None = tt
         by (Some cell) = at cell _ (slice_get cell.bounds spot.depth)
 
-    walked_here : (spot : ComponentAt) (steps : List PathStep) → (spot.block ≡ c.block) × (spot.temporary ≡ false) → IsHere (walked c.layouts spot steps)
+    walked_here : (spot : ComponentAt) (steps : List PathStep) → (spot.block ≡ c.block) × (spot.temporary ≡ false) → IsHere (path_end_behind c.layouts spot steps)
     walked_here spot [] h = h
-    walked_here spot (s ∷ ss) h = by (step_of c.layouts spot s) (step_here spot s h) (λ next k. walked_here next ss k)
+    walked_here spot (s ∷ ss) h = by (path_end_by_step c.layouts spot s) (step_here spot s h) (λ next k. walked_here next ss k)
       where
-        by : (w : PathEnd) → IsHere w → ((next : ComponentAt) → (next.block ≡ c.block) × (next.temporary ≡ false) → IsHere (walked c.layouts next ss))
-            → IsHere (goes_on w (λ next. walked c.layouts next ss))
+        by : (w : PathEnd) → IsHere w → ((next : ComponentAt) → (next.block ≡ c.block) × (next.temporary ≡ false) → IsHere (path_end_behind c.layouts next ss))
+            → IsHere (path_end_and_then w (λ next. path_end_behind c.layouts next ss))
         by (walk.Reaches next) h more = more next h
         by walk.Unknown h more = tt
         by walk.Rests h more = tt
 
-    local_here : (name : List ℕ) (steps : List PathStep) → is_some (component 0 0 0 name (cells_at c.layouts c.block false)) ≡ true
+    local_here : (name : List ℕ) (steps : List PathStep) → is_some (component_of_name 0 0 0 name (cells_at c.layouts c.block false)) ≡ true
         → IsHere (walked_local c.layouts c.block name steps)
     unfolding walked_local
     local_here name steps found =
-        either_way IsHere (is_some (whole_at c.layouts c.block)) (goes_on (in_sections c.layouts c.block name) (λ spot. walked c.layouts spot steps)) walk.Rests
-        (subst (λ (t : Bool). IsHere (goes_on (if t then outermost c.layouts c.block false 0 name else outermost c.layouts c.block true 0 name) (λ spot. walked c.layouts spot steps)))
-        (sym found) (by (outermost c.layouts c.block false 0 name) (outermost_here name))) tt
+        either_way IsHere (is_some (whole_at c.layouts c.block)) (path_end_and_then (in_sections c.layouts c.block name) (λ spot. path_end_behind c.layouts spot steps)) walk.Rests
+        (subst (λ (t : Bool). IsHere (path_end_and_then (if t then outermost_path_end c.layouts c.block false 0 name else outermost_path_end c.layouts c.block true 0 name) (λ spot. path_end_behind c.layouts spot steps)))
+        (sym found) (by (outermost_path_end c.layouts c.block false 0 name) (outermost_here name))) tt
       where
-        by : (w : PathEnd) → IsHere w → IsHere (goes_on w (λ spot. walked c.layouts spot steps))
+        by : (w : PathEnd) → IsHere w → IsHere (path_end_and_then w (λ spot. path_end_behind c.layouts spot steps))
         by (walk.Reaches spot) h = walked_here spot steps h
         by walk.Unknown h = tt
         by walk.Rests h = tt
@@ -233,7 +233,7 @@ module _ (c : Context) (own : in_function c ≡ true → AllByRecursion IsParame
             one false e = absurd cc
 
         by : (o : Option Cell) → slice_get (cells_at c.layouts c.block false) spot.place ≡ o
-            → SeenOwn (parameter (parameter_index (length (cells_at c.layouts c.block false)) spot.place (slice_get c.blocks c.block)) kind o)
+            → SeenOwn (parameter_resolution (parameter_index (length (cells_at c.layouts c.block false)) spot.place (slice_get c.blocks c.block)) kind o)
         by None there = tt
         by (Some cell) there =
             let f = cell_formal (cells_at c.layouts c.block false) (own is) spot.place cell there in
@@ -253,7 +253,7 @@ module _ (c : Context) (own : in_function c ≡ true → AllByRecursion IsParame
         by : (o : Option Simple) → elementary_at c.layouts spot ≡ o → SeenOwn (own_at c false spot o)
         by None e = composite_own (slice_get (cells_at c.layouts spot.block spot.temporary) spot.place)
         by (Some kind) e =
-            either_way SeenOwn (in_function c) (parameter_at c spot kind) (in_area kind (placed area.Di 0 spot.offset (Some kind)))
+            either_way SeenOwn (in_function c) (parameter_at c spot kind) (variable_in_area kind (elementary_place area.Di 0 spot.offset (Some kind)))
             (parameter_own spot kind h e) (in_area_own kind area.Di 0 spot.offset)
 
   -- ---- what is seen
@@ -275,13 +275,13 @@ module _ (c : Context) (own : in_function c ≡ true → AllByRecursion IsParame
       by : (o : Option Simple) → SeenOwn (own_at c false spot o)
       by None = composite_own (slice_get (cells_at c.layouts spot.block spot.temporary) spot.place)
       by (Some kind) =
-          subst (λ (t : Bool). SeenOwn (if t then parameter_at c spot kind else in_area kind (placed area.Di 0 spot.offset (Some kind)))) (sym other)
+          subst (λ (t : Bool). SeenOwn (if t then parameter_at c spot kind else variable_in_area kind (elementary_place area.Di 0 spot.offset (Some kind)))) (sym other)
           (in_area_own kind area.Di 0 spot.offset)
 
   variable_own : (name : List ℕ) (steps : List PathStep) → SeenOwn (own_variable c name steps)
-  variable_own name steps = by (is_some (component 0 0 0 name (cells_at c.layouts c.block false))) refl (in_function c) refl
+  variable_own name steps = by (is_some (component_of_name 0 0 0 name (cells_at c.layouts c.block false))) refl (in_function c) refl
     where
-      by : (t : Bool) → is_some (component 0 0 0 name (cells_at c.layouts c.block false)) ≡ t → (function : Bool) → in_function c ≡ function
+      by : (t : Bool) → is_some (component_of_name 0 0 0 name (cells_at c.layouts c.block false)) ≡ t → (function : Bool) → in_function c ≡ function
           → SeenOwn (own_walked c (not t) (walked_local c.layouts c.block name steps))
       by false found function is = elsewhere_own (walked_local c.layouts c.block name steps)
       by true found true is = function_own is (walked_local c.layouts c.block name steps) (local_here is name steps found)
@@ -302,7 +302,7 @@ module _ (c : Context) (own : in_function c ≡ true → AllByRecursion IsParame
       by : (n place : Option ℕ) → SeenOwn (data_path c steps n place)
       by None place = tt
       by (Some n) None = tt
-      by (Some n) (Some block) = data_walk_own n (walked_data c.layouts block steps)
+      by (Some n) (Some block) = data_walk_own n (path_end_in_data_block c.layouts block steps)
 
   target_own : (t : Target) → IsOwn (target_view t)
   target_own (target.Variable place w) = tt
@@ -323,7 +323,7 @@ module _ (c : Context) (own : in_function c ≡ true → AllByRecursion IsParame
   direct_own None a w byte bit = tt
   direct_own (Some name) a w byte bit = by (data_number c name)
     where
-      by : (n : Option ℕ) → SeenOwn (address_in n a w byte bit)
+      by : (n : Option ℕ) → SeenOwn (address_in_block n a w byte bit)
       by None = tt
       by (Some n) = tt
 
@@ -337,12 +337,12 @@ module _ (c : Context) (own : in_function c ≡ true → AllByRecursion IsParame
   called_own (Some id) (Some name) None = tt
   called_own (Some id) (Some name) (Some n) = tt
 
-  operand_own : (o : Operand) → SeenOwn (seen c o)
-  unfolding seen
+  operand_own : (o : Operand) → SeenOwn (resolution_of c o)
+  unfolding resolution_of
   operand_own (operand.Direct name a w byte bit) = direct_own name a w byte bit
   operand_own (operand.Named path steps) = path_own path steps
   operand_own (operand.OpenBlock di name) = opened_own di (data_number c name)
-  operand_own (operand.Called name instance) = called_own (whole_block c (named_block c.symbols name)) instance (instance_number c instance)
+  operand_own (operand.Called name instance) = called_own (whole_called_block c (named_block c.symbols name)) instance (instance_number c instance)
   operand_own _ = tt
 
 -- ---- outside of functions
@@ -355,14 +355,14 @@ abbrev NoParameter : Resolution → Type 0
 NoParameter (Resolved v) = IsNoParameter v
 NoParameter _ = Unit {0}
 
-no_area : (kind : Simple) (a : Area) (n bits : ℕ) → NoParameter (in_area kind (placed a n bits (Some kind)))
+no_area : (kind : Simple) (a : Area) (n bits : ℕ) → NoParameter (variable_in_area kind (elementary_place a n bits (Some kind)))
 no_area kind a n bits = by (leb (bits / 8) 65535)
   where
-    by : (b : Bool) → NoParameter (in_area kind (if b then Some (place_at a n bits, width_of kind) else None))
+    by : (b : Bool) → NoParameter (variable_in_area kind (if b then Some (place_at a n bits, width_of kind) else None))
     by true = tt
     by false = tt
 
-no_composite : (found : Option Cell) → IsNoParameter (composite found)
+no_composite : (found : Option Cell) → IsNoParameter (composite_operand found)
 no_composite None = tt
 no_composite (Some cell) = of_ cell.of
   where
@@ -371,13 +371,13 @@ no_composite (Some cell) = of_ cell.of
     of_ _ = tt
 
 no_parameter : (c : Context) → in_function c ≡ false → (name : List ℕ) (steps : List PathStep) → NoParameter (own_variable c name steps)
-no_parameter c other name steps = by (not (is_some (component 0 0 0 name (cells_at c.layouts c.block false)))) (walked_local c.layouts c.block name steps)
+no_parameter c other name steps = by (not (is_some (component_of_name 0 0 0 name (cells_at c.layouts c.block false)))) (walked_local c.layouts c.block name steps)
   where
     at : (temporary : Bool) (spot : ComponentAt) (o : Option Simple) → NoParameter (own_at c temporary spot o)
     at temporary spot None = no_composite (slice_get (cells_at c.layouts spot.block spot.temporary) spot.place)
     at true spot (Some kind) = no_area kind area.L 0 spot.offset
     at false spot (Some kind) =
-        subst (λ (t : Bool). NoParameter (if t then parameter_at c spot kind else in_area kind (placed area.Di 0 spot.offset (Some kind)))) (sym other)
+        subst (λ (t : Bool). NoParameter (if t then parameter_at c spot kind else variable_in_area kind (elementary_place area.Di 0 spot.offset (Some kind)))) (sym other)
         (no_area kind area.Di 0 spot.offset)
 
     by : (temporary : Bool) (w : PathEnd) → NoParameter (own_walked c temporary w)
@@ -388,13 +388,13 @@ no_parameter c other name steps = by (not (is_some (component 0 0 0 name (cells_
 pub own_seen : AreOwnSeen
 own_seen c own o index section kind e =
     let h = subst (SeenOwn c own) e (operand_own c own o) in
-    kind_at (in_order (slice_get c.blocks c.block) (formals_of (cells_at c.layouts c.block false))) index h.0 h.1 ∙ ap Some h.2
+    kind_at (in_parameter_order (slice_get c.blocks c.block) (formals_of (cells_at c.layouts c.block false))) index h.0 h.1 ∙ ap Some h.2
 
 -- it is one of the parameters that the block declares
 pub own_formal : (c : Context) → (in_function c ≡ true → AllByRecursion IsParameterCell (cells_at c.layouts c.block false))
     → (name : List ℕ) (steps : List PathStep) (index : ℕ) (section : PartKind) (kind : Simple)
     → own_variable c name steps ≡ Resolved (view.Parameter index section kind)
-    → (f : Formal) × (slice_get (in_order (slice_get c.blocks c.block) (formals_of (cells_at c.layouts c.block false))) index ≡ Some f)
+    → (f : Formal) × (slice_get (in_parameter_order (slice_get c.blocks c.block) (formals_of (cells_at c.layouts c.block false))) index ≡ Some f)
     × (f.kind ≡ kind) × (f.section ≡ section)
 own_formal c own name steps index section kind e = subst (SeenOwn c own) e (variable_own c own name steps)
 

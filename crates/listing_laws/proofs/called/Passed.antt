@@ -22,21 +22,21 @@ use Rattle.stl_ast.specs.declared.operands.Operand.TheVariants as operand
 use Rattle.stl_ast.specs.declared.statements.Actual.{Actual}
 use Rattle.stl_ast.specs.declared.statements.Statement.{Statement}
 use Rattle.stl_types.specs.Actuals.{fits_operand, fits_seen, fits_view, formal_named, is_same_type, takes_section, type_number}
-use Rattle.stl_types.specs.Calls.{misfits}
+use Rattle.stl_types.specs.Calls.{misfits_formal}
 use Rattle.stl_types.specs.Context.{Context}
 use Rattle.stl_types.specs.Parameters.{Callee, callee_of}
-use Rattle.stl_types.specs.Resolution.{seen}
-use Rattle.stl_types.specs.Resolved.{resolved}
+use Rattle.stl_types.specs.Resolution.{resolution_of}
+use Rattle.stl_types.specs.Resolved.{resolved_operand}
 use Rattle.stl_codegen.specs.Instruction.{end_instr, instr_by, instruction, jump_instr, passings_to, resolved_instr, target_of, view_instr}
-use Rattle.stl_codegen.specs.Operations.{call_of, end_of, jump_of}
+use Rattle.stl_codegen.specs.Operations.{call_operation_of, end_operation_of, jump_operation_of}
 use Rattle.stl_types.specs.declared.parameters.Formal.{Formal}
 use Rattle.stl_types.specs.declared.views.Resolution.{Resolution}
 use Rattle.stl_types.specs.declared.views.Resolution.TheVariants.{Resolved, Unknown, Unjudged}
 use Rattle.stl_types.specs.declared.views.ResolvedOperand.{ResolvedOperand}
 use Rattle.stl_types.specs.declared.views.ResolvedOperand.TheVariants as view
 use Rattle.stl_codegen.specs.Operands.{is_in_named_block}
-use Rattle.stl_codegen.specs.Passed.{passed_actual, passed_seen, passed_view, passings_from, supplied, with_index}
-use Rattle.listing_laws.specs.HandedOn.{ArePassedOn, AreStatementsHandedOn, HandsOn, OwesCall, IsFoundAmong, IsHandedOn, SeesOwn, ordered}
+use Rattle.stl_codegen.specs.Passed.{passed_actual, passed_seen, passed_view, passings_from, actual_of_formal, with_index}
+use Rattle.listing_laws.specs.HandedOn.{ArePassedOn, AreStatementsHandedOn, HandsOn, OwesCall, IsFoundAmong, IsHandedOn, SeesOwn, formals_by_index}
 
 same_types : (a b : Simple) → is_same_type a b ≡ true → a ≡ b
 same_types a b e = by a b (eqb-true (type_number a) (type_number b) e)
@@ -62,15 +62,15 @@ same_types a b e = by a b (eqb-true (type_number a) (type_number b) e)
     by simple.Time _ e = absurd cc
 
 -- a parameter that fits has the type that is asked for
-constant_seen : (c : Context) (value : Literal) → seen c (operand.Constant value) ≡ Resolved view.Constant
-unfolding seen
+constant_seen : (c : Context) (value : Literal) → resolution_of c (operand.Constant value) ≡ Resolved view.Constant
+unfolding resolution_of
 constant_seen c value = refl
 
 no_parameter : (index : ℕ) (section : PartKind) (kind : Simple) → Resolved view.Constant ≡ Resolved (view.Parameter index section kind) → ⊥
 no_parameter index section kind e = absurd cc
 
 own_type : (c : Context) (f : Formal) (o : Operand) (index : ℕ) (section : PartKind) (kind : Simple)
-    → seen c o ≡ Resolved (view.Parameter index section kind) → fits_operand c f o ≡ true → kind ≡ f.kind
+    → resolution_of c o ≡ Resolved (view.Parameter index section kind) → fits_operand c f o ≡ true → kind ≡ f.kind
 unfolding fits_operand fits_view
 own_type c f (operand.Constant value) index section kind e h = absurd (no_parameter index section kind (sym (constant_seen c value) ∙ e))
 own_type c f o index section kind e h =
@@ -103,7 +103,7 @@ module _ (c : Context) (own : List Simple) (own_seen : SeesOwn c own) (all : Lis
   AreHanded ps = AllByRecursion (λ (p : Passing). IsHandedOn own (map (λ (f : Formal). f.kind) all) p.index p.actual) ps
 
   -- what an operand that fits passes
-  view_handed : (f : Formal) (i : ℕ) (o : Operand) (v : ResolvedOperand) → seen c o ≡ Resolved v → fits_operand c f o ≡ true
+  view_handed : (f : Formal) (i : ℕ) (o : Operand) (v : ResolvedOperand) → resolution_of c o ≡ Resolved v → fits_operand c f o ≡ true
       → slice_get (map (λ (f : Formal). f.kind) all) i ≡ Some f.kind → AreHanded (with_index i (passed_view o v))
   view_handed f i o (view.Parameter index section kind) e h at =
       ((kind, own_seen o index section kind e, at ∙ ap Some (sym (own_type c f o index section kind e h))), tt)
@@ -115,38 +115,38 @@ module _ (c : Context) (own : List Simple) (own_seen : SeesOwn c own) (all : Lis
   view_handed f i o view.Constant e h at = (tt, tt)
   view_handed f i o _ e h at = tt
 
-  seen_handed : (f : Formal) (i : ℕ) (o : Operand) (r : Resolution) → seen c o ≡ r → fits_operand c f o ≡ true
+  seen_handed : (f : Formal) (i : ℕ) (o : Operand) (r : Resolution) → resolution_of c o ≡ r → fits_operand c f o ≡ true
       → slice_get (map (λ (f : Formal). f.kind) all) i ≡ Some f.kind → AreHanded (with_index i (passed_seen o r))
   seen_handed f i o (Resolved v) e h at = view_handed f i o v e h at
   seen_handed f i o Unknown e h at = tt
   seen_handed f i o Unjudged e h at = tt
 
   handed_from : (formals : List Formal) (actuals : List Actual)
-      → AllByRecursion (λ (a : Actual). misfits c a (formal_named formals a.name) ≡ false) actuals
+      → AllByRecursion (λ (a : Actual). misfits_formal c a (formal_named formals a.name) ≡ false) actuals
       → (front : List Formal) (i : ℕ) (fs : List Formal) → all ≡ front ++ fs → length front ≡ i → AllByRecursion (IsFoundAmong formals) fs
       → AreHanded (passings_from c actuals i fs)
   handed_from formals actuals fits front i [] e n found = tt
   handed_from formals actuals fits front i (f ∷ fs) e n found =
       all_append (λ (p : Passing). IsHandedOn own (map (λ (f : Formal). f.kind) all) p.index p.actual)
-      (passed_actual c i (supplied actuals f)) (passings_from c actuals (suc i) fs)
-      (one (supplied actuals f) refl)
+      (passed_actual c i (actual_of_formal actuals f)) (passings_from c actuals (suc i) fs)
+      (one (actual_of_formal actuals f) refl)
       (handed_from formals actuals fits (front ++ f ∷ []) (suc i) fs (e ∙ sym (append_assoc front (f ∷ []) fs)) (longer front ∙ ap suc n) found.1)
     where
       longer : (xs : List Formal) → length (xs ++ f ∷ []) ≡ suc (length xs)
       longer [] = refl
       longer (x ∷ xs) = ap suc (longer xs)
 
-      one : (o : Option Actual) → supplied actuals f ≡ o → AreHanded (passed_actual c i o)
+      one : (o : Option Actual) → actual_of_formal actuals f ≡ o → AreHanded (passed_actual c i o)
       one None is = tt
       one (Some a) is =
-          let k = found_fits (λ (a : Actual). bytes_eq (upper_case_name a.name) f.name) (λ (a : Actual). misfits c a (formal_named formals a.name) ≡ false) actuals fits a is in
-          seen_handed f i a.value (seen c a.value) refl
-          (not_not (fits_operand c f a.value) (ap (misfits c a) (sym (found.0 (upper_case_name a.name) k.1)) ∙ k.0))
+          let k = found_fits (λ (a : Actual). bytes_eq (upper_case_name a.name) f.name) (λ (a : Actual). misfits_formal c a (formal_named formals a.name) ≡ false) actuals fits a is in
+          seen_handed f i a.value (resolution_of c a.value) refl
+          (not_not (fits_operand c f a.value) (ap (misfits_formal c a) (sym (found.0 (upper_case_name a.name) k.1)) ∙ k.0))
           (ap (λ (z : List Formal). slice_get (map (λ (f : Formal). f.kind) z) i) e ∙ at_seam front f fs i n)
 
 pub passed_on : ArePassedOn
 passed_on c own callee s own_seen found fits =
-    handed_from c own own_seen (ordered c callee) callee.formals s.actuals fits [] 0 (ordered c callee) refl refl found
+    handed_from c own own_seen (formals_by_index c callee) callee.formals s.actuals fits [] 0 (formals_by_index c callee) refl refl found
 
 -- ---- statements
 
@@ -164,7 +164,7 @@ module _ (types : BlockId → List Simple) (blocks : List CodeBlock) (c : Contex
   view_handed_on : (s : Statement) (v : ResolvedOperand) (how : Option CallOperation)
       → ((id : BlockId) (instance : Option ℕ) → v ≡ view.Called id instance → OwesCall types blocks c s id)
       → HandsOn types blocks own (view_instr c s v how)
-  view_handed_on s v None owes = ended (end_of s.code)
+  view_handed_on s v None owes = ended (end_operation_of s.code)
     where
       ended : (e : Option EndOperation) → HandsOn types blocks own (end_instr s v e)
       ended None = tt
@@ -177,17 +177,17 @@ module _ (types : BlockId → List Simple) (blocks : List CodeBlock) (c : Contex
   jump_handed _ n target = tt
 
   statement_handed : (body : List Statement) (n : ℕ) (s : Statement)
-      → ((id : BlockId) (instance : Option ℕ) → resolved c s ≡ Some (view.Called id instance) → OwesCall types blocks c s id)
+      → ((id : BlockId) (instance : Option ℕ) → resolved_operand c s ≡ Some (view.Called id instance) → OwesCall types blocks c s id)
       → HandsOn types blocks own (instruction c body n s)
   unfolding instruction
-  statement_handed body n s owes = by (jump_of s.code)
+  statement_handed body n s owes = by (jump_operation_of s.code)
     where
-      at : (o : Option ResolvedOperand) → resolved c s ≡ o → HandsOn types blocks own (resolved_instr c s o)
+      at : (o : Option ResolvedOperand) → resolved_operand c s ≡ o → HandsOn types blocks own (resolved_instr c s o)
       at None e = tt
-      at (Some v) e = view_handed_on s v (call_of s.code) (λ id instance same. owes id instance (e ∙ ap Some same))
+      at (Some v) e = view_handed_on s v (call_operation_of s.code) (λ id instance same. owes id instance (e ∙ ap Some same))
 
       by : (o : Option JumpOperation) → HandsOn types blocks own (instr_by c body n s o)
-      by None = at (resolved c s) refl
+      by None = at (resolved_operand c s) refl
       by (Some how) = jump_handed how n (target_of body s.operand)
 
 pub statements_handed_on : AreStatementsHandedOn

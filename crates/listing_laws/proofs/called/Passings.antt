@@ -24,26 +24,26 @@ use Rattle.stl_ast.specs.declared.declarations.Simple.TheVariants as simple
 use Rattle.stl_ast.specs.declared.operands.Letters.TheVariants as letters
 use Rattle.stl_ast.specs.declared.operands.Operand.TheVariants as operand
 use Rattle.stl_ast.specs.declared.statements.Actual.{Actual}
-use Rattle.stl_symbols.specs.Names.{place_of}
-use Rattle.block_layout.specs.Fits.{bits_of, fits}
+use Rattle.stl_symbols.specs.Names.{name_place}
+use Rattle.block_layout.specs.Fits.{bits_of, fits_elementary_type}
 use Rattle.block_layout.specs.Offsets.{width_of}
 use Rattle.stl_types.specs.Actuals.{fits_operand, fits_seen, fits_view, formal_named, is_input_section, is_same_type, is_same_width, takes_section, takes_side, type_number}
-use Rattle.stl_types.specs.Addresses.{address_in, side_of}
-use Rattle.stl_types.specs.Calls.{is_supplied, is_supplied_twice, misfits, names_none, sees_date, supplied as supplied_names, supplied_twice}
+use Rattle.stl_types.specs.Addresses.{address_in_block, side_of}
+use Rattle.stl_types.specs.Calls.{is_supplied, is_supplied_twice, misfits_formal, names_no_formal, sees_date, supplied_names, actuals_supplied_twice}
 use Rattle.stl_types.specs.Context.{Context, data_number}
-use Rattle.stl_types.specs.Resolution.{seen}
+use Rattle.stl_types.specs.Resolution.{resolution_of}
 use Rattle.stl_types.specs.declared.parameters.Formal.{Formal}
 use Rattle.stl_types.specs.declared.views.Resolution.TheVariants.{Resolved}
 use Rattle.stl_types.specs.declared.views.ResolvedOperand.TheVariants as view
 use Rattle.stl_types.specs.declared.views.Side.TheVariants as side
-use Rattle.stl_codegen.specs.Emitted.{passing}
-use Rattle.stl_codegen.specs.Instruction.{block_at, in_order, return_last}
-use Rattle.stl_codegen.specs.Passed.{passed_actual, passed_seen, passings_from, supplied, with_index}
-use Rattle.stl_list.specs.Actuals.{actual, actual_for, actuals_before, is_written, passed_operand}
+use Rattle.stl_codegen.specs.Emitted.{pass_ops}
+use Rattle.stl_codegen.specs.Instruction.{source_block_at, in_parameter_order, return_last}
+use Rattle.stl_codegen.specs.Passed.{passed_actual, passed_seen, passings_from, actual_of_formal, with_index}
+use Rattle.stl_list.specs.Actuals.{actual_of_passed, actual_for, actuals_before, is_written, passed_operand}
 use Rattle.stl_list.specs.Constants.{typed_constant}
-use Rattle.stl_list.specs.Operands.{data_block_name, direct_operand, letters_of, own_parameter}
-use Rattle.listing_laws.specs.Chains.{is_listed}
-use Rattle.listing_laws.specs.Passings.{AreActualsRight, AreAllPassed, AreCallsComplete, AreNamedApart, ArePassingsKept, AreRising, FitsListed, IsPassable, upper}
+use Rattle.stl_list.specs.Operands.{name_of_data_block, direct_operand, letters_for_area, own_parameter}
+use Rattle.listing_laws.specs.Chains.{is_listed_type}
+use Rattle.listing_laws.specs.Passings.{AreActualsRight, AreAllPassed, AreCallsComplete, AreNamedApart, ArePassingsKept, AreRising, FitsListed, IsPassable, in_upper_case}
 
 -- ---- constants
 
@@ -72,7 +72,7 @@ time_bits n h = elim (cases_lt n 2147483648) as (λ _. bits_of (typed_constant s
   | inr ge ↦ rw (le-ltb n 2147483648 ge) (omega (arith, ge, h))
 ]
 
-pub literal_bits : (k : Simple) (n : ℕ) → is_listed k ≡ true → literal_fits (width_number (width_of k)) n ≡ true → n < 4294967296
+pub literal_bits : (k : Simple) (n : ℕ) → is_listed_type k ≡ true → literal_fits (width_number (width_of k)) n ≡ true → n < 4294967296
     → bits_of (typed_constant k n) ≡ n
 unfolding bits_of
 literal_bits simple.Bool n e h few = truth_bits n h
@@ -85,15 +85,15 @@ literal_bits simple.Char n e h few = absurd cc
 literal_bits simple.S5time n e h few = absurd cc
 literal_bits simple.Dint n e h few = absurd cc
 
-int_fits : (n : ℕ) → fits (typed_constant simple.Int n) simple.Int ≡ true
-unfolding fits
-int_fits n = elim (cases_lt (n % 65536) 32768) as (λ _. fits (typed_constant simple.Int n) simple.Int ≡ true) [
+int_fits : (n : ℕ) → fits_elementary_type (typed_constant simple.Int n) simple.Int ≡ true
+unfolding fits_elementary_type
+int_fits n = elim (cases_lt (n % 65536) 32768) as (λ _. fits_elementary_type (typed_constant simple.Int n) simple.Int ≡ true) [
   | inl lt ↦ rw (lt-ltb (n % 65536) 32768 lt) (le-leb (n % 65536) 32767 (omega (arith, lt)))
   | inr ge ↦ rw (le-ltb (n % 65536) 32768 ge) (lt-ltb _ 32768 (omega (arith, ge)))
 ]
 
-pub literal_kind : (k : Simple) (n : ℕ) → is_listed k ≡ true → fits (typed_constant k n) k ≡ true
-unfolding fits
+pub literal_kind : (k : Simple) (n : ℕ) → is_listed_type k ≡ true → fits_elementary_type (typed_constant k n) k ≡ true
+unfolding fits_elementary_type
 literal_kind simple.Bool n e = refl
 literal_kind simple.Byte n e = refl
 literal_kind simple.Word n e = refl
@@ -107,13 +107,13 @@ literal_kind simple.Dint n e = absurd cc
 -- ---- what a listed actual parameter names
 
 literal_sees : (c : Context) (k : Simple) (n : ℕ)
-    → passed_seen (operand.Constant (typed_constant k n)) (seen c (operand.Constant (typed_constant k n))) ≡ Some (passed.Literal (bits_of (typed_constant k n)))
-unfolding seen
+    → passed_seen (operand.Constant (typed_constant k n)) (resolution_of c (operand.Constant (typed_constant k n))) ≡ Some (passed.Literal (bits_of (typed_constant k n)))
+unfolding resolution_of
 literal_sees c k n = refl
 
 direct_sees : (c : Context) (writes : Bool) (a : Area) (w : Width) (byte bit : ℕ)
-    → passed_seen (direct_operand None writes a w byte bit) (seen c (direct_operand None writes a w byte bit)) ≡ Some (passed.Direct a w byte bit)
-unfolding seen
+    → passed_seen (direct_operand None writes a w byte bit) (resolution_of c (direct_operand None writes a w byte bit)) ≡ Some (passed.Direct a w byte bit)
+unfolding resolution_of
 direct_sees c writes area.I w byte bit = refl
 direct_sees c writes area.Q w byte bit = refl
 direct_sees c writes area.M w byte bit = refl
@@ -123,14 +123,14 @@ direct_sees c writes area.L w byte bit = refl
 direct_sees c true area.P w byte bit = refl
 direct_sees c false area.P w byte bit = refl
 
-in_block_seen : (c : Context) (writes : Bool) (number : ℕ) (w : Width) (byte bit : ℕ) → data_number c (data_block_name number) ≡ Some number
-    → seen c (direct_operand (Some number) writes area.Db w byte bit)
+in_block_seen : (c : Context) (writes : Bool) (number : ℕ) (w : Width) (byte bit : ℕ) → data_number c (name_of_data_block number) ≡ Some number
+    → resolution_of c (direct_operand (Some number) writes area.Db w byte bit)
     ≡ Resolved (view.Direct (record { area = area.Db; number = number; byte = byte; bit = bit }) w side.Both None)
-unfolding seen
-in_block_seen c writes number w byte bit e = ap (λ (o : Option ℕ). address_in o letters.Db w byte bit) e
+unfolding resolution_of
+in_block_seen c writes number w byte bit e = ap (λ (o : Option ℕ). address_in_block o letters.Db w byte bit) e
 
-in_block_sees : (c : Context) (writes : Bool) (number : ℕ) (w : Width) (byte bit : ℕ) → nat_eq number 0 ≡ false → data_number c (data_block_name number) ≡ Some number
-    → passed_seen (direct_operand (Some number) writes area.Db w byte bit) (seen c (direct_operand (Some number) writes area.Db w byte bit))
+in_block_sees : (c : Context) (writes : Bool) (number : ℕ) (w : Width) (byte bit : ℕ) → nat_eq number 0 ≡ false → data_number c (name_of_data_block number) ≡ Some number
+    → passed_seen (direct_operand (Some number) writes area.Db w byte bit) (resolution_of c (direct_operand (Some number) writes area.Db w byte bit))
     ≡ Some (passed.InBlock number area.Db w byte bit)
 in_block_sees c writes number w byte bit some e =
     ap (passed_seen (direct_operand (Some number) writes area.Db w byte bit)) (in_block_seen c writes number w byte bit e)
@@ -138,11 +138,11 @@ in_block_sees c writes number w byte bit some e =
 
 -- an actual parameter passes what its op passes
 pub sees : (c : Context) (own : List Formal) (f : Formal) (p : Passed) → FitsListed c own f p
-    → passed_seen (passed_operand own f p) (seen c (passed_operand own f p)) ≡ Some p
+    → passed_seen (passed_operand own f p) (resolution_of c (passed_operand own f p)) ≡ Some p
 sees c own f (passed.Literal value) h = literal_sees c f.kind value ∙ ap (λ (n : ℕ). Some (passed.Literal n)) (literal_bits f.kind value h.1 h.2 h.3)
 sees c own f (passed.Direct a w byte bit) h = direct_sees c (is_written f.section) a w byte bit
 sees c own f (passed.InBlock number a w byte bit) h =
-    subst (λ (g : Area). passed_seen (direct_operand (Some number) (is_written f.section) g w byte bit) (seen c (direct_operand (Some number) (is_written f.section) g w byte bit)) ≡ Some (passed.InBlock number g w byte bit))
+    subst (λ (g : Area). passed_seen (direct_operand (Some number) (is_written f.section) g w byte bit) (resolution_of c (direct_operand (Some number) (is_written f.section) g w byte bit)) ≡ Some (passed.InBlock number g w byte bit))
     (sym h.1) (in_block_sees c (is_written f.section) number w byte bit h.2 h.3)
 sees c own f (passed.Parameter index w) h =
     ap (passed_seen (own_parameter own index)) h.4 ∙ ap (λ (x : Width). Some (passed.Parameter index x)) (sym h.1)
@@ -157,7 +157,7 @@ same_type a b e = eq-eqb (type_number a) (type_number b) (ap type_number e)
 both : (s t : Bool) → s ≡ true → t ≡ true → (s && t) ≡ true
 both s t e f = ap₂ (λ (x y : Bool). x && y) e f
 
-side_taken : (section : PartKind) (a : Area) → takes_side section (side_of (letters_of (is_written section) a)) ≡ true
+side_taken : (section : PartKind) (a : Area) → takes_side section (side_of (letters_for_area (is_written section) a)) ≡ true
 side_taken section area.I = refl
 side_taken section area.Q = refl
 side_taken section area.M = refl
@@ -172,51 +172,51 @@ side_taken part.Temp area.P = refl
 
 direct_fits : (c : Context) (f : Formal) (a : Area) (w : Width) (byte bit : ℕ) → w ≡ width_of f.kind
     → fits_operand c f (direct_operand None (is_written f.section) a w byte bit) ≡ true
-unfolding fits_operand fits_view seen
+unfolding fits_operand fits_view resolution_of
 direct_fits c f a w byte bit e =
-    both (is_same_width w (width_of f.kind)) (takes_side f.section (side_of (letters_of (is_written f.section) a))) (same_width w (width_of f.kind) e) (side_taken f.section a)
+    both (is_same_width w (width_of f.kind)) (takes_side f.section (side_of (letters_for_area (is_written f.section) a))) (same_width w (width_of f.kind) e) (side_taken f.section a)
 
-in_block_fits : (c : Context) (f : Formal) (number : ℕ) (w : Width) (byte bit : ℕ) → w ≡ width_of f.kind → data_number c (data_block_name number) ≡ Some number
+in_block_fits : (c : Context) (f : Formal) (number : ℕ) (w : Width) (byte bit : ℕ) → w ≡ width_of f.kind → data_number c (name_of_data_block number) ≡ Some number
     → fits_operand c f (direct_operand (Some number) (is_written f.section) area.Db w byte bit) ≡ true
 unfolding fits_operand fits_view
 in_block_fits c f number w byte bit e there =
     ap (fits_seen f) (in_block_seen c (is_written f.section) number w byte bit there)
     ∙ both (is_same_width w (width_of f.kind)) true (same_width w (width_of f.kind) e) refl
 
-own_fits : (c : Context) (own : List Formal) (f g : Formal) (index : ℕ) → seen c (own_parameter own index) ≡ Resolved (view.Parameter index g.section g.kind)
+own_fits : (c : Context) (own : List Formal) (f g : Formal) (index : ℕ) → resolution_of c (own_parameter own index) ≡ Resolved (view.Parameter index g.section g.kind)
     → g.kind ≡ f.kind → takes_section f.section g.section ≡ true → fits_operand c f (own_parameter own index) ≡ true
 unfolding fits_operand fits_view
 own_fits c own f g index there kind section =
     ap (fits_seen f) there ∙ both (is_same_type g.kind f.kind) (takes_section f.section g.section) (same_type g.kind f.kind kind) section
 
-literal_fitted : (c : Context) (f : Formal) (n : ℕ) → is_input_section f.section ≡ true → is_listed f.kind ≡ true
+literal_fitted : (c : Context) (f : Formal) (n : ℕ) → is_input_section f.section ≡ true → is_listed_type f.kind ≡ true
     → fits_operand c f (operand.Constant (typed_constant f.kind n)) ≡ true
 unfolding fits_operand
 literal_fitted c f n section listed =
-    both (is_input_section f.section) (fits (typed_constant f.kind n) f.kind) section (literal_kind f.kind n listed)
+    both (is_input_section f.section) (fits_elementary_type (typed_constant f.kind n) f.kind) section (literal_kind f.kind n listed)
 
-fitted : (c : Context) (own : List Formal) (f : Formal) (p : Passed) → FitsListed c own f p → fits_operand c (upper f) (passed_operand own f p) ≡ true
-fitted c own f (passed.Literal value) h = literal_fitted c (upper f) value h.0 h.1
-fitted c own f (passed.Direct a w byte bit) h = direct_fits c (upper f) a w byte bit h
+fitted : (c : Context) (own : List Formal) (f : Formal) (p : Passed) → FitsListed c own f p → fits_operand c (in_upper_case f) (passed_operand own f p) ≡ true
+fitted c own f (passed.Literal value) h = literal_fitted c (in_upper_case f) value h.0 h.1
+fitted c own f (passed.Direct a w byte bit) h = direct_fits c (in_upper_case f) a w byte bit h
 fitted c own f (passed.InBlock number a w byte bit) h =
-    subst (λ (g : Area). fits_operand c (upper f) (direct_operand (Some number) (is_written f.section) g w byte bit) ≡ true)
-    (sym h.1) (in_block_fits c (upper f) number w byte bit h.0 h.3)
-fitted c own f (passed.Parameter index w) h = own_fits c own (upper f) h.0 index h.4 h.2 h.3
+    subst (λ (g : Area). fits_operand c (in_upper_case f) (direct_operand (Some number) (is_written f.section) g w byte bit) ≡ true)
+    (sym h.1) (in_block_fits c (in_upper_case f) number w byte bit h.0 h.3)
+fitted c own f (passed.Parameter index w) h = own_fits c own (in_upper_case f) h.0 index h.4 h.2 h.3
 
 -- no DATE_AND_TIME among them
-plain_dated : (c : Context) (k : Simple) (n : ℕ) → sees_date (seen c (operand.Constant (typed_constant k n))) ≡ false
-unfolding seen
+plain_dated : (c : Context) (k : Simple) (n : ℕ) → sees_date (resolution_of c (operand.Constant (typed_constant k n))) ≡ false
+unfolding resolution_of
 plain_dated c k n = refl
 
-direct_dated : (c : Context) (writes : Bool) (a : Area) (w : Width) (byte bit : ℕ) → sees_date (seen c (direct_operand None writes a w byte bit)) ≡ false
-unfolding seen
+direct_dated : (c : Context) (writes : Bool) (a : Area) (w : Width) (byte bit : ℕ) → sees_date (resolution_of c (direct_operand None writes a w byte bit)) ≡ false
+unfolding resolution_of
 direct_dated c writes a w byte bit = refl
 
-pub undated : (c : Context) (own : List Formal) (f : Formal) (p : Passed) → FitsListed c own f p → sees_date (seen c (passed_operand own f p)) ≡ false
+pub undated : (c : Context) (own : List Formal) (f : Formal) (p : Passed) → FitsListed c own f p → sees_date (resolution_of c (passed_operand own f p)) ≡ false
 undated c own f (passed.Literal value) h = plain_dated c f.kind value
 undated c own f (passed.Direct a w byte bit) h = direct_dated c (is_written f.section) a w byte bit
 undated c own f (passed.InBlock number a w byte bit) h =
-    subst (λ (g : Area). sees_date (seen c (direct_operand (Some number) (is_written f.section) g w byte bit)) ≡ false)
+    subst (λ (g : Area). sees_date (resolution_of c (direct_operand (Some number) (is_written f.section) g w byte bit)) ≡ false)
     (sym h.1) (ap sees_date (in_block_seen c (is_written f.section) number w byte bit h.3))
 undated c own f (passed.Parameter index w) h = ap sees_date h.4
 
@@ -249,7 +249,7 @@ all_turned test f (g ∷ gs) = ap (λ (t : Bool). test g && t) (all_turned test 
     by false true t = refl
     by false false t = refl
 
-any_ordered : (test : Formal → Bool) (o : Option Block) (fs : List Formal) → list_any test (in_order o fs) ≡ list_any test fs
+any_ordered : (test : Formal → Bool) (o : Option Block) (fs : List Formal) → list_any test (in_parameter_order o fs) ≡ list_any test fs
 any_ordered test None fs = refl
 any_ordered test (Some b) fs = by b.result fs
   where
@@ -258,7 +258,7 @@ any_ordered test (Some b) fs = by b.result fs
     by (Some r) [] = refl
     by (Some r) (f ∷ fs) = any_turned test f fs
 
-all_ordered : (test : Formal → Bool) (o : Option Block) (fs : List Formal) → list_all test (in_order o fs) ≡ list_all test fs
+all_ordered : (test : Formal → Bool) (o : Option Block) (fs : List Formal) → list_all test (in_parameter_order o fs) ≡ list_all test fs
 all_ordered test None fs = refl
 all_ordered test (Some b) fs = by b.result fs
   where
@@ -271,7 +271,7 @@ all_ordered test (Some b) fs = by b.result fs
 abbrev Stands : List Formal → Formal → Type 0
 Stands fs f = (i : ℕ) × (slice_get fs i ≡ Some f)
 
-stands_ordered : (o : Option Block) (fs : List Formal) (f : Formal) → Stands fs f → Stands (in_order o fs) f
+stands_ordered : (o : Option Block) (fs : List Formal) (f : Formal) → Stands fs f → Stands (in_parameter_order o fs) f
 stands_ordered None fs f h = h
 stands_ordered (Some b) fs f h = by b.result fs h.0 h.1
   where
@@ -313,27 +313,27 @@ itself : (n : ℕ) → (n == n) ≡ true
 itself n = eq-eqb n n refl
 
 -- parameters by their index, with names in upper case
-at_upper : (fs : List Formal) (i : ℕ) (f : Formal) → slice_get fs i ≡ Some f → slice_get (map upper fs) i ≡ Some (upper f)
+at_upper : (fs : List Formal) (i : ℕ) (f : Formal) → slice_get fs i ≡ Some f → slice_get (map in_upper_case fs) i ≡ Some (in_upper_case f)
 at_upper [] i f e = absurd cc
-at_upper (g ∷ fs) zero f e = ap (λ (z : Formal). Some (upper z)) (same_Some g f e)
+at_upper (g ∷ fs) zero f e = ap (λ (z : Formal). Some (in_upper_case z)) (same_Some g f e)
 at_upper (g ∷ fs) (suc i) f e = at_upper fs i f e
 
-from_upper : (fs : List Formal) (i : ℕ) (g : Formal) → slice_get (map upper fs) i ≡ Some g → (f : Formal) × (slice_get fs i ≡ Some f) × (upper f ≡ g)
+from_upper : (fs : List Formal) (i : ℕ) (g : Formal) → slice_get (map in_upper_case fs) i ≡ Some g → (f : Formal) × (slice_get fs i ≡ Some f) × (in_upper_case f ≡ g)
 from_upper [] i g e = absurd cc
-from_upper (f ∷ fs) zero g e = (f, refl, same_Some (upper f) g e)
+from_upper (f ∷ fs) zero g e = (f, refl, same_Some (in_upper_case f) g e)
 from_upper (f ∷ fs) (suc i) g e = from_upper fs i g e
 
 -- ---- the actual parameters of a call
 
 abbrev pub listed : (line : ℕ) (own called : List Formal) → List Passing → List Actual
-listed line own called ps = actuals_before line own called (passing ps)
+listed line own called ps = actuals_before line own called (pass_ops ps)
 
 one_more : (line : ℕ) (own called : List Formal) (p : Passing) (ps : List Passing) (f : Formal) → slice_get called p.index ≡ Some f
-    → listed line own called (p ∷ ps) ≡ actual line own f p.actual ∷ listed line own called ps
+    → listed line own called (p ∷ ps) ≡ actual_of_passed line own f p.actual ∷ listed line own called ps
 one_more line own called p ps f e = ap (λ (o : Option Formal). actual_for line own o p.actual ++ listed line own called ps) e
 
 pub all_actuals : (c : Context) (own called : List Formal) (line : ℕ) (P : Actual → Type 0)
-    → ((p : Passing) (f : Formal) → slice_get called p.index ≡ Some f → FitsListed c own f p.actual → P (actual line own f p.actual))
+    → ((p : Passing) (f : Formal) → slice_get called p.index ≡ Some f → FitsListed c own f p.actual → P (actual_of_passed line own f p.actual))
     → (ps : List Passing) → AllByRecursion (IsPassable c own called) ps → AllByRecursion P (listed line own called ps)
 all_actuals c own called line P each [] h = tt
 all_actuals c own called line P each (p ∷ ps) h =
@@ -346,20 +346,20 @@ passed_at i ps = find (λ (p : Passing). p.index == i) ps
 
 module _ (c : Context) (own called : List Formal) (line : ℕ) (named : AreNamedApart called) where
   supplied_is : (i : ℕ) (f : Formal) → slice_get called i ≡ Some f → (ps : List Passing) → AllByRecursion (IsPassable c own called) ps
-      → supplied (listed line own called ps) (upper f) ≡ option_map (λ (p : Passing). actual line own f p.actual) (passed_at i ps)
+      → actual_of_formal (listed line own called ps) (in_upper_case f) ≡ option_map (λ (p : Passing). actual_of_passed line own f p.actual) (passed_at i ps)
   supplied_is i f e [] h = refl
   supplied_is i f e (p ∷ ps) h =
-      ap (λ (xs : List Actual). supplied xs (upper f)) (one_more line own called p ps h.0.formal h.0.there)
-      ∙ ap (λ (t : Bool). cond t (Some (actual line own h.0.formal p.actual)) (supplied (listed line own called ps) (upper f))) (named p.index i h.0.formal f h.0.there e)
+      ap (λ (xs : List Actual). actual_of_formal xs (in_upper_case f)) (one_more line own called p ps h.0.formal h.0.there)
+      ∙ ap (λ (t : Bool). cond t (Some (actual_of_passed line own h.0.formal p.actual)) (actual_of_formal (listed line own called ps) (in_upper_case f))) (named p.index i h.0.formal f h.0.there e)
       ∙ by (p.index == i) refl (supplied_is i f e ps h.1)
     where
       by : (t : Bool) → (p.index == i) ≡ t
-          → supplied (listed line own called ps) (upper f) ≡ option_map (λ (p : Passing). actual line own f p.actual) (passed_at i ps)
-          → cond t (Some (actual line own h.0.formal p.actual)) (supplied (listed line own called ps) (upper f))
-          ≡ option_map (λ (p : Passing). actual line own f p.actual) (cond t (Some p) (passed_at i ps))
+          → actual_of_formal (listed line own called ps) (in_upper_case f) ≡ option_map (λ (p : Passing). actual_of_passed line own f p.actual) (passed_at i ps)
+          → cond t (Some (actual_of_passed line own h.0.formal p.actual)) (actual_of_formal (listed line own called ps) (in_upper_case f))
+          ≡ option_map (λ (p : Passing). actual_of_passed line own f p.actual) (cond t (Some p) (passed_at i ps))
       by true is more =
           let same : h.0.formal ≡ f = same_Some h.0.formal f (sym h.0.there ∙ ap (slice_get called) (eqb-true p.index i is) ∙ e) in
-          ap (λ (g : Formal). Some (actual line own g p.actual)) same
+          ap (λ (g : Formal). Some (actual_of_passed line own g p.actual)) same
       by false is more = more
 
   -- what is passed for a parameter
@@ -380,10 +380,10 @@ module _ (c : Context) (own called : List Formal) (line : ℕ) (named : AreNamed
       by false is more e = more e
 
   one_passed : (i : ℕ) (f : Formal) → slice_get called i ≡ Some f → (ps : List Passing) → AllByRecursion (IsPassable c own called) ps
-      → passed_actual c i (supplied (listed line own called ps) (upper f)) ≡ pick (passed_at i ps)
+      → passed_actual c i (actual_of_formal (listed line own called ps) (in_upper_case f)) ≡ pick (passed_at i ps)
   one_passed i f e ps h = ap (passed_actual c i) (supplied_is i f e ps h) ∙ by (passed_at i ps) refl
     where
-      by : (o : Option Passing) → passed_at i ps ≡ o → passed_actual c i (option_map (λ (p : Passing). actual line own f p.actual) o) ≡ pick o
+      by : (o : Option Passing) → passed_at i ps ≡ o → passed_actual c i (option_map (λ (p : Passing). actual_of_passed line own f p.actual) o) ≡ pick o
       by None is = refl
       by (Some q) is =
           let found = found_passing i ps h q is in
@@ -396,7 +396,7 @@ module _ (c : Context) (own called : List Formal) (line : ℕ) (named : AreNamed
   picks ps i (f ∷ fs) = pick (passed_at i ps) ++ picks ps (suc i) fs
 
   picked_from : (ps : List Passing) → AllByRecursion (IsPassable c own called) ps → (front : List Formal) (i : ℕ) (fs : List Formal)
-      → called ≡ front ++ fs → length front ≡ i → passings_from c (listed line own called ps) i (map upper fs) ≡ picks ps i fs
+      → called ≡ front ++ fs → length front ≡ i → passings_from c (listed line own called ps) i (map in_upper_case fs) ≡ picks ps i fs
   picked_from ps h front i [] e n = refl
   picked_from ps h front i (f ∷ fs) e n =
       ap₂ (λ (xs ys : List Passing). xs ++ ys)
@@ -458,31 +458,31 @@ module _ (c : Context) (own called : List Formal) (line : ℕ) (named : AreNamed
   few_passed [] h = tt
   few_passed (p ∷ ps) h = ((let one = slice_get_within called p.index h.0.formal h.0.there in omega (arith, one)), few_passed ps h.1)
 
-  all_passed : (ps : List Passing) → AllByRecursion (IsPassable c own called) ps → AreRising 0 ps → passings_from c (listed line own called ps) 0 (map upper called) ≡ ps
+  all_passed : (ps : List Passing) → AllByRecursion (IsPassable c own called) ps → AreRising 0 ps → passings_from c (listed line own called ps) 0 (map in_upper_case called) ≡ ps
   all_passed ps h rising = picked_from ps h [] 0 called refl refl ∙ picked_all 0 called ps rising (few_passed ps h)
 
   -- ---- rules
 
-  each_named : (fs : List Formal) (o : Option Block) → in_order o fs ≡ map upper called → (p : Passing) (f : Formal) → slice_get called p.index ≡ Some f
-      → names_none fs (actual line own f p.actual) ≡ false
+  each_named : (fs : List Formal) (o : Option Block) → in_parameter_order o fs ≡ map in_upper_case called → (p : Passing) (f : Formal) → slice_get called p.index ≡ Some f
+      → names_no_formal fs (actual_of_passed line own f p.actual) ≡ false
   each_named fs o order p f e =
       ap not (sym (any_ordered (λ (g : Formal). bytes_eq (upper_case_name f.name) g.name) o fs)
       ∙ ap (list_any (λ (g : Formal). bytes_eq (upper_case_name f.name) g.name)) order
-      ∙ any_there (λ (g : Formal). bytes_eq (upper_case_name f.name) g.name) (map upper called) p.index (upper f) (at_upper called p.index f e) (named p.index p.index f f e e ∙ itself p.index))
+      ∙ any_there (λ (g : Formal). bytes_eq (upper_case_name f.name) g.name) (map in_upper_case called) p.index (in_upper_case f) (at_upper called p.index f e) (named p.index p.index f f e e ∙ itself p.index))
 
-  each_fits : (fs : List Formal) (o : Option Block) → in_order o fs ≡ map upper called → (p : Passing) (f : Formal) → slice_get called p.index ≡ Some f
-      → FitsListed c own f p.actual → misfits c (actual line own f p.actual) (formal_named fs f.name) ≡ false
+  each_fits : (fs : List Formal) (o : Option Block) → in_parameter_order o fs ≡ map in_upper_case called → (p : Passing) (f : Formal) → slice_get called p.index ≡ Some f
+      → FitsListed c own f p.actual → misfits_formal c (actual_of_passed line own f p.actual) (formal_named fs f.name) ≡ false
   each_fits fs o order p f e h = by (formal_named fs f.name) refl
     where
-      is_own : (g : Formal) → (bytes_eq (upper_case_name f.name) g.name ≡ true) × Stands fs g → upper f ≡ g
+      is_own : (g : Formal) → (bytes_eq (upper_case_name f.name) g.name ≡ true) × Stands fs g → in_upper_case f ≡ g
       is_own g found =
           let there = subst (λ (z : List Formal). Stands z g) order (stands_ordered o fs g found.1) in
           let raw = from_upper called there.0 g there.1 in
           let test : bytes_eq (upper_case_name f.name) (upper_case_name raw.0.name) ≡ true = ap (λ (z : Formal). bytes_eq (upper_case_name f.name) z.name) raw.2 ∙ found.0 in
           let at : p.index ≡ there.0 = eqb-true p.index there.0 (sym (named p.index there.0 f raw.0 e raw.1) ∙ test) in
-          ap upper (same_Some f raw.0 (sym e ∙ ap (slice_get called) at ∙ raw.1)) ∙ raw.2
+          ap in_upper_case (same_Some f raw.0 (sym e ∙ ap (slice_get called) at ∙ raw.1)) ∙ raw.2
 
-      by : (x : Option Formal) → formal_named fs f.name ≡ x → misfits c (actual line own f p.actual) x ≡ false
+      by : (x : Option Formal) → formal_named fs f.name ≡ x → misfits_formal c (actual_of_passed line own f p.actual) x ≡ false
       by None is = refl
       by (Some g) is =
           ap (λ (z : Formal). not (fits_operand c z (passed_operand own f p.actual))) (sym (is_own g (found_stands (λ (z : Formal). bytes_eq (upper_case_name f.name) z.name) fs g is)))
@@ -490,21 +490,21 @@ module _ (c : Context) (own called : List Formal) (line : ℕ) (named : AreNamed
 
   -- names that come later are new
   abbrev AreNew : ℕ → List (List ℕ) → Type 0
-  AreNew i before = (j : ℕ) (g : Formal) → i ≤ j → slice_get called j ≡ Some g → place_of (upper_case_name g.name) before ≡ None
+  AreNew i before = (j : ℕ) (g : Formal) → i ≤ j → slice_get called j ≡ Some g → name_place (upper_case_name g.name) before ≡ None
 
-  absent_both : (n : List ℕ) (xs : List (List ℕ)) (y : List ℕ) → place_of n xs ≡ None → bytes_eq n y ≡ false → place_of n (xs ++ y ∷ []) ≡ None
-  absent_both n [] y e f = ap (λ (t : Bool). if t then Some 0 else option_map (λ k. suc k) (place_of n [])) f
+  absent_both : (n : List ℕ) (xs : List (List ℕ)) (y : List ℕ) → name_place n xs ≡ None → bytes_eq n y ≡ false → name_place n (xs ++ y ∷ []) ≡ None
+  absent_both n [] y e f = ap (λ (t : Bool). if t then Some 0 else option_map (λ k. suc k) (name_place n [])) f
   absent_both n (x ∷ xs) y e f = by (bytes_eq n x) e (λ h. absent_both n xs y h f)
     where
       none_suc : (o : Option ℕ) → option_map (λ k. suc k) o ≡ None → o ≡ None
       none_suc None h = refl
       none_suc (Some m) h = absurd cc
 
-      by : (t : Bool) → (if t then Some 0 else option_map (λ k. suc k) (place_of n xs)) ≡ None
-          → (place_of n xs ≡ None → place_of n (xs ++ y ∷ []) ≡ None)
-          → (if t then Some 0 else option_map (λ k. suc k) (place_of n (xs ++ y ∷ []))) ≡ None
+      by : (t : Bool) → (if t then Some 0 else option_map (λ k. suc k) (name_place n xs)) ≡ None
+          → (name_place n xs ≡ None → name_place n (xs ++ y ∷ []) ≡ None)
+          → (if t then Some 0 else option_map (λ k. suc k) (name_place n (xs ++ y ∷ []))) ≡ None
       by true h more = absurd cc
-      by false h more = ap (λ (o : Option ℕ). option_map (λ k. suc k) o) (more (none_suc (place_of n xs) h))
+      by false h more = ap (λ (o : Option ℕ). option_map (λ k. suc k) o) (more (none_suc (name_place n xs) h))
 
   new_more : (p : Passing) (f : Formal) (i : ℕ) (before : List (List ℕ)) → slice_get called p.index ≡ Some f → i ≤ p.index → AreNew i before
       → AreNew (suc p.index) (before ++ upper_case_name f.name ∷ [])
@@ -513,29 +513,29 @@ module _ (c : Context) (own called : List Formal) (line : ℕ) (named : AreNamed
       (named j p.index g f there e ∙ ne_eqb j p.index (λ same. omega (arith, same, le)))
 
   once_from : (fs : List Formal) (i : ℕ) (before : List (List ℕ)) (ps : List Passing) → AllByRecursion (IsPassable c own called) ps → AreRising i ps
-      → AreNew i before → supplied_twice fs before (listed line own called ps) ≡ []
+      → AreNew i before → actuals_supplied_twice fs before (listed line own called ps) ≡ []
   once_from fs i before [] h rising new = refl
   once_from fs i before (p ∷ ps) h rising new =
-      ap (supplied_twice fs before) (one_more line own called p ps h.0.formal h.0.there)
-      ∙ ap (λ (t : Bool). (if t then record { line = line; rule = 35 } ∷ [] else []) ++ supplied_twice fs (before ++ upper_case_name h.0.formal.name ∷ []) (listed line own called ps)) not_twice
+      ap (actuals_supplied_twice fs before) (one_more line own called p ps h.0.formal h.0.there)
+      ∙ ap (λ (t : Bool). (if t then record { line = line; rule = 35 } ∷ [] else []) ++ actuals_supplied_twice fs (before ++ upper_case_name h.0.formal.name ∷ []) (listed line own called ps)) not_twice
       ∙ once_from fs (suc p.index) (before ++ upper_case_name h.0.formal.name ∷ []) ps h.1 rising.1 (new_more p h.0.formal i before h.0.there rising.0 new)
     where
       no_second : (t : Bool) → (t && false) ≡ false
       no_second true = refl
       no_second false = refl
 
-      not_twice : is_supplied_twice fs before (actual line own h.0.formal p.actual) ≡ false
+      not_twice : is_supplied_twice fs before (actual_of_passed line own h.0.formal p.actual) ≡ false
       not_twice =
-          ap (λ (o : Option ℕ). not (names_none fs (actual line own h.0.formal p.actual)) && is_some o) (new p.index h.0.formal rising.0 h.0.there)
-          ∙ no_second (not (names_none fs (actual line own h.0.formal p.actual)))
+          ap (λ (o : Option ℕ). not (names_no_formal fs (actual_of_passed line own h.0.formal p.actual)) && is_some o) (new p.index h.0.formal rising.0 h.0.there)
+          ∙ no_second (not (names_no_formal fs (actual_of_passed line own h.0.formal p.actual)))
 
   -- each parameter that is passed is supplied
   place_there : (i : ℕ) (f : Formal) → slice_get called i ≡ Some f → (ps : List Passing) → AllByRecursion (IsPassable c own called) ps
-      → list_any (λ (p : Passing). p.index == i) ps ≡ true → is_some (place_of (upper_case_name f.name) (supplied_names (listed line own called ps))) ≡ true
+      → list_any (λ (p : Passing). p.index == i) ps ≡ true → is_some (name_place (upper_case_name f.name) (supplied_names (listed line own called ps))) ≡ true
   place_there i f e [] h passes = absurd cc
   place_there i f e (p ∷ ps) h passes =
-      ap (λ (xs : List Actual). is_some (place_of (upper_case_name f.name) (supplied_names xs))) (one_more line own called p ps h.0.formal h.0.there)
-      ∙ ap (λ (t : Bool). is_some (if t then Some 0 else option_map (λ k. suc k) (place_of (upper_case_name f.name) (supplied_names (listed line own called ps))))) test
+      ap (λ (xs : List Actual). is_some (name_place (upper_case_name f.name) (supplied_names xs))) (one_more line own called p ps h.0.formal h.0.there)
+      ∙ ap (λ (t : Bool). is_some (if t then Some 0 else option_map (λ k. suc k) (name_place (upper_case_name f.name) (supplied_names (listed line own called ps))))) test
       ∙ by (p.index == i) passes (place_there i f e ps h.1)
     where
       turned : (a b : ℕ) → (a == b) ≡ (b == a)
@@ -553,17 +553,17 @@ module _ (c : Context) (own called : List Formal) (line : ℕ) (named : AreNamed
       some_suc (Some m) h = refl
 
       by : (t : Bool) → (t || list_any (λ (p : Passing). p.index == i) ps) ≡ true
-          → (list_any (λ (p : Passing). p.index == i) ps ≡ true → is_some (place_of (upper_case_name f.name) (supplied_names (listed line own called ps))) ≡ true)
-          → is_some (if t then Some 0 else option_map (λ k. suc k) (place_of (upper_case_name f.name) (supplied_names (listed line own called ps)))) ≡ true
+          → (list_any (λ (p : Passing). p.index == i) ps ≡ true → is_some (name_place (upper_case_name f.name) (supplied_names (listed line own called ps))) ≡ true)
+          → is_some (if t then Some 0 else option_map (λ k. suc k) (name_place (upper_case_name f.name) (supplied_names (listed line own called ps)))) ≡ true
       by true any more = refl
-      by false any more = some_suc (place_of (upper_case_name f.name) (supplied_names (listed line own called ps))) (more any)
+      by false any more = some_suc (name_place (upper_case_name f.name) (supplied_names (listed line own called ps))) (more any)
 
-  all_supplied : (fs : List Formal) (o : Option Block) → in_order o fs ≡ map upper called → (ps : List Passing) → AllByRecursion (IsPassable c own called) ps
+  all_supplied : (fs : List Formal) (o : Option Block) → in_parameter_order o fs ≡ map in_upper_case called → (ps : List Passing) → AllByRecursion (IsPassable c own called) ps
       → AreAllPassed called ps → list_all (is_supplied (supplied_names (listed line own called ps))) fs ≡ true
   all_supplied fs o order ps h passes =
       sym (all_ordered (is_supplied (supplied_names (listed line own called ps))) o fs)
       ∙ ap (list_all (is_supplied (supplied_names (listed line own called ps)))) order
-      ∙ all_there (is_supplied (supplied_names (listed line own called ps))) (map upper called)
+      ∙ all_there (is_supplied (supplied_names (listed line own called ps))) (map in_upper_case called)
       (λ i g e.
       let raw = from_upper called i g e in
       ap (is_supplied (supplied_names (listed line own called ps))) (sym raw.2)
@@ -578,16 +578,16 @@ passings_kept c own called callee ps s h =
 
 pub actuals_right : AreActualsRight
 actuals_right c own called callee ps s h = record {
-  by_24 = subst (λ (xs : List Actual). AllByRecursion (λ (a : Actual). sees_date (seen c a.value) ≡ false) xs) (sym h.actuals)
-      (all_actuals c own called s.line (λ (a : Actual). sees_date (seen c a.value) ≡ false) (λ p f e k. undated c own f p.actual k) ps h.passable);
-  by_34 = subst (λ (xs : List Actual). AllByRecursion (λ (a : Actual). names_none callee.formals a ≡ false) xs) (sym h.actuals)
-      (all_actuals c own called s.line (λ (a : Actual). names_none callee.formals a ≡ false)
-      (λ p f e k. each_named c own called s.line h.named callee.formals (block_at c.blocks callee.place) h.order p f e) ps h.passable);
-  by_35 = ap (supplied_twice callee.formals []) h.actuals
+  by_24 = subst (λ (xs : List Actual). AllByRecursion (λ (a : Actual). sees_date (resolution_of c a.value) ≡ false) xs) (sym h.actuals)
+      (all_actuals c own called s.line (λ (a : Actual). sees_date (resolution_of c a.value) ≡ false) (λ p f e k. undated c own f p.actual k) ps h.passable);
+  by_34 = subst (λ (xs : List Actual). AllByRecursion (λ (a : Actual). names_no_formal callee.formals a ≡ false) xs) (sym h.actuals)
+      (all_actuals c own called s.line (λ (a : Actual). names_no_formal callee.formals a ≡ false)
+      (λ p f e k. each_named c own called s.line h.named callee.formals (source_block_at c.blocks callee.place) h.order p f e) ps h.passable);
+  by_35 = ap (actuals_supplied_twice callee.formals []) h.actuals
       ∙ once_from c own called s.line h.named callee.formals 0 [] ps h.passable h.rising (λ j g le there. refl);
-  by_37 = subst (λ (xs : List Actual). AllByRecursion (λ (a : Actual). misfits c a (formal_named callee.formals a.name) ≡ false) xs) (sym h.actuals)
-      (all_actuals c own called s.line (λ (a : Actual). misfits c a (formal_named callee.formals a.name) ≡ false)
-      (λ p f e k. each_fits c own called s.line h.named callee.formals (block_at c.blocks callee.place) h.order p f e k) ps h.passable);
+  by_37 = subst (λ (xs : List Actual). AllByRecursion (λ (a : Actual). misfits_formal c a (formal_named callee.formals a.name) ≡ false) xs) (sym h.actuals)
+      (all_actuals c own called s.line (λ (a : Actual). misfits_formal c a (formal_named callee.formals a.name) ≡ false)
+      (λ p f e k. each_fits c own called s.line h.named callee.formals (source_block_at c.blocks callee.place) h.order p f e k) ps h.passable);
 }
 
 pub calls_complete : AreCallsComplete
@@ -598,4 +598,4 @@ calls_complete c own called callee ps s h all = by (has_actuals s.code && not (i
     by false e = refl
     by true e =
         ap (λ (xs : List Actual). not (list_all (is_supplied (supplied_names xs)) callee.formals)) h.actuals
-        ∙ ap not (all_supplied c own called s.line h.named callee.formals (block_at c.blocks callee.place) h.order ps h.passable (all e))
+        ∙ ap not (all_supplied c own called s.line h.named callee.formals (source_block_at c.blocks callee.place) h.order ps h.passable (all e))

@@ -5,7 +5,7 @@ use Rattle.plc_base.proofs.ListLemmas.{all_append}
 use Rattle.plc_base.specs.Kinds.{is_code}
 use Rattle.plc_base.specs.declared.blocks.BlockId.{BlockId}
 use Rattle.flat_code.specs.Programs.{CodeBlock}
-use Rattle.stl_ast.specs.Statements.{is_empty}
+use Rattle.stl_ast.specs.Statements.{is_empty_statement}
 use Rattle.stl_ast.specs.declared.blocks.Block.{Block}
 use Rattle.stl_ast.specs.declared.blocks.Tree.{Tree}
 use Rattle.stl_ast.specs.declared.declarations.Simple.{Simple}
@@ -14,7 +14,7 @@ use Rattle.stl_symbols.specs.Symbol.{Symbol}
 use Rattle.block_layout.specs.declared.blocks.BlockLayout.{BlockLayout}
 use Rattle.stl_types.specs.Bodies.{first_context}
 use Rattle.stl_types.specs.Context.{Context}
-use Rattle.stl_codegen.specs.Compiled.{Stated, StatedBlock, compiled}
+use Rattle.stl_codegen.specs.Compiled.{SourceInstruction, StatedBlock, compiled_block}
 use Rattle.stl_codegen.specs.Generated.{code_block, code_block_of, code_blocks_of, each_block, statements_of, stated_from}
 use Rattle.stl_codegen.specs.Instruction.{instruction}
 use Rattle.stl_codegen.specs.Order.{is_code_before}
@@ -26,14 +26,14 @@ use Rattle.listing_laws.proofs.called.Passed.{statements_handed_on}
 use Rattle.listing_laws.proofs.BlockLemmas.{all_sorted}
 
 module _ (types : BlockId → List Simple) (all : List CodeBlock) where
-  abbrev IsHandedStated : (own : List Simple) → Stated → Type 0
+  abbrev IsHandedStated : (own : List Simple) → SourceInstruction → Type 0
   IsHandedStated own s = HandsOn types all own s.instr
 
   stated_handed : (c : Context) (own : List Simple) (body : List Statement) (n : ℕ) (ss : List Statement) → SeesOwn c own
       → AllByRecursion (OwesStatement types all c) ss → AllByRecursion (IsHandedStated own) (stated_from c body n ss)
   stated_handed c own body n [] sees h = tt
   stated_handed c own body n (s ∷ ss) sees (one, more) =
-      either_way (λ l. AllByRecursion (IsHandedStated own) l) (is_empty s.code) (stated_from c body n ss) (record { instr = instruction c body n s; line = s.line } ∷ stated_from c body (suc n) ss)
+      either_way (λ l. AllByRecursion (IsHandedStated own) l) (is_empty_statement s.code) (stated_from c body n ss) (record { instr = instruction c body n s; line = s.line } ∷ stated_from c body (suc n) ss)
       (stated_handed c own body n ss sees more) (statements_handed_on types all c own body n s sees one, stated_handed c own body (suc n) ss sees more)
 
   statements_handed : (c : Context) (b : Block) (l : BlockLayout) (id : BlockId) → OwesBody types all c b l id
@@ -70,16 +70,16 @@ module _ (types : BlockId → List Simple) (all : List CodeBlock) where
   parted (b ∷ bs) h = let rest = parted bs h.1 in ((h.0.0, rest.0), (h.0.1, rest.1))
 
 sorted_handed : (types : BlockId → List Simple) (t : Tree) (symbols : List Symbol) (layouts : List BlockLayout) → OwesSource types t symbols layouts
-    → AllByRecursion (IsHandedBlock types (map compiled (code_blocks_of t symbols layouts))) (code_blocks_of t symbols layouts)
+    → AllByRecursion (IsHandedBlock types (map compiled_block (code_blocks_of t symbols layouts))) (code_blocks_of t symbols layouts)
 unfolding code_blocks_of
 sorted_handed types t symbols layouts h =
-    all_sorted (IsHandedBlock types (map compiled (code_blocks_of t symbols layouts))) is_code_before
+    all_sorted (IsHandedBlock types (map compiled_block (code_blocks_of t symbols layouts))) is_code_before
     (each_block (λ c b l. code_block_of c b l l.id) (first_context symbols layouts t.blocks) t.blocks layouts)
-    (blocks_handed types (map compiled (code_blocks_of t symbols layouts)) (first_context symbols layouts t.blocks) t.blocks layouts h)
+    (blocks_handed types (map compiled_block (code_blocks_of t symbols layouts)) (first_context symbols layouts t.blocks) t.blocks layouts h)
 
 pub sources_handed_on : AreSourcesHandedOn
 sources_handed_on types t symbols layouts h =
-    let parts = parted types (map compiled (code_blocks_of t symbols layouts)) (code_blocks_of t symbols layouts) (sorted_handed types t symbols layouts h) in
+    let parts = parted types (map compiled_block (code_blocks_of t symbols layouts)) (code_blocks_of t symbols layouts) (sorted_handed types t symbols layouts h) in
     record { lengths = parts.0; calls = parts.1 }
 
 pub source_types_kept : AreSourceTypesKept

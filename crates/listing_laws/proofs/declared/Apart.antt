@@ -13,7 +13,7 @@ use Rattle.block_layout.specs.Around.{ret_val}
 use Rattle.plc_base.specs.Decimal.{decimal_value}
 use Rattle.stl_list.specs.Parameters.{parameter_name}
 use Rattle.stl_list.specs.Sections.{static_name, temporary_name}
-use Rattle.stl_symbols.specs.Names.{place_of}
+use Rattle.stl_symbols.specs.Names.{name_place}
 use Rattle.print_laws.proofs.lexing.Numerals.{numeral}
 
 -- digits have no case
@@ -74,23 +74,23 @@ temporary_apart count static_ name (Numbered n less small e) = ap (λ k. bytes_e
 temporary_apart count static_ name (Static is e) = ap (λ n. bytes_eq (upper_case_name temporary_name) n) e
 
 -- a name that differs from each has no place among them
-not_found : (P : List ℕ → Type 0) (name : List ℕ) (names : List (List ℕ)) → ((m : List ℕ) → P m → bytes_eq name m ≡ false) → AllByRecursion P names → is_some (place_of name names) ≡ false
+not_found : (P : List ℕ → Type 0) (name : List ℕ) (names : List (List ℕ)) → ((m : List ℕ) → P m → bytes_eq name m ≡ false) → AllByRecursion P names → is_some (name_place name names) ≡ false
 not_found P name [] apart h = refl
 not_found P name (m ∷ names) apart (one, more) =
     let other = apart m one in
-    rw other (by (place_of name names) (not_found P name names apart more))
+    rw other (by (name_place name names) (not_found P name names apart more))
   where
     by : (o : Option ℕ) → is_some o ≡ false → is_some (option_map (λ k. suc k) o) ≡ false
     by None e = refl
     by (Some k) e = absurd cc
 
-pub parameter_new : (m : ℕ) (static_ : Bool) (names : List (List ℕ)) → m < 2 ^ 64 → AreTaken m static_ names → is_some (place_of (upper_case_name (parameter_name m)) names) ≡ false
+pub parameter_new : (m : ℕ) (static_ : Bool) (names : List (List ℕ)) → m < 2 ^ 64 → AreTaken m static_ names → is_some (name_place (upper_case_name (parameter_name m)) names) ≡ false
 parameter_new m static_ names h taken = not_found (IsTaken m static_) (upper_case_name (parameter_name m)) names (λ n is. one_apart m static_ n h is) taken
 
-pub static_new : (count : ℕ) (names : List (List ℕ)) → AreTaken count false names → is_some (place_of (upper_case_name static_name) names) ≡ false
+pub static_new : (count : ℕ) (names : List (List ℕ)) → AreTaken count false names → is_some (name_place (upper_case_name static_name) names) ≡ false
 static_new count names taken = not_found (IsTaken count false) (upper_case_name static_name) names (static_apart count) taken
 
-pub temporary_new : (count : ℕ) (static_ : Bool) (names : List (List ℕ)) → AreTaken count static_ names → is_some (place_of (upper_case_name temporary_name) names) ≡ false
+pub temporary_new : (count : ℕ) (static_ : Bool) (names : List (List ℕ)) → AreTaken count static_ names → is_some (name_place (upper_case_name temporary_name) names) ≡ false
 temporary_new count static_ names taken = not_found (IsTaken count static_) (upper_case_name temporary_name) names (temporary_apart count static_) taken
 
 -- more may be taken

@@ -9,9 +9,9 @@ use Rattle.plc_base.specs.Kinds.{is_code, is_data_block, is_data_type, is_functi
 use Rattle.plc_base.specs.declared.blocks.BlockId.{BlockId}
 use Rattle.plc_base.specs.declared.blocks.BlockKind.{BlockKind}
 use Rattle.plc_base.specs.declared.blocks.BlockKind.TheVariants as kinds
-use Rattle.flat_code.specs.Blocks.{Around, block_faults}
+use Rattle.flat_code.specs.Blocks.{Environment, block_faults}
 use Rattle.flat_code.specs.Image.{record_of_block}
-use Rattle.flat_code.specs.Loading.{AreVerified, around_block, lens_of}
+use Rattle.flat_code.specs.Loading.{AreVerified, environment_of_block, lens_of}
 use Rattle.flat_code.specs.Programs.{CodeBlock, DataBlock}
 use Rattle.flat_code.specs.Records.{BlockRecord}
 use Rattle.flat_code.specs.declared.programs.Param.{Param}
@@ -25,24 +25,24 @@ use Rattle.stl_symbols.specs.Symbol.{Symbol}
 use Rattle.block_layout.specs.Around.{Outside, of_sections, of_structure, returned_names, section_declarations}
 use Rattle.block_layout.specs.Cells.{cells_of, components_of, is_temp, returned_cells, section_cells, temps_of}
 use Rattle.block_layout.specs.Layouts.{block_layout, layouts_of}
-use Rattle.block_layout.specs.Lengths.{farthest, least_local, length_of, local_len, is_structured, shape_bits, shape_of}
-use Rattle.block_layout.specs.Measures.{types_of}
+use Rattle.block_layout.specs.Lengths.{farthest_operand_end, least_local, length_of_block, local_len, is_structured, shape_bits, shape_of}
+use Rattle.block_layout.specs.Measures.{types_of_source}
 use Rattle.block_layout.specs.Offsets.{width_of}
-use Rattle.block_layout.specs.Sizes.{structure_bits, up}
+use Rattle.block_layout.specs.Sizes.{structure_bits, next_multiple}
 use Rattle.block_layout.specs.Rule43.{leads_to}
-use Rattle.block_layout.specs.Rule44.{is_beyond}
+use Rattle.block_layout.specs.Rule44.{is_number_beyond_limits}
 use Rattle.block_layout.specs.Types.{Types}
 use Rattle.block_layout.specs.declared.blocks.BlockLayout.{BlockLayout}
 use Rattle.block_layout.specs.declared.cells.Cell.{Cell}
-use Rattle.stl_codegen.specs.Compiled.{StatedBlock, compiled}
-use Rattle.stl_codegen.specs.Generated.{code_block, data_block, code_blocks_of, instance_len, param, param_here, params_of}
+use Rattle.stl_codegen.specs.Compiled.{StatedBlock, compiled_block}
+use Rattle.stl_codegen.specs.Generated.{code_block, generated_data_block, code_blocks_of, instance_len, param_at_bits, param_here, params_of}
 use Rattle.stl_codegen.specs.Instruction.{return_last}
 use Rattle.stl_codegen.specs.Order.{is_code_before, is_id_before}
 use Rattle.stl_list.specs.CodeBlocks.{listed_block}
 use Rattle.stl_list.specs.DataBlocks.{listed_data}
-use Rattle.stl_list.specs.Joined.{Chains, chains_of, links, parameter_count}
+use Rattle.stl_list.specs.Joined.{Chains, chains_of, links, total_parameter_count}
 use Rattle.stl_list.specs.Lines.{lines_from}
-use Rattle.stl_list.specs.Signatures.{Signature, formals_from, formals_of, signature, signatures, signatures_from}
+use Rattle.stl_list.specs.Signatures.{Signature, formals_from, formals_of_block, signature, signatures, signatures_from}
 use Rattle.sem_kept.specs.Accepted.{IsAccepted, program_in}
 use Rattle.sem_kept.proofs.accepted.Accepted.{IsSound, all_both, context_at, right_tree, sound_code_blocks, sound_data_blocks}
 use Rattle.sem_kept.proofs.accepted.RecordBlocks.{code_blocks_rise}
@@ -66,7 +66,7 @@ use Rattle.listing_laws.proofs.declared.Sources.{HasSections, has_sections, made
 
 abbrev returned_params : Option Simple → List Param
 returned_params None = []
-returned_params (Some k) = param 2 (width_of k) 0 ∷ []
+returned_params (Some k) = param_at_bits 2 (width_of k) 0 ∷ []
 
 -- what a compiled block that is no function block has
 pub record IsOrdinary (b : CodeBlock) : Type 0 where
@@ -114,7 +114,7 @@ groups_from returns params ins outs both None is e input output in_out few =
       last = tt;
     }
 groups_from returns params ins outs [] (Some k) is e input output in_out few =
-    let r = param 2 (width_of k) 0 in
+    let r = param_at_bits 2 (width_of k) 0 in
     let size = ap length e in
     let a = length-append (ins ++ (outs ++ [])) (r ∷ []) in
     let b = length-append ins (outs ++ []) in
@@ -136,7 +136,7 @@ groups_from returns params ins outs [] (Some k) is e input output in_out few =
       last = tt;
     }
 groups_from returns params ins outs (p ∷ ps) (Some k) is e input output in_out few =
-    let r = param 2 (width_of k) 0 in
+    let r = param_at_bits 2 (width_of k) 0 in
     let size = ap length e in
     let a = length-append (ins ++ (outs ++ p ∷ ps)) (r ∷ []) in
     let b = length-append ins (outs ++ p ∷ ps) in
@@ -191,7 +191,7 @@ pub record IsSourced (b : CodeBlock) : Type 0 where
   pub few : length b.params ≤ 60
   pub is_even : b.local_len % 2 ≡ 0
   pub short : b.local_len ≤ 1024
-  pub number : is_beyond (Some b.id) ≡ false
+  pub number : is_number_beyond_limits (Some b.id) ≡ false
   pub least : least_local b.id.kind ≤ b.local_len
   pub shape : HasShape b
 
@@ -203,8 +203,8 @@ fb_kind kinds.Db e = absurd cc
 fb_kind kinds.Udt e = absurd cc
 fb_kind kinds.Sfc e = absurd cc
 
-local_even : (k : BlockKind) (n : ℕ) → (max (least_local k) (up n 2) % 2 ≡ 0) × (least_local k ≤ max (least_local k) (up n 2))
-unfolding up
+local_even : (k : BlockKind) (n : ℕ) → (max (least_local k) (next_multiple n 2) % 2 ≡ 0) × (least_local k ≤ max (least_local k) (next_multiple n 2))
+unfolding next_multiple
 local_even k n = by (is_organization_block k)
   where
     by : (t : Bool) → (max (if t then 20 else 0) ((n + (2 - 1)) / 2 * 2) % 2 ≡ 0) × ((if t then 20 else 0) ≤ max (if t then 20 else 0) ((n + (2 - 1)) / 2 * 2))
@@ -214,13 +214,13 @@ local_even k n = by (is_organization_block k)
 local_of : (y : Types) (b : Block) → is_code b.kind ≡ true → (local_len y b % 2 ≡ 0) × (least_local b.kind ≤ local_len y b)
 unfolding local_len
 local_of y b code =
-    let n = max (structure_bits (temps_of y b) / 8) (farthest b.body) in
-    let same : (if is_code b.kind then max (least_local b.kind) (up n 2) else 0) ≡ max (least_local b.kind) (up n 2) = ap (λ (t : Bool). if t then max (least_local b.kind) (up n 2) else 0) code in
+    let n = max (structure_bits (temps_of y b) / 8) (farthest_operand_end b.body) in
+    let same : (if is_code b.kind then max (least_local b.kind) (next_multiple n 2) else 0) ≡ max (least_local b.kind) (next_multiple n 2) = ap (λ (t : Bool). if t then max (least_local b.kind) (next_multiple n 2) else 0) code in
     let h = local_even b.kind n in
     (ap (λ m. m % 2) same ∙ h.0, subst (λ m. least_local b.kind ≤ m) (sym same) h.1)
 
-structure_len : (y : Types) (blocks : List Block) (b : Block) → b.kind ≡ kinds.Fb → b.shape ≡ None → b.instance_of ≡ None → length_of y blocks b ≡ structure_bits (components_of y b) / 8
-unfolding length_of
+structure_len : (y : Types) (blocks : List Block) (b : Block) → b.kind ≡ kinds.Fb → b.shape ≡ None → b.instance_of ≡ None → length_of_block y blocks b ≡ structure_bits (components_of y b) / 8
+unfolding length_of_block
 structure_len y blocks b kind shape instance = rw kind (rw shape (rw instance refl))
 
 -- the instance of a compiled function block, by the components of its layout
@@ -229,7 +229,7 @@ pub record IsLaidInstance (l : BlockLayout) (b : CodeBlock) : Type 0 where
   pub are : l.components ≡ instance.cells
 
 pub laid_instance : (symbols : List Symbol) (t : Tree) (k : ℕ) (b : Block) (l : BlockLayout) (id : BlockId) → IsSound symbols t k b l → l.id ≡ Some id → is_code id.kind ≡ true
-    → is_function_block id.kind ≡ true → IsLaidInstance l (compiled (code_block (context_at symbols t k) b l id))
+    → is_function_block id.kind ≡ true → IsLaidInstance l (compiled_block (code_block (context_at symbols t k) b l id))
 unfolding block_layout params_of
 laid_instance symbols t k b l id h e code fb = record {
   instance = record {
@@ -238,13 +238,13 @@ laid_instance symbols t k b l id h e code fb = record {
     apart = sections_apart cells parts (sections_once y o (λ k. not (is_temp k)) [] b.parts [] covers new);
     params = (λ i. return_last (result i) (flat_map (λ x. param_here (own_fb i) (are i) x) (are i))) ∙ made_sections true cells cells parts;
     length = has_length ∙ length_is;
-    short = omega (arith, has_length, ap (λ (x : BlockLayout). x.length) h.layout, ltb-false 16384 (length_of y t.blocks b) h.head.by_51);
+    short = omega (arith, has_length, ap (λ (x : BlockLayout). x.length) h.layout, ltb-false 16384 (length_of_block y t.blocks b) h.head.by_51);
   };
   are = are;
 }
   where
     y : Types
-    y = types_of symbols t.blocks
+    y = types_of_source symbols t.blocks
 
     o : Outside
     o = of_sections b
@@ -296,26 +296,26 @@ laid_instance symbols t k b l id h e code fb = record {
     has_length = ap (λ (s : Bool). if s then l.length else 0) own_fb
 
 pub sourced : (symbols : List Symbol) (t : Tree) (k : ℕ) (b : Block) (l : BlockLayout) (id : BlockId) → IsSound symbols t k b l → l.id ≡ Some id → is_code id.kind ≡ true
-    → IsSourced (compiled (code_block (context_at symbols t k) b l id))
+    → IsSourced (compiled_block (code_block (context_at symbols t k) b l id))
 unfolding block_layout params_of
 sourced symbols t k b l id h e code = record {
   code = code;
   few = few;
   is_even = ap (λ n. n % 2) long ∙ (local_of y b own_code).0;
   short = omega (arith, long, ltb-false 1024 (local_len y b) h.head.by_50);
-  number = ap is_beyond (sym e ∙ id_there symbols t k b l h) ∙ h.head.by_44;
+  number = ap is_number_beyond_limits (sym e ∙ id_there symbols t k b l h) ∙ h.head.by_44;
   least = subst (λ n. least_local id.kind ≤ n) (sym long) (subst (λ z. least_local z ≤ local_len y b) kind (local_of y b own_code).1);
   shape = shape (is_function_block id.kind) refl;
 }
   where
     y : Types
-    y = types_of symbols t.blocks
+    y = types_of_source symbols t.blocks
 
     o : Outside
     o = of_sections b
 
     c : CodeBlock
-    c = compiled (code_block (context_at symbols t k) b l id)
+    c = compiled_block (code_block (context_at symbols t k) b l id)
 
     kind : b.kind ≡ id.kind
     kind = kind_there y.symbols b id (sym (id_there symbols t k b l h) ∙ e)
@@ -395,7 +395,7 @@ Before a b = is_id_before a.id b.id ≡ true
 ids_later : (a b c : BlockId) → is_id_before a b ≡ true → is_id_before b c ≡ true → is_id_before a c ≡ true
 ids_later a b c h k = grind (arith, nat_tests)
 
-all_later : (x y : StatedBlock) (ys : List StatedBlock) → is_code_before x y ≡ true → RiseFrom is_code_before y ys → AllByRecursion (Before (compiled x)) (map compiled ys)
+all_later : (x y : StatedBlock) (ys : List StatedBlock) → is_code_before x y ≡ true → RiseFrom is_code_before y ys → AllByRecursion (Before (compiled_block x)) (map compiled_block ys)
 all_later x y [] h rise = tt
 all_later x y (z ∷ zs) h (first, more) =
     let next = ids_later x.id y.id z.id h first in
@@ -405,11 +405,11 @@ abbrev pub AreAfter : List CodeBlock → Type 0
 AreAfter [] = Unit {0}
 AreAfter (b ∷ bs) = AllByRecursion (Before b) bs × AreAfter bs
 
-all_after : (x : StatedBlock) (xs : List StatedBlock) → RiseFrom is_code_before x xs → AreAfter (map compiled (x ∷ xs))
+all_after : (x : StatedBlock) (xs : List StatedBlock) → RiseFrom is_code_before x xs → AreAfter (map compiled_block (x ∷ xs))
 all_after x [] rise = (tt, tt)
 all_after x (y ∷ ys) (first, more) = ((first, all_later x y ys first more), all_after y ys more)
 
-pub rise_after : (xs : List StatedBlock) → Rise is_code_before xs → AreAfter (map compiled xs)
+pub rise_after : (xs : List StatedBlock) → Rise is_code_before xs → AreAfter (map compiled_block xs)
 rise_after [] rise = tt
 rise_after (x ∷ xs) rise = all_after x xs rise
 
@@ -440,7 +440,7 @@ same_self i = and_from (is_same_kind i.kind i.kind) (nat_eq i.number i.number) (
 -- the formal parameters of a block are those of its own signature, and have its widths
 pub record IsKnown (c : Chains) (ss : List Signature) (b : CodeBlock) : Type 0 where
   pub first : ℕ
-  pub are : formals_of ss b.id ≡ formals_from c (is_function b.id.kind) false 0 first b.params
+  pub are : formals_of_block ss b.id ≡ formals_from c (is_function b.id.kind) false 0 first b.params
   pub wide : AreWide b.params (formals_from c (is_function b.id.kind) false 0 first b.params)
 
 known_behind : (c : Chains) (s : Signature) (ss : List Signature) (bs : List CodeBlock) → AllByRecursion (λ b. is_same_block s.id b.id ≡ false) bs → AllByRecursion (IsKnown c ss) bs
@@ -449,7 +449,7 @@ known_behind c s ss [] apart h = tt
 known_behind c s ss (b ∷ bs) (other, others) (one, more) = (
   record {
     first = one.first;
-    are = ap (λ (t : Bool). if t then s.formals else formals_of ss b.id) other ∙ one.are;
+    are = ap (λ (t : Bool). if t then s.formals else formals_of_block ss b.id) other ∙ one.are;
     wide = one.wide;
   },
   known_behind c s ss bs others more,
@@ -464,19 +464,19 @@ pub all_known : (c : Chains) (first : ℕ) (bs : List CodeBlock) → AreAfter bs
 all_known c first [] after wide = tt
 all_known c first (b ∷ bs) (later, after) (one, more) =
     let s = signature c first b in (
-      record { first = first; are = ap (λ (t : Bool). if t then s.formals else formals_of (signatures_from c (first + length b.params) bs) b.id) (same_self b.id); wide = one },
+      record { first = first; are = ap (λ (t : Bool). if t then s.formals else formals_of_block (signatures_from c (first + length b.params) bs) b.id) (same_self b.id); wide = one },
       known_behind c s (signatures_from c (first + length b.params) bs) bs (all_not_same b bs later) (all_known c (first + length b.params) bs after more),
     )
 
 -- ---- a block is declared again
 
-declared_again : (c : Chains) (ss : List Signature) (a : Around) (b : CodeBlock) → a.local_len ≡ b.local_len → block_faults a 0 b.code ≡ [] → IsSourced b → IsKnown c ss b → IsDeclaredAgain ss b
+declared_again : (c : Chains) (ss : List Signature) (a : Environment) (b : CodeBlock) → a.local_len ≡ b.local_len → block_faults a 0 b.code ≡ [] → IsSourced b → IsKnown c ss b → IsDeclaredAgain ss b
 declared_again c ss a b local_ clean s known = by s.shape
   where
-    far : (reached : ℕ) → farthest (listed_block ss reached b).body ≤ b.local_len
-    far reached = subst (λ n. farthest (listed_block ss reached b).body ≤ n) local_ (body_near a ss (lines_from reached b.lines) b clean)
+    far : (reached : ℕ) → farthest_operand_end (listed_block ss reached b).body ≤ b.local_len
+    far reached = subst (λ n. farthest_operand_end (listed_block ss reached b).body ≤ n) local_ (body_near a ss (lines_from reached b.lines) b clean)
 
-    listed : (g : HasGroups (is_function b.id.kind) b.params) → AreListed (is_function b.id.kind) b.params g (formals_of ss b.id)
+    listed : (g : HasGroups (is_function b.id.kind) b.params) → AreListed (is_function b.id.kind) b.params g (formals_of_block ss b.id)
     listed g = subst (AreListed (is_function b.id.kind) b.params g) (sym known.are) (all_listed c (is_function b.id.kind) known.first b.params g known.wide)
 
     locals : (g : HasGroups (is_function b.id.kind) b.params) (y : Types) (reached : ℕ) → local_len y (listed_block ss reached b) ≡ b.local_len
@@ -500,9 +500,9 @@ all_again : (c : Chains) (ss : List Signature) (lens : List (ℕ × ℕ)) (all :
     → AllByRecursion IsSourced bs → AllByRecursion (IsKnown c ss) bs → AllByRecursion (IsDeclaredAgain ss) bs
 all_again c ss lens all [] clean h k = tt
 all_again c ss lens all (b ∷ bs) (clean, cleans) (one, more) (known, knowns) =
-    (declared_again c ss (around_block (Some lens) all (record_of_block b)) b refl clean one known, all_again c ss lens all bs cleans more knowns)
+    (declared_again c ss (environment_of_block (Some lens) all (record_of_block b)) b refl clean one known, all_again c ss lens all bs cleans more knowns)
 
-pub all_compiled : (P : CodeBlock → Type 0) (xs : List StatedBlock) → AllByRecursion (λ x. P (compiled x)) xs → AllByRecursion P (map compiled xs)
+pub all_compiled : (P : CodeBlock → Type 0) (xs : List StatedBlock) → AllByRecursion (λ x. P (compiled_block x)) xs → AllByRecursion P (map compiled_block xs)
 all_compiled P [] h = tt
 all_compiled P (x ∷ xs) (one, more) = (one, all_compiled P xs more)
 
@@ -515,7 +515,7 @@ all_codes (b ∷ bs) (one, more) = (one.code, all_codes bs more)
 pub kinds_wide : AreKindsWide
 unfolding signatures chains_of
 kinds_wide p codes verified =
-    signatures_wide (widths p.code_blocks) (links p.code_blocks) (parameter_count p.code_blocks) 0 [] p.code_blocks (program_good p codes verified) refl refl
+    signatures_wide (widths p.code_blocks) (links p.code_blocks) (total_parameter_count p.code_blocks) 0 [] p.code_blocks (program_good p codes verified) refl refl
 
 pub are_declared_again : AreDeclaredAgain
 unfolding signatures
@@ -524,7 +524,7 @@ are_declared_again source file symbols t accepted bytes file_bytes =
     let p = program_in symbols t in
     let blocks = code_blocks_of t symbols (layouts_of t symbols) in
     let verified = (accepted_verifies source file symbols t accepted bytes file_bytes).1 in
-    let from = all_compiled IsSourced blocks (sound_code_blocks symbols t (λ x. IsSourced (compiled x)) tree (sourced symbols t)) in
+    let from = all_compiled IsSourced blocks (sound_code_blocks symbols t (λ x. IsSourced (compiled_block x)) tree (sourced symbols t)) in
     all_again (chains_of p.code_blocks) (signatures_in p) (lens_of p.data_blocks) (map record_of_block p.code_blocks) p.code_blocks verified.blocks from
     (all_known (chains_of p.code_blocks) 0 p.code_blocks (rise_after blocks (code_blocks_rise symbols t tree)) (kinds_wide p (all_codes p.code_blocks from) verified))
 
@@ -537,7 +537,7 @@ codes_known source file symbols t accepted bytes file_bytes =
     let p = program_in symbols t in
     let blocks = code_blocks_of t symbols (layouts_of t symbols) in
     let verified = (accepted_verifies source file symbols t accepted bytes file_bytes).1 in
-    let from = all_compiled IsSourced blocks (sound_code_blocks symbols t (λ x. IsSourced (compiled x)) tree (sourced symbols t)) in
+    let from = all_compiled IsSourced blocks (sound_code_blocks symbols t (λ x. IsSourced (compiled_block x)) tree (sourced symbols t)) in
     all_both IsSourced (IsKnown (chains_of p.code_blocks) (signatures_in p)) p.code_blocks from
     (all_known (chains_of p.code_blocks) 0 p.code_blocks (rise_after blocks (code_blocks_rise symbols t tree)) (kinds_wide p (all_codes p.code_blocks from) verified))
 
@@ -546,7 +546,7 @@ pub codes_wide : (source file : List ℕ) (symbols : List Symbol) (t : Tree) →
 codes_wide source file symbols t accepted bytes file_bytes =
     let tree = right_tree source file symbols t accepted in
     let blocks = code_blocks_of t symbols (layouts_of t symbols) in
-    let from = all_compiled IsSourced blocks (sound_code_blocks symbols t (λ x. IsSourced (compiled x)) tree (sourced symbols t)) in
+    let from = all_compiled IsSourced blocks (sound_code_blocks symbols t (λ x. IsSourced (compiled_block x)) tree (sourced symbols t)) in
     kinds_wide (program_in symbols t) (all_codes (program_in symbols t).code_blocks from) (accepted_verifies source file symbols t accepted bytes file_bytes).1
 
 -- no block has the kind and number of one behind it
@@ -554,17 +554,17 @@ pub fronts_apart : (front back : List StatedBlock) (b : StatedBlock) → Rise is
     → AllByRecursion (λ (a : StatedBlock). is_same_block a.id b.id ≡ false) front
 fronts_apart front back b rise = by front (rise_after (front ++ b ∷ back) rise)
   where
-    later : (a : StatedBlock) (xs : List StatedBlock) → AllByRecursion (Before (compiled a)) (map compiled (xs ++ b ∷ back)) → is_same_block a.id b.id ≡ false
+    later : (a : StatedBlock) (xs : List StatedBlock) → AllByRecursion (Before (compiled_block a)) (map compiled_block (xs ++ b ∷ back)) → is_same_block a.id b.id ≡ false
     later a [] h = not_same a.id b.id h.0
     later a (x ∷ xs) h = later a xs h.1
 
-    by : (xs : List StatedBlock) → AreAfter (map compiled (xs ++ b ∷ back)) → AllByRecursion (λ (a : StatedBlock). is_same_block a.id b.id ≡ false) xs
+    by : (xs : List StatedBlock) → AreAfter (map compiled_block (xs ++ b ∷ back)) → AllByRecursion (λ (a : StatedBlock). is_same_block a.id b.id ≡ false) xs
     by [] h = tt
     by (x ∷ xs) h = (later x xs h.0, by xs h.1)
 
 -- ---- the rules of declarations
 
-pub grouped : (c : Chains) (ss : List Signature) (b : CodeBlock) → IsSourced b → IsKnown c ss b → AreGrouped (formals_of ss b.id)
+pub grouped : (c : Chains) (ss : List Signature) (b : CodeBlock) → IsSourced b → IsKnown c ss b → AreGrouped (formals_of_block ss b.id)
 grouped c ss b s known = subst AreGrouped (sym known.are) (by s.shape)
   where
     by : HasShape b → AreGrouped (formals_from c (is_function b.id.kind) false 0 known.first b.params)
@@ -587,7 +587,7 @@ listed_right source file symbols t accepted bytes file_bytes y line =
     let p = program_in symbols t in
     let blocks = code_blocks_of t symbols (layouts_of t symbols) in
     let verified = (accepted_verifies source file symbols t accepted bytes file_bytes).1 in
-    let from = all_compiled IsSourced blocks (sound_code_blocks symbols t (λ x. IsSourced (compiled x)) tree (sourced symbols t)) in (
+    let from = all_compiled IsSourced blocks (sound_code_blocks symbols t (λ x. IsSourced (compiled_block x)) tree (sourced symbols t)) in (
       codes_right (chains_of p.code_blocks) (signatures_in p) y line p.code_blocks from
           (all_known (chains_of p.code_blocks) 0 p.code_blocks (rise_after blocks (code_blocks_rise symbols t tree)) (kinds_wide p (all_codes p.code_blocks from) verified)),
       datas_right (signatures_in p) y line p.data_blocks,
@@ -620,7 +620,7 @@ heads_right ss y line [] h k = tt
 heads_right ss y line (b ∷ bs) (one, more) (again, others) = (
   record {
     by_43 = λ blocks before. ap (λ (t : Bool). t && leads_to y blocks (length blocks) (length before) (length before)) (no_data_type b.id.kind one.code);
-    by_44 = λ symbols. ap (λ (t : Bool). is_beyond (if t then Some b.id else None)) (own_kind b.id.kind) ∙ one.number;
+    by_44 = λ symbols. ap (λ (t : Bool). is_number_beyond_limits (if t then Some b.id else None)) (own_kind b.id.kind) ∙ one.number;
     by_50 = ap (nat_lt 1024) (again.local_len y line) ∙ not_above b.local_len one.short;
   },
   heads_right ss y line bs more others,
@@ -628,9 +628,9 @@ heads_right ss y line (b ∷ bs) (one, more) (again, others) = (
 
 -- the number of a data block of the source
 IsNumbered : DataBlock → Type 0
-IsNumbered d = is_beyond (Some (record { kind = kinds.Db; number = d.number })) ≡ false
+IsNumbered d = is_number_beyond_limits (Some (record { kind = kinds.Db; number = d.number })) ≡ false
 
-data_kind : (k : BlockKind) (n : ℕ) → is_data_block k ≡ true → is_beyond (Some (record { kind = k; number = n })) ≡ false → is_beyond (Some (record { kind = kinds.Db; number = n })) ≡ false
+data_kind : (k : BlockKind) (n : ℕ) → is_data_block k ≡ true → is_number_beyond_limits (Some (record { kind = k; number = n })) ≡ false → is_number_beyond_limits (Some (record { kind = kinds.Db; number = n })) ≡ false
 data_kind kinds.Db n e h = h
 data_kind kinds.Ob n e h = absurd cc
 data_kind kinds.Fc n e h = absurd cc
@@ -639,9 +639,9 @@ data_kind kinds.Udt n e h = absurd cc
 data_kind kinds.Sfc n e h = absurd cc
 
 data_numbered : (symbols : List Symbol) (t : Tree) (k : ℕ) (b : Block) (l : BlockLayout) (id : BlockId) → IsSound symbols t k b l → l.id ≡ Some id → is_data_block id.kind ≡ true
-    → IsNumbered (data_block (context_at symbols t k) l id)
+    → IsNumbered (generated_data_block (context_at symbols t k) l id)
 unfolding IsNumbered
-data_numbered symbols t k b l id h e db = data_kind id.kind id.number db (ap is_beyond (sym e ∙ id_there symbols t k b l h) ∙ h.head.by_44)
+data_numbered symbols t k b l id h e db = data_kind id.kind id.number db (ap is_number_beyond_limits (sym e ∙ id_there symbols t k b l h) ∙ h.head.by_44)
 
 data_heads : (ss : List Signature) (y : Types) (line : ℕ) (ds : List DataBlock) → AllByRecursion IsNumbered ds
     → AllByRecursion (λ d. IsHeadRight y (listed_data ss line d.number d.bytes d.instance_of)) ds
@@ -658,7 +658,7 @@ listed_heads source file symbols t accepted bytes file_bytes y line =
     let tree = right_tree source file symbols t accepted in
     let p = program_in symbols t in
     let blocks = code_blocks_of t symbols (layouts_of t symbols) in
-    let from = all_compiled IsSourced blocks (sound_code_blocks symbols t (λ x. IsSourced (compiled x)) tree (sourced symbols t)) in (
+    let from = all_compiled IsSourced blocks (sound_code_blocks symbols t (λ x. IsSourced (compiled_block x)) tree (sourced symbols t)) in (
       heads_right (signatures_in p) y line p.code_blocks from (are_declared_again source file symbols t accepted bytes file_bytes),
       data_heads (signatures_in p) y line p.data_blocks (sound_data_blocks symbols t IsNumbered tree (data_numbered symbols t)),
     )
@@ -674,19 +674,19 @@ unstructured kinds.Db e f = absurd cc
 unstructured kinds.Udt e f = absurd cc
 unstructured kinds.Sfc e f = absurd cc
 
-no_length : (y : Types) (blocks : List Block) (b : Block) → is_structured b.kind ≡ false → length_of y blocks b ≡ 0
-unfolding length_of
+no_length : (y : Types) (blocks : List Block) (b : Block) → is_structured b.kind ≡ false → length_of_block y blocks b ≡ 0
+unfolding length_of_block
 no_length y blocks b e = ap (λ (t : Bool). if t then shape_bits y blocks b (shape_of y b) / 8 else 0) e
 
-short_code : (ss : List Signature) (y : Types) (blocks : List Block) (line : ℕ) (b : CodeBlock) → IsSourced b → IsDeclaredAgain ss b → nat_lt 16384 (length_of y blocks (listed_block ss line b)) ≡ false
+short_code : (ss : List Signature) (y : Types) (blocks : List Block) (line : ℕ) (b : CodeBlock) → IsSourced b → IsDeclaredAgain ss b → nat_lt 16384 (length_of_block y blocks (listed_block ss line b)) ≡ false
 short_code ss y blocks line b s again = by s.shape
   where
-    by : HasShape b → nat_lt 16384 (length_of y blocks (listed_block ss line b)) ≡ false
+    by : HasShape b → nat_lt 16384 (length_of_block y blocks (listed_block ss line b)) ≡ false
     by (OfInstance fb i) = ap (nat_lt 16384) (again.instance_len y blocks line fb) ∙ not_long b.instance_len i.short
     by (Ordinary fb o) = ap (nat_lt 16384) (no_length y blocks (listed_block ss line b) (unstructured b.id.kind s.code fb)) ∙ refl
 
 short_codes : (ss : List Signature) (y : Types) (blocks : List Block) (line : ℕ) (bs : List CodeBlock) → AllByRecursion IsSourced bs → AllByRecursion (IsDeclaredAgain ss) bs
-    → AllByRecursion (λ b. nat_lt 16384 (length_of y blocks (listed_block ss line b)) ≡ false) bs
+    → AllByRecursion (λ b. nat_lt 16384 (length_of_block y blocks (listed_block ss line b)) ≡ false) bs
 short_codes ss y blocks line [] h k = tt
 short_codes ss y blocks line (b ∷ bs) (one, more) (again, others) = (short_code ss y blocks line b one again, short_codes ss y blocks line bs more others)
 
@@ -695,5 +695,5 @@ listed_short source file symbols t accepted bytes file_bytes y others line =
     let tree = right_tree source file symbols t accepted in
     let p = program_in symbols t in
     let blocks = code_blocks_of t symbols (layouts_of t symbols) in
-    let from = all_compiled IsSourced blocks (sound_code_blocks symbols t (λ x. IsSourced (compiled x)) tree (sourced symbols t)) in
+    let from = all_compiled IsSourced blocks (sound_code_blocks symbols t (λ x. IsSourced (compiled_block x)) tree (sourced symbols t)) in
     short_codes (signatures_in p) y others line p.code_blocks from (are_declared_again source file symbols t accepted bytes file_bytes)

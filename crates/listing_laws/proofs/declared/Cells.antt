@@ -6,17 +6,17 @@ use Rattle.plc_base.specs.Folding.{upper_case_name}
 use Rattle.stl_ast.specs.declared.blocks.PartKind.{PartKind}
 use Rattle.stl_ast.specs.declared.declarations.Declaration.{Declaration}
 use Rattle.stl_ast.specs.declared.declarations.Simple.TheVariants as simple
-use Rattle.stl_symbols.specs.Names.{place_of}
-use Rattle.block_layout.specs.Around.{Outside, onto}
-use Rattle.block_layout.specs.Cells.{cell_of, cells_of, is_sound, opened}
-use Rattle.block_layout.specs.Declarations.{count}
+use Rattle.stl_symbols.specs.Names.{name_place}
+use Rattle.block_layout.specs.Around.{Outside, declarations_before_next}
+use Rattle.block_layout.specs.Cells.{cell_of, cells_of, is_sound, with_first_cell_opening}
+use Rattle.block_layout.specs.Declarations.{element_count}
 use Rattle.block_layout.specs.Rule21.{names_before}
 use Rattle.block_layout.specs.Types.{Types}
 use Rattle.block_layout.specs.declared.cells.Cell.{Cell}
 use Rattle.block_layout.specs.declared.cells.Element.TheVariants.{Plain}
 use Rattle.stl_types.specs.declared.parameters.Formal.{Formal}
 use Rattle.stl_list.specs.Parameters.{parameter_name}
-use Rattle.stl_list.specs.Sections.{byte_array, bytes_here, plain_declaration, section}
+use Rattle.stl_list.specs.Sections.{byte_array, bytes_here, plain_declaration, section_part}
 use Rattle.sem_kept.proofs.accepted.RecordParams.{IsNew, none_around, parameter_sound}
 use Rattle.listing_laws.proofs.declared.Apart.{AreTaken, IsTaken, Numbered, parameter_new, taken_more}
 
@@ -47,7 +47,7 @@ AreNumbered i (f ∷ fs) = (f.name ≡ parameter_name i) × AreNumbered (suc i) 
 pub plain_new : (o : Outside) (before : List Declaration) (line i : ℕ) (static_ : Bool) (f : Formal) → f.name ≡ parameter_name i → i < 2 ^ 64
     → AreTaken i static_ (names_before o.names 0 before) → IsNew o before (plain_declaration line f)
 plain_new o before line i static_ f name h taken =
-    (ap (λ n. is_some (place_of (upper_case_name n) (names_before o.names 0 before))) name ∙ parameter_new i static_ (names_before o.names 0 before) h taken, refl)
+    (ap (λ n. is_some (name_place (upper_case_name n) (names_before o.names 0 before))) name ∙ parameter_new i static_ (names_before o.names 0 before) h taken, refl)
 
 pub plain_sound : (y : Types) (o : Outside) (before : List Declaration) (line : ℕ) (f : Formal) → o.depth ≡ 0 → IsNew o before (plain_declaration line f)
     → is_sound y o before (plain_declaration line f) ≡ true
@@ -65,7 +65,7 @@ taken_next outer before line i static_ f name h taken =
 pub plain_listed : (y : Types) (o : Outside) (section : PartKind) (before : List Declaration) (line i : ℕ) (static_ : Bool) (fs : List Formal) → o.depth ≡ 0
     → AreNumbered i fs → i + length fs < 2 ^ 64 → AreTaken i static_ (names_before o.names 0 before)
     → (cells_of y o section before (map (plain_declaration line) fs) ≡ map (plain_cell false section) fs)
-    × AreTaken (i + length fs) static_ (names_before o.names 0 (onto before (map (plain_declaration line) fs)))
+    × AreTaken (i + length fs) static_ (names_before o.names 0 (declarations_before_next before (map (plain_declaration line) fs)))
 unfolding cell_of
 plain_listed y o section before line i static_ [] shallow named h taken = (refl, taken_more i (i + 0) static_ (names_before o.names 0 before) (omega arith) taken)
 plain_listed y o section before line i static_ (f ∷ fs) shallow (name, named) h taken =
@@ -83,10 +83,10 @@ plain_listed y o section before line i static_ (f ∷ fs) shallow (name, named) 
         of = Plain f.kind;
         presets = [];
       } ∷ more.0 j),
-      subst (λ n. AreTaken n static_ (names_before o.names 0 (onto (d ∷ before) (map (plain_declaration line) fs)))) further more.1,
+      subst (λ n. AreTaken n static_ (names_before o.names 0 (declarations_before_next (d ∷ before) (map (plain_declaration line) fs)))) further more.1,
     )
 
-pub plain_opened : (section : PartKind) (fs : List Formal) → opened (map (plain_cell false section) fs) ≡ plain_cells section fs
+pub plain_opened : (section : PartKind) (fs : List Formal) → with_first_cell_opening (map (plain_cell false section) fs) ≡ plain_cells section fs
 plain_opened section [] = refl
 plain_opened section (f ∷ fs) = refl
 
@@ -114,10 +114,10 @@ not_upside n = grind arith
 bytes_gap : (n : ℕ) → 0 < n → unsigned_abs (pos (n - 1) -ℤ pos 0) + 1 ≡ n
 bytes_gap n h = grind arith
 
-pub bytes_count : (n : ℕ) → 0 < n → count (record { low = pos 0; high = pos (n - 1) }) ≡ n
+pub bytes_count : (n : ℕ) → 0 < n → element_count (record { low = pos 0; high = pos (n - 1) }) ≡ n
 bytes_count n h = let up = not_upside (n - 1) in rw up (bytes_gap n h)
 
-bytes_sound : (y : Types) (o : Outside) (before : List Declaration) (line : ℕ) (name : List ℕ) (bytes : ℕ) → o.depth ≡ 0 → is_some (place_of (upper_case_name name) (names_before o.names 0 before)) ≡ false
+bytes_sound : (y : Types) (o : Outside) (before : List Declaration) (line : ℕ) (name : List ℕ) (bytes : ℕ) → o.depth ≡ 0 → is_some (name_place (upper_case_name name) (names_before o.names 0 before)) ≡ false
     → is_sound y o before (byte_array line name bytes []) ≡ true
 bytes_sound y o before line name bytes shallow new =
     let up = not_upside (bytes - 1) in
@@ -125,14 +125,14 @@ bytes_sound y o before line name bytes shallow new =
     rw new (rw up (rw none (rw shallow refl)))
 
 pub bytes_listed : (y : Types) (o : Outside) (section : PartKind) (before : List Declaration) (line : ℕ) (name : List ℕ) (bytes : ℕ) → o.depth ≡ 0
-    → is_some (place_of (upper_case_name name) (names_before o.names 0 before)) ≡ false
-    → opened (cells_of y o section before (bytes_here line name bytes [])) ≡ byte_cells section name bytes
+    → is_some (name_place (upper_case_name name) (names_before o.names 0 before)) ≡ false
+    → with_first_cell_opening (cells_of y o section before (bytes_here line name bytes [])) ≡ byte_cells section name bytes
 unfolding cell_of
 bytes_listed y o section before line name bytes shallow new = by (bytes == 0)
   where
     sound : is_sound y o before (byte_array line name bytes []) ≡ true
     sound = bytes_sound y o before line name bytes shallow new
 
-    by : (t : Bool) → opened (cells_of y o section before (if t then [] else byte_array line name bytes [] ∷ [])) ≡ (if t then [] else byte_cell section name bytes ∷ [])
+    by : (t : Bool) → with_first_cell_opening (cells_of y o section before (if t then [] else byte_array line name bytes [] ∷ [])) ≡ (if t then [] else byte_cell section name bytes ∷ [])
     by true = refl
     by false = rw sound refl

@@ -13,8 +13,8 @@ use Rattle.flat_code.specs.declared.programs.Param.{Param}
 use Rattle.stl_ast.specs.declared.declarations.Simple.{Simple}
 use Rattle.stl_ast.specs.declared.declarations.Simple.TheVariants as simple
 use Rattle.block_layout.specs.Offsets.{width_of}
-use Rattle.stl_list.specs.Joined.{chains_by, is_int, is_time, kind_at, kind_by, labels_of, mark_at, marked, marks_of, relabelled, relinked, replaced, set_label}
-use Rattle.stl_list.specs.Parameters.{plain_kind}
+use Rattle.stl_list.specs.Joined.{chains_by, is_int_kind, is_time_kind, kind_at, kind_by, chain_labels, mark_at, marks_after_link, marks_of, merged_labels, labels_after_link, replaced_label, set_label}
+use Rattle.stl_list.specs.Parameters.{kind_of_width}
 use Rattle.stl_list.specs.Signatures.{formals_from, is_behind, signatures_from}
 use Rattle.stl_list.specs.declared.links.Link.{Link}
 use Rattle.stl_list.specs.declared.links.Link.TheVariants.{Joins, Has}
@@ -45,7 +45,7 @@ first_labels : (ws : List Width) (count : ℕ) → AreLabels ws (range_with_len 
 unfolding AreLabels
 first_labels ws count n l e = let same = in_range 0 count n l e in let is : l ≡ n = omega (arith, same) in ap (slice_get ws) is
 
-replaced_width : (ws : List Width) (from to n m l : ℕ) → slice_get ws from ≡ slice_get ws to → slice_get ws m ≡ slice_get ws n → replaced from to m ≡ l → slice_get ws l ≡ slice_get ws n
+replaced_width : (ws : List Width) (from to n m l : ℕ) → slice_get ws from ≡ slice_get ws to → slice_get ws m ≡ slice_get ws n → replaced_label from to m ≡ l → slice_get ws l ≡ slice_get ws n
 replaced_width ws from to n m l same own e = ap (slice_get ws) (sym e) ∙ by (m == from) refl
   where
     by : (t : Bool) → (m == from) ≡ t → slice_get ws (if t then to else m) ≡ slice_get ws n
@@ -53,9 +53,9 @@ replaced_width ws from to n m l same own e = ap (slice_get ws) (sym e) ∙ by (m
     by false is = own
 
 mapped_label : (ws : List Width) (from to : ℕ) (labels : List ℕ) → slice_get ws from ≡ slice_get ws to → (n k l : ℕ)
-    → ((m j : ℕ) → slice_get labels m ≡ Some j → slice_get ws j ≡ slice_get ws (k + m)) → slice_get (map (replaced from to) labels) n ≡ Some l → slice_get ws l ≡ slice_get ws (k + n)
+    → ((m j : ℕ) → slice_get labels m ≡ Some j → slice_get ws j ≡ slice_get ws (k + m)) → slice_get (map (replaced_label from to) labels) n ≡ Some l → slice_get ws l ≡ slice_get ws (k + n)
 mapped_label ws from to [] same n k l h e = absurd cc
-mapped_label ws from to (m ∷ labels) same zero k l h e = replaced_width ws from to (k + 0) m l same (h 0 m refl) (let it : replaced from to m ≡ l = cc in it)
+mapped_label ws from to (m ∷ labels) same zero k l h e = replaced_width ws from to (k + 0) m l same (h 0 m refl) (let it : replaced_label from to m ≡ l = cc in it)
 mapped_label ws from to (m ∷ labels) same (suc n) k l h e =
     let there : suc k + n ≡ k + suc n = omega arith in
     ap (λ z. z) (mapped_label ws from to labels same n (suc k) l (λ i j f. h (suc i) j f ∙ ap (slice_get ws) (shift i)) e) ∙ ap (slice_get ws) there
@@ -63,7 +63,7 @@ mapped_label ws from to (m ∷ labels) same (suc n) k l h e =
     shift : (i : ℕ) → k + suc i ≡ suc k + i
     shift i = omega arith
 
-relinked_labels : (ws : List Width) (labels : List ℕ) (link : Link) → IsGoodLink ws link → AreLabels ws labels → AreLabels ws (relinked labels link)
+relinked_labels : (ws : List Width) (labels : List ℕ) (link : Link) → IsGoodLink ws link → AreLabels ws labels → AreLabels ws (labels_after_link labels link)
 unfolding AreLabels
 relinked_labels ws labels (Has own kind) good h n l e = h n l e
 relinked_labels ws labels (Joins own other) good h n l e = by (slice_get labels own) (slice_get labels other) refl refl e
@@ -71,19 +71,19 @@ relinked_labels ws labels (Joins own other) good h n l e = by (slice_get labels 
     none_before : (m : ℕ) → m ≡ 0 + m
     none_before m = omega arith
 
-    by : (f t : Option ℕ) → slice_get labels own ≡ f → slice_get labels other ≡ t → slice_get (relabelled f t labels) n ≡ Some l → slice_get ws l ≡ slice_get ws n
+    by : (f t : Option ℕ) → slice_get labels own ≡ f → slice_get labels other ≡ t → slice_get (merged_labels f t labels) n ≡ Some l → slice_get ws l ≡ slice_get ws n
     by None t a b e = h n l e
     by (Some from) None a b e = h n l e
     by (Some from) (Some to) a b e =
         mapped_label ws from to labels (h own from a ∙ good ∙ sym (h other to b)) n 0 l (λ m j f. h m j f ∙ ap (slice_get ws) (none_before m)) e
         ∙ ap (slice_get ws) (sym (none_before n))
 
-all_relinked : (ws : List Width) (labels : List ℕ) (links : List Link) → AllByRecursion (IsGoodLink ws) links → AreLabels ws labels → AreLabels ws (fold relinked labels links)
+all_relinked : (ws : List Width) (labels : List ℕ) (links : List Link) → AllByRecursion (IsGoodLink ws) links → AreLabels ws labels → AreLabels ws (fold labels_after_link labels links)
 all_relinked ws labels [] good h = h
-all_relinked ws labels (link ∷ links) (one, more) h = all_relinked ws (relinked labels link) links more (relinked_labels ws labels link one h)
+all_relinked ws labels (link ∷ links) (one, more) h = all_relinked ws (labels_after_link labels link) links more (relinked_labels ws labels link one h)
 
-labels_wide : (ws : List Width) (count : ℕ) (links : List Link) → AllByRecursion (IsGoodLink ws) links → AreLabels ws (labels_of count links)
-unfolding labels_of
+labels_wide : (ws : List Width) (count : ℕ) (links : List Link) → AllByRecursion (IsGoodLink ws) links → AreLabels ws (chain_labels count links)
+unfolding chain_labels
 labels_wide ws count links good = all_relinked ws (range_with_len 0 count) links good (first_labels ws count)
 
 -- ---- marks
@@ -121,7 +121,7 @@ set_marks ws w marks (Some i) is h l e = by (nat_eq l i) refl
     by false other = h l (ap (λ o. unwrap_or o false) (sym (set_other marks i l other)) ∙ e)
 
 marked_wide : (is_meant : Simple → Bool) (ws : List Width) (w : Width) (labels : List ℕ) → ((k : Simple) → is_meant k ≡ true → width_of k ≡ w) → AreLabels ws labels
-    → (marks : List Bool) (link : Link) → IsGoodLink ws link → AreMarks ws w marks → AreMarks ws w (marked is_meant labels marks link)
+    → (marks : List Bool) (link : Link) → IsGoodLink ws link → AreMarks ws w marks → AreMarks ws w (marks_after_link is_meant labels marks link)
 unfolding AreLabels
 marked_wide is_meant ws w labels meant wide marks (Joins own other) good h = h
 marked_wide is_meant ws w labels meant wide marks (Has own kind) good h = by (is_meant kind) refl
@@ -131,10 +131,10 @@ marked_wide is_meant ws w labels meant wide marks (Has own kind) good h = by (is
     by false e = h
 
 all_marked : (is_meant : Simple → Bool) (ws : List Width) (w : Width) (labels : List ℕ) → ((k : Simple) → is_meant k ≡ true → width_of k ≡ w) → AreLabels ws labels
-    → (marks : List Bool) (links : List Link) → AllByRecursion (IsGoodLink ws) links → AreMarks ws w marks → AreMarks ws w (fold (marked is_meant labels) marks links)
+    → (marks : List Bool) (links : List Link) → AllByRecursion (IsGoodLink ws) links → AreMarks ws w marks → AreMarks ws w (fold (marks_after_link is_meant labels) marks links)
 all_marked is_meant ws w labels meant wide marks [] good h = h
 all_marked is_meant ws w labels meant wide marks (link ∷ links) (one, more) h =
-    all_marked is_meant ws w labels meant wide (marked is_meant labels marks link) links more (marked_wide is_meant ws w labels meant wide marks link one h)
+    all_marked is_meant ws w labels meant wide (marks_after_link is_meant labels marks link) links more (marked_wide is_meant ws w labels meant wide marks link one h)
 
 marks_wide : (is_meant : Simple → Bool) (ws : List Width) (w : Width) (labels : List ℕ) (links : List Link) → ((k : Simple) → is_meant k ≡ true → width_of k ≡ w) → AreLabels ws labels
     → AllByRecursion (IsGoodLink ws) links → AreMarks ws w (marks_of is_meant labels links)
@@ -142,7 +142,7 @@ unfolding marks_of
 marks_wide is_meant ws w labels links meant wide good =
     all_marked is_meant ws w labels meant wide (replicate (length labels) false) links good (first_marks ws w (length labels))
 
-int_wide : (k : Simple) → is_int k ≡ true → width_of k ≡ width.Word
+int_wide : (k : Simple) → is_int_kind k ≡ true → width_of k ≡ width.Word
 int_wide simple.Int e = refl
 int_wide simple.Bool e = absurd cc
 int_wide simple.Byte e = absurd cc
@@ -153,7 +153,7 @@ int_wide simple.Dword e = absurd cc
 int_wide simple.Dint e = absurd cc
 int_wide simple.Time e = absurd cc
 
-time_wide : (k : Simple) → is_time k ≡ true → width_of k ≡ width.Dword
+time_wide : (k : Simple) → is_time_kind k ≡ true → width_of k ≡ width.Dword
 time_wide simple.Time e = refl
 time_wide simple.Bool e = absurd cc
 time_wide simple.Byte e = absurd cc
@@ -166,7 +166,7 @@ time_wide simple.Dint e = absurd cc
 
 -- ---- types
 
-plain_wide : (w : Width) → width_of (plain_kind w) ≡ w
+plain_wide : (w : Width) → width_of (kind_of_width w) ≡ w
 plain_wide width.Bit = refl
 plain_wide width.Byte = refl
 plain_wide width.Word = refl
@@ -183,20 +183,20 @@ mark_wide ws w own labels marks n wide h there e = by (slice_get labels n) refl 
     by (Some l) is e = let same : Some own ≡ Some w = sym there ∙ sym (wide n l is) ∙ h l e in cc
 
 kind_wide : (ws : List Width) (links : List Link) (count n : ℕ) (own : Width) → AllByRecursion (IsGoodLink ws) links → slice_get ws n ≡ Some own
-    → width_of (kind_at (chains_by (labels_of count links) links) n own) ≡ own
+    → width_of (kind_at (chains_by (chain_labels count links) links) n own) ≡ own
 unfolding kind_at
 kind_wide ws links count n own good there =
-    by (mark_at (marks_of is_int labels links) (slice_get labels n)) (mark_at (marks_of is_time labels links) (slice_get labels n)) refl refl
+    by (mark_at (marks_of is_int_kind labels links) (slice_get labels n)) (mark_at (marks_of is_time_kind labels links) (slice_get labels n)) refl refl
   where
     labels : List ℕ
-    labels = labels_of count links
+    labels = chain_labels count links
 
     wide : AreLabels ws labels
     wide = labels_wide ws count links good
 
-    by : (i t : Bool) → mark_at (marks_of is_int labels links) (slice_get labels n) ≡ i → mark_at (marks_of is_time labels links) (slice_get labels n) ≡ t → width_of (kind_by i t own) ≡ own
-    by true t e f = sym (mark_wide ws width.Word own labels (marks_of is_int labels links) n wide (marks_wide is_int ws width.Word labels links int_wide wide good) there e)
-    by false true e f = sym (mark_wide ws width.Dword own labels (marks_of is_time labels links) n wide (marks_wide is_time ws width.Dword labels links time_wide wide good) there f)
+    by : (i t : Bool) → mark_at (marks_of is_int_kind labels links) (slice_get labels n) ≡ i → mark_at (marks_of is_time_kind labels links) (slice_get labels n) ≡ t → width_of (kind_by i t own) ≡ own
+    by true t e f = sym (mark_wide ws width.Word own labels (marks_of is_int_kind labels links) n wide (marks_wide is_int_kind ws width.Word labels links int_wide wide good) there e)
+    by false true e f = sym (mark_wide ws width.Dword own labels (marks_of is_time_kind labels links) n wide (marks_wide is_time_kind ws width.Dword labels links time_wide wide good) there f)
     by false false e f = plain_wide own
 
 -- ---- the formal parameters of all blocks
@@ -209,7 +209,7 @@ at_seam (x ∷ front) w rest (suc n) e = at_seam front w rest n (omega (arith, e
 
 formals_wide : (whole : List Width) (links : List Link) (count : ℕ) (returns behind : Bool) (index first : ℕ) (front : List Width) (ps : List Param) (rest : List Width)
     → AllByRecursion (IsGoodLink whole) links → first ≡ length front → whole ≡ front ++ (map (λ p. p.width) ps ++ rest)
-    → AreWide ps (formals_from (chains_by (labels_of count links) links) returns behind index first ps)
+    → AreWide ps (formals_from (chains_by (chain_labels count links) links) returns behind index first ps)
 formals_wide whole links count returns behind index first front [] rest good e are = tt
 formals_wide whole links count returns behind index first front (p ∷ ps) rest good e are =
     let there : slice_get whole first ≡ Some p.width = ap (λ z. slice_get z first) are ∙ at_seam front p.width (map (λ q. q.width) ps ++ rest) first e in
@@ -220,7 +220,7 @@ formals_wide whole links count returns behind index first front (p ∷ ps) rest 
     )
 
 pub signatures_wide : (whole : List Width) (links : List Link) (count : ℕ) (first : ℕ) (front : List Width) (bs : List CodeBlock) → AllByRecursion (IsGoodLink whole) links → first ≡ length front
-    → whole ≡ front ++ widths bs → AllByRecursion (λ s. AreWide s.params s.formals) (signatures_from (chains_by (labels_of count links) links) first bs)
+    → whole ≡ front ++ widths bs → AllByRecursion (λ s. AreWide s.params s.formals) (signatures_from (chains_by (chain_labels count links) links) first bs)
 signatures_wide whole links count first front [] good e are = tt
 signatures_wide whole links count first front (b ∷ bs) good e are =
     let own = map (λ (p : Param). p.width) b.params in

@@ -8,7 +8,7 @@ use Rattle.stl_ast.specs.declared.blocks.PartKind.TheVariants as part
 use Rattle.stl_types.specs.declared.parameters.Formal.{Formal}
 use Rattle.stl_list.specs.Joined.{Chains}
 use Rattle.stl_list.specs.Parameters.{name_of, section_of}
-use Rattle.stl_list.specs.Signatures.{formal_of, formals_from, is_behind}
+use Rattle.stl_list.specs.Signatures.{formal_of_param, formals_from, is_behind}
 use Rattle.listing_laws.specs.Declared.{AreWide}
 use Rattle.listing_laws.proofs.declared.Cells.{AreNumbered}
 use Rattle.listing_laws.proofs.declared.Sections.{AreGrouped, IsLast, Nothing as NoLast, Returned as LastReturned}
@@ -54,7 +54,7 @@ formals_append c returns behind index first (p ∷ ps) rest =
     let b : suc first + length ps ≡ first + suc (length ps) = omega arith in
     let more = formals_append c returns (is_behind returns behind p) (suc index) (suc first) ps rest in
     let after = behind_after returns (is_behind returns behind p) ps in
-    ap (λ z. formal_of c behind index first p ∷ z) (more ∙ (λ i. formals_from c returns (is_behind returns behind p) (suc index) (suc first) ps ++ formals_from c returns after (a i) (b i) rest))
+    ap (λ z. formal_of_param c behind index first p ∷ z) (more ∙ (λ i. formals_from c returns (is_behind returns behind p) (suc index) (suc first) ps ++ formals_from c returns after (a i) (b i) rest))
 
 -- no IN_OUT among these
 still : (returns : Bool) (section : ℕ) (ps : List Param) → (section == 3) ≡ false → AreOf section ps → behind_after returns false ps ≡ false

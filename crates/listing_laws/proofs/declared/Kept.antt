@@ -18,21 +18,21 @@ use Rattle.stl_ast.specs.declared.blocks.PartKind.{PartKind}
 use Rattle.stl_ast.specs.declared.blocks.PartKind.TheVariants as part
 use Rattle.stl_ast.specs.declared.declarations.Simple.{Simple}
 use Rattle.block_layout.specs.Cells.{components_of, returned_cells, temps_of}
-use Rattle.block_layout.specs.Lengths.{farthest, is_structured, least_local, length_of, local_len}
-use Rattle.block_layout.specs.Listed.{AreAlike, AreApart}
+use Rattle.block_layout.specs.Lengths.{farthest_operand_end, is_structured, least_local, length_of_block, local_len}
+use Rattle.block_layout.specs.Listed.{AreAlike, CellNamesDiffer}
 use Rattle.block_layout.specs.Offsets.{width_of}
-use Rattle.block_layout.specs.Sizes.{capped, cell_bits, element_of, end_of, largest, structure_bits, up}
+use Rattle.block_layout.specs.Sizes.{capped_size, cell_bits, element_of, components_end, largest_size, structure_bits, next_multiple}
 use Rattle.block_layout.specs.Types.{Types}
 use Rattle.block_layout.specs.declared.blocks.BlockLayout.{BlockLayout}
 use Rattle.block_layout.specs.declared.cells.Cell.{Cell}
 use Rattle.block_layout.specs.declared.cells.Element.TheVariants.{Plain}
 use Rattle.block_layout.proofs.ListedLemmas.{length_stays, offsets_stay}
-use Rattle.stl_codegen.specs.Generated.{param, param_here, params_of, section_number}
+use Rattle.stl_codegen.specs.Generated.{param_at_bits, param_here, params_of, section_number}
 use Rattle.stl_codegen.specs.Instruction.{return_last}
 use Rattle.stl_types.specs.declared.parameters.Formal.{Formal}
 use Rattle.stl_list.specs.CodeBlocks.{listed_block}
 use Rattle.stl_list.specs.Sections.{static_bytes, static_len, static_name, static_start, temporary_name}
-use Rattle.stl_list.specs.Signatures.{Signature, formals_of}
+use Rattle.stl_list.specs.Signatures.{Signature, formals_of_block}
 use Rattle.sem_kept.proofs.accepted.RecordParams.{end_behind, end_step}
 use Rattle.listing_laws.specs.Declared.{AreWide}
 use Rattle.listing_laws.proofs.declared.Cells.{byte_cell, byte_cells, bytes_count, plain_cell, plain_cells}
@@ -52,7 +52,7 @@ plain_param kind opens all p f is section (byte, bit) wide =
     let s = sym section in
     let b = sym byte in
     let c = sym bit in
-    ap (λ (t : Bool). if t then param (section_number kind) (width_of f.kind) 0 ∷ [] else []) is
+    ap (λ (t : Bool). if t then param_at_bits (section_number kind) (width_of f.kind) 0 ∷ [] else []) is
     ∙ (λ i. record { section = s i; width = wide i; byte = b i; bit = c i } ∷ [])
 
 plain_later : (kind : PartKind) (all : List Cell) (ps : List Param) (fs : List Formal) → is_parameter kind ≡ true → AreOf (section_number kind) ps → AllByRecursion IsPlain ps → AreWide ps fs
@@ -95,7 +95,7 @@ last_made all rest (r ∷ []) (f ∷ fs) made_rest e (section, none) ((byte, bit
     let s = sym section in
     let b = sym byte in
     let c = sym bit in
-    let whole : param 2 (width_of f.kind) 0 ≡ r = λ i. record { section = s i; width = w i; byte = b i; bit = c i } in
+    let whole : param_at_bits 2 (width_of f.kind) 0 ≡ r = λ i. record { section = s i; width = w i; byte = b i; bit = c i } in
     λ i. e i ++ whole i ∷ []
 
 -- one at most is behind
@@ -116,7 +116,7 @@ few_last fs g last wide = by g.ends
     by (LastReturned f name e) = one g.last f last e wide
 
 pub plain_params : (y : Types) (ss : List Signature) (reached : ℕ) (b : CodeBlock) (p : HasGroups (is_function b.id.kind) b.params) → is_function_block b.id.kind ≡ false
-    → AllByRecursion IsPlain b.params → AreOf 2 p.last → (a : AreListed (is_function b.id.kind) b.params p (formals_of ss b.id))
+    → AllByRecursion IsPlain b.params → AreOf 2 p.last → (a : AreListed (is_function b.id.kind) b.params p (formals_of_block ss b.id))
     → (l : BlockLayout) → l.components ≡ components_of y (listed_block ss reached b) → params_of (listed_block ss reached b) l ≡ b.params
 unfolding params_of
 plain_params y ss reached b p other plain last a l e =
@@ -143,19 +143,19 @@ plain_params y ss reached b p other plain last a l e =
     let back : (p.ins ++ (p.outs ++ (p.both ++ []))) ++ p.last ≡ b.params =
     ap (λ z. (p.ins ++ (p.outs ++ z)) ++ p.last) (append-nil p.both) ∙ append_assoc p.ins (p.outs ++ p.both) p.last
     ∙ ap (λ z. p.ins ++ z) (append_assoc p.outs p.both p.last) ∙ sym p.are in
-    (λ i. return_last (result_is (formals_of ss b.id) g i) (flat_map (λ c. param_here (other i) all c) all))
+    (λ i. return_last (result_is (formals_of_block ss b.id) g i) (flat_map (λ c. param_here (other i) all c) all))
     ∙ ap (λ z. return_last (last_result g.last) (flat_map f z)) cells
     ∙ last_made all rest p.last g.last (p.ins ++ (p.outs ++ (p.both ++ []))) parts last (all_back IsPlain p.both p.last sound_both) a.wide_last
-    (few_last (formals_of ss b.id) g p.last a.wide_last)
+    (few_last (formals_of_block ss b.id) g p.last a.wide_last)
     ∙ back
 
 -- ---- local data
 
-pub even : (n : ℕ) → n % 2 ≡ 0 → up (8 * n) 16 ≡ 8 * n
-unfolding up
+pub even : (n : ℕ) → n % 2 ≡ 0 → next_multiple (8 * n) 16 ≡ 8 * n
+unfolding next_multiple
 even n h = omega (arith, h)
 
-pub uncapped : (n : ℕ) → n ≤ 131072 → capped n ≡ n
+pub uncapped : (n : ℕ) → n ≤ 131072 → capped_size n ≡ n
 uncapped n h = grind (arith, nat_tests)
 
 bytes_bits : (kind : PartKind) (name : List ℕ) (n : ℕ) → 0 < n → n % 2 ≡ 0 → n ≤ 16384 → cell_bits (byte_cell kind name n) [] ≡ 8 * n
@@ -165,44 +165,44 @@ bytes_bits kind name n some is_even short =
     let whole : n * 8 ≡ 8 * n = omega arith in
     rw (size, whole, uncapped (8 * n) (omega (arith, short)), even n is_even, uncapped (8 * n) (omega (arith, short))) refl
 
-pub up_from : (n : ℕ) → up 0 16 + n ≡ n
-unfolding up
+pub up_from : (n : ℕ) → next_multiple 0 16 + n ≡ n
+unfolding next_multiple
 up_from n = omega arith
 
-pub no_bytes_end : (n : ℕ) → n ≡ 0 → capped (up (end_of 0 0 []) 16) ≡ 8 * n
-unfolding end_of up
+pub no_bytes_end : (n : ℕ) → n ≡ 0 → capped_size (next_multiple (components_end 0 0 []) 16) ≡ 8 * n
+unfolding components_end next_multiple
 no_bytes_end n z = omega (arith, z)
 
-pub last_step : (at : ℕ) → end_of 0 at [] ≡ at
-unfolding end_of
+pub last_step : (at : ℕ) → components_end 0 at [] ≡ at
+unfolding components_end
 last_step at = refl
 
 bytes_long : (kind : PartKind) (name : List ℕ) (n : ℕ) → n % 2 ≡ 0 → n ≤ 16384 → structure_bits (byte_cells kind name n) ≡ 8 * n
 unfolding structure_bits
 bytes_long kind name n is_even short = by (n == 0) refl
   where
-    by : (t : Bool) → (n == 0) ≡ t → capped (up (end_of 0 0 (if t then [] else byte_cell kind name n ∷ [])) 16) ≡ 8 * n
+    by : (t : Bool) → (n == 0) ≡ t → capped_size (next_multiple (components_end 0 0 (if t then [] else byte_cell kind name n ∷ [])) 16) ≡ 8 * n
     by true e = no_bytes_end n (eqb-true n 0 e)
     by false e =
         let some : 0 < n = grind (arith, nat_tests) in
-        let end : end_of 0 0 (byte_cell kind name n ∷ []) ≡ 8 * n =
-        end_step 0 (byte_cell kind name n) [] ∙ last_step (capped (up 0 16 + cell_bits (byte_cell kind name n) []))
-        ∙ ap (λ m. capped (up 0 16 + m)) (bytes_bits kind name n some is_even short) ∙ ap capped (up_from (8 * n)) ∙ uncapped (8 * n) (omega (arith, short)) in
-        ap (λ m. capped (up m 16)) end ∙ ap capped (even n is_even) ∙ uncapped (8 * n) (omega (arith, short))
+        let end : components_end 0 0 (byte_cell kind name n ∷ []) ≡ 8 * n =
+        end_step 0 (byte_cell kind name n) [] ∙ last_step (capped_size (next_multiple 0 16 + cell_bits (byte_cell kind name n) []))
+        ∙ ap (λ m. capped_size (next_multiple 0 16 + m)) (bytes_bits kind name n some is_even short) ∙ ap capped_size (up_from (8 * n)) ∙ uncapped (8 * n) (omega (arith, short)) in
+        ap (λ m. capped_size (next_multiple m 16)) end ∙ ap capped_size (even n is_even) ∙ uncapped (8 * n) (omega (arith, short))
 
-up_even : (n far least : ℕ) → n % 2 ≡ 0 → far ≤ n → least ≤ n → max least (up (max (8 * n / 8) far) 2) ≡ n
-unfolding up
+up_even : (n far least : ℕ) → n % 2 ≡ 0 → far ≤ n → least ≤ n → max least (next_multiple (max (8 * n / 8) far) 2) ≡ n
+unfolding next_multiple
 up_even n far least is_even h k = omega (arith, is_even, h, k)
 
 -- the local data are as long, where no direct operand lies behind them
-pub local_kept : (y : Types) (ss : List Signature) (reached : ℕ) (b : CodeBlock) (g : AreGrouped (formals_of ss b.id)) → is_code b.id.kind ≡ true → b.local_len % 2 ≡ 0 → b.local_len ≤ 16384
-    → least_local b.id.kind ≤ b.local_len → farthest (listed_block ss reached b).body ≤ b.local_len → local_len y (listed_block ss reached b) ≡ b.local_len
+pub local_kept : (y : Types) (ss : List Signature) (reached : ℕ) (b : CodeBlock) (g : AreGrouped (formals_of_block ss b.id)) → is_code b.id.kind ≡ true → b.local_len % 2 ≡ 0 → b.local_len ≤ 16384
+    → least_local b.id.kind ≤ b.local_len → farthest_operand_end (listed_block ss reached b).body ≤ b.local_len → local_len y (listed_block ss reached b) ≡ b.local_len
 unfolding local_len
 local_kept y ss reached b g code is_even short least far =
-    ap (λ (t : Bool). if t then max (least_local b.id.kind) (up (max (structure_bits (temps_of y (listed_block ss reached b)) / 8) (farthest (listed_block ss reached b).body)) 2) else 0) code
-    ∙ ap (λ cells. max (least_local b.id.kind) (up (max (structure_bits cells / 8) (farthest (listed_block ss reached b).body)) 2)) (listed_cells y ss reached b g).1
-    ∙ ap (λ n. max (least_local b.id.kind) (up (max (n / 8) (farthest (listed_block ss reached b).body)) 2)) (bytes_long part.Temp temporary_name b.local_len is_even short)
-    ∙ up_even b.local_len (farthest (listed_block ss reached b).body) (least_local b.id.kind) is_even far least
+    ap (λ (t : Bool). if t then max (least_local b.id.kind) (next_multiple (max (structure_bits (temps_of y (listed_block ss reached b)) / 8) (farthest_operand_end (listed_block ss reached b).body)) 2) else 0) code
+    ∙ ap (λ cells. max (least_local b.id.kind) (next_multiple (max (structure_bits cells / 8) (farthest_operand_end (listed_block ss reached b).body)) 2)) (listed_cells y ss reached b g).1
+    ∙ ap (λ n. max (least_local b.id.kind) (next_multiple (max (n / 8) (farthest_operand_end (listed_block ss reached b).body)) 2)) (bytes_long part.Temp temporary_name b.local_len is_even short)
+    ∙ up_even b.local_len (farthest_operand_end (listed_block ss reached b).body) (least_local b.id.kind) is_even far least
 
 -- ---- a function block
 
@@ -210,7 +210,7 @@ local_kept y ss reached b g code is_even short least far =
 pub record IsInstance (b : CodeBlock) : Type 0 where
   pub cells : List Cell
   pub by_sections : HasSections cells
-  pub apart : AreApart (by_sections.ins ++ (by_sections.outs ++ by_sections.both))
+  pub apart : CellNamesDiffer (by_sections.ins ++ (by_sections.outs ++ by_sections.both))
   pub params : b.params ≡ made true cells 1 by_sections.ins ++ (made true cells 2 by_sections.outs ++ made true cells 3 by_sections.both)
   pub length : b.instance_len ≡ structure_bits cells / 8
   pub short : b.instance_len ≤ 16384
@@ -244,12 +244,12 @@ instance_groups b returns i few =
 record HasBits (whole end start len : ℕ) : Type 0 where
   bytes : ℕ
   are : bytes ≡ len - start
-  total : whole ≡ 8 * bytes + up end 16
+  total : whole ≡ 8 * bytes + next_multiple end 16
   is_even : bytes % 2 ≡ 0
   short : whole ≤ 131072
 
-bits_in : (whole inner end start len : ℕ) → whole ≡ capped (up inner 16) → end ≤ inner → start ≡ up end 16 / 8 → len ≡ whole / 8 → len ≤ 16384 → HasBits whole end start len
-unfolding up
+bits_in : (whole inner end start len : ℕ) → whole ≡ capped_size (next_multiple inner 16) → end ≤ inner → start ≡ next_multiple end 16 / 8 → len ≡ whole / 8 → len ≤ 16384 → HasBits whole end start len
+unfolding next_multiple
 bits_in whole inner end start len w behind s l short = record {
   bytes = len - start;
   are = refl;
@@ -258,27 +258,27 @@ bits_in whole inner end start len w behind s l short = record {
   short = omega (arith, w, l, short);
 }
 
-short_end : (inner end len : ℕ) → len ≡ capped (up inner 16) / 8 → len ≤ 16384 → end ≤ inner → end < largest
-unfolding up
+short_end : (inner end len : ℕ) → len ≡ capped_size (next_multiple inner 16) / 8 → len ≤ 16384 → end ≤ inner → end < largest_size
+unfolding next_multiple
 short_end inner end len l short behind = omega (arith, l, short, behind)
 
-whole_end : (cs vs ds : List Cell) → AreAlike cs ds → (structure_bits (cs ++ vs) ≡ capped (up (end_of 0 0 (cs ++ vs)) 16)) × (end_of 0 0 cs ≤ end_of 0 0 (cs ++ vs))
+whole_end : (cs vs ds : List Cell) → AreAlike cs ds → (structure_bits (cs ++ vs) ≡ capped_size (next_multiple (components_end 0 0 (cs ++ vs)) 16)) × (components_end 0 0 cs ≤ components_end 0 0 (cs ++ vs))
 unfolding structure_bits
 whole_end cs vs ds alike =
     let near = end_near 0 cs (omega arith) in
-    (refl, subst (λ n. end_of 0 0 cs ≤ n) (sym (end_append 0 cs ds vs alike)) (end_behind (end_of 0 0 cs) vs near))
+    (refl, subst (λ n. components_end 0 0 cs ≤ n) (sym (end_append 0 cs ds vs alike)) (end_behind (components_end 0 0 cs) vs near))
 
-none_behind : (cs vs ds : List Cell) (bytes : ℕ) → AreAlike cs ds → structure_bits (cs ++ vs) ≡ 8 * bytes + up (end_of 0 0 cs) 16 → bytes ≡ 0 → structure_bits (cs ++ vs) ≤ 131072
+none_behind : (cs vs ds : List Cell) (bytes : ℕ) → AreAlike cs ds → structure_bits (cs ++ vs) ≡ 8 * bytes + next_multiple (components_end 0 0 cs) 16 → bytes ≡ 0 → structure_bits (cs ++ vs) ≤ 131072
     → structure_bits (ds ++ []) ≡ structure_bits (cs ++ vs)
 unfolding structure_bits
 none_behind cs vs ds bytes alike total none short =
-    let same = ap (end_of 0 0) (append-nil ds) ∙ sym (end_alike 0 cs ds alike) in
-    ap (λ n. capped (up n 16)) same ∙ bare total
+    let same = ap (components_end 0 0) (append-nil ds) ∙ sym (end_alike 0 cs ds alike) in
+    ap (λ n. capped_size (next_multiple n 16)) same ∙ bare total
   where
-    bare : capped (up (end_of 0 0 (cs ++ vs)) 16) ≡ 8 * bytes + up (end_of 0 0 cs) 16 → capped (up (end_of 0 0 cs) 16) ≡ capped (up (end_of 0 0 (cs ++ vs)) 16)
+    bare : capped_size (next_multiple (components_end 0 0 (cs ++ vs)) 16) ≡ 8 * bytes + next_multiple (components_end 0 0 cs) 16 → capped_size (next_multiple (components_end 0 0 cs) 16) ≡ capped_size (next_multiple (components_end 0 0 (cs ++ vs)) 16)
     bare e = omega (arith, e, none, short)
 
-length_again : (cs vs ds : List Cell) (bytes : ℕ) → AreAlike cs ds → structure_bits (cs ++ vs) ≡ 8 * bytes + up (end_of 0 0 cs) 16 → bytes % 2 ≡ 0 → structure_bits (cs ++ vs) ≤ 131072
+length_again : (cs vs ds : List Cell) (bytes : ℕ) → AreAlike cs ds → structure_bits (cs ++ vs) ≡ 8 * bytes + next_multiple (components_end 0 0 cs) 16 → bytes % 2 ≡ 0 → structure_bits (cs ++ vs) ≤ 131072
     → structure_bits (ds ++ byte_cells part.Static static_name bytes) ≡ structure_bits (cs ++ vs)
 length_again cs vs ds bytes alike total is_even short = by (bytes == 0) refl
   where
@@ -331,21 +331,21 @@ pub record HasBoth (y : Types) (ss : List Signature) (reached : ℕ) (b : CodeBl
   pub are : cells ≡ first ++ rest
   pub begins : Begins rest
   pub same : AreSame (look_in (first ++ rest)) first b.params second
-  pub apart : AreApart first
-  pub start : static_start b.params ≡ up (end_of 0 0 first) 16 / 8
-  pub ends : structure_bits (first ++ rest) ≡ 8 * (b.instance_len - static_start b.params) + up (end_of 0 0 first) 16
-  pub short : end_of 0 0 first < largest
+  pub apart : CellNamesDiffer first
+  pub start : static_start b.params ≡ next_multiple (components_end 0 0 first) 16 / 8
+  pub ends : structure_bits (first ++ rest) ≡ 8 * (b.instance_len - static_start b.params) + next_multiple (components_end 0 0 first) 16
+  pub short : components_end 0 0 first < largest_size
   pub listed : components_of y (listed_block ss reached b) ≡ second ++ byte_cells part.Static static_name (b.instance_len - static_start b.params)
   pub named : AreNamed 0 second
-  pub again : AreApart second
-  pub formals : AreCellsOf second (formals_of ss b.id)
+  pub again : CellNamesDiffer second
+  pub formals : AreCellsOf second (formals_of_block ss b.id)
   pub bare : AllByRecursion HasNoValues second
 
 -- of both kinds of what an instance has
 pub record IsKeptInstance (y : Types) (ss : List Signature) (reached : ℕ) (b : CodeBlock) (cells : List Cell) : Type 0 where
   pub both : HasBoth y ss reached b cells
   pub params : (l : BlockLayout) → l.components ≡ components_of y (listed_block ss reached b) → params_of (listed_block ss reached b) l ≡ b.params
-  pub length : (blocks : List Block) → length_of y blocks (listed_block ss reached b) ≡ b.instance_len
+  pub length : (blocks : List Block) → length_of_block y blocks (listed_block ss reached b) ≡ b.instance_len
 
 fb_kind : (k : BlockKind) → is_function_block k ≡ true → k ≡ kinds.Fb
 fb_kind kinds.Ob e = absurd cc
@@ -356,13 +356,13 @@ fb_kind kinds.Udt e = absurd cc
 fb_kind kinds.Sfc e = absurd cc
 
 pub own_length : (y : Types) (ss : List Signature) (reached : ℕ) (b : CodeBlock) (blocks : List Block) → b.id.kind ≡ kinds.Fb
-    → length_of y blocks (listed_block ss reached b) ≡ structure_bits (components_of y (listed_block ss reached b)) / 8
-unfolding length_of
+    → length_of_block y blocks (listed_block ss reached b) ≡ structure_bits (components_of y (listed_block ss reached b)) / 8
+unfolding length_of_block
 own_length y ss reached b blocks kind =
     ap (λ k. if is_structured k then structure_bits (components_of y (listed_block ss reached b)) / 8 else 0) kind
 
 pub instance_kept : (y : Types) (ss : List Signature) (reached : ℕ) (b : CodeBlock) (returns : Bool) (i : IsInstance b) (few : length b.params ≤ 60) → is_function_block b.id.kind ≡ true
-    → AreListed returns b.params (instance_groups b returns i few) (formals_of ss b.id) → IsKeptInstance y ss reached b i.cells
+    → AreListed returns b.params (instance_groups b returns i few) (formals_of_block ss b.id) → IsKeptInstance y ss reached b i.cells
 unfolding params_of instance_groups
 instance_kept y ss reached b returns i few fb a = record {
   both = record {
@@ -374,7 +374,7 @@ instance_kept y ss reached b returns i few fb a = record {
     same = subst (λ qs. AreSame (look_in (cs ++ h.rest)) cs qs ds) (sym i.params) same_whole;
     apart = i.apart;
     start = start;
-    ends = bits.total ∙ ap (λ n. 8 * n + up (end_of 0 0 cs) 16) bits.are;
+    ends = bits.total ∙ ap (λ n. 8 * n + next_multiple (components_end 0 0 cs) 16) bits.are;
     short = short;
     listed = components ∙ ap (λ n. ds ++ byte_cells part.Static static_name n) bits.are;
     named = named;
@@ -390,7 +390,7 @@ instance_kept y ss reached b returns i few fb a = record {
     h : HasSections i.cells
     h = i.by_sections
 
-    g : AreGrouped (formals_of ss b.id)
+    g : AreGrouped (formals_of_block ss b.id)
     g = a.groups
 
     cs : List Cell
@@ -419,20 +419,20 @@ instance_kept y ss reached b returns i few fb a = record {
     alike : AreAlike cs ds
     alike = alike_of (look_in i.cells) cs ps ds same
 
-    ends : (structure_bits (cs ++ h.rest) ≡ capped (up (end_of 0 0 (cs ++ h.rest)) 16)) × (end_of 0 0 cs ≤ end_of 0 0 (cs ++ h.rest))
+    ends : (structure_bits (cs ++ h.rest) ≡ capped_size (next_multiple (components_end 0 0 (cs ++ h.rest)) 16)) × (components_end 0 0 cs ≤ components_end 0 0 (cs ++ h.rest))
     ends = whole_end cs h.rest ds alike
 
     len : b.instance_len ≡ structure_bits (cs ++ h.rest) / 8
     len = i.length ∙ ap (λ cells. structure_bits cells / 8) whole
 
-    short : end_of 0 0 cs < largest
-    short = short_end (end_of 0 0 (cs ++ h.rest)) (end_of 0 0 cs) b.instance_len (len ∙ ap (λ n. n / 8) ends.0) i.short ends.1
+    short : components_end 0 0 cs < largest_size
+    short = short_end (components_end 0 0 (cs ++ h.rest)) (components_end 0 0 cs) b.instance_len (len ∙ ap (λ n. n / 8) ends.0) i.short ends.1
 
-    start : static_start b.params ≡ up (end_of 0 0 cs) 16 / 8
+    start : static_start b.params ≡ next_multiple (components_end 0 0 cs) 16 / 8
     start = ap static_start i.params ∙ static_is cs h.rest ps ds i.apart same_whole short
 
-    bits : HasBits (structure_bits (cs ++ h.rest)) (end_of 0 0 cs) (static_start b.params) b.instance_len
-    bits = bits_in (structure_bits (cs ++ h.rest)) (end_of 0 0 (cs ++ h.rest)) (end_of 0 0 cs) (static_start b.params) b.instance_len ends.0 ends.1 start len i.short
+    bits : HasBits (structure_bits (cs ++ h.rest)) (components_end 0 0 cs) (static_start b.params) b.instance_len
+    bits = bits_in (structure_bits (cs ++ h.rest)) (components_end 0 0 (cs ++ h.rest)) (components_end 0 0 cs) (static_start b.params) b.instance_len ends.0 ends.1 start len i.short
 
     bytes : static_bytes b ≡ bits.bytes
     bytes = ap (λ (t : Bool). if t then static_len b.instance_len b.params else 0) fb ∙ sym bits.are
@@ -458,7 +458,7 @@ instance_kept y ss reached b returns i few fb a = record {
         by [] w = refl
         by (f ∷ fs) w = absurd w
 
-    all_formals : formals_of ss b.id ≡ g.ins ++ (g.outs ++ g.both)
+    all_formals : formals_of_block ss b.id ≡ g.ins ++ (g.outs ++ g.both)
     all_formals = g.are ∙ ap (λ z. g.ins ++ (g.outs ++ (g.both ++ z))) no_formals ∙ ap (λ z. g.ins ++ (g.outs ++ z)) (append-nil g.both)
 
     own_cells : AreCellsOf ds (g.ins ++ (g.outs ++ g.both))
@@ -524,6 +524,6 @@ instance_kept y ss reached b returns i few fb a = record {
     params_kept l e =
         let all = ds ++ static_cells in
         let f = λ (d : Cell). param_here true all d in
-        (λ n. return_last ((result_is (formals_of ss b.id) g ∙ no_result) n) (flat_map (λ d. param_here (fb n) (e n) d) (e n)))
+        (λ n. return_last ((result_is (formals_of_block ss b.id) g ∙ no_result) n) (flat_map (λ d. param_here (fb n) (e n) d) (e n)))
         ∙ flat_map-append f ds static_cells ∙ ap (λ z. flat_map f ds ++ z) (no_static all) ∙ append-nil (flat_map f ds)
         ∙ params_made (look_in i.cells) all cs ps ds same offsets ∙ sym i.params

@@ -14,13 +14,13 @@ use Rattle.plc_base.specs.declared.blocks.BlockKind.{BlockKind}
 use Rattle.plc_base.specs.declared.blocks.BlockKind.TheVariants as kinds
 use Rattle.plc_base.specs.declared.places.Width.{Width}
 use Rattle.plc_base.specs.declared.places.Width.TheVariants as width
-use Rattle.flat_code.specs.Blocks.{Around, CalleeSeen, BlockSignature, at_offset, block_faults, block_with, call_fault, call_fault_among, callee, faults_over, is_bad_actual, is_bad_call, is_stray_pass, lacks_own, misfits_call, misfits_callee, misfits_index, op_faults, operand_fault, parameter_meant, seven_if, signature_of, callee_of_system, system_params}
-use Rattle.flat_code.specs.Codes.{size}
+use Rattle.flat_code.specs.Blocks.{Environment, CalleeSeen, BlockSignature, at_offset, block_faults, block_with, call_fault, call_fault_among, callee_among, faults_over, is_bad_actual, is_bad_call, is_stray_pass, lacks_own_parameter, misfits_call, misfits_callee, misfits_index, op_faults, operand_fault, parameter_meant, seven_if, signature_of, callee_of_system, system_params}
+use Rattle.flat_code.specs.Codes.{size_of_op}
 use Rattle.flat_code.specs.Image.{record_of_block, record_of_param}
-use Rattle.flat_code.specs.Loading.{AreVerified, Verifies, around_block, lens_of}
+use Rattle.flat_code.specs.Loading.{AreVerified, Verifies, environment_of_block, lens_of}
 use Rattle.flat_code.specs.OpCodes.{op_code_of}
 use Rattle.flat_code.specs.Ops.{OpData}
-use Rattle.flat_code.specs.Placed.{Placed, StatementSpot, before_next, ending_op, last_op, brackets_after, ops_placed, spots, zones_behind_op}
+use Rattle.flat_code.specs.Placed.{PlacedOp, StatementSpot, before_next, ending_op, last_op, brackets_after, ops_placed, statement_spots, zones_behind_op}
 use Rattle.flat_code.specs.Programs.{CodeBlock, Program}
 use Rattle.flat_code.specs.declared.image_fields.OpenBracket.{OpenBracket}
 use Rattle.flat_code.specs.declared.image_fields.ParameterRecord.{ParameterRecord}
@@ -43,17 +43,17 @@ use Rattle.listing_laws.proofs.declared.Chains.{IsGoodLink, widths}
 -- ---- what the check says of an op and of the one that ends its statement
 
 -- a parameter is passed that is there, and fits what it is passed for
-abbrev IsPassedRight : Around → (last : FlatOperand) → FlatOperand → Type 0
+abbrev IsPassedRight : Environment → (last : FlatOperand) → FlatOperand → Type 0
 IsPassedRight a last (flat.Pass index (passed.Parameter own w)) =
-    (lacks_own (parameter_meant a own) w ≡ false) × (misfits_call a last index (passed.Parameter own w) ≡ false)
+    (lacks_own_parameter (parameter_meant a own) w ≡ false) × (misfits_call a last index (passed.Parameter own w) ≡ false)
 IsPassedRight a last _ = Unit {0}
 
 -- a block that is called is there
-abbrev IsCalledRight : Around → FlatOperand → Type 0
-IsCalledRight a (flat.Called kind number instance) = (s : CalleeSeen) × (callee a.blocks kind number ≡ Some s)
+abbrev IsCalledRight : Environment → FlatOperand → Type 0
+IsCalledRight a (flat.Called kind number instance) = (s : CalleeSeen) × (callee_among a.blocks kind number ≡ Some s)
 IsCalledRight a _ = Unit {0}
 
-abbrev AreRight : Around → List OpData → Type 0
+abbrev AreRight : Environment → List OpData → Type 0
 AreRight a [] = Unit {0}
 AreRight a (op ∷ ops) = (IsPassedRight a (ending_op op ops).operand op.operand × IsCalledRight a op.operand) × AreRight a ops
 
@@ -73,7 +73,7 @@ second_false : (a b : Bool) → a ≡ true → (a && b) ≡ false → b ≡ fals
 second_false true b e h = h
 second_false false b e h = absurd cc
 
-passed_right : (a : Around) (ss : List StatementSpot) (lens : List (ℕ × ℕ)) (p : Placed) (o : FlatOperand) → a.data_lens ≡ Some lens → operand_fault a ss p o ≡ None
+passed_right : (a : Environment) (ss : List StatementSpot) (lens : List (ℕ × ℕ)) (p : PlacedOp) (o : FlatOperand) → a.data_lens ≡ Some lens → operand_fault a ss p o ≡ None
     → call_fault_among a lens p o ≡ None → IsPassedRight a (last_op p).operand o
 passed_right a ss lens p (flat.Pass index (passed.Parameter own w)) e h k =
     let bad = no_seven (is_stray_pass p index || is_bad_actual a (passed.Parameter own w)) h in
@@ -87,34 +87,34 @@ passed_right a ss lens p (flat.Pass index (passed.Direct x w byte bit)) e h k = 
 passed_right a ss lens p (flat.Pass index (passed.InBlock number x w byte bit)) e h k = tt
 passed_right a ss lens p _ e h k = tt
 
-called_right : (a : Around) (lens : List (ℕ × ℕ)) (p : Placed) (o : FlatOperand) → call_fault_among a lens p o ≡ None → IsCalledRight a o
-called_right a lens p (flat.Called kind number instance) k = by (callee a.blocks kind number) refl (no_seven _ k)
+called_right : (a : Environment) (lens : List (ℕ × ℕ)) (p : PlacedOp) (o : FlatOperand) → call_fault_among a lens p o ≡ None → IsCalledRight a o
+called_right a lens p (flat.Called kind number instance) k = by (callee_among a.blocks kind number) refl (no_seven _ k)
   where
-    by : (s : Option CalleeSeen) → callee a.blocks kind number ≡ s → is_bad_call lens s instance p.before ≡ false → (s : CalleeSeen) × (callee a.blocks kind number ≡ Some s)
+    by : (s : Option CalleeSeen) → callee_among a.blocks kind number ≡ s → is_bad_call lens s instance p.before ≡ false → (s : CalleeSeen) × (callee_among a.blocks kind number ≡ Some s)
     by None e h = absurd cc
     by (Some s) e h = (s, e)
 called_right a lens p _ k = tt
 
-ops_right : (a : Around) (lens : List (ℕ × ℕ)) (ss : List StatementSpot) (at : ℕ) (brackets : List OpenBracket) (zones : List ℕ) (before ops : List OpData) → a.data_lens ≡ Some lens
+ops_right : (a : Environment) (lens : List (ℕ × ℕ)) (ss : List StatementSpot) (at : ℕ) (brackets : List OpenBracket) (zones : List ℕ) (before ops : List OpData) → a.data_lens ≡ Some lens
     → faults_over a ss 0 (ops_placed at brackets zones before ops) ≡ [] → AreRight a ops
 unfolding op_faults
 ops_right a lens ss at brackets zones before [] known e = tt
 ops_right a lens ss at brackets zones before (op ∷ ops) known e =
-    let p : Placed = record { at = at; brackets = brackets; zones = zones; before = before; op = op; rest = ops } in
-    let behind = faults_over a ss 0 (ops_placed (at + size op) (brackets_after at op.code brackets) (zones_behind_op at op.code zones) (before_next op before) ops) in
+    let p : PlacedOp = record { at = at; brackets = brackets; zones = zones; before = before; op = op; rest = ops } in
+    let behind = faults_over a ss 0 (ops_placed (at + size_of_op op) (brackets_after at op.code brackets) (zones_behind_op at op.code zones) (before_next op before) ops) in
     let here = none_left (op_faults a ss 0 p) behind e in
     let two = none_left _ _ (none_left _ _ (none_left _ _ here)) in
     let first = no_fault (0 + at) (operand_fault a ss p op.operand) (none_left _ _ two) in
     let second = no_fault (0 + at) (call_fault a a.data_lens p) (none_right _ _ two) in
     let among : call_fault_among a lens p op.operand ≡ None = sym (ap (λ z. call_fault a z p) known) ∙ second in (
       (passed_right a ss lens p op.operand known first among, called_right a lens p op.operand among),
-      ops_right a lens ss (at + size op) (brackets_after at op.code brackets) (zones_behind_op at op.code zones) (before_next op before) ops known (none_right (op_faults a ss 0 p) behind e),
+      ops_right a lens ss (at + size_of_op op) (brackets_after at op.code brackets) (zones_behind_op at op.code zones) (before_next op before) ops known (none_right (op_faults a ss 0 p) behind e),
     )
 
 -- ---- statements
 
 -- the ops of a statement
-abbrev IsRightRun : Around → Run → Type 0
+abbrev IsRightRun : Environment → Run → Type 0
 IsRightRun a r = AllByRecursion (λ op. IsPassedRight a r.op.operand op.operand) r.before × IsCalledRight a r.op.operand
 
 -- the op that ends a statement, of which these are left
@@ -125,11 +125,11 @@ ends_here op (x ∷ ops) e = ap (λ (t : Bool). if t then op else ending_op x op
 ends_later : (op next : OpData) (ops : List OpData) → op.last ≡ false → ending_op op (next ∷ ops) ≡ ending_op next ops
 ends_later op next ops e = ap (λ (t : Bool). if t then op else ending_op next ops) e
 
-abbrev FitsNext : Around → (before ops : List OpData) → Type 0
+abbrev FitsNext : Environment → (before ops : List OpData) → Type 0
 FitsNext a before [] = Unit {0}
 FitsNext a before (op ∷ ops) = AllByRecursion (λ x. IsPassedRight a (ending_op op ops).operand x.operand) before
 
-runs_right : (a : Around) (before ops : List OpData) → FitsNext a before ops → AreRight a ops → AllByRecursion (IsRightRun a) (runs_from before ops)
+runs_right : (a : Environment) (before ops : List OpData) → FitsNext a before ops → AreRight a ops → AllByRecursion (IsRightRun a) (runs_from before ops)
 runs_right a before [] fits h = tt
 runs_right a before (op ∷ ops) fits ((passes, calls_), more) =
     by op.last refl (runs_right a [] ops (none_before ops) more) (λ f. runs_right a (before ++ op ∷ []) ops f more)
@@ -160,7 +160,7 @@ width_same width.Word width.Word e = refl
 width_same width.Dword width.Dword e = refl
 width_same v w e = absurd cc
 
-own_there : (ps : List Param) (own : ℕ) (w : Width) → lacks_own (slice_get (map record_of_param ps) own) w ≡ false → slice_get (map (λ p. p.width) ps) own ≡ Some w
+own_there : (ps : List Param) (own : ℕ) (w : Width) → lacks_own_parameter (slice_get (map record_of_param ps) own) w ≡ false → slice_get (map (λ p. p.width) ps) own ≡ Some w
 own_there [] own w e = absurd cc
 own_there (p ∷ ps) zero w e = ap Some (width_same p.width w (not_false (nat_eq (width_number p.width) (width_number w)) e))
 own_there (p ∷ ps) (suc own) w e = own_there ps own w e
@@ -178,7 +178,7 @@ there_behind (v ∷ front) ws n =
     ap (slice_get (v ∷ (front ++ ws))) e ∙ there_behind front ws n
 
 -- what is passed fits a parameter
-fits_width : (a : Around) (q : Option ParameterRecord) (own : ℕ) (w : Width) → misfits_index a q (passed.Parameter own w) ≡ false → (r : ParameterRecord) × (q ≡ Some r) × (r.width ≡ width_number w)
+fits_width : (a : Environment) (q : Option ParameterRecord) (own : ℕ) (w : Width) → misfits_index a q (passed.Parameter own w) ≡ false → (r : ParameterRecord) × (q ≡ Some r) × (r.width ≡ width_number w)
 fits_width a None own w e = absurd cc
 fits_width a (Some r) own w e = (r, refl, eqb-true r.width (width_number w) (not_false _ (or_first (not (r.width == width_number w)) _ e)))
 
@@ -262,20 +262,20 @@ found_there k number (b ∷ bs) s index r w is (code, codes) e there wide =
 
 -- ---- links
 
-own_width : (a : Around) (ps : List Param) (own : ℕ) (w : Width) → a.params ≡ map record_of_param ps → lacks_own (parameter_meant a own) w ≡ false → slice_get (map (λ p. p.width) ps) own ≡ Some w
+own_width : (a : Environment) (ps : List Param) (own : ℕ) (w : Width) → a.params ≡ map record_of_param ps → lacks_own_parameter (parameter_meant a own) w ≡ false → slice_get (map (λ p. p.width) ps) own ≡ Some w
 own_width a ps own w params e = by (a.kind == kind_number kinds.Fc) e
   where
-    by : (t : Bool) → lacks_own (if t then slice_get a.params own else None) w ≡ false → slice_get (map (λ (p : Param). p.width) ps) own ≡ Some w
-    by true f = own_there ps own w (ap (λ z. lacks_own (slice_get z own) w) (sym params) ∙ f)
+    by : (t : Bool) → lacks_own_parameter (if t then slice_get a.params own else None) w ≡ false → slice_get (map (λ (p : Param). p.width) ps) own ≡ Some w
+    by true f = own_there ps own w (ap (λ z. lacks_own_parameter (slice_get z own) w) (sym params) ∙ f)
     by false f = absurd cc
 
 -- what each passing of a parameter comes to
-abbrev Joined : List Width → Around → (last : FlatOperand) → (first other : ℕ) → Type 0
+abbrev Joined : List Width → Environment → (last : FlatOperand) → (first other : ℕ) → Type 0
 Joined ws a last first other =
-    (index own : ℕ) (w : Width) → lacks_own (parameter_meant a own) w ≡ false → misfits_call a last index (passed.Parameter own w) ≡ false
+    (index own : ℕ) (w : Width) → lacks_own_parameter (parameter_meant a own) w ≡ false → misfits_call a last index (passed.Parameter own w) ≡ false
     → slice_get ws (first + own) ≡ slice_get ws (other + index)
 
-joined_good : (ws : List Width) (a : Around) (last : FlatOperand) (first other : ℕ) (v : FlatOperand) → Joined ws a last first other → IsPassedRight a last v
+joined_good : (ws : List Width) (a : Environment) (last : FlatOperand) (first other : ℕ) (v : FlatOperand) → Joined ws a last first other → IsPassedRight a last v
     → AllByRecursion (IsGoodLink ws) (joined_link first other (passed_parameter v))
 joined_good ws a last first other (flat.Pass index (passed.Parameter own w)) f (h, k) = (f index own w h k, tt)
 joined_good ws a last first other (flat.Pass index (passed.Literal value)) f h = tt
@@ -283,7 +283,7 @@ joined_good ws a last first other (flat.Pass index (passed.Direct x w byte bit))
 joined_good ws a last first other (flat.Pass index (passed.InBlock number x w byte bit)) f h = tt
 joined_good ws a last first other _ f h = tt
 
-all_joined : (ws : List Width) (a : Around) (last : FlatOperand) (first other : ℕ) (before : List OpData) → Joined ws a last first other
+all_joined : (ws : List Width) (a : Environment) (last : FlatOperand) (first other : ℕ) (before : List OpData) → Joined ws a last first other
     → AllByRecursion (λ op. IsPassedRight a last op.operand) before → AllByRecursion (IsGoodLink ws) (joined_links first other before)
 all_joined ws a last first other [] f h = tt
 all_joined ws a last first other (op ∷ ops) f (one, more) =
@@ -291,16 +291,16 @@ all_joined ws a last first other (op ∷ ops) f (one, more) =
     (all_joined ws a last first other ops f more)
 
 -- and of a system function
-abbrev Typed : List Width → Around → (last : FlatOperand) → (first : ℕ) → List Formal → Type 0
+abbrev Typed : List Width → Environment → (last : FlatOperand) → (first : ℕ) → List Formal → Type 0
 Typed ws a last first formals =
-    (index own : ℕ) (w : Width) (f : Formal) → lacks_own (parameter_meant a own) w ≡ false → misfits_call a last index (passed.Parameter own w) ≡ false → slice_get formals index ≡ Some f
+    (index own : ℕ) (w : Width) (f : Formal) → lacks_own_parameter (parameter_meant a own) w ≡ false → misfits_call a last index (passed.Parameter own w) ≡ false → slice_get formals index ≡ Some f
     → slice_get ws (first + own) ≡ Some (width_of f.kind)
 
 typed_good : (ws : List Width) (own : ℕ) (o : Option Formal) → ((f : Formal) → o ≡ Some f → slice_get ws own ≡ Some (width_of f.kind)) → AllByRecursion (IsGoodLink ws) (typed_link own o)
 typed_good ws own None h = tt
 typed_good ws own (Some f) h = (h f refl, tt)
 
-system_good : (ws : List Width) (a : Around) (last : FlatOperand) (first : ℕ) (formals : List Formal) (v : FlatOperand) → Typed ws a last first formals → IsPassedRight a last v
+system_good : (ws : List Width) (a : Environment) (last : FlatOperand) (first : ℕ) (formals : List Formal) (v : FlatOperand) → Typed ws a last first formals → IsPassedRight a last v
     → AllByRecursion (IsGoodLink ws) (system_link formals first (passed_parameter v))
 system_good ws a last first formals (flat.Pass index (passed.Parameter own w)) f (h, k) = typed_good ws (first + own) (slice_get formals index) (λ x e. f index own w x h k e)
 system_good ws a last first formals (flat.Pass index (passed.Literal value)) f h = tt
@@ -308,7 +308,7 @@ system_good ws a last first formals (flat.Pass index (passed.Direct x w byte bit
 system_good ws a last first formals (flat.Pass index (passed.InBlock number x w byte bit)) f h = tt
 system_good ws a last first formals _ f h = tt
 
-all_typed : (ws : List Width) (a : Around) (last : FlatOperand) (first : ℕ) (formals : List Formal) (before : List OpData) → Typed ws a last first formals
+all_typed : (ws : List Width) (a : Environment) (last : FlatOperand) (first : ℕ) (formals : List Formal) (before : List OpData) → Typed ws a last first formals
     → AllByRecursion (λ op. IsPassedRight a last op.operand) before → AllByRecursion (IsGoodLink ws) (system_links formals first before)
 all_typed ws a last first formals [] f h = tt
 all_typed ws a last first formals (op ∷ ops) f (one, more) =
@@ -335,15 +335,15 @@ code_no_system kinds.Udt e = refl
 code_no_system kinds.Sfc e = absurd cc
 
 -- a block of a program, of which so many parameters stand before its own
-record IsAmong (a : Around) (blocks : List CodeBlock) (first : ℕ) (b : CodeBlock) : Type 0 where
+record IsAmong (a : Environment) (blocks : List CodeBlock) (first : ℕ) (b : CodeBlock) : Type 0 where
   params : a.params ≡ map record_of_param b.params
   others : a.blocks ≡ map signature_of (map record_of_block blocks)
   codes : AllByRecursion (λ x. is_code x.id.kind ≡ true) blocks
   own : (n : ℕ) (w : Width) → slice_get (map (λ p. p.width) b.params) n ≡ Some w → slice_get (widths blocks) (first + n) ≡ Some w
 
-call_good : (a : Around) (blocks : List CodeBlock) (first : ℕ) (b : CodeBlock) (kind number instance : ℕ) (before : List OpData) → IsAmong a blocks first b → IsCalledRight a (flat.Called kind number instance)
+call_good : (a : Environment) (blocks : List CodeBlock) (first : ℕ) (b : CodeBlock) (kind number instance : ℕ) (before : List OpData) → IsAmong a blocks first b → IsCalledRight a (flat.Called kind number instance)
     → AllByRecursion (λ op. IsPassedRight a (flat.Called kind number instance) op.operand) before → AllByRecursion (IsGoodLink (widths blocks)) (call_links blocks (called_id kind number) first before)
-unfolding callee
+unfolding callee_among
 call_good a blocks first b kind number instance before among (s, found) h = by (nat_eq kind 5) refl found
   where
     ws : List Width
@@ -359,7 +359,7 @@ call_good a blocks first b kind number instance before among (s, found) h = by (
         is : is_system_function (called_kind kind) ≡ true
         is = ap (λ n. is_system_function (called_kind n)) (eqb-true kind 5 e)
 
-        there : callee a.blocks kind number ≡ option_map callee_of_system (system_params number)
+        there : callee_among a.blocks kind number ≡ option_map callee_of_system (system_params number)
         there = ap (λ (t : Bool). if t then option_map callee_of_system (system_params number) else block_with kind number a.blocks) e
 
         typed : Typed ws a last first (system_parameters number)
@@ -369,7 +369,7 @@ call_good a blocks first b kind number instance before among (s, found) h = by (
             whether None g k = absurd cc
             whether (Some formals) g k =
                 let m = system_matched number formals g in
-                let whole : callee a.blocks kind number ≡ Some (callee_of_system m.params) = there ∙ ap (option_map callee_of_system) m.is in
+                let whole : callee_among a.blocks kind number ≡ Some (callee_of_system m.params) = there ∙ ap (option_map callee_of_system) m.is in
                 let r = fits_width a (slice_get m.params index) own w (ap (λ z. misfits_callee a z index (passed.Parameter own w)) (sym whole) ∙ fits) in
                 let same : width_number w ≡ width_number (width_of x.kind) = sym r.2 ∙ matched_width formals m.params index x r.0 m.matched k r.1 in
                 among.own own w (own_width a b.params own w among.params lacks) ∙ ap Some (width_same w (width_of x.kind) (grind (arith, nat_tests)))
@@ -392,7 +392,7 @@ call_good a blocks first b kind number instance before among (s, found) h = by (
         no_system : is_system_function (called_kind kind) ≡ false
         no_system = ap is_system_function same ∙ code_no_system k.0 k.1
 
-        there : callee a.blocks kind number ≡ Some s
+        there : callee_among a.blocks kind number ≡ Some s
         there = found
 
         other : ℕ
@@ -410,24 +410,24 @@ call_good a blocks first b kind number instance before among (s, found) h = by (
             subst (λ (t : Bool). AllByRecursion (IsGoodLink ws) (if t then system_links (system_parameters number) first before else joined_links first other before)) (sym no_system)
             (all_joined ws a last first other before joined h)
 
-run_good : (a : Around) (blocks : List CodeBlock) (first : ℕ) (b : CodeBlock) (before : List OpData) (v : FlatOperand) → IsAmong a blocks first b → IsCalledRight a v
+run_good : (a : Environment) (blocks : List CodeBlock) (first : ℕ) (b : CodeBlock) (before : List OpData) (v : FlatOperand) → IsAmong a blocks first b → IsCalledRight a v
     → AllByRecursion (λ op. IsPassedRight a v op.operand) before → AllByRecursion (IsGoodLink (widths blocks)) (run_links blocks first before v)
 run_good a blocks first b before (flat.Called kind number instance) among called h = call_good a blocks first b kind number instance before among called h
 run_good a blocks first b before _ among called h = tt
 
-runs_good : (a : Around) (blocks : List CodeBlock) (first : ℕ) (b : CodeBlock) (rs : List Run) → IsAmong a blocks first b → AllByRecursion (IsRightRun a) rs
+runs_good : (a : Environment) (blocks : List CodeBlock) (first : ℕ) (b : CodeBlock) (rs : List Run) → IsAmong a blocks first b → AllByRecursion (IsRightRun a) rs
     → AllByRecursion (IsGoodLink (widths blocks)) (links_of_runs blocks first rs)
 runs_good a blocks first b [] among h = tt
 runs_good a blocks first b (r ∷ rs) among (one, more) =
     all_append (IsGoodLink (widths blocks)) (run_links blocks first r.before r.op.operand) (links_of_runs blocks first rs) (run_good a blocks first b r.before r.op.operand among one.1 one.0)
     (runs_good a blocks first b rs among more)
 
-block_good : (a : Around) (lens : List (ℕ × ℕ)) (blocks : List CodeBlock) (first : ℕ) (b : CodeBlock) → a.data_lens ≡ Some lens → IsAmong a blocks first b → block_faults a 0 b.code ≡ []
+block_good : (a : Environment) (lens : List (ℕ × ℕ)) (blocks : List CodeBlock) (first : ℕ) (b : CodeBlock) → a.data_lens ≡ Some lens → IsAmong a blocks first b → block_faults a 0 b.code ≡ []
     → AllByRecursion (IsGoodLink (widths blocks)) (block_links blocks first b.code)
 unfolding block_faults runs
 block_good a lens blocks first b known among e =
     runs_good a blocks first b (runs b.code) among
-    (runs_right a [] b.code (none b.code) (ops_right a lens (spots b.code) 0 [] [] [] b.code known (none_left _ _ (none_left _ _ e))))
+    (runs_right a [] b.code (none b.code) (ops_right a lens (statement_spots b.code) 0 [] [] [] b.code known (none_left _ _ (none_left _ _ e))))
   where
     none : (ops : List OpData) → FitsNext a [] ops
     none [] = tt
@@ -439,9 +439,9 @@ all_good : (lens : List (ℕ × ℕ)) (blocks : List CodeBlock) (first : ℕ) (f
 all_good lens blocks first front [] codes h e are = tt
 all_good lens blocks first front (b ∷ bs) codes (one, more) e are =
     all_append (IsGoodLink (widths blocks)) (block_links blocks first b.code) (links_from blocks (first + length b.params) bs)
-    (block_good (around_block (Some lens) (map record_of_block blocks) (record_of_block b)) lens blocks first b refl
+    (block_good (environment_of_block (Some lens) (map record_of_block blocks) (record_of_block b)) lens blocks first b refl
     (record { params = refl; others = refl; codes = codes; own = own_place }) one)
-    (all_good lens blocks (first + length b.params) (front ++ own) bs codes more (omega (arith, e, size, few)) (are ∙ sym (append_assoc front own (widths bs))))
+    (all_good lens blocks (first + length b.params) (front ++ own) bs codes more (omega (arith, e, size_of_op, few)) (are ∙ sym (append_assoc front own (widths bs))))
   where
     own : List Width
     own = map (λ (p : Param). p.width) b.params

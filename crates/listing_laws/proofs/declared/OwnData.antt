@@ -17,16 +17,16 @@ use Rattle.stl_symbols.specs.Symbol.{Symbol}
 use Rattle.block_layout.specs.Cells.{components_of}
 use Rattle.block_layout.specs.InitialBytes.{initial_bytes, length_at, setting_writes, settings_at, structure_writes}
 use Rattle.block_layout.specs.Layouts.{block_layout, layouts_by, layouts_from, layouts_of}
-use Rattle.block_layout.specs.Lengths.{bits_of_cells, is_structured, length_of, shape_bits, shape_of}
-use Rattle.block_layout.specs.Measures.{types_of}
+use Rattle.block_layout.specs.Lengths.{bits_of_cells, is_structured, length_of_block, shape_bits, shape_of}
+use Rattle.block_layout.specs.Measures.{types_of_source}
 use Rattle.block_layout.specs.Paths.{cells_in, shape_block, structure_of, whole_block}
-use Rattle.block_layout.specs.Sizes.{capped, cell_bits, element_of, end_of, structure_bits, up}
+use Rattle.block_layout.specs.Sizes.{capped_size, cell_bits, element_of, components_end, structure_bits, next_multiple}
 use Rattle.block_layout.specs.Types.{Types}
 use Rattle.block_layout.specs.declared.blocks.BlockLayout.{BlockLayout}
 use Rattle.block_layout.specs.declared.blocks.Shape.{Shape}
 use Rattle.block_layout.specs.declared.blocks.Shape.TheVariants as shape
 use Rattle.block_layout.specs.declared.cells.Cell.{Cell}
-use Rattle.stl_codegen.specs.Generated.{data_block, data_block_of, instance_in}
+use Rattle.stl_codegen.specs.Generated.{generated_data_block, data_block_of, instance_in}
 use Rattle.stl_list.specs.DataBlocks.{listed_data}
 use Rattle.stl_list.specs.Initial.{values_of}
 use Rattle.stl_list.specs.Signatures.{Signature}
@@ -47,10 +47,10 @@ use Rattle.listing_laws.proofs.declared.Own.{own_bytes, own_cell, own_cells}
 -- ---- lengths of a source
 
 whole_words : (cells : List Cell) → structure_bits cells / 8 % 2 ≡ 0
-unfolding structure_bits up
-whole_words cells = half (end_of 0 0 cells)
+unfolding structure_bits next_multiple
+whole_words cells = half (components_end 0 0 cells)
   where
-    half : (n : ℕ) → capped ((n + 15) / 16 * 16) / 8 % 2 ≡ 0
+    half : (n : ℕ) → capped_size ((n + 15) / 16 * 16) / 8 % 2 ≡ 0
     half n = omega arith
 
 shape_even : (y : Types) (blocks : List Block) (b : Block) (s : Shape) → shape_bits y blocks b s / 8 % 2 ≡ 0
@@ -62,8 +62,8 @@ shape_even y blocks b (shape.Of block) = by (slice_get blocks block)
     by (Some c) = whole_words (components_of y c)
 shape_even y blocks b shape.Unknown = refl
 
-length_even : (y : Types) (blocks : List Block) (b : Block) → length_of y blocks b % 2 ≡ 0
-unfolding length_of
+length_even : (y : Types) (blocks : List Block) (b : Block) → length_of_block y blocks b % 2 ≡ 0
+unfolding length_of_block
 length_even y blocks b = by (is_structured b.kind)
   where
     by : (t : Bool) → (if t then shape_bits y blocks b (shape_of y b) / 8 else 0) % 2 ≡ 0
@@ -82,12 +82,12 @@ initial_long l blocks k =
     ∙ length-replicate (length_at (slice_get l k)) 0
 
 source_even : (symbols : List Symbol) (t : Tree) (k : ℕ) (b : Block) (l : BlockLayout) (id : BlockId) → IsSound symbols t k b l → l.id ≡ Some id → is_data_block id.kind ≡ true
-    → IsEven (data_block (context_at symbols t k) l id)
+    → IsEven (generated_data_block (context_at symbols t k) l id)
 source_even symbols t k b l id h named db =
-    let y = types_of symbols t.blocks in
-    let long : length (initial_bytes (layouts_of t symbols) t.blocks k) ≡ length_of y t.blocks b =
+    let y = types_of_source symbols t.blocks in
+    let long : length (initial_bytes (layouts_of t symbols) t.blocks k) ≡ length_of_block y t.blocks b =
     initial_long (layouts_of t symbols) t.blocks k ∙ ap length_at h.layout_there ∙ length_there symbols t k b l h in
-    let most : length_of y t.blocks b ≤ 16384 = ltb-false 16384 (length_of y t.blocks b) h.head.by_51 in
+    let most : length_of_block y t.blocks b ≤ 16384 = ltb-false 16384 (length_of_block y t.blocks b) h.head.by_51 in
     record { even = ap (λ n. n % 2) long ∙ length_even y t.blocks b; short = omega (arith, long, most) }
 
 -- ---- the length of a listed block
@@ -99,16 +99,16 @@ own_bits n values some is_even short =
     let whole : n * 8 ≡ 8 * n = omega arith in
     rw (size, whole, uncapped (8 * n) (omega (arith, short)), even n is_even, uncapped (8 * n) (omega (arith, short))) refl
 
-own_end : (n : ℕ) (values : List Init) → end_of 0 0 (own_cell n values ∷ []) ≡ capped (up 0 16 + cell_bits (own_cell n values) [])
+own_end : (n : ℕ) (values : List Init) → components_end 0 0 (own_cell n values ∷ []) ≡ capped_size (next_multiple 0 16 + cell_bits (own_cell n values) [])
 unfolding own_cell
-own_end n values = end_step 0 (own_cell n values) [] ∙ last_step (capped (up 0 16 + cell_bits (own_cell n values) []))
+own_end n values = end_step 0 (own_cell n values) [] ∙ last_step (capped_size (next_multiple 0 16 + cell_bits (own_cell n values) []))
 
 own_long : (n : ℕ) (values : List Init) → 0 < n → n % 2 ≡ 0 → n ≤ 16384 → structure_bits (own_cell n values ∷ []) ≡ 8 * n
 unfolding structure_bits
 own_long n values some is_even short =
-    let end : end_of 0 0 (own_cell n values ∷ []) ≡ 8 * n =
-    own_end n values ∙ ap (λ m. capped (up 0 16 + m)) (own_bits n values some is_even short) ∙ ap capped (up_from (8 * n)) ∙ uncapped (8 * n) (omega (arith, short)) in
-    ap (λ m. capped (up m 16)) end ∙ ap capped (even n is_even) ∙ uncapped (8 * n) (omega (arith, short))
+    let end : components_end 0 0 (own_cell n values ∷ []) ≡ 8 * n =
+    own_end n values ∙ ap (λ m. capped_size (next_multiple 0 16 + m)) (own_bits n values some is_even short) ∙ ap capped_size (up_from (8 * n)) ∙ uncapped (8 * n) (omega (arith, short)) in
+    ap (λ m. capped_size (next_multiple m 16)) end ∙ ap capped_size (even n is_even) ∙ uncapped (8 * n) (omega (arith, short))
 
 components_long : (y : Types) (ss : List Signature) (line number : ℕ) (bytes : List ℕ) → length bytes % 2 ≡ 0 → length bytes ≤ 16384
     → structure_bits (components_of y (listed_data ss line number bytes None)) ≡ 8 * length bytes
@@ -118,8 +118,8 @@ components_long y ss line number (b ∷ bs) is_even short =
     ap structure_bits (own_cells y line b bs) ∙ own_long (length (b ∷ bs)) (values_of (b ∷ bs)) (omega arith) is_even short
 
 listed_long : (y : Types) (blocks : List Block) (ss : List Signature) (line number : ℕ) (bytes : List ℕ) → length bytes % 2 ≡ 0 → length bytes ≤ 16384
-    → length_of y blocks (listed_data ss line number bytes None) ≡ length bytes
-unfolding length_of
+    → length_of_block y blocks (listed_data ss line number bytes None) ≡ length bytes
+unfolding length_of_block
 listed_long y blocks ss line number bytes is_even short =
     ap (λ n. n / 8) (components_long y ss line number bytes is_even short) ∙ eighth (length bytes)
   where
@@ -143,9 +143,9 @@ laid_at y blocks before (x ∷ xs) zero b l there e =
 laid_at y blocks before (x ∷ xs) (suc k) b l there e = laid_at y blocks (x ∷ before) xs k b l there e
 
 pub laid_in : (symbols : List Symbol) (t : Tree) (k : ℕ) (b : Block) (l : BlockLayout) → slice_get t.blocks k ≡ Some b → slice_get (layouts_of t symbols) k ≡ Some l
-    → IsLaid (types_of symbols t.blocks) t.blocks b l
+    → IsLaid (types_of_source symbols t.blocks) t.blocks b l
 unfolding layouts_of layouts_by
-laid_in symbols t k b l there e = laid_at (types_of symbols t.blocks) t.blocks [] t.blocks k b l there e
+laid_in symbols t k b l there e = laid_at (types_of_source symbols t.blocks) t.blocks [] t.blocks k b l there e
 
 laid_shape : (y : Types) (blocks before : List Block) (ss : List Signature) (line number : ℕ) (bytes : List ℕ) → (block_layout y blocks before (listed_data ss line number bytes None)).shape ≡ shape.Own
 unfolding block_layout
@@ -160,7 +160,7 @@ pub laid_cells : (y : Types) (blocks before : List Block) (b : Block) → (block
 unfolding block_layout
 laid_cells y blocks before b = refl
 
-pub laid_length : (y : Types) (blocks before : List Block) (b : Block) → (block_layout y blocks before b).length ≡ length_of y blocks b
+pub laid_length : (y : Types) (blocks before : List Block) (b : Block) → (block_layout y blocks before b).length ≡ length_of_block y blocks b
 unfolding block_layout
 laid_length y blocks before b = refl
 
@@ -182,7 +182,7 @@ own_again ss d h small own = record {
     again : (symbols : List Symbol) (t : Tree) (k line : ℕ) (l : BlockLayout) → slice_get t.blocks k ≡ Some (listed_data ss line d.number d.bytes None)
         → slice_get (layouts_of t symbols) k ≡ Some l → l.broken ≡ false → data_block_of (context_at symbols t k) l l.id ≡ d ∷ []
     again symbols t k line l there e whole =
-        let y = types_of symbols t.blocks in
+        let y = types_of_source symbols t.blocks in
         let ls = layouts_of t symbols in
         let b = listed_data ss line d.number d.bytes None in
         let laid = laid_in symbols t k b l there e in

@@ -8,7 +8,7 @@ use Rattle.stl_ast.specs.declared.blocks.Block.{Block}
 use Rattle.stl_ast.specs.declared.blocks.Tree.{Tree}
 use Rattle.stl_symbols.specs.Symbol.{Symbol}
 use Rattle.block_layout.specs.Layouts.{block_layout, layouts_by, layouts_from, layouts_of}
-use Rattle.block_layout.specs.Measures.{types_of}
+use Rattle.block_layout.specs.Measures.{types_of_source}
 use Rattle.block_layout.specs.Types.{Types}
 use Rattle.block_layout.specs.declared.blocks.BlockLayout.{BlockLayout}
 use Rattle.stl_codegen.specs.Generated.{data_block_of, data_blocks_of, each_block}
@@ -22,16 +22,16 @@ use Rattle.sem_kept.specs.Accepted.{program_in}
 use Rattle.sem_kept.proofs.accepted.Accepted.{context_at}
 use Rattle.sem_kept.proofs.accepted.RecordData.{got}
 use Rattle.listing_laws.specs.Declared.{signatures_in}
-use Rattle.listing_laws.specs.OwnData.{AreOwnDataKept, IsAmong, IsOwnDataAgain}
+use Rattle.listing_laws.specs.OwnData.{AreOwnDataKept, IsOneOfDataBlocks, IsOwnDataAgain}
 use Rattle.listing_laws.proofs.declared.OwnData.{own_data}
 
 -- ---- among the data blocks of a source
 
-further_among : (x : DataBlock) (ds es : List DataBlock) → AllByRecursion (λ d. IsAmong d ds) es → AllByRecursion (λ d. IsAmong d (x ∷ ds)) es
+further_among : (x : DataBlock) (ds es : List DataBlock) → AllByRecursion (λ d. IsOneOfDataBlocks d ds) es → AllByRecursion (λ d. IsOneOfDataBlocks d (x ∷ ds)) es
 further_among x ds [] h = tt
 further_among x ds (e ∷ es) (one, more) = (record { place = suc one.place; there = one.there }, further_among x ds es more)
 
-pub all_among : (ds : List DataBlock) → AllByRecursion (λ d. IsAmong d ds) ds
+pub all_among : (ds : List DataBlock) → AllByRecursion (λ d. IsOneOfDataBlocks d ds) ds
 all_among [] = tt
 all_among (d ∷ ds) = (record { place = 0; there = refl }, further_among d ds ds (all_among ds))
 
@@ -52,11 +52,11 @@ each_has P symbols t d k j (suc i) (x ∷ xs) (m ∷ ms) b l e block layout is h
     (all_back P (data_block_of (context_at symbols t j) m m.id) (each_block (λ c b l. data_block_of c l l.id) (context_at symbols t (suc j)) xs ms) h)
 
 among : (symbols : List Symbol) (t : Tree) (d : DataBlock) (k : ℕ) (b : Block) (l : BlockLayout) → slice_get t.blocks k ≡ Some b → slice_get (layouts_of t symbols) k ≡ Some l
-    → data_block_of (context_at symbols t k) l l.id ≡ d ∷ [] → IsAmong d (data_blocks_of t symbols (layouts_of t symbols))
+    → data_block_of (context_at symbols t k) l l.id ≡ d ∷ [] → IsOneOfDataBlocks d (data_blocks_of t symbols (layouts_of t symbols))
 unfolding data_blocks_of
 among symbols t d k b l block layout is =
-    each_has (λ x. IsAmong x (data_blocks_of t symbols (layouts_of t symbols))) symbols t d k 0 k t.blocks (layouts_of t symbols) b l (omega arith) block layout is
-    (all_before (λ x. IsAmong x (data_blocks_of t symbols (layouts_of t symbols))) is_data_before
+    each_has (λ x. IsOneOfDataBlocks x (data_blocks_of t symbols (layouts_of t symbols))) symbols t d k 0 k t.blocks (layouts_of t symbols) b l (omega arith) block layout is
+    (all_before (λ x. IsOneOfDataBlocks x (data_blocks_of t symbols (layouts_of t symbols))) is_data_before
     (each_block (λ c b l. data_block_of c l l.id) (context_at symbols t 0) t.blocks (layouts_of t symbols))
     (all_among (data_blocks_of t symbols (layouts_of t symbols))))
 
@@ -75,7 +75,7 @@ laid_there y blocks before (x ∷ xs) (suc k) b e =
 
 pub layout_there : (symbols : List Symbol) (t : Tree) (k : ℕ) (b : Block) → slice_get t.blocks k ≡ Some b → HasLayout (layouts_of t symbols) k
 unfolding layouts_of layouts_by
-layout_there symbols t k b e = laid_there (types_of symbols t.blocks) t.blocks [] t.blocks k b e
+layout_there symbols t k b e = laid_there (types_of_source symbols t.blocks) t.blocks [] t.blocks k b e
 
 -- a block that stands in a list
 record Stands (b : Block) (bs : List Block) : Type 0 where
@@ -94,7 +94,7 @@ all_stand of front (d ∷ ds) = (
 )
 
 one_kept : (ss : List Signature) (line : ℕ) (symbols : List Symbol) (t : Tree) (d : DataBlock) → AllByRecursion (λ l. l.broken ≡ false) (layouts_of t symbols)
-    → IsOwnDataAgain ss d → Stands (listed_data ss line d.number d.bytes None) t.blocks → IsAmong d (data_blocks_of t symbols (layouts_of t symbols))
+    → IsOwnDataAgain ss d → Stands (listed_data ss line d.number d.bytes None) t.blocks → IsOneOfDataBlocks d (data_blocks_of t symbols (layouts_of t symbols))
 one_kept ss line symbols t d whole again stands =
     let b = listed_data ss line d.number d.bytes None in
     let laid = layout_there symbols t stands.place b stands.there in
@@ -104,7 +104,7 @@ one_kept ss line symbols t d whole again stands =
 
 all_kept : (ss : List Signature) (line : ℕ) (symbols : List Symbol) (t : Tree) (ds : List DataBlock) → AllByRecursion (λ l. l.broken ≡ false) (layouts_of t symbols)
     → AllByRecursion (λ d. d.instance_of ≡ None → IsOwnDataAgain ss d) ds → AllByRecursion (λ d. Stands (listed_data ss line d.number d.bytes d.instance_of) t.blocks) ds
-    → AllByRecursion (λ d. d.instance_of ≡ None → IsAmong d (data_blocks_of t symbols (layouts_of t symbols))) ds
+    → AllByRecursion (λ d. d.instance_of ≡ None → IsOneOfDataBlocks d (data_blocks_of t symbols (layouts_of t symbols))) ds
 all_kept ss line symbols t [] whole again stand = tt
 all_kept ss line symbols t (d ∷ ds) whole (one, more) (there, others) = (
   λ own. one_kept ss line symbols t d whole (one own) (subst (λ o. Stands (listed_data ss line d.number d.bytes o) t.blocks) own there),

@@ -10,13 +10,13 @@ use Rattle.stl_ast.specs.Blocks.{is_parameter}
 use Rattle.stl_ast.specs.declared.blocks.PartKind.{PartKind}
 use Rattle.stl_ast.specs.declared.declarations.Simple.{Simple}
 use Rattle.stl_ast.specs.declared.declarations.Simple.TheVariants as simple
-use Rattle.block_layout.specs.Listed.{AreAlike, AreApart, IsAlike, IsElementary, offset_named}
-use Rattle.block_layout.specs.Members.{component}
+use Rattle.block_layout.specs.Listed.{AreAlike, CellNamesDiffer, IsAlike, IsElementary, offset_named}
+use Rattle.block_layout.specs.Members.{component_of_name}
 use Rattle.block_layout.specs.Offsets.{width_of}
-use Rattle.block_layout.specs.Sizes.{alignment, capped, cell_bits, element_of, end_of, largest, plain_bits, stepped, up}
+use Rattle.block_layout.specs.Sizes.{alignment, capped_size, cell_bits, element_of, components_end, largest_size, plain_bits, end_behind_cell, next_multiple}
 use Rattle.block_layout.specs.declared.cells.Cell.{Cell}
 use Rattle.block_layout.specs.declared.members.Member.{Member}
-use Rattle.stl_codegen.specs.Generated.{offset_named as offset_of, param, param_here, param_of, section_number}
+use Rattle.stl_codegen.specs.Generated.{offset_of_member as offset_of, param_at_bits, param_here, param_of, section_number}
 use Rattle.stl_types.specs.declared.parameters.Formal.{Formal}
 use Rattle.stl_list.specs.Parameters.{parameter_name}
 use Rattle.stl_list.specs.Sections.{even_end, static_start}
@@ -43,7 +43,7 @@ AreSame look (c ∷ cs) (p ∷ ps) (d ∷ ds) = IsSame look c p d × AreSame loo
 AreSame look _ _ _ = ⊥
 
 abbrev pub look_in : List Cell → List ℕ → ℕ
-look_in all name = offset_named (component 0 0 0 name all)
+look_in all name = offset_named (component_of_name 0 0 0 name all)
 
 pub plain_width : (k : Simple) → plain_bits k ≡ bit_count (width_of k)
 plain_width simple.Bool = refl
@@ -61,10 +61,10 @@ same_offset None = refl
 same_offset (Some m) = refl
 
 same_one : (all : List Cell) (kind : PartKind) (opens : Bool) (c : Cell) (f : Formal) → is_parameter kind ≡ true → IsParameterCell kind opens c → width_of f.kind ≡ cell_width c.of
-    → IsSame (look_in all) c (param (section_number kind) (cell_width c.of) (offset_of (component 0 0 0 c.name all))) (plain_cell opens kind f)
+    → IsSame (look_in all) c (param_at_bits (section_number kind) (cell_width c.of) (offset_of (component_of_name 0 0 0 c.name all))) (plain_cell opens kind f)
 same_one all kind opens c f is h wide =
     let own : width_of h.simple ≡ width_of f.kind = sym (ap cell_width h.elementary.of) ∙ sym wide in
-    let offset = same_offset (component 0 0 0 c.name all) in
+    let offset = same_offset (component_of_name 0 0 0 c.name all) in
     record {
       alike = record {
         kind = h.simple;
@@ -126,7 +126,7 @@ behind_first : List ℕ → List ℕ
 behind_first [] = []
 behind_first (n ∷ ns) = ns
 
-param_same : (look : List ℕ → ℕ) (c : Cell) (p : Param) (d : Cell) (n : ℕ) → (h : IsSame look c p d) → look c.name ≡ n → param (section_number d.section) (width_of h.alike.other) n ≡ p
+param_same : (look : List ℕ → ℕ) (c : Cell) (p : Param) (d : Cell) (n : ℕ) → (h : IsSame look c p d) → look c.name ≡ n → param_at_bits (section_number d.section) (width_of h.alike.other) n ≡ p
 param_same look c p d n h e =
     let byte = ap (λ m. m / 8) (sym e) ∙ sym h.byte in
     let bit = ap (λ m. m % 8) (sym e) ∙ sym h.bit in
@@ -143,10 +143,10 @@ params_made look all (c ∷ cs) [] [] h e = absurd h
 params_made look all (c ∷ cs) [] (d ∷ ds) h e = absurd h
 params_made look all (c ∷ cs) (p ∷ ps) [] h e = absurd h
 params_made look all (c ∷ cs) (p ∷ ps) (d ∷ ds) (one, more) e =
-    let offset : look c.name ≡ offset_of (component 0 0 0 d.name all) = ap first_or_0 e ∙ sym (same_offset (component 0 0 0 d.name all)) in
+    let offset : look c.name ≡ offset_of (component_of_name 0 0 0 d.name all) = ap first_or_0 e ∙ sym (same_offset (component_of_name 0 0 0 d.name all)) in
     let here : param_here true all d ≡ p ∷ [] =
     ap (λ (t : Bool). if t then param_of true all d d.of else []) one.parameter ∙ ap (param_of true all d) one.alike.second.of
-    ∙ ap (λ q. q ∷ []) (param_same look c p d (offset_of (component 0 0 0 d.name all)) one offset) in
+    ∙ ap (λ q. q ∷ []) (param_same look c p d (offset_of (component_of_name 0 0 0 d.name all)) one offset) in
     let rest = params_made look all cs ps ds more (ap behind_first e) in
     λ i. here i ++ rest i
 
@@ -175,7 +175,7 @@ apart_later n i name [] e less h named = tt
 apart_later n i name (c ∷ cs) e less h (one, more) =
     ((λ j. bytes_eq (one j) (e j)) ∙ parameters_apart i n (omega (arith, h)) less, apart_later n (suc i) name cs e (omega (arith, less)) (omega (arith, h)) more)
 
-pub named_apart : (i : ℕ) (cs : List Cell) → i + length cs < 2 ^ 64 → AreNamed i cs → AreApart cs
+pub named_apart : (i : ℕ) (cs : List Cell) → i + length cs < 2 ^ 64 → AreNamed i cs → CellNamesDiffer cs
 named_apart i [] h named = tt
 named_apart i (c ∷ cs) h (one, more) =
     (apart_later i (suc i) c.name cs one (omega arith) (omega (arith, h)) more, named_apart (suc i) cs (omega (arith, h)) more)
@@ -195,7 +195,7 @@ pub align : Bool → ℕ → ℕ
 align opens bits = if opens then 16 else min bits 16
 
 pub next : (at : ℕ) → Bool → ℕ → ℕ
-next at opens bits = capped (up at (align opens bits) + bits)
+next at opens bits = capped_size (next_multiple at (align opens bits) + bits)
 
 pub alignment_is : (c : Cell) (kind : Simple) → IsElementary c kind → alignment c ≡ align c.opens (plain_bits kind)
 unfolding align
@@ -205,67 +205,67 @@ pub bits_is : (c : Cell) (cs : List Cell) (kind : Simple) → IsElementary c kin
 unfolding element_of
 bits_is c cs kind h = rw (h.bounds, h.of) refl
 
-pub stepped_is : (at : ℕ) (c : Cell) (cs : List Cell) (kind : Simple) → IsElementary c kind → stepped 0 at c (cell_bits c cs) ≡ next at c.opens (plain_bits kind)
+pub stepped_is : (at : ℕ) (c : Cell) (cs : List Cell) (kind : Simple) → IsElementary c kind → end_behind_cell 0 at c (cell_bits c cs) ≡ next at c.opens (plain_bits kind)
 unfolding next
 stepped_is at c cs kind h = rw (bits_is c cs kind h, h.level, h.sound, alignment_is c kind h) refl
 
-end_first : (at : ℕ) (c : Cell) (cs : List Cell) (kind : Simple) → IsElementary c kind → end_of 0 at (c ∷ cs) ≡ end_of 0 (next at c.opens (plain_bits kind)) cs
-end_first at c cs kind h = end_step at c cs ∙ ap (λ n. end_of 0 n cs) (stepped_is at c cs kind h)
+end_first : (at : ℕ) (c : Cell) (cs : List Cell) (kind : Simple) → IsElementary c kind → components_end 0 at (c ∷ cs) ≡ components_end 0 (next at c.opens (plain_bits kind)) cs
+end_first at c cs kind h = end_step at c cs ∙ ap (λ n. components_end 0 n cs) (stepped_is at c cs kind h)
 
-pub end_alike : (at : ℕ) (cs ds : List Cell) → AreAlike cs ds → end_of 0 at cs ≡ end_of 0 at ds
-unfolding end_of
+pub end_alike : (at : ℕ) (cs ds : List Cell) → AreAlike cs ds → components_end 0 at cs ≡ components_end 0 at ds
+unfolding components_end
 end_alike at [] [] alike = refl
 end_alike at [] (d ∷ ds) alike = absurd alike
 end_alike at (c ∷ cs) [] alike = absurd alike
 end_alike at (c ∷ cs) (d ∷ ds) (one, more) =
     let step : next at c.opens (plain_bits one.kind) ≡ next at d.opens (plain_bits one.other) = λ i. next at (one.opens i) (one.bits i) in
-    end_first at c cs one.kind one.first ∙ end_alike (next at c.opens (plain_bits one.kind)) cs ds more ∙ ap (λ n. end_of 0 n ds) step
+    end_first at c cs one.kind one.first ∙ end_alike (next at c.opens (plain_bits one.kind)) cs ds more ∙ ap (λ n. components_end 0 n ds) step
     ∙ sym (end_first at d ds one.other one.second)
 
-pub end_append : (at : ℕ) (cs ds rest : List Cell) → AreAlike cs ds → end_of 0 at (cs ++ rest) ≡ end_of 0 (end_of 0 at cs) rest
-unfolding end_of
+pub end_append : (at : ℕ) (cs ds rest : List Cell) → AreAlike cs ds → components_end 0 at (cs ++ rest) ≡ components_end 0 (components_end 0 at cs) rest
+unfolding components_end
 end_append at [] [] rest alike = refl
 end_append at [] (d ∷ ds) rest alike = absurd alike
 end_append at (c ∷ cs) [] rest alike = absurd alike
 end_append at (c ∷ cs) (d ∷ ds) rest (one, more) =
     end_first at c (cs ++ rest) one.kind one.first ∙ end_append (next at c.opens (plain_bits one.kind)) cs ds rest more
-    ∙ ap (λ n. end_of 0 n rest) (sym (end_first at c cs one.kind one.first))
+    ∙ ap (λ n. components_end 0 n rest) (sym (end_first at c cs one.kind one.first))
 
-pub end_near : (at : ℕ) (cs : List Cell) → at ≤ largest → end_of 0 at cs ≤ largest
-unfolding end_of
+pub end_near : (at : ℕ) (cs : List Cell) → at ≤ largest_size → components_end 0 at cs ≤ largest_size
+unfolding components_end
 end_near at [] near = near
 end_near at (c ∷ cs) near =
     let step = past_behind at c (cell_bits c cs) near in
-    subst (λ n. n ≤ largest) (sym (end_step at c cs)) (end_near (stepped 0 at c (cell_bits c cs)) cs step.1)
+    subst (λ n. n ≤ largest_size) (sym (end_step at c cs)) (end_near (end_behind_cell 0 at c (cell_bits c cs)) cs step.1)
 
 -- the offsets of some cells, as those behind a place find them
 abbrev pub Finds : (look : List ℕ → ℕ) → (at place : ℕ) → (all cs : List Cell) → Type 0
-Finds look at place all cs = AllByRecursion (λ c. look c.name ≡ offset_named (component 0 at place c.name all)) cs
+Finds look at place all cs = AllByRecursion (λ c. look c.name ≡ offset_named (component_of_name 0 at place c.name all)) cs
 
 pub finds_later : (look : List ℕ → ℕ) (at place : ℕ) (c : Cell) (kind : Simple) (rest cs : List Cell) → IsElementary c kind → AllByRecursion (λ d. bytes_eq d.name c.name ≡ false) cs
     → Finds look at place (c ∷ rest) cs → Finds look (next at c.opens (plain_bits kind)) (place + 1) rest cs
 finds_later look at place c kind rest [] is apart h = tt
 finds_later look at place c kind rest (d ∷ ds) is (other, others) (one, more) =
     let passed = passed_by at place d.name c rest (not_both (nat_eq c.level 0) (bytes_eq d.name c.name) (λ e. other)) in
-    (one ∙ ap offset_named (passed ∙ ap (λ n. component 0 n (place + 1) d.name rest) (stepped_is at c rest kind is)), finds_later look at place c kind rest ds is others more)
+    (one ∙ ap offset_named (passed ∙ ap (λ n. component_of_name 0 n (place + 1) d.name rest) (stepped_is at c rest kind is)), finds_later look at place c kind rest ds is others more)
 
-last_end : (p : Param) (at offset bits : ℕ) → p.byte ≡ offset / 8 → p.bit ≡ offset % 8 → bit_count p.width ≡ bits → at ≡ capped (offset + bits) → at < largest → even_end p ≡ up at 16 / 8
-unfolding up
+last_end : (p : Param) (at offset bits : ℕ) → p.byte ≡ offset / 8 → p.bit ≡ offset % 8 → bit_count p.width ≡ bits → at ≡ capped_size (offset + bits) → at < largest_size → even_end p ≡ next_multiple at 16 / 8
+unfolding next_multiple
 last_end p at offset bits byte bit width e short = omega (arith, byte, bit, width, e, short)
 
 last_more : (p q : Param) (ps : List Param) → static_start (p ∷ q ∷ ps) ≡ static_start (q ∷ ps)
 last_more p q ps = let e : length (p ∷ q ∷ ps) - 1 ≡ suc (length (q ∷ ps) - 1) = omega arith in rw e refl
 
-start_is : (look : List ℕ → ℕ) (at place : ℕ) (c : Cell) (cs vs : List Cell) (p : Param) (ps : List Param) (d : Cell) (ds : List Cell) → AreApart (c ∷ cs) → AreSame look (c ∷ cs) (p ∷ ps) (d ∷ ds)
-    → Finds look at place (c ∷ cs ++ vs) (c ∷ cs) → end_of 0 at (c ∷ cs) < largest → static_start (p ∷ ps) ≡ up (end_of 0 at (c ∷ cs)) 16 / 8
-unfolding next end_of
+start_is : (look : List ℕ → ℕ) (at place : ℕ) (c : Cell) (cs vs : List Cell) (p : Param) (ps : List Param) (d : Cell) (ds : List Cell) → CellNamesDiffer (c ∷ cs) → AreSame look (c ∷ cs) (p ∷ ps) (d ∷ ds)
+    → Finds look at place (c ∷ cs ++ vs) (c ∷ cs) → components_end 0 at (c ∷ cs) < largest_size → static_start (p ∷ ps) ≡ next_multiple (components_end 0 at (c ∷ cs)) 16 / 8
+unfolding next components_end
 start_is look at place c [] vs p [] d [] apart (one, more) (found, founds) short =
     let is = one.alike.first in
-    let end : end_of 0 at (c ∷ []) ≡ next at c.opens (plain_bits one.alike.kind) = end_first at c [] one.alike.kind is in
-    let offset : look c.name ≡ up at (align c.opens (plain_bits one.alike.kind)) =
-    found ∙ ap offset_named (found_here at place c vs is.level) ∙ ap (up at) (alignment_is c one.alike.kind is) in
+    let end : components_end 0 at (c ∷ []) ≡ next at c.opens (plain_bits one.alike.kind) = end_first at c [] one.alike.kind is in
+    let offset : look c.name ≡ next_multiple at (align c.opens (plain_bits one.alike.kind)) =
+    found ∙ ap offset_named (found_here at place c vs is.level) ∙ ap (next_multiple at) (alignment_is c one.alike.kind is) in
     let bits : bit_count p.width ≡ plain_bits one.alike.kind = ap bit_count (sym one.width) ∙ sym (plain_width one.alike.other) ∙ sym one.alike.bits in
-    last_end p (end_of 0 at (c ∷ [])) (up at (align c.opens (plain_bits one.alike.kind))) (plain_bits one.alike.kind)
+    last_end p (components_end 0 at (c ∷ [])) (next_multiple at (align c.opens (plain_bits one.alike.kind))) (plain_bits one.alike.kind)
     (one.byte ∙ ap (λ n. n / 8) offset) (one.bit ∙ ap (λ n. n % 8) offset) bits end short
 start_is look at place c [] vs p [] d (x ∷ ds) apart (one, more) found short = absurd more
 start_is look at place c [] vs p (q ∷ ps) d [] apart (one, more) found short = absurd more
@@ -275,18 +275,18 @@ start_is look at place c (c' ∷ cs) vs p [] d (x ∷ ds) apart (one, more) foun
 start_is look at place c (c' ∷ cs) vs p (q ∷ ps) d [] apart (one, more) found short = absurd more
 start_is look at place c (c' ∷ cs) vs p (q ∷ ps) d (x ∷ ds) apart (one, more) found short =
     let is = one.alike.first in
-    let end : end_of 0 at (c ∷ c' ∷ cs) ≡ end_of 0 (next at c.opens (plain_bits one.alike.kind)) (c' ∷ cs) = end_first at c (c' ∷ cs) one.alike.kind is in
+    let end : components_end 0 at (c ∷ c' ∷ cs) ≡ components_end 0 (next at c.opens (plain_bits one.alike.kind)) (c' ∷ cs) = end_first at c (c' ∷ cs) one.alike.kind is in
     last_more p q ps
     ∙ start_is look (next at c.opens (plain_bits one.alike.kind)) (place + 1) c' cs vs q ps x ds apart.1 more
-    (finds_later look at place c one.alike.kind (c' ∷ cs ++ vs) (c' ∷ cs) is apart.0 found.1) (subst (λ n. n < largest) end short)
-    ∙ ap (λ n. up n 16 / 8) (sym end)
+    (finds_later look at place c one.alike.kind (c' ∷ cs ++ vs) (c' ∷ cs) is apart.0 found.1) (subst (λ n. n < largest_size) end short)
+    ∙ ap (λ n. next_multiple n 16 / 8) (sym end)
 
 pub all_found : (all cs : List Cell) → Finds (look_in all) 0 0 all cs
 all_found all [] = tt
 all_found all (c ∷ cs) = (refl, all_found all cs)
 
-pub static_is : (cs vs : List Cell) (ps : List Param) (ds : List Cell) → AreApart cs → AreSame (look_in (cs ++ vs)) cs ps ds → end_of 0 0 cs < largest → static_start ps ≡ up (end_of 0 0 cs) 16 / 8
-unfolding end_of up
+pub static_is : (cs vs : List Cell) (ps : List Param) (ds : List Cell) → CellNamesDiffer cs → AreSame (look_in (cs ++ vs)) cs ps ds → components_end 0 0 cs < largest_size → static_start ps ≡ next_multiple (components_end 0 0 cs) 16 / 8
+unfolding components_end next_multiple
 static_is [] vs [] [] apart h short = refl
 static_is [] vs [] (d ∷ ds) apart h short = absurd h
 static_is [] vs (p ∷ ps) [] apart h short = absurd h

@@ -13,8 +13,8 @@ use Rattle.stl_ast.specs.declared.blocks.PartKind.{PartKind}
 use Rattle.stl_ast.specs.declared.blocks.PartKind.TheVariants as part
 use Rattle.stl_ast.specs.declared.declarations.Declaration.{Declaration}
 use Rattle.stl_ast.specs.declared.declarations.Init.{Init}
-use Rattle.stl_symbols.specs.Names.{place_of}
-use Rattle.block_layout.specs.Around.{Outside, in_list, of_sections, of_structure, onto, returned_names, section_declarations}
+use Rattle.stl_symbols.specs.Names.{name_place}
+use Rattle.block_layout.specs.Around.{Outside, refusals_in_list, of_sections, of_structure, declarations_before_next, returned_names, section_declarations}
 use Rattle.block_layout.specs.Cells.{cells_of}
 use Rattle.block_layout.specs.Declarations.{has_upside_down, init_fits, is_unknown_type}
 use Rattle.block_layout.specs.Rule21.{broken_21, is_twice, names_before}
@@ -26,9 +26,9 @@ use Rattle.block_layout.specs.Types.{Types}
 use Rattle.stl_types.specs.declared.parameters.Formal.{Formal}
 use Rattle.stl_list.specs.DataBlocks.{listed_data}
 use Rattle.stl_list.specs.CodeBlocks.{listed_block}
-use Rattle.stl_list.specs.Lines.{first_line}
-use Rattle.stl_list.specs.Sections.{byte_array, bytes_here, data_name, plain_declaration, section, sections, static_bytes, static_name, temporary_name}
-use Rattle.stl_list.specs.Signatures.{Signature, formals_of}
+use Rattle.stl_list.specs.Lines.{first_statement_line}
+use Rattle.stl_list.specs.Sections.{byte_array, bytes_here, data_name, plain_declaration, section_part, section_parts, static_bytes, static_name, temporary_name}
+use Rattle.stl_list.specs.Signatures.{Signature, formals_of_block}
 use Rattle.stl_list.specs.Initial.{values_of}
 use Rattle.sem_kept.proofs.accepted.RecordParams.{AllBefore, IsNew, none_around}
 use Rattle.listing_laws.specs.Rules.{AreDeclarationsRight}
@@ -60,7 +60,7 @@ plain_right y o before line f shallow new = record { twice = new.0; known = refl
 not_upside : (n : ℕ) → int_lt (pos n) (pos 0) ≡ false
 not_upside n = grind arith
 
-pub bytes_right : (y : Types) (o : Outside) (before : List Declaration) (line : ℕ) (name : List ℕ) (n : ℕ) (values : List Init) → (o.depth ≤ 1) → is_some (place_of (upper_case_name name) (names_before o.names 0 before)) ≡ false
+pub bytes_right : (y : Types) (o : Outside) (before : List Declaration) (line : ℕ) (name : List ℕ) (n : ℕ) (values : List Init) → (o.depth ≤ 1) → is_some (name_place (upper_case_name name) (names_before o.names 0 before)) ≡ false
     → init_fits (byte_array line name n values) ≡ true → IsRight y o before (byte_array line name n values)
 bytes_right y o before line name n values shallow new fit = record { twice = new; known = refl; fit = ap not fit; upside = upside; deep = deep }
   where
@@ -84,7 +84,7 @@ before_weaker : (P Q : List Declaration → Declaration → Type 0) → ((before
 before_weaker P Q f before [] h = tt
 before_weaker P Q f before (d ∷ ds) (one, more) = (f before d one, before_weaker P Q f (d ∷ before) ds more)
 
-pub before_append : (P : List Declaration → Declaration → Type 0) (before ds es : List Declaration) → AllBefore P before ds → AllBefore P (onto before ds) es → AllBefore P before (ds ++ es)
+pub before_append : (P : List Declaration → Declaration → Type 0) (before ds es : List Declaration) → AllBefore P before ds → AllBefore P (declarations_before_next before ds) es → AllBefore P before (ds ++ es)
 before_append P before [] es h k = k
 before_append P before (d ∷ ds) es (one, more) k = (one, before_append P (d ∷ before) ds es more k)
 
@@ -106,7 +106,7 @@ bytes_here_right y o before line name n values h = by (n == 0) refl
 
 -- a list whose declarations are right has no refusal of these rules
 pub list_right : (y : Types) (o : Outside) (ds : List Declaration) → AllBefore (IsRight y o) [] ds
-    → (in_list (broken_21 o) ds ≡ []) × (in_list (broken_23 y o) ds ≡ []) × (in_list (broken_41 o) ds ≡ []) × (in_list (broken_42 o) ds ≡ []) × (in_list (broken_56 y o) ds ≡ [])
+    → (refusals_in_list (broken_21 o) ds ≡ []) × (refusals_in_list (broken_23 y o) ds ≡ []) × (refusals_in_list (broken_41 o) ds ≡ []) × (refusals_in_list (broken_42 o) ds ≡ []) × (refusals_in_list (broken_56 y o) ds ≡ [])
 list_right y o ds h = (
   none_gathered (is_twice o) 21 [] ds (before_weaker (IsRight y o) (λ before d. is_twice o before d ≡ false) (λ before d r. r.twice) [] ds h),
   none_gathered (λ before d. is_unknown_type y d.of.of) 23 [] ds (before_weaker (IsRight y o) (λ before d. is_unknown_type y d.of.of ≡ false) (λ before d r. r.known) [] ds h),
@@ -129,16 +129,16 @@ block_right y b h k =
 
 -- ---- a listed code block
 
-items_here : (line : ℕ) (kind : PartKind) (items : List Declaration) (rest : List Part) → flat_map (λ p. p.items) (section line kind items ++ rest) ≡ items ++ flat_map (λ p. p.items) rest
+items_here : (line : ℕ) (kind : PartKind) (items : List Declaration) (rest : List Part) → flat_map (λ p. p.items) (section_part line kind items ++ rest) ≡ items ++ flat_map (λ p. p.items) rest
 items_here line kind [] rest = refl
 items_here line kind (d ∷ ds) rest = let some = some_items d ds in rw some refl
 
 items_then : (line : ℕ) (kind : PartKind) (items : List Declaration) (rest : List Part) (others : List Declaration) → flat_map (λ p. p.items) rest ≡ others
-    → flat_map (λ p. p.items) (section line kind items ++ rest) ≡ items ++ others
+    → flat_map (λ p. p.items) (section_part line kind items ++ rest) ≡ items ++ others
 items_then line kind items rest others e = items_here line kind items rest ∙ ap (λ z. items ++ z) e
 
 five_items : (line : ℕ) (i q b s t : List Declaration)
-    → flat_map (λ (p : Part). p.items) (section line part.Input i ++ section line part.Output q ++ section line part.InOut b ++ section line part.Static s ++ section line part.Temp t)
+    → flat_map (λ (p : Part). p.items) (section_part line part.Input i ++ section_part line part.Output q ++ section_part line part.InOut b ++ section_part line part.Static s ++ section_part line part.Temp t)
     ≡ i ++ (q ++ (b ++ (s ++ t)))
 five_items line i q b s t =
     ap (flat_map (λ (p : Part). p.items)) right
@@ -149,19 +149,19 @@ five_items line i q b s t =
     (items_here line part.Temp t [] ∙ append-nil t))))
   where
     si : List Part
-    si = section line part.Input i
+    si = section_part line part.Input i
 
     sq : List Part
-    sq = section line part.Output q
+    sq = section_part line part.Output q
 
     sb : List Part
-    sb = section line part.InOut b
+    sb = section_part line part.InOut b
 
     ss : List Part
-    ss = section line part.Static s
+    ss = section_part line part.Static s
 
     st : List Part
-    st = section line part.Temp t
+    st = section_part line part.Temp t
 
     right : si ++ sq ++ sb ++ ss ++ st ≡ si ++ (sq ++ (sb ++ (ss ++ (st ++ []))))
     right =
@@ -169,17 +169,17 @@ five_items line i q b s t =
         ∙ ap (λ z. si ++ (sq ++ (sb ++ (ss ++ z)))) (sym (append-nil st))
 
 sections_right : (y : Types) (o : Outside) (line : ℕ) (fs : List Formal) (g : AreGrouped fs) (b : CodeBlock) → o.depth ≡ 0 → AreTaken 0 false o.names
-    → AllBefore (IsRight y o) [] (flat_map (λ p. p.items) (sections line fs b))
-unfolding sections
+    → AllBefore (IsRight y o) [] (flat_map (λ p. p.items) (section_parts line fs b))
+unfolding section_parts
 sections_right y o line fs g b shallow taken =
     subst (AllBefore (IsRight y o) []) (sym items)
     (before_append (IsRight y o) [] i (q ++ (both ++ (s ++ t))) (plains_right y o [] line 0 false g.ins shallow g.input.named (omega (arith, g.short)) taken)
-    (before_append (IsRight y o) (onto [] i) q (both ++ (s ++ t)) (plains_right y o (onto [] i) line (length g.ins) false g.outs shallow g.output.named (omega (arith, g.short)) one_taken)
-    (before_append (IsRight y o) (onto (onto [] i) q) both (s ++ t) (plains_right y o (onto (onto [] i) q) line (length g.ins + length g.outs) false g.both shallow g.in_out.named (omega (arith, g.short)) two.1)
-    (before_append (IsRight y o) (onto (onto (onto [] i) q) both) s t
-    (bytes_here_right y o (onto (onto (onto [] i) q) both) line static_name (static_bytes b) [] (λ e. bytes_right y o (onto (onto (onto [] i) q) both) line static_name (static_bytes b) [] near
+    (before_append (IsRight y o) (declarations_before_next [] i) q (both ++ (s ++ t)) (plains_right y o (declarations_before_next [] i) line (length g.ins) false g.outs shallow g.output.named (omega (arith, g.short)) one_taken)
+    (before_append (IsRight y o) (declarations_before_next (declarations_before_next [] i) q) both (s ++ t) (plains_right y o (declarations_before_next (declarations_before_next [] i) q) line (length g.ins + length g.outs) false g.both shallow g.in_out.named (omega (arith, g.short)) two.1)
+    (before_append (IsRight y o) (declarations_before_next (declarations_before_next (declarations_before_next [] i) q) both) s t
+    (bytes_here_right y o (declarations_before_next (declarations_before_next (declarations_before_next [] i) q) both) line static_name (static_bytes b) [] (λ e. bytes_right y o (declarations_before_next (declarations_before_next (declarations_before_next [] i) q) both) line static_name (static_bytes b) [] near
     (static_new (length g.ins + length g.outs + length g.both) _ three.1) refl))
-    (bytes_here_right y o (onto (onto (onto (onto [] i) q) both) s) line temporary_name b.local_len [] (λ e. bytes_right y o (onto (onto (onto (onto [] i) q) both) s) line temporary_name b.local_len [] near
+    (bytes_here_right y o (declarations_before_next (declarations_before_next (declarations_before_next (declarations_before_next [] i) q) both) s) line temporary_name b.local_len [] (λ e. bytes_right y o (declarations_before_next (declarations_before_next (declarations_before_next (declarations_before_next [] i) q) both) s) line temporary_name b.local_len [] near
     (temporary_new (length g.ins + length g.outs + length g.both) true _ behind) refl))))))
   where
     i : List Declaration
@@ -200,49 +200,49 @@ sections_right y o line fs g b shallow taken =
     near : o.depth ≤ 1
     near = omega (arith, shallow)
 
-    items : flat_map (λ (p : Part). p.items) (sections line fs b) ≡ i ++ (q ++ (both ++ (s ++ t)))
+    items : flat_map (λ (p : Part). p.items) (section_parts line fs b) ≡ i ++ (q ++ (both ++ (s ++ t)))
     items =
-        (λ n. flat_map (λ (p : Part). p.items) (section line part.Input (declared_input line fs g n) ++ section line part.Output (declared_output line fs g n)
-        ++ section line part.InOut (declared_in_out line fs g n) ++ section line part.Static s ++ section line part.Temp t))
+        (λ n. flat_map (λ (p : Part). p.items) (section_part line part.Input (declared_input line fs g n) ++ section_part line part.Output (declared_output line fs g n)
+        ++ section_part line part.InOut (declared_in_out line fs g n) ++ section_part line part.Static s ++ section_part line part.Temp t))
         ∙ five_items line i q both s t
 
-    one : AreTaken (0 + length g.ins) false (names_before o.names 0 (onto [] i))
+    one : AreTaken (0 + length g.ins) false (names_before o.names 0 (declarations_before_next [] i))
     one = (plain_listed y o part.Input [] line 0 false g.ins shallow g.input.named (omega (arith, g.short)) taken).1
 
     from_first : 0 + length g.ins ≡ length g.ins
     from_first = omega arith
 
-    one_taken : AreTaken (length g.ins) false (names_before o.names 0 (onto [] i))
-    one_taken = subst (λ n. AreTaken n false (names_before o.names 0 (onto [] i))) from_first one
+    one_taken : AreTaken (length g.ins) false (names_before o.names 0 (declarations_before_next [] i))
+    one_taken = subst (λ n. AreTaken n false (names_before o.names 0 (declarations_before_next [] i))) from_first one
 
-    two : (cells_of y o part.Output (onto [] i) q ≡ map (plain_cell false part.Output) g.outs) × AreTaken (length g.ins + length g.outs) false (names_before o.names 0 (onto (onto [] i) q))
-    two = plain_listed y o part.Output (onto [] i) line (length g.ins) false g.outs shallow g.output.named (omega (arith, g.short)) one_taken
+    two : (cells_of y o part.Output (declarations_before_next [] i) q ≡ map (plain_cell false part.Output) g.outs) × AreTaken (length g.ins + length g.outs) false (names_before o.names 0 (declarations_before_next (declarations_before_next [] i) q))
+    two = plain_listed y o part.Output (declarations_before_next [] i) line (length g.ins) false g.outs shallow g.output.named (omega (arith, g.short)) one_taken
 
-    three : (cells_of y o part.InOut (onto (onto [] i) q) both ≡ map (plain_cell false part.InOut) g.both)
-        × AreTaken (length g.ins + length g.outs + length g.both) false (names_before o.names 0 (onto (onto (onto [] i) q) both))
-    three = plain_listed y o part.InOut (onto (onto [] i) q) line (length g.ins + length g.outs) false g.both shallow g.in_out.named (omega (arith, g.short)) two.1
+    three : (cells_of y o part.InOut (declarations_before_next (declarations_before_next [] i) q) both ≡ map (plain_cell false part.InOut) g.both)
+        × AreTaken (length g.ins + length g.outs + length g.both) false (names_before o.names 0 (declarations_before_next (declarations_before_next (declarations_before_next [] i) q) both))
+    three = plain_listed y o part.InOut (declarations_before_next (declarations_before_next [] i) q) line (length g.ins + length g.outs) false g.both shallow g.in_out.named (omega (arith, g.short)) two.1
 
-    behind : AreTaken (length g.ins + length g.outs + length g.both) true (names_before o.names 0 (onto (onto (onto (onto [] i) q) both) s))
+    behind : AreTaken (length g.ins + length g.outs + length g.both) true (names_before o.names 0 (declarations_before_next (declarations_before_next (declarations_before_next (declarations_before_next [] i) q) both) s))
     behind = by (static_bytes b == 0)
       where
         size : ℕ
         size = length g.ins + length g.outs + length g.both
 
         before : List Declaration
-        before = onto (onto (onto [] i) q) both
+        before = declarations_before_next (declarations_before_next (declarations_before_next [] i) q) both
 
-        by : (t : Bool) → AreTaken size true (names_before o.names 0 (onto before (if t then [] else byte_array line static_name (static_bytes b) [] ∷ [])))
+        by : (t : Bool) → AreTaken size true (names_before o.names 0 (declarations_before_next before (if t then [] else byte_array line static_name (static_bytes b) [] ∷ [])))
         by true = taken_static size (names_before o.names 0 before) three.1
         by false =
             all_append (IsTaken size true) (names_before o.names 0 before) (upper_case_name static_name ∷ []) (taken_static size (names_before o.names 0 before) three.1)
             (StaticTaken refl refl, tt)
 
-pub code_right : (y : Types) (ss : List Signature) (reached : ℕ) (b : CodeBlock) (g : AreGrouped (formals_of ss b.id)) → AreDeclarationsRight y (listed_block ss reached b)
+pub code_right : (y : Types) (ss : List Signature) (reached : ℕ) (b : CodeBlock) (g : AreGrouped (formals_of_block ss b.id)) → AreDeclarationsRight y (listed_block ss reached b)
 code_right y ss reached b g =
     let o : Outside = of_sections (listed_block ss reached b) in
-    let result = result_is (formals_of ss b.id) g in
+    let result = result_is (formals_of_block ss b.id) g in
     let taken : AreTaken 0 false o.names = subst (λ r. AreTaken 0 false (returned_names r)) (sym result) (names_taken g.last) in
-    block_right y (listed_block ss reached b) (sections_right y o (max reached (first_line b)) (formals_of ss b.id) g b refl taken) tt
+    block_right y (listed_block ss reached b) (sections_right y o (max reached (first_statement_line b)) (formals_of_block ss b.id) g b refl taken) tt
 
 -- ---- a listed data block
 

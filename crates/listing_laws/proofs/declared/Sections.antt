@@ -16,17 +16,17 @@ use Rattle.stl_ast.specs.declared.blocks.PartKind.{PartKind}
 use Rattle.stl_ast.specs.declared.blocks.PartKind.TheVariants as part
 use Rattle.stl_ast.specs.declared.declarations.Declaration.{Declaration}
 use Rattle.stl_ast.specs.declared.declarations.Simple.{Simple}
-use Rattle.block_layout.specs.Around.{Outside, of_sections, onto, returned_names}
-use Rattle.block_layout.specs.Cells.{cells_of, components_of, is_temp, opened, returned_cells, section_cells, temps_of}
+use Rattle.block_layout.specs.Around.{Outside, of_sections, declarations_before_next, returned_names}
+use Rattle.block_layout.specs.Cells.{cells_of, components_of, is_temp, with_first_cell_opening, returned_cells, section_cells, temps_of}
 use Rattle.block_layout.specs.Rule21.{names_before}
 use Rattle.block_layout.specs.Types.{Types}
 use Rattle.block_layout.specs.declared.cells.Cell.{Cell}
 use Rattle.stl_types.specs.declared.parameters.Formal.{Formal}
 use Rattle.stl_list.specs.CodeBlocks.{listed_block, result_of}
-use Rattle.stl_list.specs.Lines.{first_line}
+use Rattle.stl_list.specs.Lines.{first_statement_line}
 use Rattle.stl_list.specs.Parameters.{is_return, return_name}
-use Rattle.stl_list.specs.Sections.{byte_array, bytes_here, declared_here, declared_in, is_declared_in, plain_declaration, section, sections, static_bytes, static_name, temporary_name}
-use Rattle.stl_list.specs.Signatures.{Signature, formals_of}
+use Rattle.stl_list.specs.Sections.{byte_array, bytes_here, declared_here, declarations_of_section, is_declared_in, plain_declaration, section_part, section_parts, static_bytes, static_name, temporary_name}
+use Rattle.stl_list.specs.Signatures.{Signature, formals_of_block}
 use Rattle.listing_laws.proofs.declared.Apart.{AreTaken, IsTaken, Returned as ReturnTaken, Static as StaticTaken, static_new, taken_static, temporary_new}
 use Rattle.listing_laws.proofs.declared.Cells.{AreNumbered, byte_cells, bytes_listed, plain_cell, plain_cells, plain_listed, plain_opened}
 
@@ -35,7 +35,7 @@ some_items d ds = grind (arith, nat_tests)
 
 -- a section without content is as one with none
 section_here : (y : Types) (o : Outside) (wanted : PartKind → Bool) (before : List Declaration) (line : ℕ) (kind : PartKind) (items : List Declaration) (rest : List Part)
-    → section_cells y o wanted before (section line kind items ++ rest) ≡ (if wanted kind then opened (cells_of y o kind before items) else []) ++ section_cells y o wanted (onto before items) rest
+    → section_cells y o wanted before (section_part line kind items ++ rest) ≡ (if wanted kind then with_first_cell_opening (cells_of y o kind before items) else []) ++ section_cells y o wanted (declarations_before_next before items) rest
 section_here y o wanted before line kind [] rest = by (wanted kind)
   where
     by : (t : Bool) → section_cells y o wanted before rest ≡ (if t then [] else []) ++ section_cells y o wanted before rest
@@ -44,10 +44,10 @@ section_here y o wanted before line kind [] rest = by (wanted kind)
 section_here y o wanted before line kind (d ∷ ds) rest = let some = some_items d ds in rw some refl
 
 section_then : (y : Types) (o : Outside) (wanted : PartKind → Bool) (before : List Declaration) (line : ℕ) (kind : PartKind) (items : List Declaration) (rest : List Part) (cells : List Cell)
-    → section_cells y o wanted (onto before items) rest ≡ cells
-    → section_cells y o wanted before (section line kind items ++ rest) ≡ (if wanted kind then opened (cells_of y o kind before items) else []) ++ cells
+    → section_cells y o wanted (declarations_before_next before items) rest ≡ cells
+    → section_cells y o wanted before (section_part line kind items ++ rest) ≡ (if wanted kind then with_first_cell_opening (cells_of y o kind before items) else []) ++ cells
 section_then y o wanted before line kind items rest cells e =
-    section_here y o wanted before line kind items rest ∙ ap (λ z. (if wanted kind then opened (cells_of y o kind before items) else []) ++ z) e
+    section_here y o wanted before line kind items rest ∙ ap (λ z. (if wanted kind then with_first_cell_opening (cells_of y o kind before items) else []) ++ z) e
 
 -- ---- parameters by their sections
 
@@ -86,27 +86,27 @@ same_rank part.Static = refl
 same_rank part.Temp = refl
 
 declared_same : (line : ℕ) (kind : PartKind) (fs : List Formal) → AllByRecursion (λ f. f.section ≡ kind) fs → AllByRecursion (λ f. is_return f ≡ false) fs
-    → declared_in line fs kind ≡ map (plain_declaration line) fs
+    → declarations_of_section line fs kind ≡ map (plain_declaration line) fs
 declared_same line kind [] h k = refl
 declared_same line kind (f ∷ fs) (is, more) (other, others) =
     let here : is_declared_in kind f ≡ true = and_from _ _ (ap (λ s. nat_eq (part_rank s) (part_rank kind)) is ∙ same_rank kind) (ap not other) in
     rw here (ap (λ ds. plain_declaration line f ∷ ds) (declared_same line kind fs more others))
 
 declared_other : (line : ℕ) (own kind : PartKind) (fs : List Formal) → nat_eq (part_rank own) (part_rank kind) ≡ false → AllByRecursion (λ f. f.section ≡ own) fs
-    → declared_in line fs kind ≡ []
+    → declarations_of_section line fs kind ≡ []
 declared_other line own kind [] apart h = refl
 declared_other line own kind (f ∷ fs) apart (is, more) =
     let away : nat_eq (part_rank f.section) (part_rank kind) ≡ false = ap (λ s. nat_eq (part_rank s) (part_rank kind)) is ∙ apart in
     rw away (declared_other line own kind fs apart more)
 
-declared_last : (line : ℕ) (kind : PartKind) (fs : List Formal) → IsLast fs → declared_in line fs kind ≡ []
-declared_last line kind fs (Nothing e) = ap (λ z. declared_in line z kind) e
-declared_last line kind fs (Returned f name e) = ap (λ z. declared_in line z kind) e ∙ alone
+declared_last : (line : ℕ) (kind : PartKind) (fs : List Formal) → IsLast fs → declarations_of_section line fs kind ≡ []
+declared_last line kind fs (Nothing e) = ap (λ z. declarations_of_section line z kind) e
+declared_last line kind fs (Returned f name e) = ap (λ z. declarations_of_section line z kind) e ∙ alone
   where
     is : is_return f ≡ true
     is = ap (λ n. bytes_eq n return_name) name
 
-    alone : declared_in line (f ∷ []) kind ≡ []
+    alone : declarations_of_section line (f ∷ []) kind ≡ []
     alone = by (nat_eq (part_rank f.section) (part_rank kind)) (is_return f) is
       where
         by : (a t : Bool) → t ≡ true → (if a && not t then plain_declaration line f ∷ [] else []) ++ [] ≡ []
@@ -115,7 +115,7 @@ declared_last line kind fs (Returned f name e) = ap (λ z. declared_in line z ki
         by false t e = refl
 
 declared_groups : (line : ℕ) (kind : PartKind) (ps qs rs ts : List Formal)
-    → declared_in line (ps ++ (qs ++ (rs ++ ts))) kind ≡ declared_in line ps kind ++ (declared_in line qs kind ++ (declared_in line rs kind ++ declared_in line ts kind))
+    → declarations_of_section line (ps ++ (qs ++ (rs ++ ts))) kind ≡ declarations_of_section line ps kind ++ (declarations_of_section line qs kind ++ (declarations_of_section line rs kind ++ declarations_of_section line ts kind))
 declared_groups line kind ps qs rs ts =
     let f = declared_here line kind in
     flat_map-append f ps (qs ++ (rs ++ ts))
@@ -124,9 +124,9 @@ declared_groups line kind ps qs rs ts =
 joined : {A : Type 0} (ps qs rs ts ps' qs' rs' ts' : List A) → ps ≡ ps' → qs ≡ qs' → rs ≡ rs' → ts ≡ ts' → ps ++ (qs ++ (rs ++ ts)) ≡ ps' ++ (qs' ++ (rs' ++ ts'))
 joined ps qs rs ts ps' qs' rs' ts' a b c d = λ i. a i ++ (b i ++ (c i ++ d i))
 
-pub declared_input : (line : ℕ) (fs : List Formal) (g : AreGrouped fs) → declared_in line fs part.Input ≡ map (plain_declaration line) g.ins
+pub declared_input : (line : ℕ) (fs : List Formal) (g : AreGrouped fs) → declarations_of_section line fs part.Input ≡ map (plain_declaration line) g.ins
 declared_input line fs g =
-    ap (λ z. declared_in line z part.Input) g.are ∙ declared_groups line part.Input g.ins g.outs g.both g.last
+    ap (λ z. declarations_of_section line z part.Input) g.are ∙ declared_groups line part.Input g.ins g.outs g.both g.last
     ∙ joined _ _ _ _ (map (plain_declaration line) g.ins) [] [] []
     (declared_same line part.Input g.ins g.input.sections (not_return 0 g.ins g.input.named))
     (declared_other line part.Output part.Input g.outs refl g.output.sections)
@@ -134,9 +134,9 @@ declared_input line fs g =
     (declared_last line part.Input g.last g.ends)
     ∙ append-nil (map (plain_declaration line) g.ins)
 
-pub declared_output : (line : ℕ) (fs : List Formal) (g : AreGrouped fs) → declared_in line fs part.Output ≡ map (plain_declaration line) g.outs
+pub declared_output : (line : ℕ) (fs : List Formal) (g : AreGrouped fs) → declarations_of_section line fs part.Output ≡ map (plain_declaration line) g.outs
 declared_output line fs g =
-    ap (λ z. declared_in line z part.Output) g.are ∙ declared_groups line part.Output g.ins g.outs g.both g.last
+    ap (λ z. declarations_of_section line z part.Output) g.are ∙ declared_groups line part.Output g.ins g.outs g.both g.last
     ∙ joined _ _ _ _ [] (map (plain_declaration line) g.outs) [] []
     (declared_other line part.Input part.Output g.ins refl g.input.sections)
     (declared_same line part.Output g.outs g.output.sections (not_return (length g.ins) g.outs g.output.named))
@@ -144,9 +144,9 @@ declared_output line fs g =
     (declared_last line part.Output g.last g.ends)
     ∙ append-nil (map (plain_declaration line) g.outs)
 
-pub declared_in_out : (line : ℕ) (fs : List Formal) (g : AreGrouped fs) → declared_in line fs part.InOut ≡ map (plain_declaration line) g.both
+pub declared_in_out : (line : ℕ) (fs : List Formal) (g : AreGrouped fs) → declarations_of_section line fs part.InOut ≡ map (plain_declaration line) g.both
 declared_in_out line fs g =
-    ap (λ z. declared_in line z part.InOut) g.are ∙ declared_groups line part.InOut g.ins g.outs g.both g.last
+    ap (λ z. declarations_of_section line z part.InOut) g.are ∙ declared_groups line part.InOut g.ins g.outs g.both g.last
     ∙ joined _ _ _ _ [] [] (map (plain_declaration line) g.both) []
     (declared_other line part.Input part.InOut g.ins refl g.input.sections)
     (declared_other line part.Output part.InOut g.outs refl g.output.sections)
@@ -182,34 +182,34 @@ result_is fs g =
 -- ---- the cells
 
 five_sections : (y : Types) (o : Outside) (wanted : PartKind → Bool) (line : ℕ) (i q b s t : List Declaration)
-    → section_cells y o wanted [] (section line part.Input i ++ section line part.Output q ++ section line part.InOut b ++ section line part.Static s ++ section line part.Temp t)
-    ≡ (if wanted part.Input then opened (cells_of y o part.Input [] i) else [])
-    ++ ((if wanted part.Output then opened (cells_of y o part.Output (onto [] i) q) else [])
-    ++ ((if wanted part.InOut then opened (cells_of y o part.InOut (onto (onto [] i) q) b) else [])
-    ++ ((if wanted part.Static then opened (cells_of y o part.Static (onto (onto (onto [] i) q) b) s) else [])
-    ++ ((if wanted part.Temp then opened (cells_of y o part.Temp (onto (onto (onto (onto [] i) q) b) s) t) else []) ++ []))))
+    → section_cells y o wanted [] (section_part line part.Input i ++ section_part line part.Output q ++ section_part line part.InOut b ++ section_part line part.Static s ++ section_part line part.Temp t)
+    ≡ (if wanted part.Input then with_first_cell_opening (cells_of y o part.Input [] i) else [])
+    ++ ((if wanted part.Output then with_first_cell_opening (cells_of y o part.Output (declarations_before_next [] i) q) else [])
+    ++ ((if wanted part.InOut then with_first_cell_opening (cells_of y o part.InOut (declarations_before_next (declarations_before_next [] i) q) b) else [])
+    ++ ((if wanted part.Static then with_first_cell_opening (cells_of y o part.Static (declarations_before_next (declarations_before_next (declarations_before_next [] i) q) b) s) else [])
+    ++ ((if wanted part.Temp then with_first_cell_opening (cells_of y o part.Temp (declarations_before_next (declarations_before_next (declarations_before_next (declarations_before_next [] i) q) b) s) t) else []) ++ []))))
 five_sections y o wanted line i q b s t =
     ap (section_cells y o wanted []) right
     ∙ section_then y o wanted [] line part.Input i (sq ++ (sb ++ (ss ++ (st ++ [])))) _
-    (section_then y o wanted (onto [] i) line part.Output q (sb ++ (ss ++ (st ++ []))) _
-    (section_then y o wanted (onto (onto [] i) q) line part.InOut b (ss ++ (st ++ [])) _
-    (section_then y o wanted (onto (onto (onto [] i) q) b) line part.Static s (st ++ []) _
-    (section_here y o wanted (onto (onto (onto (onto [] i) q) b) s) line part.Temp t []))))
+    (section_then y o wanted (declarations_before_next [] i) line part.Output q (sb ++ (ss ++ (st ++ []))) _
+    (section_then y o wanted (declarations_before_next (declarations_before_next [] i) q) line part.InOut b (ss ++ (st ++ [])) _
+    (section_then y o wanted (declarations_before_next (declarations_before_next (declarations_before_next [] i) q) b) line part.Static s (st ++ []) _
+    (section_here y o wanted (declarations_before_next (declarations_before_next (declarations_before_next (declarations_before_next [] i) q) b) s) line part.Temp t []))))
   where
     si : List Part
-    si = section line part.Input i
+    si = section_part line part.Input i
 
     sq : List Part
-    sq = section line part.Output q
+    sq = section_part line part.Output q
 
     sb : List Part
-    sb = section line part.InOut b
+    sb = section_part line part.InOut b
 
     ss : List Part
-    ss = section line part.Static s
+    ss = section_part line part.Static s
 
     st : List Part
-    st = section line part.Temp t
+    st = section_part line part.Temp t
 
     right : si ++ sq ++ sb ++ ss ++ st ≡ si ++ (sq ++ (sb ++ (ss ++ (st ++ []))))
     right =
@@ -218,12 +218,12 @@ five_sections y o wanted line i q b s t =
 
 -- the cells of the sections of a listed block, and of VAR_TEMP
 pub record HasCells (y : Types) (o : Outside) (line : ℕ) (fs : List Formal) (g : AreGrouped fs) (b : CodeBlock) : Type 0 where
-  pub components : section_cells y o (λ k. not (is_temp k)) [] (sections line fs b)
+  pub components : section_cells y o (λ k. not (is_temp k)) [] (section_parts line fs b)
       ≡ plain_cells part.Input g.ins ++ (plain_cells part.Output g.outs ++ (plain_cells part.InOut g.both ++ byte_cells part.Static static_name (static_bytes b)))
-  pub temps : section_cells y o is_temp [] (sections line fs b) ≡ byte_cells part.Temp temporary_name b.local_len
+  pub temps : section_cells y o is_temp [] (section_parts line fs b) ≡ byte_cells part.Temp temporary_name b.local_len
 
 pub sections_cells : (y : Types) (o : Outside) (line : ℕ) (fs : List Formal) (g : AreGrouped fs) (b : CodeBlock) → o.depth ≡ 0 → AreTaken 0 false o.names → HasCells y o line fs g b
-unfolding sections
+unfolding section_parts
 sections_cells y o line fs g b shallow taken = record {
   components = parts (λ k. not (is_temp k)) ∙ joined _ _ _ _ (plain_cells part.Input g.ins) (plain_cells part.Output g.outs) (plain_cells part.InOut g.both) static_ first second third last;
   temps = parts is_temp ∙ append-nil _ ∙ fifth;
@@ -247,65 +247,65 @@ sections_cells y o line fs g b shallow taken = record {
     static_ : List Cell
     static_ = byte_cells part.Static static_name (static_bytes b)
 
-    parts : (wanted : PartKind → Bool) → section_cells y o wanted [] (sections line fs b)
-        ≡ (if wanted part.Input then opened (cells_of y o part.Input [] i) else [])
-        ++ ((if wanted part.Output then opened (cells_of y o part.Output (onto [] i) q) else [])
-        ++ ((if wanted part.InOut then opened (cells_of y o part.InOut (onto (onto [] i) q) both) else [])
-        ++ ((if wanted part.Static then opened (cells_of y o part.Static (onto (onto (onto [] i) q) both) s) else [])
-        ++ ((if wanted part.Temp then opened (cells_of y o part.Temp (onto (onto (onto (onto [] i) q) both) s) t) else []) ++ []))))
+    parts : (wanted : PartKind → Bool) → section_cells y o wanted [] (section_parts line fs b)
+        ≡ (if wanted part.Input then with_first_cell_opening (cells_of y o part.Input [] i) else [])
+        ++ ((if wanted part.Output then with_first_cell_opening (cells_of y o part.Output (declarations_before_next [] i) q) else [])
+        ++ ((if wanted part.InOut then with_first_cell_opening (cells_of y o part.InOut (declarations_before_next (declarations_before_next [] i) q) both) else [])
+        ++ ((if wanted part.Static then with_first_cell_opening (cells_of y o part.Static (declarations_before_next (declarations_before_next (declarations_before_next [] i) q) both) s) else [])
+        ++ ((if wanted part.Temp then with_first_cell_opening (cells_of y o part.Temp (declarations_before_next (declarations_before_next (declarations_before_next (declarations_before_next [] i) q) both) s) t) else []) ++ []))))
     parts wanted =
-        (λ n. section_cells y o wanted [] (section line part.Input (declared_input line fs g n) ++ section line part.Output (declared_output line fs g n)
-        ++ section line part.InOut (declared_in_out line fs g n) ++ section line part.Static s ++ section line part.Temp t))
+        (λ n. section_cells y o wanted [] (section_part line part.Input (declared_input line fs g n) ++ section_part line part.Output (declared_output line fs g n)
+        ++ section_part line part.InOut (declared_in_out line fs g n) ++ section_part line part.Static s ++ section_part line part.Temp t))
         ∙ five_sections y o wanted line i q both s t
 
-    one : (cells_of y o part.Input [] i ≡ map (plain_cell false part.Input) g.ins) × AreTaken (0 + length g.ins) false (names_before o.names 0 (onto [] i))
+    one : (cells_of y o part.Input [] i ≡ map (plain_cell false part.Input) g.ins) × AreTaken (0 + length g.ins) false (names_before o.names 0 (declarations_before_next [] i))
     one = plain_listed y o part.Input [] line 0 false g.ins shallow g.input.named (omega (arith, g.short)) taken
 
     from_first : 0 + length g.ins ≡ length g.ins
     from_first = omega arith
 
-    two : (cells_of y o part.Output (onto [] i) q ≡ map (plain_cell false part.Output) g.outs) × AreTaken (length g.ins + length g.outs) false (names_before o.names 0 (onto (onto [] i) q))
+    two : (cells_of y o part.Output (declarations_before_next [] i) q ≡ map (plain_cell false part.Output) g.outs) × AreTaken (length g.ins + length g.outs) false (names_before o.names 0 (declarations_before_next (declarations_before_next [] i) q))
     two =
-        plain_listed y o part.Output (onto [] i) line (length g.ins) false g.outs shallow g.output.named (omega (arith, g.short))
-        (subst (λ n. AreTaken n false (names_before o.names 0 (onto [] i))) from_first one.1)
+        plain_listed y o part.Output (declarations_before_next [] i) line (length g.ins) false g.outs shallow g.output.named (omega (arith, g.short))
+        (subst (λ n. AreTaken n false (names_before o.names 0 (declarations_before_next [] i))) from_first one.1)
 
-    three : (cells_of y o part.InOut (onto (onto [] i) q) both ≡ map (plain_cell false part.InOut) g.both)
-        × AreTaken (length g.ins + length g.outs + length g.both) false (names_before o.names 0 (onto (onto (onto [] i) q) both))
-    three = plain_listed y o part.InOut (onto (onto [] i) q) line (length g.ins + length g.outs) false g.both shallow g.in_out.named (omega (arith, g.short)) two.1
+    three : (cells_of y o part.InOut (declarations_before_next (declarations_before_next [] i) q) both ≡ map (plain_cell false part.InOut) g.both)
+        × AreTaken (length g.ins + length g.outs + length g.both) false (names_before o.names 0 (declarations_before_next (declarations_before_next (declarations_before_next [] i) q) both))
+    three = plain_listed y o part.InOut (declarations_before_next (declarations_before_next [] i) q) line (length g.ins + length g.outs) false g.both shallow g.in_out.named (omega (arith, g.short)) two.1
 
-    first : opened (cells_of y o part.Input [] i) ≡ plain_cells part.Input g.ins
-    first = ap opened one.0 ∙ plain_opened part.Input g.ins
+    first : with_first_cell_opening (cells_of y o part.Input [] i) ≡ plain_cells part.Input g.ins
+    first = ap with_first_cell_opening one.0 ∙ plain_opened part.Input g.ins
 
-    second : opened (cells_of y o part.Output (onto [] i) q) ≡ plain_cells part.Output g.outs
-    second = ap opened two.0 ∙ plain_opened part.Output g.outs
+    second : with_first_cell_opening (cells_of y o part.Output (declarations_before_next [] i) q) ≡ plain_cells part.Output g.outs
+    second = ap with_first_cell_opening two.0 ∙ plain_opened part.Output g.outs
 
-    third : opened (cells_of y o part.InOut (onto (onto [] i) q) both) ≡ plain_cells part.InOut g.both
-    third = ap opened three.0 ∙ plain_opened part.InOut g.both
+    third : with_first_cell_opening (cells_of y o part.InOut (declarations_before_next (declarations_before_next [] i) q) both) ≡ plain_cells part.InOut g.both
+    third = ap with_first_cell_opening three.0 ∙ plain_opened part.InOut g.both
 
-    last : opened (cells_of y o part.Static (onto (onto (onto [] i) q) both) s) ++ ([] ++ []) ≡ static_
+    last : with_first_cell_opening (cells_of y o part.Static (declarations_before_next (declarations_before_next (declarations_before_next [] i) q) both) s) ++ ([] ++ []) ≡ static_
     last =
         append-nil _
-        ∙ bytes_listed y o part.Static (onto (onto (onto [] i) q) both) line static_name (static_bytes b) shallow
+        ∙ bytes_listed y o part.Static (declarations_before_next (declarations_before_next (declarations_before_next [] i) q) both) line static_name (static_bytes b) shallow
         (static_new (length g.ins + length g.outs + length g.both) _ three.1)
 
-    behind : AreTaken (length g.ins + length g.outs + length g.both) true (names_before o.names 0 (onto (onto (onto (onto [] i) q) both) s))
+    behind : AreTaken (length g.ins + length g.outs + length g.both) true (names_before o.names 0 (declarations_before_next (declarations_before_next (declarations_before_next (declarations_before_next [] i) q) both) s))
     behind = by (static_bytes b == 0)
       where
         count : ℕ
         count = length g.ins + length g.outs + length g.both
 
         before : List Declaration
-        before = onto (onto (onto [] i) q) both
+        before = declarations_before_next (declarations_before_next (declarations_before_next [] i) q) both
 
-        by : (t : Bool) → AreTaken count true (names_before o.names 0 (onto before (if t then [] else byte_array line static_name (static_bytes b) [] ∷ [])))
+        by : (t : Bool) → AreTaken count true (names_before o.names 0 (declarations_before_next before (if t then [] else byte_array line static_name (static_bytes b) [] ∷ [])))
         by true = taken_static count (names_before o.names 0 before) three.1
         by false =
             all_append (IsTaken count true) (names_before o.names 0 before) (upper_case_name static_name ∷ []) (taken_static count (names_before o.names 0 before) three.1)
             (StaticTaken refl refl, tt)
 
-    fifth : opened (cells_of y o part.Temp (onto (onto (onto (onto [] i) q) both) s) t) ≡ byte_cells part.Temp temporary_name b.local_len
+    fifth : with_first_cell_opening (cells_of y o part.Temp (declarations_before_next (declarations_before_next (declarations_before_next (declarations_before_next [] i) q) both) s) t) ≡ byte_cells part.Temp temporary_name b.local_len
     fifth =
-        bytes_listed y o part.Temp (onto (onto (onto (onto [] i) q) both) s) line temporary_name b.local_len shallow
+        bytes_listed y o part.Temp (declarations_before_next (declarations_before_next (declarations_before_next (declarations_before_next [] i) q) both) s) line temporary_name b.local_len shallow
         (temporary_new (length g.ins + length g.outs + length g.both) true _ behind)
 
 -- ---- of a listed block
@@ -314,13 +314,13 @@ pub names_taken : (fs : List Formal) → AreTaken 0 false (returned_names (last_
 names_taken [] = tt
 names_taken (f ∷ fs) = (ReturnTaken refl, tt)
 
-pub listed_cells : (y : Types) (ss : List Signature) (reached : ℕ) (b : CodeBlock) (g : AreGrouped (formals_of ss b.id))
+pub listed_cells : (y : Types) (ss : List Signature) (reached : ℕ) (b : CodeBlock) (g : AreGrouped (formals_of_block ss b.id))
     → (components_of y (listed_block ss reached b)
     ≡ returned_cells (last_result g.last) ++ (plain_cells part.Input g.ins ++ (plain_cells part.Output g.outs ++ (plain_cells part.InOut g.both ++ byte_cells part.Static static_name (static_bytes b)))))
     × (temps_of y (listed_block ss reached b) ≡ byte_cells part.Temp temporary_name b.local_len)
 listed_cells y ss reached b g =
-    let line = max reached (first_line b) in
-    let fs = formals_of ss b.id in
+    let line = max reached (first_statement_line b) in
+    let fs = formals_of_block ss b.id in
     let o : Outside = of_sections (listed_block ss reached b) in
     let result = result_is fs g in
     let taken : AreTaken 0 false o.names = subst (λ r. AreTaken 0 false (returned_names r)) (sym result) (names_taken g.last) in

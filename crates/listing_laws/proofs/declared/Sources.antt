@@ -13,21 +13,21 @@ use Rattle.plc_base.specs.declared.places.Width.TheVariants as width
 use Rattle.flat_code.specs.declared.programs.Param.{Param}
 use Rattle.stl_ast.specs.Blocks.{is_parameter, part_rank}
 use Rattle.stl_ast.specs.Outline.{IsOutline}
-use Rattle.stl_ast.specs.WellFormed.{AreInOrder, IsSection}
+use Rattle.stl_ast.specs.WellFormed.{AreSectionsInOrder, IsSection}
 use Rattle.stl_ast.specs.declared.blocks.Part.{Part}
 use Rattle.stl_ast.specs.declared.blocks.PartKind.{PartKind}
 use Rattle.stl_ast.specs.declared.blocks.PartKind.TheVariants as part
 use Rattle.stl_ast.specs.declared.declarations.Declaration.{Declaration}
 use Rattle.stl_ast.specs.declared.declarations.Simple.{Simple}
-use Rattle.block_layout.specs.Around.{Outside, onto}
-use Rattle.block_layout.specs.Cells.{cell_of, cells_of, is_temp, laid, opened, section_cells}
-use Rattle.block_layout.specs.Listed.{AreApart, IsElementary}
+use Rattle.block_layout.specs.Around.{Outside, declarations_before_next}
+use Rattle.block_layout.specs.Cells.{cell_of, cells_of, is_temp, layout_element, with_first_cell_opening, section_cells}
+use Rattle.block_layout.specs.Listed.{CellNamesDiffer, IsElementary}
 use Rattle.block_layout.specs.Offsets.{width_of}
 use Rattle.block_layout.specs.Types.{Types}
 use Rattle.block_layout.specs.declared.cells.Cell.{Cell}
 use Rattle.block_layout.specs.declared.cells.Element.{Element}
 use Rattle.block_layout.specs.declared.cells.Element.TheVariants.{Plain}
-use Rattle.stl_codegen.specs.Generated.{param, param_bits, param_here, param_of, section_number}
+use Rattle.stl_codegen.specs.Generated.{param_at_bits, param_bits, param_here, param_of, section_number}
 use Rattle.sem_kept.proofs.accepted.RecordParams.{AllBefore, AreOnce, IsElementary as IsElementaryDeclared, IsNew, NotIn, before_front, before_rest, outer_levels, parameter_sound, seen_by}
 
 -- ---- cells of parameters
@@ -56,7 +56,7 @@ parameter_section y o kind before (d ∷ ds) shallow ((level, e), more) (one, ot
       level = level;
       sound = parameter_sound y o before d shallow level e one;
       bounds = e.arrays;
-      of = ap (laid y) e.of;
+      of = ap (layout_element y) e.of;
     };
     section = refl;
     begins = refl;
@@ -64,11 +64,11 @@ parameter_section y o kind before (d ∷ ds) shallow ((level, e), more) (one, ot
   parameter_section y o kind (d ∷ before) ds shallow more others,
 )
 
-opened_parameters : (kind : PartKind) (cs : List Cell) → AreParameters kind false cs → AreParameters kind true (opened cs)
+opened_parameters : (kind : PartKind) (cs : List Cell) → AreParameters kind false cs → AreParameters kind true (with_first_cell_opening cs)
 opened_parameters kind [] h = tt
 opened_parameters kind (c ∷ cs) (one, more) = by c.sound one.elementary.sound
   where
-    by : (t : Bool) → t ≡ true → AreParameters kind true (if t then record c { opens = true } ∷ cs else c ∷ opened cs)
+    by : (t : Bool) → t ≡ true → AreParameters kind true (if t then record c { opens = true } ∷ cs else c ∷ with_first_cell_opening cs)
     by true e = (
       record {
         simple = one.simple;
@@ -97,7 +97,7 @@ record Split (k : BlockKind) (y : Types) (o : Outside) (kind : PartKind) (before
   others : List Part
   are : section_cells y o wants before parts ≡ cells ++ section_cells y o wants behind others
   parameters : AreParameters kind true cells
-  ordered : AreInOrder (part_rank kind + 1) others
+  ordered : AreSectionsInOrder (part_rank kind + 1) others
   sections : AllByRecursion (IsSection k) others
   new : AllBefore (IsNew o) behind (flat_map (λ p. p.items) others)
 
@@ -120,7 +120,7 @@ above : (m n : ℕ) → m ≤ n → nat_eq n m ≡ false → m + 1 ≤ n
 above m n h e = grind (arith, nat_tests)
 
 split : (k : BlockKind) (y : Types) (o : Outside) (kind : PartKind) (before : List Declaration) (parts : List Part) → o.depth ≡ 0 → is_parameter kind ≡ true
-    → AreInOrder (part_rank kind) parts → AllByRecursion (IsSection k) parts → AllBefore (IsNew o) before (flat_map (λ p. p.items) parts)
+    → AreSectionsInOrder (part_rank kind) parts → AllByRecursion (IsSection k) parts → AllBefore (IsNew o) before (flat_map (λ p. p.items) parts)
     → Split k y o kind before parts
 split k y o kind before [] shallow is ordered sections new =
     record { cells = []; behind = before; others = []; are = refl; parameters = tt; ordered = tt; sections = tt; new = tt }
@@ -131,15 +131,15 @@ split k y o kind before (p ∷ ps) shallow is ordered sections new = by (nat_eq 
         let same : p.kind ≡ kind = rank_kind p.kind kind e in
         let wanted : wants p.kind ≡ true = ap wants same ∙ wanted_parameter kind is in
         record {
-          cells = opened (cells_of y o p.kind before p.items);
-          behind = onto before p.items;
+          cells = with_first_cell_opening (cells_of y o p.kind before p.items);
+          behind = declarations_before_next before p.items;
           others = ps;
-          are = ap (λ (t : Bool). (if t then opened (cells_of y o p.kind before p.items) else []) ++ section_cells y o wants (onto before p.items) ps) wanted;
-          parameters = subst (λ j. AreParameters j true (opened (cells_of y o p.kind before p.items))) same
+          are = ap (λ (t : Bool). (if t then with_first_cell_opening (cells_of y o p.kind before p.items) else []) ++ section_cells y o wants (declarations_before_next before p.items) ps) wanted;
+          parameters = subst (λ j. AreParameters j true (with_first_cell_opening (cells_of y o p.kind before p.items))) same
               (opened_parameters p.kind (cells_of y o p.kind before p.items)
               (parameter_section y o p.kind before p.items shallow (outer_levels k p.kind p.items (ap is_parameter same ∙ is) sections.0.1 sections.0.2)
               (before_front (IsNew o) before p.items (flat_map (λ q. q.items) ps) new)));
-          ordered = subst (λ j. AreInOrder (part_rank j + 1) ps) same ordered.1;
+          ordered = subst (λ j. AreSectionsInOrder (part_rank j + 1) ps) same ordered.1;
           sections = sections.1;
           new = before_rest (IsNew o) before p.items (flat_map (λ q. q.items) ps) new;
         }
@@ -163,11 +163,11 @@ unfolding cell_of
 others_of y o kind before [] h = tt
 others_of y o kind before (d ∷ ds) h = (h, others_of y o kind (d ∷ before) ds h)
 
-others_opened : (cs : List Cell) → AllByRecursion IsOther cs → AllByRecursion IsOther (opened cs)
+others_opened : (cs : List Cell) → AllByRecursion IsOther cs → AllByRecursion IsOther (with_first_cell_opening cs)
 others_opened [] h = tt
 others_opened (c ∷ cs) h = by c.sound (others_opened cs h.1)
   where
-    by : (t : Bool) → AllByRecursion IsOther (opened cs) → AllByRecursion IsOther (if t then record c { opens = true } ∷ cs else c ∷ opened cs)
+    by : (t : Bool) → AllByRecursion IsOther (with_first_cell_opening cs) → AllByRecursion IsOther (if t then record c { opens = true } ∷ cs else c ∷ with_first_cell_opening cs)
     by true more = h
     by false more = (h.0, more)
 
@@ -178,17 +178,17 @@ high_rank part.InOut h = absurd (omega (arith, h))
 high_rank part.Static h = refl
 high_rank part.Temp h = refl
 
-others_behind : (y : Types) (o : Outside) (least : ℕ) (before : List Declaration) (parts : List Part) → 3 ≤ least → AreInOrder least parts → AllByRecursion IsOther (section_cells y o wants before parts)
+others_behind : (y : Types) (o : Outside) (least : ℕ) (before : List Declaration) (parts : List Part) → 3 ≤ least → AreSectionsInOrder least parts → AllByRecursion IsOther (section_cells y o wants before parts)
 others_behind y o least before [] h ordered = tt
 others_behind y o least before (p ∷ ps) h ordered =
-    by (wants p.kind) (others_behind y o (part_rank p.kind + 1) (onto before p.items) ps (omega (arith, h, ordered.0)) ordered.1)
+    by (wants p.kind) (others_behind y o (part_rank p.kind + 1) (declarations_before_next before p.items) ps (omega (arith, h, ordered.0)) ordered.1)
   where
     more : List Cell
-    more = section_cells y o wants (onto before p.items) ps
+    more = section_cells y o wants (declarations_before_next before p.items) ps
 
-    by : (t : Bool) → AllByRecursion IsOther more → AllByRecursion IsOther ((if t then opened (cells_of y o p.kind before p.items) else []) ++ more)
+    by : (t : Bool) → AllByRecursion IsOther more → AllByRecursion IsOther ((if t then with_first_cell_opening (cells_of y o p.kind before p.items) else []) ++ more)
     by true k =
-        all_append IsOther (opened (cells_of y o p.kind before p.items)) more
+        all_append IsOther (with_first_cell_opening (cells_of y o p.kind before p.items)) more
         (others_opened (cells_of y o p.kind before p.items) (others_of y o p.kind before p.items (high_rank p.kind (omega (arith, h, ordered.0))))) k
     by false k = k
 
@@ -203,11 +203,11 @@ abbrev BeginsOuter : List Cell → Type 0
 BeginsOuter [] = Unit {0}
 BeginsOuter (c ∷ cs) = c.level ≡ 0
 
-begins_opened : (cs more : List Cell) → BeginsOuter cs → Begins more → Begins (opened cs ++ more)
+begins_opened : (cs more : List Cell) → BeginsOuter cs → Begins more → Begins (with_first_cell_opening cs ++ more)
 begins_opened [] more h k = k
 begins_opened (c ∷ cs) more h k = by c.sound refl
   where
-    by : (t : Bool) → c.sound ≡ t → Begins ((if t then record c { opens = true } ∷ cs else c ∷ opened cs) ++ more)
+    by : (t : Bool) → c.sound ≡ t → Begins ((if t then record c { opens = true } ∷ cs else c ∷ with_first_cell_opening cs) ++ more)
     by true e = (h, λ f. refl)
     by false e = (h, λ f. absurd cc)
 
@@ -219,10 +219,10 @@ begins_outer y o kind before (d ∷ ds) h = let least = h.0 in omega (arith, lea
 begins_sections : (k : BlockKind) (y : Types) (o : Outside) (wanted : PartKind → Bool) (before : List Declaration) (parts : List Part) → AllByRecursion (IsSection k) parts
     → Begins (section_cells y o wanted before parts)
 begins_sections k y o wanted before [] h = tt
-begins_sections k y o wanted before (p ∷ ps) (one, more) = by (wanted p.kind) (begins_sections k y o wanted (onto before p.items) ps more)
+begins_sections k y o wanted before (p ∷ ps) (one, more) = by (wanted p.kind) (begins_sections k y o wanted (declarations_before_next before p.items) ps more)
   where
-    by : (t : Bool) → Begins (section_cells y o wanted (onto before p.items) ps)
-        → Begins ((if t then opened (cells_of y o p.kind before p.items) else []) ++ section_cells y o wanted (onto before p.items) ps)
+    by : (t : Bool) → Begins (section_cells y o wanted (declarations_before_next before p.items) ps)
+        → Begins ((if t then with_first_cell_opening (cells_of y o p.kind before p.items) else []) ++ section_cells y o wanted (declarations_before_next before p.items) ps)
     by true rest = begins_opened (cells_of y o p.kind before p.items) _ (begins_outer y o p.kind before p.items one.1) rest
     by false rest = rest
 
@@ -239,7 +239,7 @@ pub record HasSections (cells : List Cell) : Type 0 where
   pub others : AllByRecursion IsOther rest
   pub begins : Begins rest
 
-pub has_sections : (k : BlockKind) (y : Types) (o : Outside) (parts : List Part) → o.depth ≡ 0 → AreInOrder 0 parts → AllByRecursion (IsSection k) parts
+pub has_sections : (k : BlockKind) (y : Types) (o : Outside) (parts : List Part) → o.depth ≡ 0 → AreSectionsInOrder 0 parts → AllByRecursion (IsSection k) parts
     → AllBefore (IsNew o) [] (flat_map (λ p. p.items) parts) → HasSections (section_cells y o (λ k. not (is_temp k)) [] parts)
 has_sections k y o parts shallow ordered sections new =
     let a = split k y o part.Input [] parts shallow refl ordered sections new in
@@ -258,8 +258,8 @@ has_sections k y o parts shallow ordered sections new =
       begins = begins_sections k y o wants c.behind c.others c.sections;
     }
   where
-    next : (m n : ℕ) (ps : List Part) → m + 1 ≡ n → AreInOrder (m + 1) ps → AreInOrder n ps
-    next m n ps e h = subst (λ z. AreInOrder z ps) e h
+    next : (m n : ℕ) (ps : List Part) → m + 1 ≡ n → AreSectionsInOrder (m + 1) ps → AreSectionsInOrder n ps
+    next m n ps e h = subst (λ z. AreSectionsInOrder z ps) e h
 
 -- ---- the parameters that they make
 
@@ -270,15 +270,15 @@ cell_width _ = width.Bit
 -- the parameters of a section, from the cells of a structure
 abbrev pub made : (in_instance : Bool) → (all : List Cell) → (section : ℕ) → List Cell → List Param
 made in_instance all section [] = []
-made in_instance all section (c ∷ cs) = param section (cell_width c.of) (param_bits in_instance all c) ∷ made in_instance all section cs
+made in_instance all section (c ∷ cs) = param_at_bits section (cell_width c.of) (param_bits in_instance all c) ∷ made in_instance all section cs
 
 made_here : (in_instance : Bool) (all : List Cell) (kind : PartKind) (opens : Bool) (c : Cell) → is_parameter kind ≡ true → IsParameterCell kind opens c
-    → param_here in_instance all c ≡ param (section_number kind) (cell_width c.of) (param_bits in_instance all c) ∷ []
+    → param_here in_instance all c ≡ param_at_bits (section_number kind) (cell_width c.of) (param_bits in_instance all c) ∷ []
 made_here in_instance all kind opens c is h =
     let back = sym h.elementary.of in
     ap (λ (t : Bool). if t then param_of in_instance all c c.of else []) (ap is_parameter h.section ∙ is)
     ∙ ap (param_of in_instance all c) h.elementary.of
-    ∙ (λ i. param (section_number (h.section i)) (cell_width (back i)) (param_bits in_instance all c) ∷ [])
+    ∙ (λ i. param_at_bits (section_number (h.section i)) (cell_width (back i)) (param_bits in_instance all c) ∷ [])
 
 pub made_from : (in_instance : Bool) (all : List Cell) (kind : PartKind) (opens : Bool) (cs : List Cell) → is_parameter kind ≡ true → AreParameters kind opens cs
     → flat_map (λ c. param_here in_instance all c) cs ≡ made in_instance all (section_number kind) cs
@@ -309,7 +309,7 @@ once_front : (seen : List (List ℕ)) (xs ys : List Cell) → AreOnce seen (xs +
 once_front seen [] ys h = tt
 once_front seen (x ∷ xs) ys h = (h.0, once_front (seen_by seen x) xs ys h.1)
 
-apart_from : (seen : List (List ℕ)) (cs : List Cell) → AllByRecursion (λ c. c.level ≡ 0) cs → AreOnce seen cs → AreApart cs × AllByRecursion (λ c. NotIn c.name seen) cs
+apart_from : (seen : List (List ℕ)) (cs : List Cell) → AllByRecursion (λ c. c.level ≡ 0) cs → AreOnce seen cs → CellNamesDiffer cs × AllByRecursion (λ c. NotIn c.name seen) cs
 apart_from seen [] h once = (tt, tt)
 apart_from seen (c ∷ cs) (level, levels) (one, more) =
     let outer : nat_eq c.level 0 ≡ true = eq-eqb c.level 0 level in
@@ -329,7 +329,7 @@ levels_of : (kind : PartKind) (opens : Bool) (cs : List Cell) → AreParameters 
 levels_of kind opens [] h = tt
 levels_of kind opens (c ∷ cs) (one, more) = (one.elementary.level, levels_of kind false cs more)
 
-pub sections_apart : (cells : List Cell) (h : HasSections cells) → AreOnce [] cells → AreApart (h.ins ++ (h.outs ++ h.both))
+pub sections_apart : (cells : List Cell) (h : HasSections cells) → AreOnce [] cells → CellNamesDiffer (h.ins ++ (h.outs ++ h.both))
 sections_apart cells h once =
     (apart_from [] (h.ins ++ (h.outs ++ h.both))
     (all_append (λ c. c.level ≡ 0) h.ins (h.outs ++ h.both) (levels_of part.Input true h.ins h.input)

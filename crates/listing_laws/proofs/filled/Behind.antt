@@ -10,12 +10,12 @@ use Rattle.stl_ast.specs.declared.declarations.Bounds.{Bounds}
 use Rattle.stl_ast.specs.declared.declarations.Simple.{Simple}
 use Rattle.stl_ast.specs.declared.declarations.Simple.TheVariants as simple
 use Rattle.stl_ast.specs.declared.literals.Literal.{Literal}
-use Rattle.block_layout.specs.Declarations.{count}
+use Rattle.block_layout.specs.Declarations.{element_count}
 use Rattle.block_layout.specs.Fits.{bits_of}
-use Rattle.block_layout.specs.InitialBytes.{Write, begun, cell_writes, component_writes, element_starts, filled_starts, in_steps, preset_values, setting_write, type_writes, write_of, writes_at, writes_from}
-use Rattle.block_layout.specs.Members.{component}
-use Rattle.block_layout.specs.Paths.{cells_at, elementary_at, entered, found_at, goes_on, indexed, indexed_behind, is_beyond, named, named_behind, named_in, outermost, step_of, walked, within}
-use Rattle.block_layout.specs.Sizes.{alignment, array_bits, capped, cell_bits, element_alignment, element_of, largest, plain_bits, stepped, up}
+use Rattle.block_layout.specs.InitialBytes.{Write, component_starts, cell_writes, component_writes, element_starts, filled_starts, in_steps, preset_values, setting_write, type_writes, write_of, writes_at, writes_from}
+use Rattle.block_layout.specs.Members.{component_of_name}
+use Rattle.block_layout.specs.Paths.{cells_at, elementary_at, path_end_at_cell, path_end_at_member, path_end_and_then, path_end_by_index, indexed_behind, is_beyond, path_end_by_name, named_behind, named_in, outermost_path_end, path_end_by_step, path_end_behind, path_end_in_bounds}
+use Rattle.block_layout.specs.Sizes.{alignment, array_bits, capped_size, cell_bits, element_alignment, element_of, largest_size, plain_bits, end_behind_cell, next_multiple}
 use Rattle.block_layout.specs.declared.blocks.BlockLayout.{BlockLayout}
 use Rattle.block_layout.specs.declared.cells.Cell.{Cell}
 use Rattle.block_layout.specs.declared.cells.Element.{Element}
@@ -29,19 +29,19 @@ use Rattle.sem_kept.proofs.accepted.OperandsWalks.{Grows, step_grows}
 
 -- ---- places that meet an alignment
 
-by_one : (n : ℕ) → n ≤ up n 1
-unfolding up
+by_one : (n : ℕ) → n ≤ next_multiple n 1
+unfolding next_multiple
 by_one n = omega arith
 
-by_byte : (n : ℕ) → n ≤ up n 8
-unfolding up
+by_byte : (n : ℕ) → n ≤ next_multiple n 8
+unfolding next_multiple
 by_byte n = omega arith
 
-by_word : (n : ℕ) → n ≤ up n 16
-unfolding up
+by_word : (n : ℕ) → n ≤ next_multiple n 16
+unfolding next_multiple
 by_word n = omega arith
 
-kind_behind : (at : ℕ) (kind : Simple) → at ≤ up at (element_alignment (Plain kind))
+kind_behind : (at : ℕ) (kind : Simple) → at ≤ next_multiple at (element_alignment (Plain kind))
 kind_behind at simple.Bool = by_one at
 kind_behind at simple.Byte = by_byte at
 kind_behind at simple.Char = by_byte at
@@ -52,17 +52,17 @@ kind_behind at simple.Dword = by_word at
 kind_behind at simple.Dint = by_word at
 kind_behind at simple.Time = by_word at
 
-element_behind : (at : ℕ) (of : Element) → at ≤ up at (element_alignment of)
+element_behind : (at : ℕ) (of : Element) → at ≤ next_multiple at (element_alignment of)
 element_behind at (Plain kind) = kind_behind at kind
 element_behind at Structure = by_word at
 element_behind at DateAndTime = by_word at
 element_behind at (Udt block bits) = by_word at
 element_behind at Unknown = by_word at
 
-begins_behind : (at : ℕ) (c : Cell) → at ≤ up at (alignment c)
+begins_behind : (at : ℕ) (c : Cell) → at ≤ next_multiple at (alignment c)
 begins_behind at c = by c.opens (nat_eq (length c.bounds) 0)
   where
-    by : (opens one : Bool) → at ≤ up at (if opens then 16 else if one then element_alignment c.of else 16)
+    by : (opens one : Bool) → at ≤ next_multiple at (if opens then 16 else if one then element_alignment c.of else 16)
     by true one = by_word at
     by false true = element_behind at c.of
     by false false = by_word at
@@ -98,22 +98,22 @@ LeadsBehind low _ = Unit {0}
 -- cells of which the first begins there
 abbrev pub FirstBehind : (low at : ℕ) → List Cell → Type 0
 FirstBehind low at [] = Unit {0}
-FirstBehind low at (c ∷ cs) = (low ≤ up at (alignment c)) × (c.level ≡ 0) × (c.sound ≡ true)
+FirstBehind low at (c ∷ cs) = (low ≤ next_multiple at (alignment c)) × (c.level ≡ 0) × (c.sound ≡ true)
 
-module _ (low : ℕ) (near : low ≤ largest) where
+module _ (low : ℕ) (near : low ≤ largest_size) where
   -- ---- what is written from a place on
 
-  capped_behind : (n : ℕ) → low ≤ n → low ≤ capped n
+  capped_behind : (n : ℕ) → low ≤ n → low ≤ capped_size n
   capped_behind n h = omega (arith, h, near)
 
   steps_behind : (size count start : ℕ) → low ≤ start → StartBehind low (in_steps size count start)
-  steps_behind size count start h = all_counted (λ s. low ≤ s) (λ k. capped (start + capped (k * size))) (λ k. capped_behind (start + capped (k * size)) (more k)) 0 count
+  steps_behind size count start h = all_counted (λ s. low ≤ s) (λ k. capped_size (start + capped_size (k * size))) (λ k. capped_behind (start + capped_size (k * size)) (more k)) 0 count
     where
       further : (m n : ℕ) → low ≤ m → low ≤ m + n
       further m n k = omega (arith, k)
 
-      more : (k : ℕ) → low ≤ start + capped (k * size)
-      more k = further start (capped (k * size)) h
+      more : (k : ℕ) → low ≤ start + capped_size (k * size)
+      more k = further start (capped_size (k * size)) h
 
   elements_behind : (bounds : List Bounds) (element : ℕ) (starts : List ℕ) → StartBehind low starts → StartBehind low (element_starts bounds element starts)
   elements_behind [] element starts h = h
@@ -144,8 +144,8 @@ module _ (low : ℕ) (near : low ≤ largest) where
   parts_behind inside of_type c element inner types starts h DateAndTime = tt
   parts_behind inside of_type c element inner types starts h Unknown = tt
 
-  begun_behind : (at : ℕ) (c : Cell) (starts : List ℕ) → AllByRecursion (λ s. low ≤ s + at) starts → StartBehind low (begun at c starts)
-  begun_behind at c starts h = all_images (λ s. low ≤ s + at) (λ s. low ≤ s) (λ s. capped (s + up at (alignment c))) (λ s k. capped_behind (s + up at (alignment c)) (further s (up at (alignment c)) k (begins_behind at c))) starts h
+  begun_behind : (at : ℕ) (c : Cell) (starts : List ℕ) → AllByRecursion (λ s. low ≤ s + at) starts → StartBehind low (component_starts at c starts)
+  begun_behind at c starts h = all_images (λ s. low ≤ s + at) (λ s. low ≤ s) (λ s. capped_size (s + next_multiple at (alignment c))) (λ s k. capped_behind (s + next_multiple at (alignment c)) (further s (next_multiple at (alignment c)) k (begins_behind at c))) starts h
     where
       further : (s n : ℕ) → low ≤ s + at → at ≤ n → low ≤ s + n
       further s n k g = omega (arith, k, g)
@@ -154,15 +154,15 @@ module _ (low : ℕ) (near : low ≤ largest) where
   from_zero starts h = all_mapped (λ s. low ≤ s) (λ s. low ≤ s + 0) (λ s k. omega (arith, k)) starts h
 
   cells_behind : (of_type : ℕ → List ℕ → List Write) → ((u : ℕ) (starts : List ℕ) → StartBehind low starts → Behind low (of_type u starts)) → (level at : ℕ) (starts : List ℕ) (cells : List Cell)
-      → at ≤ largest → AllByRecursion (λ s. low ≤ s + at) starts → Behind low (writes_from of_type level starts at cells)
+      → at ≤ largest_size → AllByRecursion (λ s. low ≤ s + at) starts → Behind low (writes_from of_type level starts at cells)
   cells_behind of_type types level at starts [] few h = tt
   cells_behind of_type types level at starts (c ∷ cs) few h =
       by (nat_lt c.level level)
       (λ inner k. cells_behind of_type types (c.level + 1) 0 inner cs (omega arith) (from_zero inner k))
-      (cells_behind of_type types level (stepped level at c (cell_bits c cs)) starts cs grows.near
-      (all_mapped (λ s. low ≤ s + at) (λ s. low ≤ s + stepped level at c (cell_bits c cs)) (λ s k. further s (stepped level at c (cell_bits c cs)) k grows.above) starts h))
+      (cells_behind of_type types level (end_behind_cell level at c (cell_bits c cs)) starts cs grows.near
+      (all_mapped (λ s. low ≤ s + at) (λ s. low ≤ s + end_behind_cell level at c (cell_bits c cs)) (λ s k. further s (end_behind_cell level at c (cell_bits c cs)) k grows.above) starts h))
     where
-      grows : Grows at (stepped level at c (cell_bits c cs))
+      grows : Grows at (end_behind_cell level at c (cell_bits c cs))
       grows = step_grows level at c (cell_bits c cs) few
 
       further : (s n : ℕ) → low ≤ s + at → at ≤ n → low ≤ s + n
@@ -171,16 +171,16 @@ module _ (low : ℕ) (near : low ≤ largest) where
       inside : List ℕ → List Write
       inside = λ inner. writes_from of_type (c.level + 1) inner 0 cs
 
-      here : ((inner : List ℕ) → StartBehind low inner → Behind low (inside inner)) → (t : Bool) → Behind low (if t then component_writes inside of_type c (element_of c cs) (begun at c starts) c.of else [])
-      here inner true = parts_behind inside of_type c (element_of c cs) inner types (begun at c starts) (begun_behind at c starts h) c.of
+      here : ((inner : List ℕ) → StartBehind low inner → Behind low (inside inner)) → (t : Bool) → Behind low (if t then component_writes inside of_type c (element_of c cs) (component_starts at c starts) c.of else [])
+      here inner true = parts_behind inside of_type c (element_of c cs) inner types (component_starts at c starts) (begun_behind at c starts h) c.of
       here inner false = tt
 
-      by : (t : Bool) → ((inner : List ℕ) → StartBehind low inner → Behind low (inside inner)) → Behind low (writes_from of_type level starts (stepped level at c (cell_bits c cs)) cs)
+      by : (t : Bool) → ((inner : List ℕ) → StartBehind low inner → Behind low (inside inner)) → Behind low (writes_from of_type level starts (end_behind_cell level at c (cell_bits c cs)) cs)
           → Behind low (if t then []
-          else cell_writes inside of_type level at starts c (element_of c cs) ++ writes_from of_type level starts (stepped level at c (cell_bits c cs)) cs)
+          else cell_writes inside of_type level at starts c (element_of c cs) ++ writes_from of_type level starts (end_behind_cell level at c (cell_bits c cs)) cs)
       by true inner more = tt
       by false inner more =
-          all_append (λ w. low ≤ w.offset) (cell_writes inside of_type level at starts c (element_of c cs)) (writes_from of_type level starts (stepped level at c (cell_bits c cs)) cs)
+          all_append (λ w. low ≤ w.offset) (cell_writes inside of_type level at starts c (element_of c cs)) (writes_from of_type level starts (end_behind_cell level at c (cell_bits c cs)) cs)
           (here inner (c.sound && nat_eq c.level level)) more
 
   types_behind : (l : List BlockLayout) (depth u : ℕ) (starts : List ℕ) → StartBehind low starts → Behind low (type_writes l depth u starts)
@@ -191,7 +191,7 @@ module _ (low : ℕ) (near : low ≤ largest) where
 
   -- ---- where paths lead behind it
 
-  pub entered_behind : (block : ℕ) (temporary : Bool) (place offset : ℕ) (o : Option Cell) → low ≤ offset → LeadsBehind low (entered block temporary place offset o)
+  pub entered_behind : (block : ℕ) (temporary : Bool) (place offset : ℕ) (o : Option Cell) → low ≤ offset → LeadsBehind low (path_end_at_cell block temporary place offset o)
   entered_behind block temporary place offset None h = tt
   entered_behind block temporary place offset (Some c) h = by c.sound
     where
@@ -199,20 +199,20 @@ module _ (low : ℕ) (near : low ≤ largest) where
       by true = h
       by false = tt
 
-  found_behind : (cells : List Cell) (block : ℕ) (temporary : Bool) (first offset : ℕ) (o : Option Member) → low ≤ offset → LeadsBehind low (found_at cells block temporary first offset o)
+  found_behind : (cells : List Cell) (block : ℕ) (temporary : Bool) (first offset : ℕ) (o : Option Member) → low ≤ offset → LeadsBehind low (path_end_at_member cells block temporary first offset o)
   found_behind cells block temporary first offset None h = tt
   found_behind cells block temporary first offset (Some m) h =
-      entered_behind block temporary (first + m.place) (capped (offset + capped m.offset)) (slice_get cells (first + m.place)) (capped_behind (offset + capped m.offset) (omega (arith, h)))
+      entered_behind block temporary (first + m.place) (capped_size (offset + capped_size m.offset)) (slice_get cells (first + m.place)) (capped_behind (offset + capped_size m.offset) (omega (arith, h)))
 
-  names_behind : (l : List BlockLayout) (spot : ComponentAt) (name : List ℕ) → low ≤ spot.offset → LeadsBehind low (named l spot name)
-  unfolding named outermost
+  names_behind : (l : List BlockLayout) (spot : ComponentAt) (name : List ℕ) → low ≤ spot.offset → LeadsBehind low (path_end_by_name l spot name)
+  unfolding path_end_by_name outermost_path_end
   names_behind l spot name h = by (slice_get (cells_at l spot.block spot.temporary) spot.place)
     where
       of_element : (c : Cell) (of : Element) → LeadsBehind low (named_in l spot name c of)
       of_element c Structure =
           found_behind (cells_at l spot.block spot.temporary) spot.block spot.temporary (spot.place + 1) spot.offset
-          (component (c.level + 1) 0 0 name (drop (spot.place + 1) (cells_at l spot.block spot.temporary))) h
-      of_element c (Udt block bits) = found_behind (cells_at l block false) block false 0 spot.offset (component 0 0 0 name (cells_at l block false)) h
+          (component_of_name (c.level + 1) 0 0 name (drop (spot.place + 1) (cells_at l spot.block spot.temporary))) h
+      of_element c (Udt block bits) = found_behind (cells_at l block false) block false 0 spot.offset (component_of_name 0 0 0 name (cells_at l block false)) h
       of_element c (Plain kind) = tt
       of_element c DateAndTime = tt
       of_element c Unknown = tt
@@ -225,16 +225,16 @@ module _ (low : ℕ) (near : low ≤ largest) where
       by None = tt
       by (Some c) = whole c (nat_eq spot.depth (length c.bounds))
 
-  index_behind : (l : List BlockLayout) (spot : ComponentAt) (at : ℤ) → low ≤ spot.offset → LeadsBehind low (indexed l spot at)
-  unfolding indexed
+  index_behind : (l : List BlockLayout) (spot : ComponentAt) (at : ℤ) → low ≤ spot.offset → LeadsBehind low (path_end_by_index l spot at)
+  unfolding path_end_by_index
   index_behind l spot at h = by (slice_get (cells_at l spot.block spot.temporary) spot.place)
     where
       reaches : (t : Bool) (further : ℕ) → LeadsBehind low (if t then walk.Reaches (record spot { depth = spot.depth + 1 })
-          else walk.Reaches (record spot { depth = spot.depth + 1; offset = capped (spot.offset + capped further) }))
+          else walk.Reaches (record spot { depth = spot.depth + 1; offset = capped_size (spot.offset + capped_size further) }))
       reaches true further = h
-      reaches false further = capped_behind (spot.offset + capped further) (omega (arith, h))
+      reaches false further = capped_behind (spot.offset + capped_size further) (omega (arith, h))
 
-      inside : (c : Cell) (behind : List Cell) (o : Option Bounds) → LeadsBehind low (within spot c behind at o)
+      inside : (c : Cell) (behind : List Cell) (o : Option Bounds) → LeadsBehind low (path_end_in_bounds spot c behind at o)
       inside c behind None = tt
       inside c behind (Some b) = reaches (is_beyond b at) _
 
@@ -242,16 +242,16 @@ module _ (low : ℕ) (near : low ≤ largest) where
       by None = tt
       by (Some c) = inside c (drop (spot.place + 1) (cells_at l spot.block spot.temporary)) (slice_get c.bounds spot.depth)
 
-  step_behind : (l : List BlockLayout) (spot : ComponentAt) (s : PathStep) → low ≤ spot.offset → LeadsBehind low (step_of l spot s)
-  unfolding step_of
+  step_behind : (l : List BlockLayout) (spot : ComponentAt) (s : PathStep) → low ≤ spot.offset → LeadsBehind low (path_end_by_step l spot s)
+  unfolding path_end_by_step
   step_behind l spot (step.Named name) h = names_behind l spot name h
   step_behind l spot (step.Index at) h = index_behind l spot at h
 
-  pub path_behind : (l : List BlockLayout) (spot : ComponentAt) (ss : List PathStep) → low ≤ spot.offset → LeadsBehind low (walked l spot ss)
+  pub path_behind : (l : List BlockLayout) (spot : ComponentAt) (ss : List PathStep) → low ≤ spot.offset → LeadsBehind low (path_end_behind l spot ss)
   path_behind l spot [] h = h
-  path_behind l spot (s ∷ ss) h = by (step_of l spot s) (step_behind l spot s h) (λ next k. path_behind l next ss k)
+  path_behind l spot (s ∷ ss) h = by (path_end_by_step l spot s) (step_behind l spot s h) (λ next k. path_behind l next ss k)
     where
-      by : (e : PathEnd) → LeadsBehind low e → ((next : ComponentAt) → low ≤ next.offset → LeadsBehind low (walked l next ss)) → LeadsBehind low (goes_on e (λ next. walked l next ss))
+      by : (e : PathEnd) → LeadsBehind low e → ((next : ComponentAt) → low ≤ next.offset → LeadsBehind low (path_end_behind l next ss)) → LeadsBehind low (path_end_and_then e (λ next. path_end_behind l next ss))
       by (walk.Reaches next) k more = more next k
       by walk.Unknown k more = tt
       by walk.Rests k more = tt
@@ -265,53 +265,53 @@ module _ (low : ℕ) (near : low ≤ largest) where
   write_behind l value walk.Unknown h = tt
   write_behind l value walk.Rests h = tt
 
-  component_behind : (at place : ℕ) (name : List ℕ) (cells : List Cell) (m : Member) → at ≤ largest → low ≤ at → component 0 at place name cells ≡ Some m → low ≤ m.offset
-  unfolding component
+  component_behind : (at place : ℕ) (name : List ℕ) (cells : List Cell) (m : Member) → at ≤ largest_size → low ≤ at → component_of_name 0 at place name cells ≡ Some m → low ≤ m.offset
+  unfolding component_of_name
   component_behind at place name [] m few h e = absurd cc
   component_behind at place name (c ∷ cs) m few h e =
       by (nat_lt c.level 0) (nat_eq c.level 0 && bytes_eq name c.name) e
-      (component_behind (stepped 0 at c (cell_bits c cs)) (place + 1) name cs m grows.near (further (stepped 0 at c (cell_bits c cs)) grows.above))
+      (component_behind (end_behind_cell 0 at c (cell_bits c cs)) (place + 1) name cs m grows.near (further (end_behind_cell 0 at c (cell_bits c cs)) grows.above))
     where
-      grows : Grows at (stepped 0 at c (cell_bits c cs))
+      grows : Grows at (end_behind_cell 0 at c (cell_bits c cs))
       grows = step_grows 0 at c (cell_bits c cs) few
 
       further : (n : ℕ) → at ≤ n → low ≤ n
       further n g = omega (arith, h, g)
 
-      by : (s t : Bool) → (if s then None else if t then Some (record { place = place; offset = up at (alignment c) }) else component 0 (stepped 0 at c (cell_bits c cs)) (place + 1) name cs) ≡ Some m
-          → (component 0 (stepped 0 at c (cell_bits c cs)) (place + 1) name cs ≡ Some m → low ≤ m.offset) → low ≤ m.offset
+      by : (s t : Bool) → (if s then None else if t then Some (record { place = place; offset = next_multiple at (alignment c) }) else component_of_name 0 (end_behind_cell 0 at c (cell_bits c cs)) (place + 1) name cs) ≡ Some m
+          → (component_of_name 0 (end_behind_cell 0 at c (cell_bits c cs)) (place + 1) name cs ≡ Some m → low ≤ m.offset) → low ≤ m.offset
       by true t k more = absurd cc
       by false true k more =
-          let same : record { place = place; offset = up at (alignment c) } ≡ m = cc in
-          subst (λ (x : Member). low ≤ x.offset) same (further (up at (alignment c)) (begins_behind at c))
+          let same : record { place = place; offset = next_multiple at (alignment c) } ≡ m = cc in
+          subst (λ (x : Member). low ≤ x.offset) same (further (next_multiple at (alignment c)) (begins_behind at c))
       by false false k more = more k
 
   -- ---- cells of which the first begins there
 
-  first_step : (at : ℕ) (c : Cell) (bits : ℕ) → FirstBehind low at (c ∷ []) → low ≤ stepped 0 at c bits
-  first_step at c bits h = rw (h.1, h.2) (capped_behind (up at (alignment c) + bits) (further (up at (alignment c)) h.0))
+  first_step : (at : ℕ) (c : Cell) (bits : ℕ) → FirstBehind low at (c ∷ []) → low ≤ end_behind_cell 0 at c bits
+  first_step at c bits h = rw (h.1, h.2) (capped_behind (next_multiple at (alignment c) + bits) (further (next_multiple at (alignment c)) h.0))
     where
       further : (n : ℕ) → low ≤ n → low ≤ n + bits
       further n k = omega (arith, k)
 
-  pub rest_component : (at place : ℕ) (name : List ℕ) (cells : List Cell) (m : Member) → at ≤ largest → FirstBehind low at cells → component 0 at place name cells ≡ Some m → low ≤ m.offset
-  unfolding component
+  pub rest_component : (at place : ℕ) (name : List ℕ) (cells : List Cell) (m : Member) → at ≤ largest_size → FirstBehind low at cells → component_of_name 0 at place name cells ≡ Some m → low ≤ m.offset
+  unfolding component_of_name
   rest_component at place name [] m few h e = absurd cc
   rest_component at place name (c ∷ cs) m few h e =
       by (nat_lt c.level 0) (nat_eq c.level 0 && bytes_eq name c.name) e
     where
-      grows : Grows at (stepped 0 at c (cell_bits c cs))
+      grows : Grows at (end_behind_cell 0 at c (cell_bits c cs))
       grows = step_grows 0 at c (cell_bits c cs) few
 
-      by : (s t : Bool) → (if s then None else if t then Some (record { place = place; offset = up at (alignment c) }) else component 0 (stepped 0 at c (cell_bits c cs)) (place + 1) name cs) ≡ Some m
+      by : (s t : Bool) → (if s then None else if t then Some (record { place = place; offset = next_multiple at (alignment c) }) else component_of_name 0 (end_behind_cell 0 at c (cell_bits c cs)) (place + 1) name cs) ≡ Some m
           → low ≤ m.offset
       by true t k = absurd cc
       by false true k =
-          let same : record { place = place; offset = up at (alignment c) } ≡ m = cc in
+          let same : record { place = place; offset = next_multiple at (alignment c) } ≡ m = cc in
           subst (λ (x : Member). low ≤ x.offset) same h.0
-      by false false k = component_behind (stepped 0 at c (cell_bits c cs)) (place + 1) name cs m grows.near (first_step at c (cell_bits c cs) h) k
+      by false false k = component_behind (end_behind_cell 0 at c (cell_bits c cs)) (place + 1) name cs m grows.near (first_step at c (cell_bits c cs) h) k
 
-  pub rest_writes : (l : List BlockLayout) (depth at : ℕ) (cells : List Cell) → at ≤ largest → FirstBehind low at cells → Behind low (writes_from (type_writes l depth) 0 (0 ∷ []) at cells)
+  pub rest_writes : (l : List BlockLayout) (depth at : ℕ) (cells : List Cell) → at ≤ largest_size → FirstBehind low at cells → Behind low (writes_from (type_writes l depth) 0 (0 ∷ []) at cells)
   rest_writes l depth at [] few h = tt
   rest_writes l depth at (c ∷ cs) few h = by (nat_lt c.level 0)
     where
@@ -319,24 +319,24 @@ module _ (low : ℕ) (near : low ≤ largest) where
       of_type = type_writes l depth
 
       next : ℕ
-      next = stepped 0 at c (cell_bits c cs)
+      next = end_behind_cell 0 at c (cell_bits c cs)
 
-      grows : Grows at (stepped 0 at c (cell_bits c cs))
+      grows : Grows at (end_behind_cell 0 at c (cell_bits c cs))
       grows = step_grows 0 at c (cell_bits c cs) few
 
       inside : List ℕ → List Write
       inside = λ inner. writes_from of_type (c.level + 1) inner 0 cs
 
-      begun_here : StartBehind low (begun at c (0 ∷ []))
-      begun_here = (capped_behind (0 + up at (alignment c)) (from_none (up at (alignment c)) h.0), tt)
+      begun_here : StartBehind low (component_starts at c (0 ∷ []))
+      begun_here = (capped_behind (0 + next_multiple at (alignment c)) (from_none (next_multiple at (alignment c)) h.0), tt)
         where
           from_none : (n : ℕ) → low ≤ n → low ≤ 0 + n
           from_none n k = omega (arith, k)
 
-      here : (t : Bool) → Behind low (if t then component_writes inside of_type c (element_of c cs) (begun at c (0 ∷ [])) c.of else [])
+      here : (t : Bool) → Behind low (if t then component_writes inside of_type c (element_of c cs) (component_starts at c (0 ∷ [])) c.of else [])
       here true =
           parts_behind inside of_type c (element_of c cs) (λ inner k. cells_behind of_type (types_behind l depth) (c.level + 1) 0 inner cs (omega arith) (from_zero inner k)) (types_behind l depth)
-          (begun at c (0 ∷ [])) begun_here c.of
+          (component_starts at c (0 ∷ [])) begun_here c.of
       here false = tt
 
       from : low ≤ 0 + next

@@ -11,15 +11,15 @@ use Rattle.stl_ast.specs.declared.blocks.Block.{Block}
 use Rattle.stl_ast.specs.declared.blocks.Tree.{Tree}
 use Rattle.stl_symbols.specs.Symbol.{Symbol}
 use Rattle.block_layout.specs.Layouts.{block_layout, layouts_of}
-use Rattle.block_layout.specs.Measures.{types_of}
+use Rattle.block_layout.specs.Measures.{types_of_source}
 use Rattle.block_layout.specs.Types.{Types}
 use Rattle.block_layout.specs.declared.blocks.BlockLayout.{BlockLayout}
-use Rattle.stl_codegen.specs.Compiled.{compiled}
-use Rattle.stl_codegen.specs.Generated.{code_blocks_of, data_block, data_block_of, data_blocks_of, each_block}
-use Rattle.stl_codegen.specs.Order.{is_data_before, sorted}
+use Rattle.stl_codegen.specs.Compiled.{compiled_block}
+use Rattle.stl_codegen.specs.Generated.{code_blocks_of, generated_data_block, data_block_of, data_blocks_of, each_block}
+use Rattle.stl_codegen.specs.Order.{is_data_before, sorted_list}
 use Rattle.stl_list.specs.CodeBlocks.{in_lines, line_reached, listed_block, listed_blocks}
 use Rattle.stl_list.specs.DataBlocks.{listed_data}
-use Rattle.stl_list.specs.Lines.{line_behind, stands_before}
+use Rattle.stl_list.specs.Lines.{line_behind_statements, stands_before}
 use Rattle.stl_list.specs.Listing.{listed_tree}
 use Rattle.stl_list.specs.Signatures.{Signature}
 use Rattle.sem_kept.specs.Accepted.{program_in}
@@ -97,15 +97,15 @@ module _ (others : List Symbol) (t : Tree) where
       → (reached j : ℕ) (cs : List CodeBlock) (ms : List BlockLayout) → AllByRecursion (λ b. is_code b.id.kind ≡ true) cs → AreFrom j (listed_blocks ss reached cs ++ rest) ms
       → each_block (λ c b l. data_block_of c l l.id) (context_at others t j) (listed_blocks ss reached cs ++ rest) ms ≡ ds
   code_each ss rest ds behind reached j [] ms codes h = behind j ms h
-  code_each ss rest ds behind reached j (b ∷ cs) [] codes h = absurd (some_layout j (listed_block ss reached b) (listed_blocks ss (line_behind reached b.lines) cs ++ rest) h)
+  code_each ss rest ds behind reached j (b ∷ cs) [] codes h = absurd (some_layout j (listed_block ss reached b) (listed_blocks ss (line_behind_statements reached b.lines) cs ++ rest) h)
   code_each ss rest ds behind reached j (b ∷ cs) (m ∷ ms) (code, codes) h =
       let c = listed_block ss reached b in
-      let others_ = listed_blocks ss (line_behind reached b.lines) cs ++ rest in
+      let others_ = listed_blocks ss (line_behind_statements reached b.lines) cs ++ rest in
       let laid = laid_in others t j c m (block_here j c others_ (m ∷ ms) h) (layout_here j (c ∷ others_) m ms h) in
-      let id : m.id ≡ Some b.id = ap (λ (x : BlockLayout). x.id) laid.layout ∙ code_id (types_of others t.blocks) t.blocks laid.before ss reached b in
+      let id : m.id ≡ Some b.id = ap (λ (x : BlockLayout). x.id) laid.layout ∙ code_id (types_of_source others t.blocks) t.blocks laid.before ss reached b in
       let here : data_block_of (context_at others t j) m m.id ≡ [] =
-      ap (data_block_of (context_at others t j) m) id ∙ ap (λ (w : Bool). if w then data_block (context_at others t j) m b.id ∷ [] else []) (no_data b.id.kind code) in
-      let more = code_each ss rest ds behind (line_behind reached b.lines) (suc j) cs ms codes (next_from j c others_ m ms h) in
+      ap (data_block_of (context_at others t j) m) id ∙ ap (λ (w : Bool). if w then generated_data_block (context_at others t j) m b.id ∷ [] else []) (no_data b.id.kind code) in
+      let more = code_each ss rest ds behind (line_behind_statements reached b.lines) (suc j) cs ms codes (next_from j c others_ m ms h) in
       ap (λ z. z ++ each_block (λ c b l. data_block_of c l l.id) (context_at others t (suc j)) others_ ms) here ∙ more
 
   from_start : (bs : List Block) → t.blocks ≡ bs → AreFrom 0 bs ls
@@ -123,20 +123,20 @@ one_way a b e = numbers a.number b.number e
     numbers m n e = grind (arith, nat_tests)
 
 -- the data blocks of a program stand in order
-stay_sorted : (symbols : List Symbol) (t : Tree) → sorted is_data_before (data_blocks_of t symbols (layouts_of t symbols)) ≡ data_blocks_of t symbols (layouts_of t symbols)
+stay_sorted : (symbols : List Symbol) (t : Tree) → sorted_list is_data_before (data_blocks_of t symbols (layouts_of t symbols)) ≡ data_blocks_of t symbols (layouts_of t symbols)
 unfolding data_blocks_of
 stay_sorted symbols t =
     let ds = each_block (λ c b l. data_block_of c l l.id) (context_at symbols t 0) t.blocks (layouts_of t symbols) in
-    in_order is_data_before (sorted is_data_before ds) (order_sorted is_data_before one_way ds)
+    in_order is_data_before (sorted_list is_data_before ds) (order_sorted is_data_before one_way ds)
 
 sorted_codes : (bs : List CodeBlock) → AllByRecursion (λ b. is_code b.id.kind ≡ true) bs → AllByRecursion (λ b. is_code b.id.kind ≡ true) (in_lines bs)
 unfolding in_lines
 sorted_codes bs h = all_sorted (λ b. is_code b.id.kind ≡ true) stands_before bs h
 
 blocks_back : (others : List Symbol) (t : Tree) (ds : List DataBlock) → each_block (λ c b l. data_block_of c l l.id) (context_at others t 0) t.blocks (layouts_of t others) ≡ ds
-    → data_blocks_of t others (layouts_of t others) ≡ sorted is_data_before ds
+    → data_blocks_of t others (layouts_of t others) ≡ sorted_list is_data_before ds
 unfolding data_blocks_of
-blocks_back others t ds e = ap (sorted is_data_before) e
+blocks_back others t ds e = ap (sorted_list is_data_before) e
 
 pub data_blocks_again : AreDataBlocksAgain
 unfolding listed_tree
@@ -167,7 +167,7 @@ data_blocks_again source file symbols t accepted bytes file_bytes others whole =
     codes : AllByRecursion (λ b. is_code b.id.kind ≡ true) p.code_blocks
     codes =
         let blocks = code_blocks_of t symbols (layouts_of t symbols) in
-        all_codes p.code_blocks (all_compiled IsSourced blocks (sound_code_blocks symbols t (λ x. IsSourced (compiled x)) (right_tree source file symbols t accepted) (sourced symbols t)))
+        all_codes p.code_blocks (all_compiled IsSourced blocks (sound_code_blocks symbols t (λ x. IsSourced (compiled_block x)) (right_tree source file symbols t accepted) (sourced symbols t)))
 
     Comes : DataBlock → Type 0
     Comes d = (k : ℕ) (l : BlockLayout) → slice_get again.blocks k ≡ Some (data_again symbols t line d) → slice_get ls k ≡ Some l → data_block_of (context_at others again k) l l.id ≡ d ∷ []

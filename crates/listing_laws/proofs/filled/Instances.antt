@@ -20,14 +20,14 @@ use Rattle.stl_ast.specs.declared.declarations.Simple.TheVariants as simple
 use Rattle.stl_symbols.specs.Symbol.{Symbol}
 use Rattle.block_layout.specs.Blocks.{ids_of, known_block}
 use Rattle.block_layout.specs.Cells.{components_of}
-use Rattle.block_layout.specs.InitialBytes.{Write, begun, cell_writes, component_writes, element_starts, initial_bytes, length_at, preset_values, put, setting_writes, settings_at, structure_writes, type_writes, writes_at, writes_from}
+use Rattle.block_layout.specs.InitialBytes.{Write, component_starts, cell_writes, component_writes, element_starts, initial_bytes, length_at, preset_values, bytes_with_write, setting_writes, settings_at, structure_writes, type_writes, writes_at, writes_from}
 use Rattle.block_layout.specs.Layouts.{block_layout, layouts_of}
-use Rattle.block_layout.specs.Lengths.{block_bits, length_of, shape_at, shape_bits, shape_of}
-use Rattle.block_layout.specs.Measures.{types_of}
+use Rattle.block_layout.specs.Lengths.{block_bits, length_of_block, shape_at, shape_bits, shape_of}
+use Rattle.block_layout.specs.Measures.{types_of_source}
 use Rattle.block_layout.specs.Listed.{AreAlike}
 use Rattle.block_layout.specs.Paths.{cells_at, cells_in, setting_structure, shape_block, structure_of}
 use Rattle.block_layout.specs.Rebuilt.{OneReaches, bit_in}
-use Rattle.block_layout.specs.Sizes.{cell_bits, element_of, end_of, largest, plain_bits, stepped, structure_bits, up}
+use Rattle.block_layout.specs.Sizes.{cell_bits, element_of, components_end, largest_size, plain_bits, end_behind_cell, structure_bits, next_multiple}
 use Rattle.block_layout.specs.Types.{Types}
 use Rattle.block_layout.specs.declared.blocks.BlockLayout.{BlockLayout}
 use Rattle.block_layout.specs.declared.blocks.Shape.TheVariants as shape
@@ -39,13 +39,13 @@ use Rattle.stl_list.specs.CodeBlocks.{in_lines, listed_block, listed_blocks}
 use Rattle.stl_list.specs.DataBlocks.{function_block, known_settings, listed_data}
 use Rattle.stl_list.specs.Initial.{byte_settings, parameter_settings, settings_of}
 use Rattle.stl_list.specs.Joined.{Chains}
-use Rattle.stl_list.specs.Lines.{line_behind}
+use Rattle.stl_list.specs.Lines.{line_behind_statements}
 use Rattle.stl_list.specs.Sections.{static_len, static_name, static_start}
-use Rattle.stl_list.specs.Signatures.{Signature, formals_from, formals_of, is_behind, signature, signatures_from}
+use Rattle.stl_list.specs.Signatures.{Signature, formals_from, formals_of_block, is_behind, signature, signatures_from}
 use Rattle.sem_kept.proofs.accepted.Accepted.{context_at}
 use Rattle.sem_kept.proofs.accepted.OperandsCells.{all_there}
 use Rattle.sem_kept.proofs.accepted.OperandsViews.{data_length, whole_is}
-use Rattle.listing_laws.specs.Chains.{is_listed}
+use Rattle.listing_laws.specs.Chains.{is_listed_type}
 use Rattle.listing_laws.specs.Declared.{AreWide}
 use Rattle.listing_laws.proofs.IdLemmas.{source_ids}
 use Rattle.listing_laws.proofs.called.Listed.{kind_listed}
@@ -69,7 +69,7 @@ pub record HasSignature (ss : List Signature) (b : CodeBlock) : Type 0 where
   pub found : find (λ s. is_same_block s.id b.id) ss ≡ Some own
   pub params : own.params ≡ b.params
   pub len : own.instance_len ≡ b.instance_len
-  pub formals : own.formals ≡ formals_of ss b.id
+  pub formals : own.formals ≡ formals_of_block ss b.id
 
 signed_behind : (s : Signature) (ss : List Signature) (bs : List CodeBlock) → AllByRecursion (λ b. is_same_block s.id b.id ≡ false) bs → AllByRecursion (HasSignature ss) bs
     → AllByRecursion (HasSignature (s ∷ ss)) bs
@@ -80,7 +80,7 @@ signed_behind s ss (b ∷ bs) (other, others) (one, more) = (
     found = ap (λ (t : Bool). if t then Some s else find (λ z. is_same_block z.id b.id) ss) other ∙ one.found;
     params = one.params;
     len = one.len;
-    formals = one.formals ∙ sym (ap (λ (t : Bool). if t then s.formals else formals_of ss b.id) other);
+    formals = one.formals ∙ sym (ap (λ (t : Bool). if t then s.formals else formals_of_block ss b.id) other);
   },
   signed_behind s ss bs others more,
 )
@@ -95,17 +95,17 @@ all_signed c first (b ∷ bs) (later, after) =
         found = ap (λ (t : Bool). if t then Some s else find (λ z. is_same_block z.id b.id) ss) (same_self b.id);
         params = refl;
         len = refl;
-        formals = sym (ap (λ (t : Bool). if t then s.formals else formals_of ss b.id) (same_self b.id));
+        formals = sym (ap (λ (t : Bool). if t then s.formals else formals_of_block ss b.id) (same_self b.id));
       },
       signed_behind s ss bs (all_not_same b bs later) (all_signed c (first + length b.params) bs after),
     )
 
 -- the types of parameters are those that a listing has
-pub formals_listed : (c : Chains) (returns behind : Bool) (index first : ℕ) (ps : List Param) → AllByRecursion (λ f. is_listed f.kind ≡ true) (formals_from c returns behind index first ps)
+pub formals_listed : (c : Chains) (returns behind : Bool) (index first : ℕ) (ps : List Param) → AllByRecursion (λ f. is_listed_type f.kind ≡ true) (formals_from c returns behind index first ps)
 formals_listed c returns behind index first [] = tt
 formals_listed c returns behind index first (p ∷ ps) = (kind_listed c first p.width, formals_listed c returns (is_behind returns behind p) (suc index) (suc first) ps)
 
-settable : (bytes : List ℕ) (at : ℕ) (cs : List Cell) (ps : List Param) (fs : List Formal) → ArePlaced at cs ps → AreWide ps fs → AllByRecursion (λ f. is_listed f.kind ≡ true) fs
+settable : (bytes : List ℕ) (at : ℕ) (cs : List Cell) (ps : List Param) (fs : List Formal) → ArePlaced at cs ps → AreWide ps fs → AllByRecursion (λ f. is_listed_type f.kind ≡ true) fs
     → AllByRecursion (IsWithin (8 * length bytes)) ps → AllSettable bytes fs ps
 settable bytes at [] [] [] placed wide listed within = tt
 settable bytes at [] [] (f ∷ fs) placed wide listed within = absurd wide
@@ -134,13 +134,13 @@ nothing_written of_type at starts [] h = refl
 nothing_written of_type at starts (c ∷ cs) (one, more) = by (nat_lt c.level 0) (nothing_written of_type next starts cs more)
   where
     next : ℕ
-    next = stepped 0 at c (cell_bits c cs)
+    next = end_behind_cell 0 at c (cell_bits c cs)
 
     inside : List ℕ → List Write
     inside = λ inner. writes_from of_type (c.level + 1) inner 0 cs
 
-    here : (t : Bool) → (if t then component_writes inside of_type c (element_of c cs) (begun at c starts) c.of else []) ≡ []
-    here true = ap (component_writes inside of_type c (element_of c cs) (begun at c starts)) one.of ∙ nothing_each (plain_bits one.kind) c (element_of c cs) (begun at c starts) one.presets
+    here : (t : Bool) → (if t then component_writes inside of_type c (element_of c cs) (component_starts at c starts) c.of else []) ≡ []
+    here true = ap (component_writes inside of_type c (element_of c cs) (component_starts at c starts)) one.of ∙ nothing_each (plain_bits one.kind) c (element_of c cs) (component_starts at c starts) one.presets
     here false = refl
 
     by : (t : Bool) → writes_from of_type 0 starts next cs ≡ []
@@ -165,7 +165,7 @@ pub record IsListedAt (ss : List Signature) (bs : List Block) (j : ℕ) (b : Cod
 listed_at : (ss : List Signature) (reached : ℕ) (bs : List CodeBlock) (j : ℕ) (b : CodeBlock) → slice_get bs j ≡ Some b → IsListedAt ss (listed_blocks ss reached bs) j b
 listed_at ss reached [] j b e = absurd cc
 listed_at ss reached (x ∷ xs) zero b e = let same : x ≡ b = cc in record { reached = reached; there = ap (λ z. Some (listed_block ss reached z)) same }
-listed_at ss reached (x ∷ xs) (suc j) b e = let more = listed_at ss (line_behind reached x.lines) xs j b e in record { reached = more.reached; there = more.there }
+listed_at ss reached (x ∷ xs) (suc j) b e = let more = listed_at ss (line_behind_statements reached x.lines) xs j b e in record { reached = more.reached; there = more.there }
 
 pub in_front : {A : Type 0} (xs ys : List A) (j : ℕ) (x : A) → slice_get xs j ≡ Some x → slice_get (xs ++ ys) j ≡ Some x
 in_front [] ys j x e = absurd cc
@@ -196,13 +196,13 @@ pub record IsFunctionBlockAt (others : List Symbol) (t : Tree) (ss : List Signat
   pub reached : ℕ
   pub there : slice_get t.blocks place ≡ Some (listed_block ss reached b)
   pub found : known_block (function_block n) (ids_of others t.blocks) ≡ Some place
-  pub both : HasBoth (types_of others t.blocks) ss reached b cells
-  pub long : structure_bits (components_of (types_of others t.blocks) (listed_block ss reached b)) / 8 ≡ b.instance_len
+  pub both : HasBoth (types_of_source others t.blocks) ss reached b cells
+  pub long : structure_bits (components_of (types_of_source others t.blocks) (listed_block ss reached b)) / 8 ≡ b.instance_len
   pub short : b.instance_len ≤ 16384
   pub size : structure_bits cells ≡ 8 * b.instance_len
   pub signature : HasSignature ss b
-  pub wide : AreWide b.params (formals_of ss b.id)
-  pub kinds : AllByRecursion (λ f. is_listed f.kind ≡ true) (formals_of ss b.id)
+  pub wide : AreWide b.params (formals_of_block ss b.id)
+  pub kinds : AllByRecursion (λ f. is_listed_type f.kind ≡ true) (formals_of_block ss b.id)
 
 block_shape : (y : Types) (blocks before : List Block) (b : Block) → (block_layout y blocks before b).shape ≡ shape_of y b
 unfolding block_layout
@@ -221,21 +221,21 @@ code_id y blocks before ss reached b n e = ap (λ (i : BlockId). if is_same_kind
 -- how the parameters and VAR share an instance
 record ShareInstance (end start count len : ℕ) : Type 0 where
   whole : start + count ≡ len
-  begins : 8 * start ≡ up end 16
+  begins : 8 * start ≡ next_multiple end 16
   within : end ≤ 8 * len
 
-share : (whole end start count len : ℕ) → whole ≡ 8 * len → whole ≡ 8 * count + up end 16 → start ≡ up end 16 / 8 → ShareInstance end start count len
-unfolding up
+share : (whole end start count len : ℕ) → whole ≡ 8 * len → whole ≡ 8 * count + next_multiple end 16 → start ≡ next_multiple end 16 / 8 → ShareInstance end start count len
+unfolding next_multiple
 share whole end start count len e f g = record { whole = omega (arith, e, f, g); begins = omega (arith, e, f, g); within = omega (arith, e, f, g) }
 
 module _ (others : List Symbol) (t : Tree) (ss : List Signature) (n : ℕ) (b : CodeBlock) (cells : List Cell) (h : IsFunctionBlockAt others t ss n b cells) where
   -- an instance has the structure of the function block, and its length
-  data_shape : (line number : ℕ) (bytes : List ℕ) → shape_of (types_of others t.blocks) (listed_data ss line number bytes (Some n)) ≡ shape.Of h.place
+  data_shape : (line number : ℕ) (bytes : List ℕ) → shape_of (types_of_source others t.blocks) (listed_data ss line number bytes (Some n)) ≡ shape.Of h.place
   data_shape line number bytes = ap (λ ids. shape_at (known_block (function_block n) ids)) (source_ids others t.blocks) ∙ ap shape_at h.found
 
-  pub data_long : (line number : ℕ) (bytes : List ℕ) → length_of (types_of others t.blocks) t.blocks (listed_data ss line number bytes (Some n)) ≡ b.instance_len
+  pub data_long : (line number : ℕ) (bytes : List ℕ) → length_of_block (types_of_source others t.blocks) t.blocks (listed_data ss line number bytes (Some n)) ≡ b.instance_len
   data_long line number bytes =
-      let y = types_of others t.blocks in
+      let y = types_of_source others t.blocks in
       let d = listed_data ss line number bytes (Some n) in
       data_length y t.blocks d refl ∙ ap (λ s. shape_bits y t.blocks d s / 8) (data_shape line number bytes) ∙ ap (λ o. block_bits y o / 8) h.there ∙ h.long
 
@@ -245,7 +245,7 @@ module _ (others : List Symbol) (t : Tree) (ss : List Signature) (n : ℕ) (b : 
     ls = layouts_of t others
 
     abbrev y : Types
-    y = types_of others t.blocks
+    y = types_of_source others t.blocks
 
     abbrev d : Block
     d = listed_data ss line number bytes (Some n)
@@ -311,31 +311,31 @@ module _ (others : List Symbol) (t : Tree) (ss : List Signature) (n : ℕ) (b : 
     placed : ArePlaced 0 second b.params
     placed = placed_alike 0 first second b.params alike placed_first
 
-    same_end : end_of 0 0 first ≡ end_of 0 0 second
+    same_end : components_end 0 0 first ≡ components_end 0 0 second
     same_end = end_alike 0 first second alike
 
-    shared : ShareInstance (end_of 0 0 second) start count b.instance_len
+    shared : ShareInstance (components_end 0 0 second) start count b.instance_len
     shared =
-        share (structure_bits (first ++ h.both.rest)) (end_of 0 0 second) start count b.instance_len (sym (ap structure_bits h.both.are) ∙ h.size)
-        (h.both.ends ∙ ap (λ e. 8 * count + up e 16) same_end) (h.both.start ∙ ap (λ e. up e 16 / 8) same_end)
+        share (structure_bits (first ++ h.both.rest)) (components_end 0 0 second) start count b.instance_len (sym (ap structure_bits h.both.are) ∙ h.size)
+        (h.both.ends ∙ ap (λ e. 8 * count + next_multiple e 16) same_end) (h.both.start ∙ ap (λ e. next_multiple e 16 / 8) same_end)
 
-    short : end_of 0 0 second < largest
-    short = subst (λ e. e < largest) same_end h.both.short
+    short : components_end 0 0 second < largest_size
+    short = subst (λ e. e < largest_size) same_end h.both.short
 
-    names_lead : AllLead ls k (formals_of ss b.id) b.params
+    names_lead : AllLead ls k (formals_of_block ss b.id) b.params
     names_lead =
-        all_lead ls k h.place structure setting own 0 0 second (byte_cells part.Static static_name count) (formals_of ss b.id) b.params cells_are (omega arith) short placed h.both.formals h.both.again
+        all_lead ls k h.place structure setting own 0 0 second (byte_cells part.Static static_name count) (formals_of_block ss b.id) b.params cells_are (omega arith) short placed h.both.formals h.both.again
         (all_look own second) (λ j. let e : 0 + j ≡ j = omega arith in ap (slice_get own) e)
 
-    can_be_set : AllSettable bytes (formals_of ss b.id) b.params
+    can_be_set : AllSettable bytes (formals_of_block ss b.id) b.params
     can_be_set =
-        settable bytes 0 second b.params (formals_of ss b.id) placed h.wide h.kinds
+        settable bytes 0 second b.params (formals_of_block ss b.id) placed h.wide h.kinds
         (placed_within (8 * length bytes) 0 second b.params (omega (arith, long, h.short)) (omega arith) (omega (arith, long, shared.within)) placed)
 
     indices_lead : IndicesLead ls k line bytes are start count
     indices_lead i less =
         subst (λ o. LeadsTo ls k (step.Named (upper_case_name static_name) ∷ step.Index (pos i) ∷ []) (o + 8 * i) simple.Byte) (sym shared.begins)
-        (index_leads ls k h.place structure setting count (up (end_of 0 0 second) 16) (0 + length second) (second ++ bytes_cell ∷ []) i (cells_are ∙ ap (λ vs. second ++ vs) some)
+        (index_leads ls k h.place structure setting count (next_multiple (components_end 0 0 second) 16) (0 + length second) (second ++ bytes_cell ∷ []) i (cells_are ∙ ap (λ vs. second ++ vs) some)
         (static_found 0 0 0 second b.params bytes_cell h.both.named placed refl refl refl) at less few)
       where
         bytes_cell : Cell
@@ -347,16 +347,16 @@ module _ (others : List Symbol) (t : Tree) (ss : List Signature) (n : ℕ) (b : 
         at : slice_get (second ++ bytes_cell ∷ []) (0 + length second) ≡ Some bytes_cell
         at = let e : 0 + length second ≡ length second = omega arith in ap (slice_get (second ++ bytes_cell ∷ [])) e ∙ behind_all second bytes_cell []
 
-        few : up (end_of 0 0 second) 16 + i * 8 ≤ largest
-        few = bounded (up (end_of 0 0 second) 16) start count b.instance_len i shared.begins shared.whole less h.short
+        few : next_multiple (components_end 0 0 second) 16 + i * 8 ≤ largest_size
+        few = bounded (next_multiple (components_end 0 0 second) 16) start count b.instance_len i shared.begins shared.whole less h.short
           where
-            bounded : (o s m len i : ℕ) → 8 * s ≡ o → s + m ≡ len → i < m → len ≤ 16384 → o + i * 8 ≤ largest
+            bounded : (o s m len i : ℕ) → 8 * s ≡ o → s + m ≡ len → i < m → len ≤ 16384 → o + i * 8 ≤ largest_size
             bounded o s m len i e f g k = omega (arith, e, f, g, k)
 
     -- ---- the settings
 
     abbrev listed_settings : List Setting
-    listed_settings = parameter_settings line bytes (formals_of ss b.id) b.params ++ byte_settings line bytes start count
+    listed_settings = parameter_settings line bytes (formals_of_block ss b.id) b.params ++ byte_settings line bytes start count
 
     settings_are : d.settings ≡ listed_settings
     unfolding settings_of
@@ -368,8 +368,8 @@ module _ (others : List Symbol) (t : Tree) (ss : List Signature) (n : ℕ) (b : 
     pub settings_right : AllByRecursion (IsRight ls k bytes) d.settings
     settings_right =
         subst (AllByRecursion (IsRight ls k bytes)) (sym settings_are)
-        (all_append (IsRight ls k bytes) (parameter_settings line bytes (formals_of ss b.id) b.params) (byte_settings line bytes start count)
-        (parameters_right ls k line bytes are (formals_of ss b.id) b.params names_lead can_be_set)
+        (all_append (IsRight ls k bytes) (parameter_settings line bytes (formals_of_block ss b.id) b.params) (byte_settings line bytes start count)
+        (parameters_right ls k line bytes are (formals_of_block ss b.id) b.params names_lead can_be_set)
         (bytes_right ls k line bytes are start count (omega (arith, long, shared.whole)) indices_lead))
 
     -- a bit that is set is written, where it lies in a parameter or behind them
@@ -378,10 +378,10 @@ module _ (others : List Symbol) (t : Tree) (ss : List Signature) (n : ℕ) (b : 
       where
         by : OneReaches (map bare b.params) j i ⊎ (start ≤ j) → OneReaches (setting_writes ls k listed_settings) j i
         by (inl r) =
-            reached_front ls k j i (parameter_settings line bytes (formals_of ss b.id) b.params) (byte_settings line bytes start count)
-            (parameters_reached ls k line bytes are (formals_of ss b.id) b.params j i names_lead can_be_set r one)
+            reached_front ls k j i (parameter_settings line bytes (formals_of_block ss b.id) b.params) (byte_settings line bytes start count)
+            (parameters_reached ls k line bytes are (formals_of_block ss b.id) b.params j i names_lead can_be_set r one)
         by (inr low) =
-            reached_back ls k j i (parameter_settings line bytes (formals_of ss b.id) b.params) (byte_settings line bytes start count)
+            reached_back ls k j i (parameter_settings line bytes (formals_of_block ss b.id) b.params) (byte_settings line bytes start count)
             (bytes_reached ls k line bytes are start count j i indices_lead (shared.whole ∙ sym long) low one)
 
     nothing_else : structure_writes ls (structure_of ls k) ≡ []
@@ -392,7 +392,7 @@ module _ (others : List Symbol) (t : Tree) (ss : List Signature) (n : ℕ) (b : 
     bytes_back : ((j i : ℕ) → bit_in bytes j i ≡ 1 → OneReaches (map bare b.params) j i ⊎ (start ≤ j)) → initial_bytes ls t.blocks k ≡ bytes
     unfolding initial_bytes
     bytes_back set =
-        (λ i. fold put (replicate (length_is i) 0) (nothing_else i ++ setting_writes ls k (settings_at (there i))))
+        (λ i. fold bytes_with_write (replicate (length_is i) 0) (nothing_else i ++ setting_writes ls k (settings_at (there i))))
         ∙ rebuilt bytes (setting_writes ls k d.settings) (λ j. below_all bytes j are) (writes_true ls k bytes d.settings settings_right) (λ j i less one. bit_written j i one (set j i one))
 
     pub data_back : ((j i : ℕ) → bit_in bytes j i ≡ 1 → OneReaches (map bare b.params) j i ⊎ (start ≤ j))
@@ -408,7 +408,7 @@ module _ (others : List Symbol) (t : Tree) (ss : List Signature) (n : ℕ) (b : 
         ap (data_block_of (context_at others t k) l) named ∙ λ i. record { number = number; instance_of = instance i; bytes = back i } ∷ []
 
     -- the bits of an instance of the source lie there
-    pub lies_there : ((first rest : List Cell) (ps : List Param) (start : ℕ) → cells ≡ first ++ rest → Begins rest → ArePlaced 0 first ps → end_of 0 0 first < largest
-        → start ≡ up (end_of 0 0 first) 16 / 8 → (j i : ℕ) → bit_in bytes j i ≡ 1 → OneReaches (map bare ps) j i ⊎ (start ≤ j))
+    pub lies_there : ((first rest : List Cell) (ps : List Param) (start : ℕ) → cells ≡ first ++ rest → Begins rest → ArePlaced 0 first ps → components_end 0 0 first < largest_size
+        → start ≡ next_multiple (components_end 0 0 first) 16 / 8 → (j i : ℕ) → bit_in bytes j i ≡ 1 → OneReaches (map bare ps) j i ⊎ (start ≤ j))
         → (j i : ℕ) → bit_in bytes j i ≡ 1 → OneReaches (map bare b.params) j i ⊎ (static_start b.params ≤ j)
     lies_there set = set first h.both.rest b.params start h.both.are h.both.begins placed_first h.both.short h.both.start

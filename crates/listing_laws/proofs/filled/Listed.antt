@@ -8,15 +8,15 @@ use Rattle.stl_ast.specs.Literals.{AreBytes}
 use Rattle.stl_ast.specs.declared.blocks.Tree.{Tree}
 use Rattle.stl_symbols.specs.Symbol.{Symbol}
 use Rattle.block_layout.specs.Layouts.{layouts_of}
-use Rattle.block_layout.specs.Lengths.{length_of}
-use Rattle.block_layout.specs.Measures.{types_of}
+use Rattle.block_layout.specs.Lengths.{length_of_block}
+use Rattle.block_layout.specs.Measures.{types_of_source}
 use Rattle.block_layout.specs.Rule22.{rule_22}
 use Rattle.block_layout.specs.Rule44.{rule_44}
 use Rattle.block_layout.specs.Sizes.{structure_bits}
 use Rattle.block_layout.specs.declared.blocks.BlockLayout.{BlockLayout}
-use Rattle.stl_codegen.specs.Compiled.{StatedBlock, compiled}
-use Rattle.stl_codegen.specs.Generated.{code_block, code_blocks_of, data_block, data_block_of}
-use Rattle.stl_codegen.specs.Order.{sorted}
+use Rattle.stl_codegen.specs.Compiled.{StatedBlock, compiled_block}
+use Rattle.stl_codegen.specs.Generated.{code_block, code_blocks_of, generated_data_block, data_block_of}
+use Rattle.stl_codegen.specs.Order.{sorted_list}
 use Rattle.stl_codegen.proofs.ProgramLemmas.{all_before}
 use Rattle.stl_list.specs.CodeBlocks.{in_lines, line_reached}
 use Rattle.stl_list.specs.DataBlocks.{function_block, listed_data, listed_data_blocks}
@@ -31,7 +31,7 @@ use Rattle.sem_kept.proofs.accepted.OperandsWalks.{structure_even}
 use Rattle.sem_kept.proofs.accepted.RecordBlocks.{code_blocks_rise}
 use Rattle.sem_kept.proofs.accepted.Verified.{accepted_verifies}
 use Rattle.listing_laws.specs.Again.{IsWholeAgain, listed_again}
-use Rattle.listing_laws.specs.Chains.{is_listed}
+use Rattle.listing_laws.specs.Chains.{is_listed_type}
 use Rattle.listing_laws.specs.Declared.{AreWide, signatures_in}
 use Rattle.listing_laws.specs.Ids.{data_id}
 use Rattle.listing_laws.specs.Instances.{AreInstancesAgain, AreInstancesLong, IsInstanceAgain, IsInstanceLong, data_again}
@@ -63,7 +63,7 @@ all_places (x ∷ xs) = (record { place = 0; there = refl }, later_places x xs x
 
 in_lines_places : (bs : List CodeBlock) → AllByRecursion (HasPlace (in_lines bs)) bs
 unfolding in_lines
-in_lines_places bs = all_before (HasPlace (sorted stands_before bs)) stands_before bs (all_places (sorted stands_before bs))
+in_lines_places bs = all_before (HasPlace (sorted_list stands_before bs)) stands_before bs (all_places (sorted_list stands_before bs))
 
 -- what is known of a code block in a listing
 record IsReady (c : Chains) (ss : List Signature) (bs : List CodeBlock) (b : CodeBlock) : Type 0 where
@@ -76,7 +76,7 @@ all_ready : (c : Chains) (ss : List Signature) (bs xs : List CodeBlock) → AllB
 all_ready c ss bs [] h k m = tt
 all_ready c ss bs (x ∷ xs) (a, h) (b, k) (d, m) = (record { known = a; signature = b; place = d }, all_ready c ss bs xs h k m)
 
-all_uncompiled : (P : CodeBlock → Type 0) (xs : List StatedBlock) → AllByRecursion P (map compiled xs) → AllByRecursion (λ x. P (compiled x)) xs
+all_uncompiled : (P : CodeBlock → Type 0) (xs : List StatedBlock) → AllByRecursion P (map compiled_block xs) → AllByRecursion (λ x. P (compiled_block x)) xs
 all_uncompiled P [] h = tt
 all_uncompiled P (x ∷ xs) (one, more) = (one, all_uncompiled P xs more)
 
@@ -105,18 +105,18 @@ module _ (source file : List ℕ) (symbols : List Symbol) (t : Tree) (accepted :
   tree : IsSoundTree symbols t
   tree = right_tree source file symbols t accepted
 
-  ready : AllByRecursion (λ x. IsReady (chains_of p.code_blocks) ss p.code_blocks (compiled x)) (code_blocks_of t symbols (layouts_of t symbols))
+  ready : AllByRecursion (λ x. IsReady (chains_of p.code_blocks) ss p.code_blocks (compiled_block x)) (code_blocks_of t symbols (layouts_of t symbols))
   unfolding signatures
   ready =
       let blocks = code_blocks_of t symbols (layouts_of t symbols) in
       let verified = (accepted_verifies source file symbols t accepted bytes file_bytes).1 in
-      let from = all_compiled IsSourced blocks (sound_code_blocks symbols t (λ x. IsSourced (compiled x)) tree (sourced symbols t)) in
+      let from = all_compiled IsSourced blocks (sound_code_blocks symbols t (λ x. IsSourced (compiled_block x)) tree (sourced symbols t)) in
       let after = rise_after blocks (code_blocks_rise symbols t tree) in
       all_uncompiled (IsReady (chains_of p.code_blocks) ss p.code_blocks) blocks
       (all_ready (chains_of p.code_blocks) ss p.code_blocks p.code_blocks (all_known (chains_of p.code_blocks) 0 p.code_blocks after (kinds_wide p (all_codes p.code_blocks from) verified))
       (all_signed (chains_of p.code_blocks) 0 p.code_blocks after) (in_lines_places p.code_blocks))
 
-  by_22 : rule_22 (types_of symbols t.blocks) t.blocks ≡ []
+  by_22 : rule_22 (types_of_source symbols t.blocks) t.blocks ≡ []
   by_22 = tree.by_layout.by_22
 
   by_44 : rule_44 symbols t.blocks ≡ []
@@ -128,11 +128,11 @@ module _ (source file : List ℕ) (symbols : List Symbol) (t : Tree) (accepted :
 
   module _ (n : ℕ) (d : DataBlock) (s : IsSourceInstance symbols t n d) where
     abbrev b : CodeBlock
-    b = compiled (code_block (context_at symbols t s.place) s.block s.layout (function_block n))
+    b = compiled_block (code_block (context_at symbols t s.place) s.block s.layout (function_block n))
 
     own_ready : IsReady (chains_of p.code_blocks) ss p.code_blocks b
     own_ready =
-        code_block_there symbols t (λ x. IsReady (chains_of p.code_blocks) ss p.code_blocks (compiled x)) ready s.place s.block s.layout (function_block n) s.sound s.is refl
+        code_block_there symbols t (λ x. IsReady (chains_of p.code_blocks) ss p.code_blocks (compiled_block x)) ready s.place s.block s.layout (function_block n) s.sound s.is refl
 
     listed_block_there : IsListedAt ss again.blocks own_ready.place.place b
     listed_block_there = stands own_ready.place.place b own_ready.place.there
@@ -143,11 +143,11 @@ module _ (source file : List ℕ) (symbols : List Symbol) (t : Tree) (accepted :
     few : length b.params ≤ 60
     few = (sourced symbols t s.place s.block s.layout (function_block n) s.sound s.is refl).few
 
-    kept : IsKeptInstance (types_of others again.blocks) ss listed_block_there.reached b laid.instance.cells
+    kept : IsKeptInstance (types_of_source others again.blocks) ss listed_block_there.reached b laid.instance.cells
     kept =
         let known = own_ready.known in
         let g = instance_groups b (is_function b.id.kind) laid.instance few in
-        instance_kept (types_of others again.blocks) ss listed_block_there.reached b (is_function b.id.kind) laid.instance few refl
+        instance_kept (types_of_source others again.blocks) ss listed_block_there.reached b (is_function b.id.kind) laid.instance few refl
         (subst (AreListed (is_function b.id.kind) b.params g) (sym known.are) (all_listed (chains_of p.code_blocks) (is_function b.id.kind) known.first b.params g known.wide))
 
     function_block_at : IsFunctionBlockAt others again ss n b laid.instance.cells
@@ -163,18 +163,18 @@ module _ (source file : List ℕ) (symbols : List Symbol) (t : Tree) (accepted :
               (in_front (map (λ (x : CodeBlock). x.id) (in_lines p.code_blocks)) (map (λ (x : DataBlock). data_id x.number) p.data_blocks) j (function_block n)
               (mapped (λ (x : CodeBlock). x.id) (in_lines p.code_blocks) j b own_ready.place.there));
           both = kept.both;
-          long = sym (own_length (types_of others again.blocks) ss listed_block_there.reached b again.blocks refl) ∙ kept.length again.blocks;
+          long = sym (own_length (types_of_source others again.blocks) ss listed_block_there.reached b again.blocks refl) ∙ kept.length again.blocks;
           short = laid.instance.short;
           size = whole_size (structure_bits laid.instance.cells) b.instance_len laid.instance.length (structure_even laid.instance.cells);
           signature = own_ready.signature;
           wide = subst (AreWide b.params) (sym known.are) known.wide;
-          kinds = subst (AllByRecursion (λ f. is_listed f.kind ≡ true)) (sym known.are)
+          kinds = subst (AllByRecursion (λ f. is_listed_type f.kind ≡ true)) (sym known.are)
               (formals_listed (chains_of p.code_blocks) (is_function b.id.kind) false 0 known.first b.params);
         }
 
-    long_again : (line : ℕ) → d.instance_of ≡ Some n → length_of (types_of others again.blocks) again.blocks (data_again symbols t line d) ≡ length d.bytes
+    long_again : (line : ℕ) → d.instance_of ≡ Some n → length_of_block (types_of_source others again.blocks) again.blocks (data_again symbols t line d) ≡ length d.bytes
     long_again line e =
-        ap (λ o. length_of (types_of others again.blocks) again.blocks (listed_data ss line d.number d.bytes o)) e
+        ap (λ o. length_of_block (types_of_source others again.blocks) again.blocks (listed_data ss line d.number d.bytes o)) e
         ∙ data_long others again ss n b laid.instance.cells function_block_at line d.number d.bytes ∙ sym s.long
 
     is_long : d.instance_of ≡ Some n → IsInstanceLong symbols t others d
@@ -215,12 +215,12 @@ module _ (source file : List ℕ) (symbols : List Symbol) (t : Tree) (accepted :
   instances_long : AllByRecursion (λ d. (n : ℕ) → d.instance_of ≡ Some n → IsInstanceLong symbols t others d) p.data_blocks
   instances_long =
       sound_data_blocks symbols t (λ d. (n : ℕ) → d.instance_of ≡ Some n → IsInstanceLong symbols t others d) tree
-      (λ k b l id h e db n is. is_long n (data_block (context_at symbols t k) l id) (source_instance source file symbols t accepted bytes k b l id h e db n is) is)
+      (λ k b l id h e db n is. is_long n (generated_data_block (context_at symbols t k) l id) (source_instance source file symbols t accepted bytes k b l id h e db n is) is)
 
   pub all_instances : IsWholeAgain symbols t others → AllByRecursion (λ d. (n : ℕ) → d.instance_of ≡ Some n → IsAgain symbols t others d) p.data_blocks
   all_instances whole =
       sound_data_blocks symbols t (λ d. (n : ℕ) → d.instance_of ≡ Some n → IsAgain symbols t others d) tree
-      (λ k b l id h e db n is. is_again n (data_block (context_at symbols t k) l id) (source_instance source file symbols t accepted bytes k b l id h e db n is)
+      (λ k b l id h e db n is. is_again n (generated_data_block (context_at symbols t k) l id) (source_instance source file symbols t accepted bytes k b l id h e db n is)
       (data_block_there symbols t (λ d. AllByRecursion (λ b. b < 256) d.bytes) small_bytes k b l id h e db) whole is)
 
 pub instances_are_long : AreInstancesLong

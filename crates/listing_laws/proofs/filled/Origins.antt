@@ -15,18 +15,18 @@ use Rattle.stl_ast.specs.declared.blocks.Tree.{Tree}
 use Rattle.stl_symbols.specs.Symbol.{Symbol}
 use Rattle.block_layout.specs.InitialBytes.{Write, initial_bytes, setting_write, setting_writes, settings_at, structure_writes, type_writes, writes_from}
 use Rattle.block_layout.specs.Layouts.{layouts_of}
-use Rattle.block_layout.specs.Paths.{cells_at, cells_in, folded_path, shape_block, structure_of, walked_data, walked_or_rests}
+use Rattle.block_layout.specs.Paths.{cells_at, cells_in, folded_path, shape_block, structure_of, path_end_in_data_block, path_end_or_rests}
 use Rattle.block_layout.specs.Rebuilt.{OneReaches, Reaches, bit_in}
-use Rattle.block_layout.specs.Sizes.{alignment, element_alignment, end_of, largest, structure_bits, up}
+use Rattle.block_layout.specs.Sizes.{alignment, element_alignment, components_end, largest_size, structure_bits, next_multiple}
 use Rattle.block_layout.specs.declared.blocks.BlockLayout.{BlockLayout}
 use Rattle.block_layout.specs.declared.blocks.Shape.{Shape}
 use Rattle.block_layout.specs.declared.blocks.Shape.TheVariants as shape
 use Rattle.block_layout.specs.declared.cells.Cell.{Cell}
-use Rattle.stl_codegen.specs.Compiled.{compiled}
-use Rattle.stl_codegen.specs.Generated.{code_block, data_block, function_block_number, instance_in, instance_len}
+use Rattle.stl_codegen.specs.Compiled.{compiled_block}
+use Rattle.stl_codegen.specs.Generated.{code_block, generated_data_block, function_block_number, instance_in, instance_len}
 use Rattle.stl_list.specs.DataBlocks.{function_block}
 use Rattle.sem_kept.specs.Accepted.{IsAccepted}
-use Rattle.sem_kept.specs.Initial.{HasRoom, IsWritten, writes_of}
+use Rattle.sem_kept.specs.Initial.{HasRoom, IsMadeByWrites, writes_of}
 use Rattle.sem_kept.proofs.accepted.Accepted.{IsSound, IsSoundTree, context_at, right_tree}
 use Rattle.sem_kept.proofs.accepted.Initial.{initial_values_are_whole}
 use Rattle.sem_kept.proofs.accepted.OperandsCells.{IsLaid as LaidBlock, block_of_layout}
@@ -78,39 +78,39 @@ pub record IsSourceInstance (symbols : List Symbol) (t : Tree) (n : ℕ) (d : Da
   pub layout : BlockLayout
   pub sound : IsSound symbols t place block layout
   pub is : layout.id ≡ Some (function_block n)
-  pub long : length d.bytes ≡ (compiled (code_block (context_at symbols t place) block layout (function_block n))).instance_len
+  pub long : length d.bytes ≡ (compiled_block (code_block (context_at symbols t place) block layout (function_block n))).instance_len
   -- where the parameters of the function block stand first among its cells
-  pub set : (first rest : List Cell) (ps : List Param) (start : ℕ) → layout.components ≡ first ++ rest → Begins rest → ArePlaced 0 first ps → end_of 0 0 first < largest
-      → start ≡ up (end_of 0 0 first) 16 / 8 → (j i : ℕ) → bit_in d.bytes j i ≡ 1 → OneReaches (map bare ps) j i ⊎ (start ≤ j)
+  pub set : (first rest : List Cell) (ps : List Param) (start : ℕ) → layout.components ≡ first ++ rest → Begins rest → ArePlaced 0 first ps → components_end 0 0 first < largest_size
+      → start ≡ next_multiple (components_end 0 0 first) 16 / 8 → (j i : ℕ) → bit_in d.bytes j i ≡ 1 → OneReaches (map bare ps) j i ⊎ (start ≤ j)
 
 -- ---- where the other sections begin
 
-first_behind : (start end : ℕ) (rest : List Cell) → start ≡ up end 16 / 8 → Begins rest → AllByRecursion HasRoom rest → FirstBehind (8 * start) end rest
+first_behind : (start end : ℕ) (rest : List Cell) → start ≡ next_multiple end 16 / 8 → Begins rest → AllByRecursion HasRoom rest → FirstBehind (8 * start) end rest
 first_behind start end [] e begins room = tt
 first_behind start end (c ∷ cs) e begins room =
     let opens = begins.1 room.0.sound in
     let aligned : alignment c ≡ 16 = ap (λ (t : Bool). if t then 16 else if nat_eq (length c.bounds) 0 then element_alignment c.of else 16) opens in
-    (subst (λ n. 8 * start ≤ up end n) (sym aligned) (low start end e), begins.0, room.0.sound)
+    (subst (λ n. 8 * start ≤ next_multiple end n) (sym aligned) (low start end e), begins.0, room.0.sound)
   where
-    low : (start end : ℕ) → start ≡ up end 16 / 8 → 8 * start ≤ up end 16
+    low : (start end : ℕ) → start ≡ next_multiple end 16 / 8 → 8 * start ≤ next_multiple end 16
     low start end e = omega (arith, e)
 
-near_start : (start end : ℕ) → start ≡ up end 16 / 8 → end < largest → 8 * start ≤ largest
-unfolding up
+near_start : (start end : ℕ) → start ≡ next_multiple end 16 / 8 → end < largest_size → 8 * start ≤ largest_size
+unfolding next_multiple
 near_start start end e short = omega (arith, e, short)
 
-all_settings : (P : Write → Type 0) (l : List BlockLayout) (k : ℕ) → ((s : Setting) → AllByRecursion P (setting_write l s.value (walked_data l k (folded_path s.path)))) → (ss : List Setting)
+all_settings : (P : Write → Type 0) (l : List BlockLayout) (k : ℕ) → ((s : Setting) → AllByRecursion P (setting_write l s.value (path_end_in_data_block l k (folded_path s.path)))) → (ss : List Setting)
     → AllByRecursion P (setting_writes l k ss)
 all_settings P l k each [] = tt
-all_settings P l k each (s ∷ ss) = all_append P (setting_write l s.value (walked_data l k (folded_path s.path))) (setting_writes l k ss) (each s) (all_settings P l k each ss)
+all_settings P l k each (s ∷ ss) = all_append P (setting_write l s.value (path_end_in_data_block l k (folded_path s.path))) (setting_writes l k ss) (each s) (all_settings P l k each ss)
 
-data_walk : (l : List BlockLayout) (k q : ℕ) → structure_of l k ≡ Some q → (s : Setting) → walked_data l k (folded_path s.path) ≡ walked_or_rests l (Some q) (folded_path s.path)
-unfolding walked_data
-data_walk l k q e s = ap (λ o. walked_or_rests l o (folded_path s.path)) e
+data_walk : (l : List BlockLayout) (k q : ℕ) → structure_of l k ≡ Some q → (s : Setting) → path_end_in_data_block l k (folded_path s.path) ≡ path_end_or_rests l (Some q) (folded_path s.path)
+unfolding path_end_in_data_block
+data_walk l k q e s = ap (λ o. path_end_or_rests l o (folded_path s.path)) e
 
 -- all that an instance is written from lies in the parameters or behind them
 all_in : (l : List BlockLayout) (blocks : List Block) (k q start : ℕ) (first rest : List Cell) (ps : List Param) → structure_of l k ≡ Some q → cells_at l q false ≡ first ++ rest
-    → Begins rest → AllByRecursion HasRoom (first ++ rest) → ArePlaced 0 first ps → end_of 0 0 first < largest → start ≡ up (end_of 0 0 first) 16 / 8
+    → Begins rest → AllByRecursion HasRoom (first ++ rest) → ArePlaced 0 first ps → components_end 0 0 first < largest_size → start ≡ next_multiple (components_end 0 0 first) 16 / 8
     → AllByRecursion (IsIn ps start) (writes_of l blocks k)
 all_in l blocks k q start first rest ps structure cells begins room placed short at =
     all_append (IsIn ps start) (structure_writes l (structure_of l k)) (setting_writes l k (settings_at (slice_get blocks k)))
@@ -122,19 +122,19 @@ all_in l blocks k q start first rest ps structure cells begins room placed short
     (path_in l start near q first rest ps s.value (folded_path s.path) cells placed short behind))
     (settings_at (slice_get blocks k)))
   where
-    near : 8 * start ≤ largest
-    near = near_start start (end_of 0 0 first) at short
+    near : 8 * start ≤ largest_size
+    near = near_start start (components_end 0 0 first) at short
 
-    behind : FirstBehind (8 * start) (end_of 0 0 first) rest
-    behind = first_behind start (end_of 0 0 first) rest at begins (all_back HasRoom first rest room)
+    behind : FirstBehind (8 * start) (components_end 0 0 first) rest
+    behind = first_behind start (components_end 0 0 first) rest at begins (all_back HasRoom first rest room)
 
 each_reach : (Q : ℕ → ℕ → Type 0) (ws : List Write) (j i : ℕ) → AllByRecursion (λ w. (j i : ℕ) → Reaches w j i → Q j i) ws → AllByRecursion (λ w. Reaches w j i → Q j i) ws
 each_reach Q [] j i h = tt
 each_reach Q (w ∷ ws) j i (one, more) = (one j i, each_reach Q ws j i more)
 
 pub source_instance : (source file : List ℕ) (symbols : List Symbol) (t : Tree) → IsAccepted source file symbols t → AreBytes source → (k : ℕ) (b : Block) (l : BlockLayout) (id : BlockId)
-    → IsSound symbols t k b l → l.id ≡ Some id → is_data_block id.kind ≡ true → (n : ℕ) → (data_block (context_at symbols t k) l id).instance_of ≡ Some n
-    → IsSourceInstance symbols t n (data_block (context_at symbols t k) l id)
+    → IsSound symbols t k b l → l.id ≡ Some id → is_data_block id.kind ≡ true → (n : ℕ) → (generated_data_block (context_at symbols t k) l id).instance_of ≡ Some n
+    → IsSourceInstance symbols t n (generated_data_block (context_at symbols t k) l id)
 source_instance source file symbols t accepted bytes k b l id h is db n instance = record {
   place = q;
   block = found.block;
@@ -198,11 +198,11 @@ source_instance source file symbols t accepted bytes k b l id h is db n instance
         initial_long ls t.blocks k ∙ shaped.long ∙ ap (λ m. structure_bits (cells_at ls m false) / 8) inside ∙ ap (λ cs. structure_bits cs / 8) (cells ∙ laid.are)
         ∙ sym laid.instance.length
 
-    written : IsWritten ls t.blocks k l.length
+    written : IsMadeByWrites ls t.blocks k l.length
     written = initial_values_are_whole source file symbols t accepted bytes k l id h.layout_there is db
 
-    set : (first rest : List Cell) (ps : List Param) (start : ℕ) → has.layout.components ≡ first ++ rest → Begins rest → ArePlaced 0 first ps → end_of 0 0 first < largest
-        → start ≡ up (end_of 0 0 first) 16 / 8 → (j i : ℕ) → bit_in (initial_bytes ls t.blocks k) j i ≡ 1 → OneReaches (map bare ps) j i ⊎ (start ≤ j)
+    set : (first rest : List Cell) (ps : List Param) (start : ℕ) → has.layout.components ≡ first ++ rest → Begins rest → ArePlaced 0 first ps → components_end 0 0 first < largest_size
+        → start ≡ next_multiple (components_end 0 0 first) 16 / 8 → (j i : ℕ) → bit_in (initial_bytes ls t.blocks k) j i ≡ 1 → OneReaches (map bare ps) j i ⊎ (start ≤ j)
     set first rest ps start are begins placed short at j i one =
         from_each (OneReaches (map bare ps) j i ⊎ (start ≤ j)) (writes_of ls t.blocks k) j i
         (each_reach (λ j i. OneReaches (map bare ps) j i ⊎ (start ≤ j)) (writes_of ls t.blocks k) j i

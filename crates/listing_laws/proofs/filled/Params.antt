@@ -12,12 +12,12 @@ use Rattle.stl_ast.specs.declared.blocks.PathStep.TheVariants as step
 use Rattle.stl_ast.specs.declared.declarations.Simple.{Simple}
 use Rattle.stl_ast.specs.declared.literals.Literal.{Literal}
 use Rattle.block_layout.specs.Fits.{bits_of}
-use Rattle.block_layout.specs.InitialBytes.{Write, begun, cell_writes, component_writes, element_starts, preset_values, setting_write, type_writes, write_of, writes_at, writes_from}
-use Rattle.block_layout.specs.Listed.{AreAlike, AreApart, IsElementary, offset_named}
-use Rattle.block_layout.specs.Members.{component}
-use Rattle.block_layout.specs.Paths.{cells_at, found_at, goes_on, outermost, walked, walked_from}
+use Rattle.block_layout.specs.InitialBytes.{Write, component_starts, cell_writes, component_writes, element_starts, preset_values, setting_write, type_writes, write_of, writes_at, writes_from}
+use Rattle.block_layout.specs.Listed.{AreAlike, CellNamesDiffer, IsElementary, offset_named}
+use Rattle.block_layout.specs.Members.{component_of_name}
+use Rattle.block_layout.specs.Paths.{cells_at, path_end_at_member, path_end_and_then, outermost_path_end, path_end_behind, path_end_in_block}
 use Rattle.block_layout.specs.Rebuilt.{OneReaches, Reaches}
-use Rattle.block_layout.specs.Sizes.{alignment, capped, cell_bits, element_of, end_of, largest, plain_bits, stepped, up}
+use Rattle.block_layout.specs.Sizes.{alignment, capped_size, cell_bits, element_of, components_end, largest_size, plain_bits, end_behind_cell, next_multiple}
 use Rattle.block_layout.specs.declared.blocks.BlockLayout.{BlockLayout}
 use Rattle.block_layout.specs.declared.cells.Cell.{Cell}
 use Rattle.block_layout.specs.declared.cells.Element.TheVariants.{Plain}
@@ -45,12 +45,12 @@ pub record IsPlaced (at : ℕ) (c : Cell) (p : Param) : Type 0 where
   pub kind : Simple
   pub cell : IsElementary c kind
   pub width : plain_bits kind ≡ bit_count p.width
-  pub offset : up at (alignment c) ≡ 8 * p.byte + p.bit
+  pub offset : next_multiple at (alignment c) ≡ 8 * p.byte + p.bit
   pub bit : p.bit < 8
 
 -- where the cell behind it may begin
 abbrev pub past_cell : (at : ℕ) → Cell → ℕ
-past_cell at c = stepped 0 at c (cell_bits c [])
+past_cell at c = end_behind_cell 0 at c (cell_bits c [])
 
 abbrev pub ArePlaced : (at : ℕ) → List Cell → List Param → Type 0
 ArePlaced at [] [] = Unit {0}
@@ -58,22 +58,22 @@ ArePlaced at (c ∷ cs) (p ∷ ps) = IsPlaced at c p × ArePlaced (past_cell at 
 ArePlaced at _ _ = ⊥
 
 -- what stands behind an elementary cell doesn't move it
-pub past_any : (at : ℕ) (c : Cell) (cs : List Cell) (kind : Simple) → IsElementary c kind → stepped 0 at c (cell_bits c cs) ≡ past_cell at c
-past_any at c cs kind h = ap (stepped 0 at c) (bits_is c cs kind h ∙ sym (bits_is c [] kind h))
+pub past_any : (at : ℕ) (c : Cell) (cs : List Cell) (kind : Simple) → IsElementary c kind → end_behind_cell 0 at c (cell_bits c cs) ≡ past_cell at c
+past_any at c cs kind h = ap (end_behind_cell 0 at c) (bits_is c cs kind h ∙ sym (bits_is c [] kind h))
 
-pub end_past : (at : ℕ) (c : Cell) (cs : List Cell) (kind : Simple) → IsElementary c kind → end_of 0 at (c ∷ cs) ≡ end_of 0 (past_cell at c) cs
-end_past at c cs kind h = end_step at c cs ∙ ap (λ n. end_of 0 n cs) (past_any at c cs kind h)
+pub end_past : (at : ℕ) (c : Cell) (cs : List Cell) (kind : Simple) → IsElementary c kind → components_end 0 at (c ∷ cs) ≡ components_end 0 (past_cell at c) cs
+end_past at c cs kind h = end_step at c cs ∙ ap (λ n. components_end 0 n cs) (past_any at c cs kind h)
 
-pub past_near : (at : ℕ) (c : Cell) → at ≤ largest → past_cell at c ≤ largest
+pub past_near : (at : ℕ) (c : Cell) → at ≤ largest_size → past_cell at c ≤ largest_size
 past_near at c near = (past_behind at c (cell_bits c []) near).1
 
 -- an elementary cell begins before the end
-begins_near : (at : ℕ) (c : Cell) (cs : List Cell) (kind : Simple) → IsElementary c kind → at ≤ largest → end_of 0 at (c ∷ cs) < largest → up at (alignment c) ≤ largest
+begins_near : (at : ℕ) (c : Cell) (cs : List Cell) (kind : Simple) → IsElementary c kind → at ≤ largest_size → components_end 0 at (c ∷ cs) < largest_size → next_multiple at (alignment c) ≤ largest_size
 begins_near at c cs kind h near short =
     let inside = here_within 0 at c cs near (never_less c.level) (eq-eqb c.level 0 h.level) h.sound short in
-    sums (up at (alignment c)) (cell_bits c cs) (end_of 0 at (c ∷ cs)) inside short
+    sums (next_multiple at (alignment c)) (cell_bits c cs) (components_end 0 at (c ∷ cs)) inside short
   where
-    sums : (offset bits end : ℕ) → offset + bits ≤ end → end < largest → offset ≤ largest
+    sums : (offset bits end : ℕ) → offset + bits ≤ end → end < largest_size → offset ≤ largest_size
     sums offset bits end e f = omega (arith, e, f)
 
 by_bits : (n byte bit : ℕ) → byte ≡ n / 8 → bit ≡ n % 8 → n ≡ 8 * byte + bit
@@ -82,7 +82,7 @@ by_bits n byte bit e f = omega (arith, e, f)
 few_bits : (n bit : ℕ) → bit ≡ n % 8 → bit < 8
 few_bits n bit e = omega (arith, e)
 
-pub placed_from : (look : List ℕ → ℕ) (at place : ℕ) (cs vs : List Cell) (ps : List Param) (ds : List Cell) → AreApart cs → AreSame look cs ps ds → Finds look at place (cs ++ vs) cs
+pub placed_from : (look : List ℕ → ℕ) (at place : ℕ) (cs vs : List Cell) (ps : List Param) (ds : List Cell) → CellNamesDiffer cs → AreSame look cs ps ds → Finds look at place (cs ++ vs) cs
     → ArePlaced at cs ps
 placed_from look at place [] vs [] [] apart h found = tt
 placed_from look at place [] vs [] (d ∷ ds) apart h found = absurd h
@@ -93,8 +93,8 @@ placed_from look at place (c ∷ cs) vs [] (d ∷ ds) apart h found = absurd h
 placed_from look at place (c ∷ cs) vs (p ∷ ps) [] apart h found = absurd h
 placed_from look at place (c ∷ cs) vs (p ∷ ps) (d ∷ ds) apart (one, more) found =
     let is = one.alike.first in
-    let offset : look c.name ≡ up at (alignment c) = found.0 ∙ ap offset_named (found_here at place c (cs ++ vs) is.level) in
-    let n = up at (alignment c) in
+    let offset : look c.name ≡ next_multiple at (alignment c) = found.0 ∙ ap offset_named (found_here at place c (cs ++ vs) is.level) in
+    let n = next_multiple at (alignment c) in
     let byte : p.byte ≡ n / 8 = one.byte ∙ ap (λ k. k / 8) offset in
     let bit : p.bit ≡ n % 8 = one.bit ∙ ap (λ k. k % 8) offset in
     let further = placed_from look (next at c.opens (plain_bits one.alike.kind)) (place + 1) cs vs ps ds apart.1 more (finds_later look at place c one.alike.kind (cs ++ vs) cs is apart.0 found.1) in (
@@ -125,7 +125,7 @@ placed_alike at (c ∷ cs) (d ∷ ds) (p ∷ ps) (one, others) (here, more) =
         kind = one.other;
         cell = one.second;
         width = sym one.bits ∙ same_kind ∙ here.width;
-        offset = ap (up at) aligned ∙ here.offset;
+        offset = ap (next_multiple at) aligned ∙ here.offset;
         bit = here.bit;
       },
       placed_alike (past_cell at d) cs ds ps others (subst (λ k. ArePlaced k cs ps) step more),
@@ -135,14 +135,14 @@ placed_alike at (c ∷ cs) (d ∷ ds) (p ∷ ps) (one, others) (here, more) =
 pub record IsWithin (limit : ℕ) (p : Param) : Type 0 where
   pub within : 8 * p.byte + p.bit + bit_count p.width ≤ limit
 
-pub placed_within : (limit at : ℕ) (cs : List Cell) (ps : List Param) → limit < largest → at ≤ largest → end_of 0 at cs ≤ limit → ArePlaced at cs ps → AllByRecursion (IsWithin limit) ps
+pub placed_within : (limit at : ℕ) (cs : List Cell) (ps : List Param) → limit < largest_size → at ≤ largest_size → components_end 0 at cs ≤ limit → ArePlaced at cs ps → AllByRecursion (IsWithin limit) ps
 placed_within limit at [] [] small near short h = tt
 placed_within limit at [] (p ∷ ps) small near short h = absurd h
 placed_within limit at (c ∷ cs) [] small near short h = absurd h
 placed_within limit at (c ∷ cs) (p ∷ ps) small near short (one, more) =
     let inside = here_within 0 at c cs near (never_less c.level) (eq-eqb c.level 0 one.cell.level) one.cell.sound (omega (arith, small, short)) in
     let bits = bits_is c cs one.kind one.cell in (
-      record { within = sums (up at (alignment c)) (cell_bits c cs) (8 * p.byte + p.bit) (bit_count p.width) (end_of 0 at (c ∷ cs)) one.offset (bits ∙ one.width) inside short },
+      record { within = sums (next_multiple at (alignment c)) (cell_bits c cs) (8 * p.byte + p.bit) (bit_count p.width) (components_end 0 at (c ∷ cs)) one.offset (bits ∙ one.width) inside short },
       placed_within limit (past_cell at c) cs ps small (past_near at c near) (subst (λ n. n ≤ limit) (end_past at c cs one.kind one.cell) short) more,
     )
   where
@@ -178,57 +178,57 @@ all_behind ps start (w ∷ ws) (one, more) = (λ j i r. inr (reach_behind w star
 in_parameter : (p : Param) (ps : List Param) (start : ℕ) (w : Write) → w.offset ≡ 8 * p.byte + p.bit → w.width ≡ bit_count p.width → IsIn (p ∷ ps) start w
 in_parameter p ps start w offset width j i r = inl (inl (same_reach w (bare p) j i offset width r))
 
-module _ (l : List BlockLayout) (start : ℕ) (near : 8 * start ≤ largest) where
-  one_written : (of_type : ℕ → List ℕ → List Write) (at : ℕ) (c : Cell) (cs : List Cell) (p : Param) (ps : List Param) → IsPlaced at c p → up at (alignment c) ≤ largest
+module _ (l : List BlockLayout) (start : ℕ) (near : 8 * start ≤ largest_size) where
+  one_written : (of_type : ℕ → List ℕ → List Write) (at : ℕ) (c : Cell) (cs : List Cell) (p : Param) (ps : List Param) → IsPlaced at c p → next_multiple at (alignment c) ≤ largest_size
       → AllByRecursion (IsIn (p ∷ ps) start) (cell_writes (λ inner. writes_from of_type (c.level + 1) inner 0 cs) of_type 0 at (0 ∷ []) c (element_of c cs))
   one_written of_type at c cs p ps h few = by (c.sound && nat_eq c.level 0)
     where
       inside : List ℕ → List Write
       inside = λ inner. writes_from of_type (c.level + 1) inner 0 cs
 
-      offset : capped (0 + up at (alignment c)) ≡ 8 * p.byte + p.bit
-      offset = uncapped (up at (alignment c)) few ∙ h.offset
+      offset : capped_size (0 + next_multiple at (alignment c)) ≡ 8 * p.byte + p.bit
+      offset = uncapped (next_multiple at (alignment c)) few ∙ h.offset
         where
-          uncapped : (n : ℕ) → n ≤ largest → capped (0 + n) ≡ n
+          uncapped : (n : ℕ) → n ≤ largest_size → capped_size (0 + n) ≡ n
           uncapped n k = omega (arith, k)
 
       zipped : (s : ℕ) (values : List ℕ) → s ≡ 8 * p.byte + p.bit → AllByRecursion (IsIn (p ∷ ps) start) (writes_at (plain_bits h.kind) (s ∷ []) values)
       zipped s [] e = tt
       zipped s (v ∷ vs) e = (in_parameter p ps start (record { offset = s; width = plain_bits h.kind; value = v }) e h.width, tt)
 
-      plain : AllByRecursion (IsIn (p ∷ ps) start) (component_writes inside of_type c (element_of c cs) (begun at c (0 ∷ [])) (Plain h.kind))
+      plain : AllByRecursion (IsIn (p ∷ ps) start) (component_writes inside of_type c (element_of c cs) (component_starts at c (0 ∷ [])) (Plain h.kind))
       plain =
           subst (AllByRecursion (IsIn (p ∷ ps) start))
-          (sym (append-nil _ ∙ ap (λ bounds. writes_at (plain_bits h.kind) (element_starts bounds (element_of c cs) (capped (0 + up at (alignment c)) ∷ [])) (preset_values c.presets)) h.cell.bounds))
-          (zipped (capped (0 + up at (alignment c))) (preset_values c.presets) offset)
+          (sym (append-nil _ ∙ ap (λ bounds. writes_at (plain_bits h.kind) (element_starts bounds (element_of c cs) (capped_size (0 + next_multiple at (alignment c)) ∷ [])) (preset_values c.presets)) h.cell.bounds))
+          (zipped (capped_size (0 + next_multiple at (alignment c))) (preset_values c.presets) offset)
 
-      by : (t : Bool) → AllByRecursion (IsIn (p ∷ ps) start) (if t then component_writes inside of_type c (element_of c cs) (begun at c (0 ∷ [])) c.of else [])
-      by true = subst (λ of. AllByRecursion (IsIn (p ∷ ps) start) (component_writes inside of_type c (element_of c cs) (begun at c (0 ∷ [])) of)) (sym h.cell.of) plain
+      by : (t : Bool) → AllByRecursion (IsIn (p ∷ ps) start) (if t then component_writes inside of_type c (element_of c cs) (component_starts at c (0 ∷ [])) c.of else [])
+      by true = subst (λ of. AllByRecursion (IsIn (p ∷ ps) start) (component_writes inside of_type c (element_of c cs) (component_starts at c (0 ∷ [])) of)) (sym h.cell.of) plain
       by false = tt
 
   -- what the parameters and the cells behind them write
-  pub structure_in : (depth at : ℕ) (cs rest : List Cell) (ps : List Param) → ArePlaced at cs ps → at ≤ largest → end_of 0 at cs < largest → FirstBehind (8 * start) (end_of 0 at cs) rest
+  pub structure_in : (depth at : ℕ) (cs rest : List Cell) (ps : List Param) → ArePlaced at cs ps → at ≤ largest_size → components_end 0 at cs < largest_size → FirstBehind (8 * start) (components_end 0 at cs) rest
       → AllByRecursion (IsIn ps start) (writes_from (type_writes l depth) 0 (0 ∷ []) at (cs ++ rest))
-  unfolding end_of
+  unfolding components_end
   structure_in depth at [] rest [] h few short first = all_behind [] start (writes_from (type_writes l depth) 0 (0 ∷ []) at rest) (rest_writes (8 * start) near l depth at rest few first)
   structure_in depth at [] rest (p ∷ ps) h few short first = absurd h
   structure_in depth at (c ∷ cs) rest [] h few short first = absurd h
   structure_in depth at (c ∷ cs) rest (p ∷ ps) (one, more) few short first =
       by (nat_lt c.level 0)
       (subst (λ n. AllByRecursion (IsIn ps start) (writes_from of_type 0 (0 ∷ []) n (cs ++ rest))) (sym (past_any at c (cs ++ rest) one.kind one.cell))
-      (structure_in depth (past_cell at c) cs rest ps more (past_near at c few) (subst (λ n. n < largest) end short) (subst (λ n. FirstBehind (8 * start) n rest) end first)))
+      (structure_in depth (past_cell at c) cs rest ps more (past_near at c few) (subst (λ n. n < largest_size) end short) (subst (λ n. FirstBehind (8 * start) n rest) end first)))
     where
       of_type : ℕ → List ℕ → List Write
       of_type = type_writes l depth
 
-      end : end_of 0 at (c ∷ cs) ≡ end_of 0 (past_cell at c) cs
+      end : components_end 0 at (c ∷ cs) ≡ components_end 0 (past_cell at c) cs
       end = end_past at c cs one.kind one.cell
 
-      begins : up at (alignment c) ≤ largest
+      begins : next_multiple at (alignment c) ≤ largest_size
       begins = begins_near at c cs one.kind one.cell few short
 
       next_place : ℕ
-      next_place = stepped 0 at c (cell_bits c (cs ++ rest))
+      next_place = end_behind_cell 0 at c (cell_bits c (cs ++ rest))
 
       here : List Write
       here = cell_writes (λ inner. writes_from of_type (c.level + 1) inner 0 (cs ++ rest)) of_type 0 at (0 ∷ []) c (element_of c (cs ++ rest))
@@ -244,7 +244,7 @@ module _ (l : List BlockLayout) (start : ℕ) (near : 8 * start ≤ largest) whe
 
   -- what a name finds: an elementary cell at the place of a parameter, or what lies behind
   data IsFound (ps : List Param) (place : ℕ) (cells : List Cell) (m : Member) : Type 0 where
-    Parameter : (k : ℕ) (c : Cell) (kind : Simple) → m.place ≡ place + k → slice_get cells k ≡ Some c → IsElementary c kind → m.offset ≤ largest
+    Parameter : (k : ℕ) (c : Cell) (kind : Simple) → m.place ≡ place + k → slice_get cells k ≡ Some c → IsElementary c kind → m.offset ≤ largest_size
         → ((w : Write) → w.offset ≡ m.offset → w.width ≡ plain_bits kind → IsIn ps start w) → IsFound ps place cells m
     Other : 8 * start ≤ m.offset → IsFound ps place cells m
 
@@ -253,70 +253,70 @@ module _ (l : List BlockLayout) (start : ℕ) (near : 8 * start ≤ largest) whe
       Parameter (suc k) d kind (omega (arith, at)) there is few (λ w offset width. in_more p ps start w (each w offset width))
   found_later p ps place c cells m (Other low) = Other low
 
-  name_found : (at place : ℕ) (cs rest : List Cell) (ps : List Param) (name : List ℕ) (m : Member) → ArePlaced at cs ps → at ≤ largest → end_of 0 at cs < largest
-      → FirstBehind (8 * start) (end_of 0 at cs) rest → component 0 at place name (cs ++ rest) ≡ Some m → IsFound ps place (cs ++ rest) m
-  unfolding end_of
+  name_found : (at place : ℕ) (cs rest : List Cell) (ps : List Param) (name : List ℕ) (m : Member) → ArePlaced at cs ps → at ≤ largest_size → components_end 0 at cs < largest_size
+      → FirstBehind (8 * start) (components_end 0 at cs) rest → component_of_name 0 at place name (cs ++ rest) ≡ Some m → IsFound ps place (cs ++ rest) m
+  unfolding components_end
   name_found at place [] rest [] name m h few short first e = Other (rest_component (8 * start) near at place name rest m few first e)
   name_found at place [] rest (p ∷ ps) name m h few short first e = absurd h
   name_found at place (c ∷ cs) rest [] name m h few short first e = absurd h
   name_found at place (c ∷ cs) rest (p ∷ ps) name m (one, more) few short first e =
       by (nat_eq c.level 0 && bytes_eq name c.name) refl
-      (λ k. name_found (past_cell at c) (place + 1) cs rest ps name m more (past_near at c few) (subst (λ n. n < largest) end short) (subst (λ n. FirstBehind (8 * start) n rest) end first) k)
+      (λ k. name_found (past_cell at c) (place + 1) cs rest ps name m more (past_near at c few) (subst (λ n. n < largest_size) end short) (subst (λ n. FirstBehind (8 * start) n rest) end first) k)
     where
-      end : end_of 0 at (c ∷ cs) ≡ end_of 0 (past_cell at c) cs
+      end : components_end 0 at (c ∷ cs) ≡ components_end 0 (past_cell at c) cs
       end = end_past at c cs one.kind one.cell
 
-      begins : up at (alignment c) ≤ largest
+      begins : next_multiple at (alignment c) ≤ largest_size
       begins = begins_near at c cs one.kind one.cell few short
 
-      by : (t : Bool) → (nat_eq c.level 0 && bytes_eq name c.name) ≡ t → (component 0 (past_cell at c) (place + 1) name (cs ++ rest) ≡ Some m → IsFound ps (place + 1) (cs ++ rest) m)
+      by : (t : Bool) → (nat_eq c.level 0 && bytes_eq name c.name) ≡ t → (component_of_name 0 (past_cell at c) (place + 1) name (cs ++ rest) ≡ Some m → IsFound ps (place + 1) (cs ++ rest) m)
           → IsFound (p ∷ ps) place (c ∷ cs ++ rest) m
       by true is later =
-          let here : component 0 at place name (c ∷ cs ++ rest) ≡ Some (record { place = place; offset = up at (alignment c) }) = named_here at place name c (cs ++ rest) is in
-          let same : record { place = place; offset = up at (alignment c) } ≡ m = some_same _ m (sym here ∙ e) in
-          let offset : m.offset ≡ up at (alignment c) = sym (ap (λ (x : Member). x.offset) same) in
-          Parameter 0 c one.kind (sym (ap (λ (x : Member). x.place) same) ∙ plus_none place) refl one.cell (subst (λ n. n ≤ largest) (sym offset) begins)
+          let here : component_of_name 0 at place name (c ∷ cs ++ rest) ≡ Some (record { place = place; offset = next_multiple at (alignment c) }) = named_here at place name c (cs ++ rest) is in
+          let same : record { place = place; offset = next_multiple at (alignment c) } ≡ m = some_same _ m (sym here ∙ e) in
+          let offset : m.offset ≡ next_multiple at (alignment c) = sym (ap (λ (x : Member). x.offset) same) in
+          Parameter 0 c one.kind (sym (ap (λ (x : Member). x.place) same) ∙ plus_none place) refl one.cell (subst (λ n. n ≤ largest_size) (sym offset) begins)
           (λ w at_ width. in_parameter p ps start w (at_ ∙ offset ∙ one.offset) (width ∙ one.width))
       by false other later =
           found_later p ps place c (cs ++ rest) m
-          (later (ap (λ n. component 0 n (place + 1) name (cs ++ rest)) (sym (past_any at c (cs ++ rest) one.kind one.cell)) ∙ sym (passed_by at place name c (cs ++ rest) other) ∙ e))
+          (later (ap (λ n. component_of_name 0 n (place + 1) name (cs ++ rest)) (sym (past_any at c (cs ++ rest) one.kind one.cell)) ∙ sym (passed_by at place name c (cs ++ rest) other) ∙ e))
 
   -- a path of the source
-  pub path_in : (block : ℕ) (cs rest : List Cell) (ps : List Param) (value : Literal) (path : List PathStep) → cells_at l block false ≡ cs ++ rest → ArePlaced 0 cs ps → end_of 0 0 cs < largest
-      → FirstBehind (8 * start) (end_of 0 0 cs) rest → AllByRecursion (IsIn ps start) (setting_write l value (walked_from l block false path))
-  unfolding outermost
+  pub path_in : (block : ℕ) (cs rest : List Cell) (ps : List Param) (value : Literal) (path : List PathStep) → cells_at l block false ≡ cs ++ rest → ArePlaced 0 cs ps → components_end 0 0 cs < largest_size
+      → FirstBehind (8 * start) (components_end 0 0 cs) rest → AllByRecursion (IsIn ps start) (setting_write l value (path_end_in_block l block false path))
+  unfolding outermost_path_end
   path_in block cs rest ps value [] are h short first = tt
   path_in block cs rest ps value (step.Index at ∷ ss) are h short first = tt
-  path_in block cs rest ps value (step.Named name ∷ ss) are h short first = by (component 0 0 0 name cells) refl
+  path_in block cs rest ps value (step.Named name ∷ ss) are h short first = by (component_of_name 0 0 0 name cells) refl
     where
       cells : List Cell
       cells = cells_at l block false
 
-      behind : (e : PathEnd) → LeadsBehind (8 * start) e → AllByRecursion (IsIn ps start) (setting_write l value (goes_on e (λ spot. walked l spot ss)))
-      behind (walk.Reaches spot) k = all_behind ps start (setting_write l value (walked l spot ss)) (write_behind (8 * start) near l value (walked l spot ss) (path_behind (8 * start) near l spot ss k))
+      behind : (e : PathEnd) → LeadsBehind (8 * start) e → AllByRecursion (IsIn ps start) (setting_write l value (path_end_and_then e (λ spot. path_end_behind l spot ss)))
+      behind (walk.Reaches spot) k = all_behind ps start (setting_write l value (path_end_behind l spot ss)) (write_behind (8 * start) near l value (path_end_behind l spot ss) (path_behind (8 * start) near l spot ss k))
       behind walk.Unknown k = tt
       behind walk.Rests k = tt
 
-      low : (m : Member) → 8 * start ≤ m.offset → 8 * start ≤ capped (0 + capped m.offset)
+      low : (m : Member) → 8 * start ≤ m.offset → 8 * start ≤ capped_size (0 + capped_size m.offset)
       low m k = omega (arith, near, k)
 
       at_parameter : (spot : ComponentAt) (c : Cell) (kind : Simple) → slice_get (cells_at l spot.block spot.temporary) spot.place ≡ Some c → spot.depth ≡ 0 → IsElementary c kind
           → ((w : Write) → w.offset ≡ spot.offset → w.width ≡ plain_bits kind → IsIn ps start w) → (steps : List PathStep)
-          → AllByRecursion (IsIn ps start) (setting_write l value (walked l spot steps))
+          → AllByRecursion (IsIn ps start) (setting_write l value (path_end_behind l spot steps))
       at_parameter spot c kind there depth is each [] =
           subst (λ o. AllByRecursion (IsIn ps start) (write_of spot.offset (bits_of value) o)) (sym (kind_there l spot c kind there is depth))
           (each (record { offset = spot.offset; width = plain_bits kind; value = bits_of value }) refl refl, tt)
       at_parameter spot c kind there depth is each (s ∷ steps) =
-          subst (λ e. AllByRecursion (IsIn ps start) (setting_write l value (goes_on e (λ next. walked l next steps)))) (sym (no_step l spot c kind there is s)) tt
+          subst (λ e. AllByRecursion (IsIn ps start) (setting_write l value (path_end_and_then e (λ next. path_end_behind l next steps)))) (sym (no_step l spot c kind there is s)) tt
 
-      lies : (m : Member) → IsFound ps 0 (cs ++ rest) m → AllByRecursion (IsIn ps start) (setting_write l value (goes_on (found_at cells block false 0 0 (Some m)) (λ spot. walked l spot ss)))
-      lies m (Other k) = behind (found_at cells block false 0 0 (Some m)) (entered_behind (8 * start) near block false (0 + m.place) (capped (0 + capped m.offset)) (slice_get cells (0 + m.place)) (low m k))
+      lies : (m : Member) → IsFound ps 0 (cs ++ rest) m → AllByRecursion (IsIn ps start) (setting_write l value (path_end_and_then (path_end_at_member cells block false 0 0 (Some m)) (λ spot. path_end_behind l spot ss)))
+      lies m (Other k) = behind (path_end_at_member cells block false 0 0 (Some m)) (entered_behind (8 * start) near block false (0 + m.place) (capped_size (0 + capped_size m.offset)) (slice_get cells (0 + m.place)) (low m k))
       lies m (Parameter k c kind at there is few each) =
           let here : slice_get cells k ≡ Some c = ap (λ cells. slice_get cells k) are ∙ there in
           let place : m.place ≡ k = omega (arith, at) in
-          subst (λ e. AllByRecursion (IsIn ps start) (setting_write l value (goes_on e (λ spot. walked l spot ss)))) (sym (entered_sound cells block k m c place here is.sound few))
+          subst (λ e. AllByRecursion (IsIn ps start) (setting_write l value (path_end_and_then e (λ spot. path_end_behind l spot ss)))) (sym (entered_sound cells block k m c place here is.sound few))
           (at_parameter (outer_spot block k m.offset) c kind here refl is each ss)
 
-      by : (o : Option Member) → component 0 0 0 name cells ≡ o → AllByRecursion (IsIn ps start) (setting_write l value (goes_on (found_at cells block false 0 0 o) (λ spot. walked l spot ss)))
+      by : (o : Option Member) → component_of_name 0 0 0 name cells ≡ o → AllByRecursion (IsIn ps start) (setting_write l value (path_end_and_then (path_end_at_member cells block false 0 0 o) (λ spot. path_end_behind l spot ss)))
       by None e = tt
-      by (Some m) e = lies m (name_found 0 0 cs rest ps name m h (omega arith) short first (ap (component 0 0 0 name) (sym are) ∙ e))
+      by (Some m) e = lies m (name_found 0 0 cs rest ps name m h (omega arith) short first (ap (component_of_name 0 0 0 name) (sym are) ∙ e))

@@ -6,7 +6,7 @@ use Rattle.std.specs.List.{AllByRecursion, fold}
 use Rattle.std.proofs.lemmas.Bool.{cases_Bool, cases_lt, eq-eqb, eqb-true, false≢true}
 use Rattle.std.proofs.lemmas.List.{get_or-set_other, get_or-set_same, get_or_past, length-set}
 use Rattle.std.proofs.lemmas.Nat.Bits.{bit_at-lt, bit_at-pow_other, bit_at-zero, bit_at_and, bit_at_or}
-use Rattle.block_layout.specs.InitialBytes.{Write, bytes_of, put, with_bit, with_bytes}
+use Rattle.block_layout.specs.InitialBytes.{Write, big_endian_bytes, bytes_with_write, with_bit, with_bytes}
 use Rattle.block_layout.specs.Rebuilt.{InBit, InBytes, IsTrueOf, OfBit, OfBytes, OneReaches, Reaches, bit_in}
 
 -- ---- one write
@@ -46,7 +46,7 @@ bit_set s at k v j i e = elim (cases_Bool (nat_eq j at)) [
       let none = get_or_past (slice_set s at (with_bit k v (slice_index s at))) j 0 (omega (arith, same, past, long)) in
       absurd (omega (arith, sym (ap (λ b. bit_at b i) none) ∙ e, bit_at-zero i))
 
-count_of : (n v : ℕ) → length (bytes_of n v) ≡ n
+count_of : (n v : ℕ) → length (big_endian_bytes n v) ≡ n
 count_of zero v = refl
 count_of (suc n) v = ap suc (count_of n v)
 
@@ -72,34 +72,34 @@ bytes_set s at bs j i e = elim (cases_lt j at) [
 ]
 
 -- a bit that is set behind a write is reached by it, or was set before
-set_by : (s : List ℕ) (w : Write) (j i : ℕ) → bit_in (put s w) j i ≡ 1 → Reaches w j i ⊎ (bit_in s j i ≡ 1)
+set_by : (s : List ℕ) (w : Write) (j i : ℕ) → bit_in (bytes_with_write s w) j i ≡ 1 → Reaches w j i ⊎ (bit_in s j i ≡ 1)
 set_by s w j i = by (nat_eq w.width 1) refl
   where
     of_bit : w.width ≡ 1 → ((j ≡ w.offset / 8) × (i ≡ w.offset % 8)) ⊎ (bit_in s j i ≡ 1) → Reaches w j i ⊎ (bit_in s j i ≡ 1)
     of_bit wide (inl at) = inl (InBit wide at.0 at.1)
     of_bit wide (inr before) = inr before
 
-    of_bytes : nat_eq w.width 1 ≡ false → ((w.offset / 8 ≤ j) × (j < w.offset / 8 + length (bytes_of (w.width / 8) w.value))) ⊎ (bit_in s j i ≡ 1) → Reaches w j i ⊎ (bit_in s j i ≡ 1)
+    of_bytes : nat_eq w.width 1 ≡ false → ((w.offset / 8 ≤ j) × (j < w.offset / 8 + length (big_endian_bytes (w.width / 8) w.value))) ⊎ (bit_in s j i ≡ 1) → Reaches w j i ⊎ (bit_in s j i ≡ 1)
     of_bytes wide (inl at) = inl (InBytes wide at.0 (subst (λ n. j < w.offset / 8 + n) (count_of (w.width / 8) w.value) at.1))
     of_bytes wide (inr before) = inr before
 
     by : (t : Bool) → nat_eq w.width 1 ≡ t
-        → bit_in (if t then slice_set s (w.offset / 8) (with_bit (w.offset % 8) w.value (slice_index s (w.offset / 8))) else with_bytes s (w.offset / 8) (bytes_of (w.width / 8) w.value)) j i ≡ 1
+        → bit_in (if t then slice_set s (w.offset / 8) (with_bit (w.offset % 8) w.value (slice_index s (w.offset / 8))) else with_bytes s (w.offset / 8) (big_endian_bytes (w.width / 8) w.value)) j i ≡ 1
         → Reaches w j i ⊎ (bit_in s j i ≡ 1)
     by true wide e = of_bit (eqb-true w.width 1 wide) (bit_set s (w.offset / 8) (w.offset % 8) w.value j i e)
-    by false wide e = of_bytes wide (bytes_set s (w.offset / 8) (bytes_of (w.width / 8) w.value) j i e)
+    by false wide e = of_bytes wide (bytes_set s (w.offset / 8) (big_endian_bytes (w.width / 8) w.value) j i e)
 
 -- ---- several
 
-all_set : (s : List ℕ) (ws : List Write) (j i : ℕ) → bit_in (fold put s ws) j i ≡ 1 → OneReaches ws j i ⊎ (bit_in s j i ≡ 1)
+all_set : (s : List ℕ) (ws : List Write) (j i : ℕ) → bit_in (fold bytes_with_write s ws) j i ≡ 1 → OneReaches ws j i ⊎ (bit_in s j i ≡ 1)
 all_set s [] j i e = inr e
-all_set s (w ∷ ws) j i e = from (all_set (put s w) ws j i e)
+all_set s (w ∷ ws) j i e = from (all_set (bytes_with_write s w) ws j i e)
   where
     first : Reaches w j i ⊎ (bit_in s j i ≡ 1) → (Reaches w j i ⊎ OneReaches ws j i) ⊎ (bit_in s j i ≡ 1)
     first (inl r) = inl (inl r)
     first (inr before) = inr before
 
-    from : OneReaches ws j i ⊎ (bit_in (put s w) j i ≡ 1) → (Reaches w j i ⊎ OneReaches ws j i) ⊎ (bit_in s j i ≡ 1)
+    from : OneReaches ws j i ⊎ (bit_in (bytes_with_write s w) j i ≡ 1) → (Reaches w j i ⊎ OneReaches ws j i) ⊎ (bit_in s j i ≡ 1)
     from (inl r) = inl (inr r)
     from (inr b) = first (set_by s w j i b)
 
@@ -112,7 +112,7 @@ all_zero zero j = refl
 all_zero (suc n) zero = refl
 all_zero (suc n) (suc j) = all_zero n j
 
-pub reached_by : (n : ℕ) (ws : List Write) (j i : ℕ) → bit_in (fold put (replicate n 0) ws) j i ≡ 1 → OneReaches ws j i
+pub reached_by : (n : ℕ) (ws : List Write) (j i : ℕ) → bit_in (fold bytes_with_write (replicate n 0) ws) j i ≡ 1 → OneReaches ws j i
 unfolding zeros
 reached_by n ws j i e = by (all_set (replicate n 0) ws j i e)
   where
@@ -147,7 +147,7 @@ pub reach_behind : (w : Write) (start j i : ℕ) → 8 * start ≤ w.offset → 
 reach_behind w start j i low (InBit wide byte bit) = omega (arith, low, byte)
 reach_behind w start j i low (InBytes wide from to) = omega (arith, low, from)
 
-zero_bytes : (n k : ℕ) → get_or (bytes_of n 0) k 0 ≡ 0
+zero_bytes : (n k : ℕ) → get_or (big_endian_bytes n 0) k 0 ≡ 0
 zero_bytes zero k = refl
 zero_bytes (suc n) zero = let none : 0 / 256 ^ n % 256 ≡ 0 = zero_part (256 ^ n) in none
   where
@@ -165,5 +165,5 @@ not_reached bytes w j i (OfBytes wide there value) none (InBytes width from to) 
     let k : ℕ = j - w.offset / 8 in
     let at : w.offset / 8 + k ≡ j = omega (arith, from) in
     let here : get_or bytes j 0 ≡ 0 =
-    ap (λ n. get_or bytes n 0) (sym at) ∙ sym (value k (omega (arith, from, to))) ∙ ap (λ v. get_or (bytes_of (w.width / 8) v) k 0) none ∙ zero_bytes (w.width / 8) k in
+    ap (λ n. get_or bytes n 0) (sym at) ∙ sym (value k (omega (arith, from, to))) ∙ ap (λ v. get_or (big_endian_bytes (w.width / 8) v) k 0) none ∙ zero_bytes (w.width / 8) k in
     ap (λ b. bit_at b i) here ∙ bit_at-zero i

@@ -15,7 +15,7 @@ use Rattle.block_layout.specs.declared.blocks.BlockLayout.{BlockLayout}
 use Rattle.stl_types.specs.Unknown.{sets_unknown}
 use Rattle.stl_list.specs.CodeBlocks.{in_lines, line_reached, listed_block, listed_blocks}
 use Rattle.stl_list.specs.DataBlocks.{listed_data}
-use Rattle.stl_list.specs.Lines.{line_behind}
+use Rattle.stl_list.specs.Lines.{line_behind_statements}
 use Rattle.stl_list.specs.Listing.{listed_tree}
 use Rattle.stl_list.specs.Signatures.{Signature}
 use Rattle.sem_kept.specs.Accepted.{program_in}
@@ -61,7 +61,7 @@ block_listed : (P : DataBlock → Type 0) (of : DataBlock → Block) (ss : List 
     → slice_get (listed_blocks ss reached cs ++ map of ds) i ≡ Some b → IsListedAs P of b
 block_listed P of ss reached [] ds i b h e = data_listed P of ds i b h e
 block_listed P of ss reached (c ∷ cs) ds zero b h e = let same : listed_block ss reached c ≡ b = cc in Bare (ap (λ (x : Block). x.settings) (sym same))
-block_listed P of ss reached (c ∷ cs) ds (suc i) b h e = block_listed P of ss (line_behind reached c.lines) cs ds i b h e
+block_listed P of ss reached (c ∷ cs) ds (suc i) b h e = block_listed P of ss (line_behind_statements reached c.lines) cs ds i b h e
 
 -- no rule of settings is broken by one
 record IsFine (l : List BlockLayout) (k : ℕ) (s : Setting) : Type 0 where

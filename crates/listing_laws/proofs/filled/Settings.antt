@@ -16,12 +16,12 @@ use Rattle.stl_ast.specs.declared.blocks.Setting.{Setting}
 use Rattle.stl_ast.specs.declared.declarations.Simple.{Simple}
 use Rattle.stl_ast.specs.declared.declarations.Simple.TheVariants as simple
 use Rattle.stl_ast.specs.declared.literals.Literal.TheVariants as literal
-use Rattle.block_layout.specs.Fits.{bits_of, fits}
-use Rattle.block_layout.specs.InitialBytes.{Write, bytes_of, setting_write, setting_writes, write_of}
+use Rattle.block_layout.specs.Fits.{bits_of, fits_elementary_type}
+use Rattle.block_layout.specs.InitialBytes.{Write, big_endian_bytes, setting_write, setting_writes, write_of}
 use Rattle.block_layout.specs.Offsets.{width_of}
-use Rattle.block_layout.specs.Paths.{folded_path, walked_data}
+use Rattle.block_layout.specs.Paths.{folded_path, path_end_in_data_block}
 use Rattle.block_layout.specs.Rebuilt.{InBytes, IsTrueOf, OfBytes, OneReaches, Reaches, bit_in}
-use Rattle.block_layout.specs.Rule41.{fits_kind, misfits, setting_misfits}
+use Rattle.block_layout.specs.Rule41.{fits_kind, misfits_component, setting_misfits}
 use Rattle.block_layout.specs.Rule42.{setting_is_outside}
 use Rattle.block_layout.specs.Sizes.{plain_bits}
 use Rattle.block_layout.specs.declared.blocks.BlockLayout.{BlockLayout}
@@ -29,7 +29,7 @@ use Rattle.stl_types.specs.Unknown.{leads_nowhere, sets_unknown}
 use Rattle.stl_types.specs.declared.parameters.Formal.{Formal}
 use Rattle.stl_list.specs.Initial.{byte_at, byte_here, byte_setting, byte_settings, parameter_here, parameter_setting, parameter_settings, value_in}
 use Rattle.stl_list.specs.Sections.{static_name}
-use Rattle.listing_laws.specs.Chains.{is_listed}
+use Rattle.listing_laws.specs.Chains.{is_listed_type}
 use Rattle.listing_laws.proofs.BlockLemmas.{byte_is as byte_small}
 use Rattle.listing_laws.proofs.called.Passings.{literal_kind}
 use Rattle.listing_laws.proofs.declared.Own.{past_end}
@@ -42,14 +42,14 @@ use Rattle.listing_laws.proofs.filled.Walks.{AllLead, LeadsTo}
 -- a setting breaks no rule, and writes what these bytes have
 pub record IsRight (l : List BlockLayout) (k : ℕ) (bytes : List ℕ) (s : Setting) : Type 0 where
   pub write : Write
-  pub alone : setting_write l s.value (walked_data l k (folded_path s.path)) ≡ write ∷ []
+  pub alone : setting_write l s.value (path_end_in_data_block l k (folded_path s.path)) ≡ write ∷ []
   pub true_of : IsTrueOf bytes write
   pub known : sets_unknown l k s ≡ false
   pub fit : setting_misfits l k s ≡ false
   pub inside : setting_is_outside l k s ≡ false
 
 -- a setting whose path leads to an elementary component that its value fits
-right_setting : (l : List BlockLayout) (k : ℕ) (bytes : List ℕ) (s : Setting) (offset : ℕ) (kind : Simple) (w : Write) → LeadsTo l k (folded_path s.path) offset kind → fits s.value kind ≡ true
+right_setting : (l : List BlockLayout) (k : ℕ) (bytes : List ℕ) (s : Setting) (offset : ℕ) (kind : Simple) (w : Write) → LeadsTo l k (folded_path s.path) offset kind → fits_elementary_type s.value kind ≡ true
     → w.offset ≡ offset → w.width ≡ plain_bits kind → w.value ≡ bits_of s.value → IsTrueOf bytes w → IsRight l k bytes s
 right_setting l k bytes s offset kind w leads fit at wide value true_of = record {
   write = w;
@@ -57,12 +57,12 @@ right_setting l k bytes s offset kind w leads fit at wide value true_of = record
       ∙ (λ i. record { offset = (leads.at ∙ sym at) i; width = sym wide i; value = sym value i } ∷ []);
   true_of = true_of;
   known = ap leads_nowhere leads.leads;
-  fit = ap (misfits l s.value) leads.sets ∙ ap (λ o. not (fits_kind s.value o)) leads.of_kind ∙ ap not fit;
+  fit = ap (misfits_component l s.value) leads.sets ∙ ap (λ o. not (fits_kind s.value o)) leads.of_kind ∙ ap not fit;
   inside = leads.inside;
 }
 
 writes_joined : (l : List BlockLayout) (k : ℕ) (xs ys : List Setting) → setting_writes l k (xs ++ ys) ≡ setting_writes l k xs ++ setting_writes l k ys
-writes_joined l k xs ys = flat_map-append (λ (s : Setting). setting_write l s.value (walked_data l k (folded_path s.path))) xs ys
+writes_joined l k xs ys = flat_map-append (λ (s : Setting). setting_write l s.value (path_end_in_data_block l k (folded_path s.path))) xs ys
 
 pub reached_front : (l : List BlockLayout) (k j i : ℕ) (xs ys : List Setting) → OneReaches (setting_writes l k xs) j i → OneReaches (setting_writes l k (xs ++ ys)) j i
 reached_front l k j i xs ys r = subst (λ ws. OneReaches ws j i) (sym (writes_joined l k xs ys)) (reaches_front (setting_writes l k xs) (setting_writes l k ys) j i r)
@@ -70,19 +70,19 @@ reached_front l k j i xs ys r = subst (λ ws. OneReaches ws j i) (sym (writes_jo
 pub reached_back : (l : List BlockLayout) (k j i : ℕ) (xs ys : List Setting) → OneReaches (setting_writes l k ys) j i → OneReaches (setting_writes l k (xs ++ ys)) j i
 reached_back l k j i xs ys r = subst (λ ws. OneReaches ws j i) (sym (writes_joined l k xs ys)) (reaches_back (setting_writes l k xs) (setting_writes l k ys) j i r)
 
-reached_alone : (l : List BlockLayout) (k j i : ℕ) (s : Setting) (w : Write) → setting_write l s.value (walked_data l k (folded_path s.path)) ≡ w ∷ [] → Reaches w j i
+reached_alone : (l : List BlockLayout) (k j i : ℕ) (s : Setting) (w : Write) → setting_write l s.value (path_end_in_data_block l k (folded_path s.path)) ≡ w ∷ [] → Reaches w j i
     → OneReaches (setting_writes l k (s ∷ [])) j i
 reached_alone l k j i s w alone r = subst (λ ws. OneReaches ws j i) (sym (append-nil _ ∙ alone)) (inl r)
 
 pub writes_true : (l : List BlockLayout) (k : ℕ) (bytes : List ℕ) (ss : List Setting) → AllByRecursion (IsRight l k bytes) ss → AllByRecursion (IsTrueOf bytes) (setting_writes l k ss)
 writes_true l k bytes [] h = tt
 writes_true l k bytes (s ∷ ss) (one, more) =
-    all_append (IsTrueOf bytes) (setting_write l s.value (walked_data l k (folded_path s.path))) (setting_writes l k ss) (subst (AllByRecursion (IsTrueOf bytes)) (sym one.alone) (one.true_of, tt))
+    all_append (IsTrueOf bytes) (setting_write l s.value (path_end_in_data_block l k (folded_path s.path))) (setting_writes l k ss) (subst (AllByRecursion (IsTrueOf bytes)) (sym one.alone) (one.true_of, tt))
     (writes_true l k bytes ss more)
 
 -- a parameter with its value, as a listing sets it
 pub record IsSettable (bytes : List ℕ) (f : Formal) (p : Param) : Type 0 where
-  pub listed : is_listed f.kind ≡ true
+  pub listed : is_listed_type f.kind ≡ true
   pub wide : width_of f.kind ≡ p.width
   pub bit : p.bit < 8
   pub within : 8 * p.byte + p.bit + bit_count p.width ≤ 8 * length bytes
@@ -165,7 +165,7 @@ module _ (l : List BlockLayout) (k line : ℕ) (bytes : List ℕ) (are : AllByRe
       at : (8 * start + 8 * n) / 8 + 0 ≡ start + n
       at = omega arith
 
-      each : (j : ℕ) → j < 1 → get_or (bytes_of 1 (byte_at bytes (start + n))) j 0 ≡ get_or bytes ((8 * start + 8 * n) / 8 + j) 0
+      each : (j : ℕ) → j < 1 → get_or (big_endian_bytes 1 (byte_at bytes (start + n))) j 0 ≡ get_or bytes ((8 * start + 8 * n) / 8 + j) 0
       each zero h = one_of (byte_at bytes (start + n)) (byte_small bytes (start + n) are) ∙ byte_is bytes (start + n) ∙ ap (λ m. get_or bytes m 0) (sym at)
       each (suc j) h = absurd (omega (arith, h))
 
@@ -173,8 +173,8 @@ module _ (l : List BlockLayout) (k line : ℕ) (bytes : List ℕ) (are : AllByRe
   unfolding bits_of
   byte_bits value = refl
 
-  byte_fits : (value : ℕ) → fits (literal.Byte value) simple.Byte ≡ true
-  unfolding fits
+  byte_fits : (value : ℕ) → fits_elementary_type (literal.Byte value) simple.Byte ≡ true
+  unfolding fits_elementary_type
   byte_fits value = refl
 
   byte_right : (start count n : ℕ) → IndicesLead start count → n < count → start + count ≤ length bytes → IsRight l k bytes (byte_setting line n (byte_at bytes (start + n)))

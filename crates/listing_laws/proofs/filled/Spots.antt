@@ -6,9 +6,9 @@ use Rattle.stl_ast.specs.declared.blocks.PathStep.{PathStep}
 use Rattle.stl_ast.specs.declared.blocks.PathStep.TheVariants as step
 use Rattle.stl_ast.specs.declared.declarations.Simple.{Simple}
 use Rattle.block_layout.specs.Listed.{IsElementary}
-use Rattle.block_layout.specs.Members.{component}
-use Rattle.block_layout.specs.Paths.{cells_at, elementary_at, entered, found_at, indexed, indexed_behind, kind_of, named, named_behind, named_in, plain_kind, step_of, within}
-use Rattle.block_layout.specs.Sizes.{alignment, capped, largest, up}
+use Rattle.block_layout.specs.Members.{component_of_name}
+use Rattle.block_layout.specs.Paths.{cells_at, elementary_at, path_end_at_cell, path_end_at_member, path_end_by_index, indexed_behind, kind_of, path_end_by_name, named_behind, named_in, plain_kind, path_end_by_step, path_end_in_bounds}
+use Rattle.block_layout.specs.Sizes.{alignment, capped_size, largest_size, next_multiple}
 use Rattle.block_layout.specs.declared.blocks.BlockLayout.{BlockLayout}
 use Rattle.block_layout.specs.declared.cells.Cell.{Cell}
 use Rattle.block_layout.specs.declared.members.Member.{Member}
@@ -17,8 +17,8 @@ use Rattle.block_layout.specs.declared.walks.PathEnd.TheVariants as walk
 use Rattle.sem_kept.proofs.accepted.RecordParams.{never_less}
 
 pub named_here : (at place : ℕ) (name : List ℕ) (c : Cell) (cs : List Cell) → (nat_eq c.level 0 && bytes_eq name c.name) ≡ true
-    → component 0 at place name (c ∷ cs) ≡ Some (record { place = place; offset = up at (alignment c) })
-unfolding component
+    → component_of_name 0 at place name (c ∷ cs) ≡ Some (record { place = place; offset = next_multiple at (alignment c) })
+unfolding component_of_name
 named_here at place name c cs is = let never = never_less c.level in rw never (rw is refl)
 
 -- a component of a block that isn't one of a component
@@ -31,21 +31,21 @@ outer_spot block place offset = record {
   offset = offset;
 }
 
-uncapped : (n : ℕ) → n ≤ largest → capped (0 + capped n) ≡ n
+uncapped : (n : ℕ) → n ≤ largest_size → capped_size (0 + capped_size n) ≡ n
 uncapped n h = omega (arith, h)
 
-pub entered_sound : (cells : List Cell) (block place : ℕ) (m : Member) (c : Cell) → m.place ≡ place → slice_get cells place ≡ Some c → c.sound ≡ true → m.offset ≤ largest
-    → found_at cells block false 0 0 (Some m) ≡ walk.Reaches (outer_spot block place m.offset)
+pub entered_sound : (cells : List Cell) (block place : ℕ) (m : Member) (c : Cell) → m.place ≡ place → slice_get cells place ≡ Some c → c.sound ≡ true → m.offset ≤ largest_size
+    → path_end_at_member cells block false 0 0 (Some m) ≡ walk.Reaches (outer_spot block place m.offset)
 entered_sound cells block place m c at there sound few =
     let same : 0 + m.place ≡ place = omega (arith, at) in
-    (λ i. entered block false (same i) (uncapped m.offset few i) (slice_get cells (same i)))
-    ∙ ap (entered block false place m.offset) there
+    (λ i. path_end_at_cell block false (same i) (uncapped m.offset few i) (slice_get cells (same i)))
+    ∙ ap (path_end_at_cell block false place m.offset) there
     ∙ ap (λ (t : Bool). if t then walk.Reaches (outer_spot block place m.offset) else walk.Rests) sound
 
 module _ (l : List BlockLayout) (spot : ComponentAt) (c : Cell) (kind : Simple) (there : slice_get (cells_at l spot.block spot.temporary) spot.place ≡ Some c) where
   -- no step leads on behind an elementary component
-  pub no_step : IsElementary c kind → (s : PathStep) → step_of l spot s ≡ walk.Unknown
-  unfolding step_of named indexed
+  pub no_step : IsElementary c kind → (s : PathStep) → path_end_by_step l spot s ≡ walk.Unknown
+  unfolding path_end_by_step path_end_by_name path_end_by_index
   no_step h (step.Named name) = ap (named_behind l spot name) there ∙ by (nat_eq spot.depth (length c.bounds))
     where
       by : (t : Bool) → (if t then named_in l spot name c c.of else walk.Unknown) ≡ walk.Unknown
@@ -53,7 +53,7 @@ module _ (l : List BlockLayout) (spot : ComponentAt) (c : Cell) (kind : Simple) 
       by false = refl
   no_step h (step.Index at) =
       let cells = cells_at l spot.block spot.temporary in
-      ap (indexed_behind spot cells at) there ∙ ap (λ bounds. within spot c (drop (spot.place + 1) cells) at (slice_get bounds spot.depth)) h.bounds
+      ap (indexed_behind spot cells at) there ∙ ap (λ bounds. path_end_in_bounds spot c (drop (spot.place + 1) cells) at (slice_get bounds spot.depth)) h.bounds
 
   pub kind_there : IsElementary c kind → spot.depth ≡ 0 → elementary_at l spot ≡ Some kind
   kind_there h depth =

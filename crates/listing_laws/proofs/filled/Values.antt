@@ -11,12 +11,12 @@ use Rattle.flat_code.specs.Blocks.{literal_fits}
 use Rattle.flat_code.specs.declared.programs.Param.{Param}
 use Rattle.stl_ast.specs.declared.declarations.Simple.{Simple}
 use Rattle.block_layout.specs.Fits.{bits_of}
-use Rattle.block_layout.specs.InitialBytes.{Write, bytes_of}
+use Rattle.block_layout.specs.InitialBytes.{Write, big_endian_bytes}
 use Rattle.block_layout.specs.Offsets.{width_of}
 use Rattle.block_layout.specs.Rebuilt.{IsTrueOf, OfBit, OfBytes, bit_in}
 use Rattle.stl_list.specs.Constants.{typed_constant}
-use Rattle.stl_list.specs.Initial.{byte_at, value_in, word_at}
-use Rattle.listing_laws.specs.Chains.{is_listed}
+use Rattle.stl_list.specs.Initial.{byte_at, value_in, word_in_bytes}
+use Rattle.listing_laws.specs.Chains.{is_listed_type}
 use Rattle.listing_laws.proofs.BlockLemmas.{byte_is as byte_small, value_is}
 use Rattle.listing_laws.proofs.called.Passings.{literal_bits}
 
@@ -93,11 +93,11 @@ module _ (bytes : List ℕ) (are : AllByRecursion (λ b. b < 256) bytes) where
           let same = small_bit p.bit few in
           half (byte_at bytes p.byte / 2 ^ (p.bit % 8)) ∙ (λ i. byte_is bytes p.byte i / 2 ^ (same i) % 2) ∙ sym (λ i. bit_in bytes (at i) (number i))
 
-      byte : (k : ℕ) → k < 1 → get_or (bytes_of 1 (byte_at bytes p.byte)) k 0 ≡ get_or bytes ((8 * p.byte + p.bit) / 8 + k) 0
+      byte : (k : ℕ) → k < 1 → get_or (big_endian_bytes 1 (byte_at bytes p.byte)) k 0 ≡ get_or bytes ((8 * p.byte + p.bit) / 8 + k) 0
       byte zero less = one_of (byte_at bytes p.byte) (small_at p.byte) ∙ zero_read
       byte (suc k) less = absurd (omega (arith, less))
 
-      word : (k : ℕ) → k < 2 → get_or (bytes_of 2 (word_at bytes p.byte)) k 0 ≡ get_or bytes ((8 * p.byte + p.bit) / 8 + k) 0
+      word : (k : ℕ) → k < 2 → get_or (big_endian_bytes 2 (word_in_bytes bytes p.byte)) k 0 ≡ get_or bytes ((8 * p.byte + p.bit) / 8 + k) 0
       word zero less = high_of (byte_at bytes p.byte) (byte_at bytes (p.byte + 1)) (small_at p.byte) (small_at (p.byte + 1)) ∙ zero_read
       word (suc zero) less = low_of (byte_at bytes p.byte) (byte_at bytes (p.byte + 1)) (small_at p.byte) (small_at (p.byte + 1)) ∙ read (8 * p.byte + p.bit) p.byte 1 at
       word (suc (suc k)) less = absurd (omega (arith, less))
@@ -114,7 +114,7 @@ module _ (bytes : List ℕ) (are : AllByRecursion (λ b. b < 256) bytes) where
       d : ℕ
       d = byte_at bytes (p.byte + 2 + 1)
 
-      double : (k : ℕ) → k < 4 → get_or (bytes_of 4 (65536 * word_at bytes p.byte + word_at bytes (p.byte + 2))) k 0 ≡ get_or bytes ((8 * p.byte + p.bit) / 8 + k) 0
+      double : (k : ℕ) → k < 4 → get_or (big_endian_bytes 4 (65536 * word_in_bytes bytes p.byte + word_in_bytes bytes (p.byte + 2))) k 0 ≡ get_or bytes ((8 * p.byte + p.bit) / 8 + k) 0
       double zero less = first_of a b c d (small_at p.byte) (small_at (p.byte + 1)) (small_at (p.byte + 2)) (small_at (p.byte + 2 + 1)) ∙ zero_read
       double (suc zero) less = second_of a b c d (small_at p.byte) (small_at (p.byte + 1)) (small_at (p.byte + 2)) (small_at (p.byte + 2 + 1)) ∙ read (8 * p.byte + p.bit) p.byte 1 at
       double (suc (suc zero)) less = third_of a b c d (small_at p.byte) (small_at (p.byte + 1)) (small_at (p.byte + 2)) (small_at (p.byte + 2 + 1)) ∙ read (8 * p.byte + p.bit) p.byte 2 at
@@ -145,7 +145,7 @@ module _ (bytes : List ℕ) (are : AllByRecursion (λ b. b < 256) bytes) where
   value_fits width.Dword byte bit = refl
 
   -- the value of a setting is that of the parameter
-  pub value_bits : (kind : Simple) (p : Param) → is_listed kind ≡ true → width_of kind ≡ p.width → bits_of (typed_constant kind (value_in bytes p.width p.byte p.bit)) ≡ value_in bytes p.width p.byte p.bit
+  pub value_bits : (kind : Simple) (p : Param) → is_listed_type kind ≡ true → width_of kind ≡ p.width → bits_of (typed_constant kind (value_in bytes p.width p.byte p.bit)) ≡ value_in bytes p.width p.byte p.bit
   value_bits kind p listed wide =
       literal_bits kind (value_in bytes p.width p.byte p.bit) listed
       (ap (λ w. literal_fits (width_number w) (value_in bytes p.width p.byte p.bit)) wide ∙ value_fits p.width p.byte p.bit) (value_is bytes p.width p.byte p.bit are)

@@ -12,10 +12,10 @@ use Rattle.stl_ast.specs.declared.blocks.PathStep.{PathStep}
 use Rattle.stl_ast.specs.declared.blocks.PathStep.TheVariants as step
 use Rattle.stl_ast.specs.declared.declarations.Simple.{Simple}
 use Rattle.stl_ast.specs.declared.declarations.Simple.TheVariants as simple
-use Rattle.block_layout.specs.Listed.{AreApart, IsElementary}
-use Rattle.block_layout.specs.Members.{component}
-use Rattle.block_layout.specs.Paths.{cells_at, elementary_at, found_at, further, goes_on, indexed, indexed_behind, is_beyond, is_beyond_in, is_judged, kind_of, leaves, leaves_judged, outermost, setting_structure, step_of, structure_of, walked, walked_data, walked_from, walked_or_rests, walked_setting}
-use Rattle.block_layout.specs.Sizes.{alignment, capped, cell_bits, element_alignment, element_of, end_of, largest, up}
+use Rattle.block_layout.specs.Listed.{CellNamesDiffer, IsElementary}
+use Rattle.block_layout.specs.Members.{component_of_name}
+use Rattle.block_layout.specs.Paths.{cells_at, elementary_at, path_end_at_member, holds_where_reached, path_end_and_then, path_end_by_index, indexed_behind, is_beyond, is_beyond_in, is_judged, kind_of, leaves_array, leaves_judged, outermost_path_end, setting_structure, path_end_by_step, structure_of, path_end_behind, path_end_in_data_block, path_end_in_block, path_end_or_rests, path_end_of_setting}
+use Rattle.block_layout.specs.Sizes.{alignment, capped_size, cell_bits, element_alignment, element_of, components_end, largest_size, next_multiple}
 use Rattle.block_layout.specs.declared.blocks.BlockLayout.{BlockLayout}
 use Rattle.block_layout.specs.declared.cells.Cell.{Cell}
 use Rattle.block_layout.specs.declared.members.Member.{Member}
@@ -34,8 +34,8 @@ use Rattle.listing_laws.proofs.filled.Spots.{entered_sound, kind_there, outer_sp
 -- a path of the data block at a place leads to an elementary component so many bits from the start, and leaves no array on the way
 pub record LeadsTo (l : List BlockLayout) (k : ℕ) (path : List PathStep) (offset : ℕ) (kind : Simple) : Type 0 where
   pub spot : ComponentAt
-  pub leads : walked_data l k path ≡ walk.Reaches spot
-  pub sets : walked_setting l k path ≡ walk.Reaches spot
+  pub leads : path_end_in_data_block l k path ≡ walk.Reaches spot
+  pub sets : path_end_of_setting l k path ≡ walk.Reaches spot
   pub at : spot.offset ≡ offset
   pub of_kind : elementary_at l spot ≡ Some kind
   pub inside : leaves_judged l (setting_structure l k) path ≡ false
@@ -48,26 +48,26 @@ AllLead l k _ _ = ⊥
 
 -- what the outermost names find, from a place among the cells on
 abbrev pub Looks : (look : List ℕ → Option Member) → (at place : ℕ) → (all cs : List Cell) → Type 0
-Looks look at place all cs = AllByRecursion (λ c. look c.name ≡ component 0 at place c.name all) cs
+Looks look at place all cs = AllByRecursion (λ c. look c.name ≡ component_of_name 0 at place c.name all) cs
 
 looks_later : (look : List ℕ → Option Member) (at place : ℕ) (c : Cell) (kind : Simple) (rest cs : List Cell) → IsElementary c kind → AllByRecursion (λ d. bytes_eq d.name c.name ≡ false) cs
     → Looks look at place (c ∷ rest) cs → Looks look (past_cell at c) (place + 1) rest cs
 looks_later look at place c kind rest [] is apart h = tt
 looks_later look at place c kind rest (d ∷ ds) is (other, others) (one, more) =
     let passed = passed_by at place d.name c rest (not_both (nat_eq c.level 0) (bytes_eq d.name c.name) (λ e. other)) in
-    (one ∙ passed ∙ ap (λ n. component 0 n (place + 1) d.name rest) (past_any at c rest kind is), looks_later look at place c kind rest ds is others more)
+    (one ∙ passed ∙ ap (λ n. component_of_name 0 n (place + 1) d.name rest) (past_any at c rest kind is), looks_later look at place c kind rest ds is others more)
 
-pub all_look : (all cs : List Cell) → Looks (λ name. component 0 0 0 name all) 0 0 all cs
+pub all_look : (all cs : List Cell) → Looks (λ name. component_of_name 0 0 0 name all) 0 0 all cs
 all_look all [] = tt
 all_look all (c ∷ cs) = (refl, all_look all cs)
 
 -- VAR stands behind the parameters
 pub static_found : (at place i : ℕ) (ds : List Cell) (ps : List Param) (c : Cell) → AreNamed i ds → ArePlaced at ds ps → c.name ≡ upper_case_name static_name → c.level ≡ 0 → c.opens ≡ true
-    → component 0 at place (upper_case_name static_name) (ds ++ c ∷ []) ≡ Some (record { place = place + length ds; offset = up (end_of 0 at ds) 16 })
-unfolding end_of
+    → component_of_name 0 at place (upper_case_name static_name) (ds ++ c ∷ []) ≡ Some (record { place = place + length ds; offset = next_multiple (components_end 0 at ds) 16 })
+unfolding components_end
 static_found at place i [] [] c named h name outer opens =
-    ap (λ n. component 0 at place n (c ∷ [])) (sym name) ∙ found_here at place c [] outer
-    ∙ (λ j. Some (record { place = plus_none place j; offset = up at (if opens j then 16 else if nat_eq (length c.bounds) 0 then element_alignment c.of else 16) }))
+    ap (λ n. component_of_name 0 at place n (c ∷ [])) (sym name) ∙ found_here at place c [] outer
+    ∙ (λ j. Some (record { place = plus_none place j; offset = next_multiple at (if opens j then 16 else if nat_eq (length c.bounds) 0 then element_alignment c.of else 16) }))
   where
     plus_none : (n : ℕ) → n ≡ n + 0
     plus_none n = omega arith
@@ -76,12 +76,12 @@ static_found at place i (d ∷ ds) [] c named h name outer opens = absurd h
 static_found at place i (d ∷ ds) (p ∷ ps) c (one, more) (here, others) name outer opens =
     let other : bytes_eq (upper_case_name static_name) d.name ≡ false = ap (λ n. bytes_eq (upper_case_name static_name) n) one in
     passed_by at place (upper_case_name static_name) d (ds ++ c ∷ []) (not_both (nat_eq d.level 0) (bytes_eq (upper_case_name static_name) d.name) (λ e. other))
-    ∙ ap (λ n. component 0 n (place + 1) (upper_case_name static_name) (ds ++ c ∷ [])) (past_any at d (ds ++ c ∷ []) here.kind here.cell)
+    ∙ ap (λ n. component_of_name 0 n (place + 1) (upper_case_name static_name) (ds ++ c ∷ [])) (past_any at d (ds ++ c ∷ []) here.kind here.cell)
     ∙ static_found (past_cell at d) (place + 1) (suc i) ds ps c more others name outer opens
-    ∙ (λ j. Some (record { place = further place (length ds) j; offset = up (sym (end_past at d ds here.kind here.cell) j) 16 }))
+    ∙ (λ j. Some (record { place = holds_where_reached place (length ds) j; offset = next_multiple (sym (end_past at d ds here.kind here.cell) j) 16 }))
   where
     further : (m n : ℕ) → m + 1 + n ≡ m + suc n
-    further m n = omega arith
+    holds_where_reached m n = omega arith
 
 no_less : (n : ℕ) → int_lt (pos n) (pos 0) ≡ false
 no_less n = grind arith
@@ -92,46 +92,46 @@ not_above n i h = grind (arith, nat_tests)
 same_index : (i : ℕ) → unsigned_abs (pos i -ℤ pos 0) ≡ i
 same_index i = grind arith
 
-index_offset : (offset i : ℕ) → offset + i * 8 ≤ largest → capped (offset + capped (i * 8)) ≡ offset + 8 * i
+index_offset : (offset i : ℕ) → offset + i * 8 ≤ largest_size → capped_size (offset + capped_size (i * 8)) ≡ offset + 8 * i
 index_offset offset i h = omega (arith, h)
 
 module _ (l : List BlockLayout) (k q : ℕ) (structure : structure_of l k ≡ Some q) (setting : setting_structure l k ≡ Some q) where
   -- a path is one among the components of the structure
-  data_walk : (path : List PathStep) → walked_data l k path ≡ walked_from l q false path
-  unfolding walked_data
-  data_walk path = ap (λ o. walked_or_rests l o path) structure
+  data_walk : (path : List PathStep) → path_end_in_data_block l k path ≡ path_end_in_block l q false path
+  unfolding path_end_in_data_block
+  data_walk path = ap (λ o. path_end_or_rests l o path) structure
 
-  setting_walk : (path : List PathStep) → walked_setting l k path ≡ walked_from l q false path
-  unfolding walked_setting
-  setting_walk path = ap (λ o. walked_or_rests l o path) setting
+  setting_walk : (path : List PathStep) → path_end_of_setting l k path ≡ path_end_in_block l q false path
+  unfolding path_end_of_setting
+  setting_walk path = ap (λ o. path_end_or_rests l o path) setting
 
-  name_found : (cells : List Cell) (name : List ℕ) (place offset : ℕ) (c : Cell) → cells_at l q false ≡ cells → component 0 0 0 name cells ≡ Some (record { place = place; offset = offset })
-      → slice_get cells place ≡ Some c → c.sound ≡ true → offset ≤ largest → outermost l q false 0 name ≡ walk.Reaches (outer_spot q place offset)
-  unfolding outermost
+  name_found : (cells : List Cell) (name : List ℕ) (place offset : ℕ) (c : Cell) → cells_at l q false ≡ cells → component_of_name 0 0 0 name cells ≡ Some (record { place = place; offset = offset })
+      → slice_get cells place ≡ Some c → c.sound ≡ true → offset ≤ largest_size → outermost_path_end l q false 0 name ≡ walk.Reaches (outer_spot q place offset)
+  unfolding outermost_path_end
   name_found cells name place offset c are found there sound few =
-      (λ i. found_at (are i) q false 0 0 (component 0 0 0 name (are i))) ∙ ap (found_at cells q false 0 0) found
+      (λ i. path_end_at_member (are i) q false 0 0 (component_of_name 0 0 0 name (are i))) ∙ ap (path_end_at_member cells q false 0 0) found
       ∙ entered_sound cells q place (record { place = place; offset = offset }) c refl there sound few
 
   name_leads : (cells : List Cell) (name : List ℕ) (place offset : ℕ) (c : Cell) (kind : Simple) → cells_at l q false ≡ cells
-      → component 0 0 0 name cells ≡ Some (record { place = place; offset = offset }) → slice_get cells place ≡ Some c → IsElementary c kind → offset ≤ largest
+      → component_of_name 0 0 0 name cells ≡ Some (record { place = place; offset = offset }) → slice_get cells place ≡ Some c → IsElementary c kind → offset ≤ largest_size
       → LeadsTo l k (step.Named name ∷ []) offset kind
   name_leads cells name place offset c kind are found there is few =
       let out = name_found cells name place offset c are found there is.sound few in
       let path = step.Named name ∷ [] in
-      let walk_is : walked_from l q false path ≡ walk.Reaches (outer_spot q place offset) = ap (λ e. goes_on e (λ spot. walked l spot [])) out in
+      let walk_is : path_end_in_block l q false path ≡ walk.Reaches (outer_spot q place offset) = ap (λ e. path_end_and_then e (λ spot. path_end_behind l spot [])) out in
       record {
         spot = outer_spot q place offset;
         leads = data_walk path ∙ walk_is;
         sets = setting_walk path ∙ walk_is;
         at = refl;
         of_kind = kind_there l (outer_spot q place offset) c kind (ap (λ z. slice_get z place) are ∙ there) is refl;
-        inside = ap (λ o. leaves_judged l o path) setting ∙ (λ i. is_judged (walk_is i) && further (out i) (λ spot. leaves l spot []));
+        inside = ap (λ o. leaves_judged l o path) setting ∙ (λ i. is_judged (walk_is i) && holds_where_reached (out i) (λ spot. leaves_array l spot []));
       }
 
   -- ---- parameters
 
-  pub all_lead : (whole : List Cell) (at place : ℕ) (ds vs : List Cell) (fs : List Formal) (ps : List Param) → cells_at l q false ≡ whole → at ≤ largest → end_of 0 at ds < largest → ArePlaced at ds ps
-      → AreCellsOf ds fs → AreApart ds → Looks (λ name. component 0 0 0 name whole) at place (ds ++ vs) ds → ((j : ℕ) → slice_get whole (place + j) ≡ slice_get (ds ++ vs) j)
+  pub all_lead : (whole : List Cell) (at place : ℕ) (ds vs : List Cell) (fs : List Formal) (ps : List Param) → cells_at l q false ≡ whole → at ≤ largest_size → components_end 0 at ds < largest_size → ArePlaced at ds ps
+      → AreCellsOf ds fs → CellNamesDiffer ds → Looks (λ name. component_of_name 0 0 0 name whole) at place (ds ++ vs) ds → ((j : ℕ) → slice_get whole (place + j) ≡ slice_get (ds ++ vs) j)
       → AllLead l k fs ps
   all_lead whole at place [] vs [] [] are near short h of apart looks there = tt
   all_lead whole at place [] vs [] (p ∷ ps) are near short h of apart looks there = absurd h
@@ -140,21 +140,21 @@ module _ (l : List BlockLayout) (k q : ℕ) (structure : structure_of l k ≡ So
   all_lead whole at place (d ∷ ds) vs (f ∷ fs) [] are near short h of apart looks there = absurd h
   all_lead whole at place (d ∷ ds) vs (f ∷ fs) (p ∷ ps) are near short (one, more) (name, of, others) (apart, aparts) (look, looks) there =
       let end = end_past at d ds one.kind one.cell in
-      let found : component 0 0 0 (upper_case_name f.name) whole ≡ Some (record { place = place; offset = 8 * p.byte + p.bit }) =
-      ap (λ n. component 0 0 0 n whole) (sym name) ∙ look ∙ found_here at place d (ds ++ vs) one.cell.level ∙ ap (λ n. Some (record { place = place; offset = n })) one.offset in
+      let found : component_of_name 0 0 0 (upper_case_name f.name) whole ≡ Some (record { place = place; offset = 8 * p.byte + p.bit }) =
+      ap (λ n. component_of_name 0 0 0 n whole) (sym name) ∙ look ∙ found_here at place d (ds ++ vs) one.cell.level ∙ ap (λ n. Some (record { place = place; offset = n })) one.offset in
       let is : IsElementary d f.kind = record { level = one.cell.level; sound = one.cell.sound; bounds = one.cell.bounds; of = of } in
       let inside = here_within 0 at d ds near (never_less d.level) (eq-eqb d.level 0 one.cell.level) one.cell.sound short in
       let none : place ≡ place + 0 = omega arith in (
         name_leads whole (upper_case_name f.name) place (8 * p.byte + p.bit) d f.kind are found (ap (slice_get whole) none ∙ there 0) is
-            (begins (up at (alignment d)) (cell_bits d ds) (end_of 0 at ds_here) (8 * p.byte + p.bit) one.offset inside short),
-        all_lead whole (past_cell at d) (place + 1) ds vs fs ps are (past_near at d near) (subst (λ n. n < largest) end short) more others aparts
-            (looks_later (λ n. component 0 0 0 n whole) at place d one.kind (ds ++ vs) ds one.cell apart looks) later,
+            (begins (next_multiple at (alignment d)) (cell_bits d ds) (components_end 0 at ds_here) (8 * p.byte + p.bit) one.offset inside short),
+        all_lead whole (past_cell at d) (place + 1) ds vs fs ps are (past_near at d near) (subst (λ n. n < largest_size) end short) more others aparts
+            (looks_later (λ n. component_of_name 0 0 0 n whole) at place d one.kind (ds ++ vs) ds one.cell apart looks) later,
       )
     where
       ds_here : List Cell
       ds_here = d ∷ ds
 
-      begins : (n bits end offset : ℕ) → n ≡ offset → n + bits ≤ end → end < largest → offset ≤ largest
+      begins : (n bits end offset : ℕ) → n ≡ offset → n + bits ≤ end → end < largest_size → offset ≤ largest_size
       begins n bits end offset e g k = omega (arith, e, g, k)
 
       later : (j : ℕ) → slice_get whole (place + 1 + j) ≡ slice_get (ds ++ vs) j
@@ -164,9 +164,9 @@ module _ (l : List BlockLayout) (k q : ℕ) (structure : structure_of l k ≡ So
 
   -- an index of VAR leads to a byte
   pub index_leads : (count offset place : ℕ) (cells : List Cell) (i : ℕ) → cells_at l q false ≡ cells
-      → component 0 0 0 (upper_case_name static_name) cells ≡ Some (record { place = place; offset = offset }) → slice_get cells place ≡ Some (byte_cell part.Static static_name count)
-      → i < count → offset + i * 8 ≤ largest → LeadsTo l k (step.Named (upper_case_name static_name) ∷ step.Index (pos i) ∷ []) (offset + 8 * i) simple.Byte
-  unfolding step_of indexed element_of
+      → component_of_name 0 0 0 (upper_case_name static_name) cells ≡ Some (record { place = place; offset = offset }) → slice_get cells place ≡ Some (byte_cell part.Static static_name count)
+      → i < count → offset + i * 8 ≤ largest_size → LeadsTo l k (step.Named (upper_case_name static_name) ∷ step.Index (pos i) ∷ []) (offset + 8 * i) simple.Byte
+  unfolding path_end_by_step path_end_by_index element_of
   index_leads count offset place cells i are found there less few =
       let name = upper_case_name static_name in
       let c = byte_cell part.Static static_name count in
@@ -176,21 +176,21 @@ module _ (l : List BlockLayout) (k q : ℕ) (structure : structure_of l k ≡ So
       let here : slice_get own place ≡ Some c = ap (λ z. slice_get z place) are ∙ there in
       let out = name_found cells name place offset c are found there refl (omega (arith, few)) in
       let bounded : is_beyond (record { low = pos 0; high = pos (count - 1) }) (pos i) ≡ false = let low = no_less i in let high = not_above count i less in rw low high in
-      let next : step_of l spot (step.Index (pos i)) ≡ walk.Reaches (record { block = q; temporary = false; place = place; depth = 1; offset = offset + 8 * i }) =
+      let next : path_end_by_step l spot (step.Index (pos i)) ≡ walk.Reaches (record { block = q; temporary = false; place = place; depth = 1; offset = offset + 8 * i }) =
       ap (indexed_behind spot own (pos i)) here
       ∙ ap (λ (t : Bool). if t then walk.Reaches (record spot { depth = spot.depth + 1 })
-      else walk.Reaches (record spot { depth = spot.depth + 1; offset = capped (offset + capped (unsigned_abs (pos i -ℤ pos 0) * 8)) })) bounded
-      ∙ ap (λ n. walk.Reaches (record { block = q; temporary = false; place = place; depth = 1; offset = capped (offset + capped (n * 8)) })) (same_index i)
+      else walk.Reaches (record spot { depth = spot.depth + 1; offset = capped_size (offset + capped_size (unsigned_abs (pos i -ℤ pos 0) * 8)) })) bounded
+      ∙ ap (λ n. walk.Reaches (record { block = q; temporary = false; place = place; depth = 1; offset = capped_size (offset + capped_size (n * 8)) })) (same_index i)
       ∙ ap (λ n. walk.Reaches (record { block = q; temporary = false; place = place; depth = 1; offset = n })) (index_offset offset i few) in
       let last : ComponentAt = record { block = q; temporary = false; place = place; depth = 1; offset = offset + 8 * i } in
-      let walk_is : walked_from l q false path ≡ walk.Reaches last = ap (λ e. goes_on e (λ z. walked l z (step.Index (pos i) ∷ []))) out ∙ ap (λ e. goes_on e (λ z. walked l z [])) next in
-      let stays : leaves l spot (step.Index (pos i) ∷ []) ≡ false =
-      (λ j. (is_beyond_in 0 (here j) (pos i)) || further (next j) (λ z. leaves l z [])) ∙ ap (λ (t : Bool). t || false) bounded in
+      let walk_is : path_end_in_block l q false path ≡ walk.Reaches last = ap (λ e. path_end_and_then e (λ z. path_end_behind l z (step.Index (pos i) ∷ []))) out ∙ ap (λ e. path_end_and_then e (λ z. path_end_behind l z [])) next in
+      let stays : leaves_array l spot (step.Index (pos i) ∷ []) ≡ false =
+      (λ j. (is_beyond_in 0 (here j) (pos i)) || holds_where_reached (next j) (λ z. leaves_array l z [])) ∙ ap (λ (t : Bool). t || false) bounded in
       record {
         spot = last;
         leads = data_walk path ∙ walk_is;
         sets = setting_walk path ∙ walk_is;
         at = refl;
         of_kind = ap (kind_of last) here;
-        inside = ap (λ o. leaves_judged l o path) setting ∙ (λ j. is_judged (walk_is j) && further (out j) (λ z. leaves l z (step.Index (pos i) ∷ []))) ∙ stays;
+        inside = ap (λ o. leaves_judged l o path) setting ∙ (λ j. is_judged (walk_is j) && holds_where_reached (out j) (λ z. leaves_array l z (step.Index (pos i) ∷ []))) ∙ stays;
       }

@@ -9,10 +9,10 @@ use Rattle.stl_lexer.specs.declared.kinds.Token.{Token}
 use Rattle.stl_parser.specs.Source.{IsTree}
 use Rattle.stl_symbols.specs.Symbol.{Symbol}
 use Rattle.block_layout.specs.Layouts.{layouts_of}
-use Rattle.block_layout.specs.Measures.{types_of}
+use Rattle.block_layout.specs.Measures.{types_of_source}
 use Rattle.stl_types.specs.Bodies.{first_context}
 use Rattle.stl_types.specs.Table.{statement_refusals}
-use Rattle.stl_codegen.specs.Generated.{data_blocks_of, names_of}
+use Rattle.stl_codegen.specs.Generated.{data_blocks_of, name_entries_of}
 use Rattle.stl_list.specs.Listing.{listed_source, listed_tree}
 use Rattle.sem_kept.specs.Accepted.{IsAccepted, program_in}
 use Rattle.sem_kept.proofs.accepted.Accepted.{LaysOutRight, StatesRight}
@@ -46,7 +46,7 @@ AreDataBlocksKept =
 -- it breaks no rule of layouts, and none of statements
 abbrev pub AreLayoutsRight : Type 0
 AreLayoutsRight =
-    OfListings (λ symbols t others. LaysOutRight (types_of others (listed_again symbols t).blocks) (layouts_of (listed_again symbols t) others) (listed_again symbols t).blocks)
+    OfListings (λ symbols t others. LaysOutRight (types_of_source others (listed_again symbols t).blocks) (layouts_of (listed_again symbols t) others) (listed_again symbols t).blocks)
 
 abbrev pub AreStatementsRight : Type 0
 AreStatementsRight =
@@ -77,7 +77,7 @@ listings_compiled read whole bodies datas layouts statements source file symbols
     }
   where
     others : List Symbol
-    others = map symbol_of (names_of symbols)
+    others = map symbol_of (name_entries_of symbols)
 
     right : IsWholeAgain symbols t others
     right = whole source file symbols t accepted bytes file_bytes others

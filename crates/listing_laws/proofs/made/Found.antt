@@ -11,10 +11,10 @@ use Rattle.stl_symbols.specs.Symbol.{Symbol}
 use Rattle.block_layout.proofs.LayoutLemmas.{ids_laid}
 use Rattle.block_layout.specs.Blocks.{ids_of, known_block, named_block, of_kind}
 use Rattle.block_layout.specs.Layouts.{layouts_by, layouts_of}
-use Rattle.block_layout.specs.Measures.{types_of}
+use Rattle.block_layout.specs.Measures.{types_of_source}
 use Rattle.block_layout.specs.Paths.{if_whole, whole_at, whole_block as whole_layout}
 use Rattle.block_layout.specs.declared.blocks.BlockLayout.{BlockLayout}
-use Rattle.stl_types.specs.Context.{number_of}
+use Rattle.stl_types.specs.Context.{number_of_block}
 use Rattle.stl_types.specs.Resolution.{id_at}
 use Rattle.sem_kept.proofs.accepted.OperandsCells.{all_there, known_there, measured_symbols, origin}
 use Rattle.listing_laws.specs.Again.{listed_again}
@@ -31,7 +31,7 @@ laid_ids ls = map (λ b. b.id) ls
 pub ids_in : (symbols : List Symbol) (t : Tree) → laid_ids (layouts_of t symbols) ≡ ids_of symbols t.blocks
 unfolding layouts_of layouts_by
 ids_in symbols t =
-    ids_laid (types_of symbols t.blocks) t.blocks [] t.blocks ∙ ap (λ (z : List Symbol). ids_of z t.blocks) (measured_symbols symbols t.blocks)
+    ids_laid (types_of_source symbols t.blocks) t.blocks [] t.blocks ∙ ap (λ (z : List Symbol). ids_of z t.blocks) (measured_symbols symbols t.blocks)
 
 -- the layout of a block that is found
 pub record IsFoundAt (ls : List BlockLayout) (id : BlockId) (k : ℕ) : Type 0 where
@@ -86,7 +86,7 @@ data_named _ n m h e = absurd cc
 -- the number of a data block that isn't broken, by what its name means
 abbrev number_by : List BlockLayout → Option BlockId → Option ℕ
 number_by ls x =
-    option_and_then (λ b. number_of b.id)
+    option_and_then (λ b. number_of_block b.id)
     (option_and_then (whole_at ls) (option_and_then (λ id. known_block id (laid_ids ls)) (of_kind is_data_block x)))
 
 number_there : (ls : List BlockLayout) (x : Option BlockId) (number : ℕ) → number_by ls x ≡ Some number → is_some (known_block (data_id number) (laid_ids ls)) ≡ true
@@ -97,31 +97,31 @@ number_there ls (Some id) number e = kind (is_data_block id.kind) refl e
     same m h = cc
 
     whole : (k : ℕ) (l : BlockLayout) (t : Bool) → known_block id (laid_ids ls) ≡ Some k → is_data_block id.kind ≡ true → l.id ≡ Some id
-        → option_and_then (λ b. number_of b.id) (if t then None else Some l) ≡ Some number → is_some (known_block (data_id number) (laid_ids ls)) ≡ true
+        → option_and_then (λ b. number_of_block b.id) (if t then None else Some l) ≡ Some number → is_some (known_block (data_id number) (laid_ids ls)) ≡ true
     whole k l true f db known h = absurd cc
     whole k l false f db known h =
-        let number_is : id.number ≡ number = same id.number (ap number_of (sym known) ∙ h) in
+        let number_is : id.number ≡ number = same id.number (ap number_of_block (sym known) ∙ h) in
         ap (λ (i : BlockId). is_some (known_block i (laid_ids ls))) (sym (data_named id.kind id.number number db number_is)) ∙ ap is_some f
 
     place : (o : Option ℕ) → known_block id (laid_ids ls) ≡ o → is_data_block id.kind ≡ true
-        → option_and_then (λ b. number_of b.id) (option_and_then (whole_at ls) o) ≡ Some number → is_some (known_block (data_id number) (laid_ids ls)) ≡ true
+        → option_and_then (λ b. number_of_block b.id) (option_and_then (whole_at ls) o) ≡ Some number → is_some (known_block (data_id number) (laid_ids ls)) ≡ true
     place None f db h = absurd cc
     place (Some k) f db h =
         let at = found_at ls id k f in
         whole k at.layout at.layout.broken f db at.known
-        (ap (λ (o : Option BlockLayout). option_and_then (λ b. number_of b.id) (whole_layout o)) (sym at.there) ∙ h)
+        (ap (λ (o : Option BlockLayout). option_and_then (λ b. number_of_block b.id) (whole_layout o)) (sym at.there) ∙ h)
 
     kind : (t : Bool) → is_data_block id.kind ≡ t
-        → option_and_then (λ b. number_of b.id) (option_and_then (whole_at ls) (option_and_then (λ id. known_block id (laid_ids ls)) (if t then Some id else None))) ≡ Some number
+        → option_and_then (λ b. number_of_block b.id) (option_and_then (whole_at ls) (option_and_then (λ id. known_block id (laid_ids ls)) (if t then Some id else None))) ≡ Some number
         → is_some (known_block (data_id number) (laid_ids ls)) ≡ true
     kind true db h = place (known_block id (laid_ids ls)) refl db h
     kind false db h = absurd cc
 
 number_again : (ls : List BlockLayout) (number : ℕ) → IsWholeAt ls (data_id number) → number_by ls (Some (data_id number)) ≡ Some number
 number_again ls number at =
-    ap (λ (o : Option ℕ). option_and_then (λ b. number_of b.id) (option_and_then (whole_at ls) o)) at.found
-    ∙ ap (option_and_then (λ b. number_of b.id)) at.whole
-    ∙ ap number_of at.known
+    ap (λ (o : Option ℕ). option_and_then (λ b. number_of_block b.id) (option_and_then (whole_at ls) o)) at.found
+    ∙ ap (option_and_then (λ b. number_of_block b.id)) at.whole
+    ∙ ap number_of_block at.known
 
 pub data_found : AreDataFound
 data_found symbols t others place at clean name number e =

@@ -6,7 +6,7 @@ use Rattle.stl_lexer.specs.Limits.{source_limit}
 use Rattle.stl_symbols.specs.Symbol.{Symbol}
 use Rattle.stl_symbols.specs.Symbols.{symbols_limit}
 use Rattle.stl_symbols.specs.declared.languages.Language.TheVariants.{English}
-use Rattle.block_layout.specs.Measures.{types_of}
+use Rattle.block_layout.specs.Measures.{types_of_source}
 use Rattle.block_layout.specs.Rule44.{rule_44}
 use Rattle.block_layout.specs.Types.{Types}
 use Rattle.block_layout.specs.declared.blocks.BlockLayout.{BlockLayout}
@@ -54,7 +54,7 @@ layouts_right heads settings bodies source file symbols t accepted bytes file_by
     blocks = (listed_again symbols t).blocks
 
     y : Types
-    y = types_of others blocks
+    y = types_of_source others blocks
 
     l : List BlockLayout
     l = layouts_of (listed_again symbols t) others

@@ -9,11 +9,11 @@ use Rattle.stl_ast.specs.declared.blocks.Tree.{Tree}
 use Rattle.stl_symbols.specs.Symbol.{Symbol}
 use Rattle.block_layout.specs.Layouts.{layouts_of}
 use Rattle.block_layout.specs.declared.blocks.BlockLayout.{BlockLayout}
-use Rattle.stl_codegen.specs.Compiled.{StatedBlock, compiled}
+use Rattle.stl_codegen.specs.Compiled.{StatedBlock, compiled_block}
 use Rattle.stl_codegen.specs.Generated.{code_block, code_blocks_of}
 use Rattle.stl_list.specs.CodeBlocks.{in_lines, line_reached, listed_block, listed_blocks}
 use Rattle.stl_list.specs.DataBlocks.{listed_data, listed_data_blocks}
-use Rattle.stl_list.specs.Lines.{line_behind, stands_before}
+use Rattle.stl_list.specs.Lines.{line_behind_statements, stands_before}
 use Rattle.stl_list.specs.Listing.{listed_tree}
 use Rattle.stl_list.specs.Signatures.{Signature}
 use Rattle.sem_kept.specs.Accepted.{program_in}
@@ -62,10 +62,10 @@ pub record IsFrom (symbols : List Symbol) (t : Tree) (x : CodeBlock) : Type 0 wh
   pub layout : BlockLayout
   pub id : BlockId
   pub source : IsCodeAt symbols t place block layout id
-  pub is : compiled (code_block (context_at symbols t place) block layout id) ≡ x
+  pub is : compiled_block (code_block (context_at symbols t place) block layout id) ≡ x
 
 one_from : (symbols : List Symbol) (t : Tree) (k : ℕ) (b : Block) (l : BlockLayout) (id : BlockId) → IsSound symbols t k b l → l.id ≡ Some id → is_code id.kind ≡ true
-    → IsFrom symbols t (compiled (code_block (context_at symbols t k) b l id))
+    → IsFrom symbols t (compiled_block (code_block (context_at symbols t k) b l id))
 one_from symbols t k b l id h e code = record {
   place = k;
   block = b;
@@ -75,7 +75,7 @@ one_from symbols t k b l id h e code = record {
   is = refl;
 }
 
-pub all_compiled : (P : CodeBlock → Type 0) (xs : List StatedBlock) → AllByRecursion (λ x. P (compiled x)) xs → AllByRecursion P (map compiled xs)
+pub all_compiled : (P : CodeBlock → Type 0) (xs : List StatedBlock) → AllByRecursion (λ x. P (compiled_block x)) xs → AllByRecursion P (map compiled_block xs)
 all_compiled P [] h = tt
 all_compiled P (x ∷ xs) (one, more) = (one, all_compiled P xs more)
 
@@ -84,7 +84,7 @@ unfolding in_lines
 all_from symbols t tree =
     all_sorted (IsFrom symbols t) stands_before (program_in symbols t).code_blocks
     (all_compiled (IsFrom symbols t) (code_blocks_of t symbols (layouts_of t symbols))
-    (sound_code_blocks symbols t (λ x. IsFrom symbols t (compiled x)) tree (one_from symbols t)))
+    (sound_code_blocks symbols t (λ x. IsFrom symbols t (compiled_block x)) tree (one_from symbols t)))
 
 pub lines_count : (bs : List CodeBlock) → length (in_lines bs) ≡ length bs
 unfolding in_lines
@@ -105,7 +105,7 @@ listed_at ss reached (x ∷ bs) zero b h e =
     let same : x ≡ b = cc in
     record { reached = reached; there = ap (λ (z : CodeBlock). Some (listed_block ss reached z)) same; stands = subst (StandsBehind reached) same h.0 }
 listed_at ss reached (x ∷ bs) (suc k) b h e =
-    let more = listed_at ss (line_behind reached x.lines) bs k b (subst (λ n. StandBehind n bs) (sym h.0.end) h.1) e in
+    let more = listed_at ss (line_behind_statements reached x.lines) bs k b (subst (λ n. StandBehind n bs) (sym h.0.end) h.1) e in
     record { reached = more.reached; there = more.there; stands = more.stands }
 
 pub tree_blocks : (p : Program) → (listed_tree p).blocks
@@ -152,7 +152,7 @@ made_of_source source file symbols t accepted bytes file_bytes again low =
 
 pub blocks_count : (ss : List Signature) (reached : ℕ) (bs : List CodeBlock) → length (listed_blocks ss reached bs) ≡ length bs
 blocks_count ss reached [] = refl
-blocks_count ss reached (b ∷ bs) = ap (λ n. suc n) (blocks_count ss (line_behind reached b.lines) bs)
+blocks_count ss reached (b ∷ bs) = ap (λ n. suc n) (blocks_count ss (line_behind_statements reached b.lines) bs)
 
 pub data_listed : AreDataListed
 data_listed p j d e =

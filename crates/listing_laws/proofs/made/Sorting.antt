@@ -1,14 +1,14 @@
 -- A list that is in order comes back into it from any other order.
 use Rattle.std.proofs.Common.{◌≡◌, Bool, true, false, cond, ◌||◌, List, [], ◌∷◌, refl, sym, ap, ◌∙◌}
 use Rattle.std.specs.List.{AllByRecursion}
-use Rattle.stl_codegen.specs.Order.{inserted, sorted}
+use Rattle.stl_codegen.specs.Order.{sorted_insertion, sorted_list}
 use Rattle.sem_kept.proofs.accepted.RecordOrder.{AreApart, Differ, Rise, RiseFrom}
 use Rattle.listing_laws.proofs.OrderLemmas.{InOrder, all_sorted, in_order}
 
-past : {A : Type 0} (lt : A → A → Bool) (x y : A) (ys : List A) → lt y x ≡ true → inserted lt x (y ∷ ys) ≡ y ∷ inserted lt x ys
+past : {A : Type 0} (lt : A → A → Bool) (x y : A) (ys : List A) → lt y x ≡ true → sorted_insertion lt x (y ∷ ys) ≡ y ∷ sorted_insertion lt x ys
 past lt x y ys h = rw h refl
 
-here : {A : Type 0} (lt : A → A → Bool) (x y : A) (ys : List A) → lt y x ≡ false → inserted lt x (y ∷ ys) ≡ x ∷ y ∷ ys
+here : {A : Type 0} (lt : A → A → Bool) (x y : A) (ys : List A) → lt y x ≡ false → sorted_insertion lt x (y ∷ ys) ≡ x ∷ y ∷ ys
 here lt x y ys h = rw h refl
 
 -- an order in which what comes first doesn't come last, and comes before what comes behind that
@@ -17,40 +17,40 @@ pub record IsOrder {A : Type 0} (lt : A → A → Bool) : Type 0 where
   pub chain : (a b c : A) → lt a b ≡ true → lt b c ≡ true → lt a c ≡ true
 
 -- two that differ are put into a list in either order
-swapped : {A : Type 0} (lt : A → A → Bool) → IsOrder lt → (x y : A) (ws : List A) → lt x y ≡ true → inserted lt x (inserted lt y ws) ≡ inserted lt y (inserted lt x ws)
+swapped : {A : Type 0} (lt : A → A → Bool) → IsOrder lt → (x y : A) (ws : List A) → lt x y ≡ true → sorted_insertion lt x (sorted_insertion lt y ws) ≡ sorted_insertion lt y (sorted_insertion lt x ws)
 swapped lt o x y [] h = here lt x y [] (o.one_way x y h) ∙ sym (past lt y x [] h)
 swapped {A = A} lt o x y (w ∷ ws) h = by (lt w x) (lt w y) refl refl (swapped lt o x y ws h)
   where
-    by : (a b : Bool) → lt w x ≡ a → lt w y ≡ b → inserted lt x (inserted lt y ws) ≡ inserted lt y (inserted lt x ws)
-        → inserted lt x (cond b (w ∷ inserted lt y ws) (y ∷ w ∷ ws)) ≡ inserted lt y (cond a (w ∷ inserted lt x ws) (x ∷ w ∷ ws))
-    by true true e f more = past lt x w (inserted lt y ws) e ∙ ap (λ (z : List A). w ∷ z) more ∙ sym (past lt y w (inserted lt x ws) f)
+    by : (a b : Bool) → lt w x ≡ a → lt w y ≡ b → sorted_insertion lt x (sorted_insertion lt y ws) ≡ sorted_insertion lt y (sorted_insertion lt x ws)
+        → sorted_insertion lt x (cond b (w ∷ sorted_insertion lt y ws) (y ∷ w ∷ ws)) ≡ sorted_insertion lt y (cond a (w ∷ sorted_insertion lt x ws) (x ∷ w ∷ ws))
+    by true true e f more = past lt x w (sorted_insertion lt y ws) e ∙ ap (λ (z : List A). w ∷ z) more ∙ sym (past lt y w (sorted_insertion lt x ws) f)
     by true false e f more = let other : lt w y ≡ true = o.chain w x y e h in absurd cc
-    by false true e f more = here lt x w (inserted lt y ws) e ∙ ap (λ (z : List A). x ∷ z) (sym (past lt y w ws f)) ∙ sym (past lt y x (w ∷ ws) h)
+    by false true e f more = here lt x w (sorted_insertion lt y ws) e ∙ ap (λ (z : List A). x ∷ z) (sym (past lt y w ws f)) ∙ sym (past lt y x (w ∷ ws) h)
     by false false e f more = here lt x y (w ∷ ws) (o.one_way x y h) ∙ ap (λ (z : List A). x ∷ z) (sym (here lt y w ws f)) ∙ sym (past lt y x (w ∷ ws) h)
 
-either : {A : Type 0} (lt : A → A → Bool) → IsOrder lt → (x y : A) (ws : List A) → Differ lt x y → inserted lt x (inserted lt y ws) ≡ inserted lt y (inserted lt x ws)
+either : {A : Type 0} (lt : A → A → Bool) → IsOrder lt → (x y : A) (ws : List A) → Differ lt x y → sorted_insertion lt x (sorted_insertion lt y ws) ≡ sorted_insertion lt y (sorted_insertion lt x ws)
 either lt o x y ws h = by (lt x y) (lt y x) refl refl h
   where
-    by : (a b : Bool) → lt x y ≡ a → lt y x ≡ b → (a || b) ≡ true → inserted lt x (inserted lt y ws) ≡ inserted lt y (inserted lt x ws)
+    by : (a b : Bool) → lt x y ≡ a → lt y x ≡ b → (a || b) ≡ true → sorted_insertion lt x (sorted_insertion lt y ws) ≡ sorted_insertion lt y (sorted_insertion lt x ws)
     by true b e f h = swapped lt o x y ws e
     by false true e f h = sym (swapped lt o y x ws f)
     by false false e f h = absurd cc
 
-moved : {A : Type 0} (lt other : A → A → Bool) → IsOrder lt → (x : A) (ys : List A) → AllByRecursion (Differ lt x) ys → sorted lt (inserted other x ys) ≡ inserted lt x (sorted lt ys)
-unfolding sorted
+moved : {A : Type 0} (lt other : A → A → Bool) → IsOrder lt → (x : A) (ys : List A) → AllByRecursion (Differ lt x) ys → sorted_list lt (sorted_insertion other x ys) ≡ sorted_insertion lt x (sorted_list lt ys)
+unfolding sorted_list
 moved lt other o x [] h = refl
 moved lt other o x (y ∷ ys) h = by (other y x) (moved lt other o x ys h.1)
   where
-    by : (b : Bool) → sorted lt (inserted other x ys) ≡ inserted lt x (sorted lt ys)
-        → sorted lt (cond b (y ∷ inserted other x ys) (x ∷ y ∷ ys)) ≡ inserted lt x (inserted lt y (sorted lt ys))
-    by true more = ap (inserted lt y) more ∙ sym (either lt o x y (sorted lt ys) h.0)
+    by : (b : Bool) → sorted_list lt (sorted_insertion other x ys) ≡ sorted_insertion lt x (sorted_list lt ys)
+        → sorted_list lt (cond b (y ∷ sorted_insertion other x ys) (x ∷ y ∷ ys)) ≡ sorted_insertion lt x (sorted_insertion lt y (sorted_list lt ys))
+    by true more = ap (sorted_insertion lt y) more ∙ sym (either lt o x y (sorted_list lt ys) h.0)
     by false more = refl
 
-resorted : {A : Type 0} (lt other : A → A → Bool) → IsOrder lt → (xs : List A) → AreApart lt xs → sorted lt (sorted other xs) ≡ sorted lt xs
-unfolding sorted
+resorted : {A : Type 0} (lt other : A → A → Bool) → IsOrder lt → (xs : List A) → AreApart lt xs → sorted_list lt (sorted_list other xs) ≡ sorted_list lt xs
+unfolding sorted_list
 resorted lt other o [] h = refl
 resorted lt other o (x ∷ xs) h =
-    moved lt other o x (sorted other xs) (all_sorted (Differ lt x) other xs h.0) ∙ ap (inserted lt x) (resorted lt other o xs h.1)
+    moved lt other o x (sorted_list other xs) (all_sorted (Differ lt x) other xs h.0) ∙ ap (sorted_insertion lt x) (resorted lt other o xs h.1)
 
 -- ---- what rises is in order
 
@@ -76,5 +76,5 @@ rise_order : {A : Type 0} (lt : A → A → Bool) → IsOrder lt → (xs : List 
 rise_order lt o [] rise = tt
 rise_order lt o (x ∷ xs) rise = behind_order lt o x xs rise
 
-pub back_in_order : {A : Type 0} (lt other : A → A → Bool) → IsOrder lt → (xs : List A) → Rise lt xs → sorted lt (sorted other xs) ≡ xs
+pub back_in_order : {A : Type 0} (lt other : A → A → Bool) → IsOrder lt → (xs : List A) → Rise lt xs → sorted_list lt (sorted_list other xs) ≡ xs
 back_in_order lt other o xs rise = resorted lt other o xs (rise_apart lt o xs rise) ∙ in_order lt xs (rise_order lt o xs rise)

@@ -8,13 +8,13 @@ use Rattle.plc_base.specs.declared.places.Area.{Area}
 use Rattle.plc_base.specs.declared.places.Area.TheVariants as area
 use Rattle.plc_base.specs.declared.places.Width.{Width}
 use Rattle.plc_base.specs.declared.places.Width.TheVariants as width
-use Rattle.flat_code.specs.Blocks.{Around, at_offset, block_faults, faults_over, is_bad_actual, is_bad_place, is_odd_bit, is_past_locals, is_stray_pass, lacks_width, op_faults, operand_fault, seven_if}
-use Rattle.flat_code.specs.Codes.{are_ops, size}
+use Rattle.flat_code.specs.Blocks.{Environment, at_offset, block_faults, faults_over, is_bad_actual, is_bad_place, is_odd_bit, is_past_locals, is_stray_pass, lacks_width, op_faults, operand_fault, seven_if}
+use Rattle.flat_code.specs.Codes.{are_ops, size_of_op}
 use Rattle.flat_code.specs.Forms.{passed_coding, actual_fits, direct_coding, payload_fits}
 use Rattle.flat_code.specs.Image.{IsProgram, record_of_block}
-use Rattle.flat_code.specs.Loading.{AreVerified, Verifies, around_block, lens_of}
+use Rattle.flat_code.specs.Loading.{AreVerified, Verifies, environment_of_block, lens_of}
 use Rattle.flat_code.specs.Ops.{OpData, is_op}
-use Rattle.flat_code.specs.Placed.{Placed, StatementSpot, before_next, brackets_after, ops_placed, spots, zones_behind_op}
+use Rattle.flat_code.specs.Placed.{PlacedOp, StatementSpot, before_next, brackets_after, ops_placed, statement_spots, zones_behind_op}
 use Rattle.flat_code.specs.Programs.{CodeBlock, Program}
 use Rattle.flat_code.specs.Records.{BlockRecord}
 use Rattle.flat_code.specs.declared.image_fields.OpenBracket.{OpenBracket}
@@ -67,7 +67,7 @@ direct_bit : (a : Area) (w : Width) (byte bit : ℕ) → direct_coding.fits (a, 
 unfolding direct_coding
 direct_bit a w byte bit e = leb-true bit 7 (and_parts (nat_le 0 bit) (nat_le bit 7) (and_parts _ (nat_le 0 bit && nat_le bit 7) (and_parts _ _ e).1).1).1
 
-passed_bit : (around : Around) (p : Passed) → actual_fits p ≡ true → is_bad_actual around p ≡ false → PassedBit p
+passed_bit : (around : Environment) (p : Passed) → actual_fits p ≡ true → is_bad_actual around p ≡ false → PassedBit p
 passed_bit around (passed.Literal value) h e = tt
 passed_bit around (passed.Parameter index w) h e = tt
 passed_bit around (passed.Direct a w byte bit) h e = place_bit w bit (direct_bit a w byte bit h) (or_first (is_odd_bit w bit) (is_past_locals around a w byte) e)
@@ -79,7 +79,7 @@ passed_bit around (passed.InBlock number area.Di w byte bit) h e = absurd cc
 passed_bit around (passed.InBlock number area.L w byte bit) h e = absurd cc
 passed_bit around (passed.InBlock number area.P w byte bit) h e = absurd cc
 
-operand_bit : (around : Around) (ss : List StatementSpot) (p : Placed) (o : FlatOperand) → payload_fits o ≡ true → operand_fault around ss p o ≡ None → OperandBit o
+operand_bit : (around : Environment) (ss : List StatementSpot) (p : PlacedOp) (o : FlatOperand) → payload_fits o ≡ true → operand_fault around ss p o ≡ None → OperandBit o
 unfolding passed_coding
 operand_bit around ss p (flat.Direct a w byte bit) h e =
     place_bit w bit (direct_bit a w byte bit h)
@@ -93,23 +93,23 @@ payload_is : (op : OpData) → is_op op.code op.operand ≡ true → payload_fit
 unfolding is_op
 payload_is op e = (and_parts _ (payload_fits op.operand) e).1
 
-ops_bits : (around : Around) (ss : List StatementSpot) (at : ℕ) (brackets : List OpenBracket) (zones : List ℕ) (before ops : List OpData) → are_ops ops ≡ true
+ops_bits : (around : Environment) (ss : List StatementSpot) (at : ℕ) (brackets : List OpenBracket) (zones : List ℕ) (before ops : List OpData) → are_ops ops ≡ true
     → faults_over around ss 0 (ops_placed at brackets zones before ops) ≡ [] → AllByRecursion OpBit ops
 unfolding op_faults
 ops_bits around ss at brackets zones before [] is e = tt
 ops_bits around ss at brackets zones before (op ∷ ops) is e =
     let parts = and_parts (is_op op.code op.operand) (are_ops ops) is in
-    let p : Placed = record { at = at; brackets = brackets; zones = zones; before = before; op = op; rest = ops } in
-    let behind = faults_over around ss 0 (ops_placed (at + size op) (brackets_after at op.code brackets) (zones_behind_op at op.code zones) (before_next op before) ops) in
+    let p : PlacedOp = record { at = at; brackets = brackets; zones = zones; before = before; op = op; rest = ops } in
+    let behind = faults_over around ss 0 (ops_placed (at + size_of_op op) (brackets_after at op.code brackets) (zones_behind_op at op.code zones) (before_next op before) ops) in
     let here = none_left (op_faults around ss 0 p) behind e in
     let first = none_left _ _ (none_left _ _ (none_left _ _ (none_left _ _ here))) in (
       operand_bit around ss p op.operand (payload_is op parts.0) (no_fault (0 + at) (operand_fault around ss p op.operand) first),
-      ops_bits around ss (at + size op) (brackets_after at op.code brackets) (zones_behind_op at op.code zones) (before_next op before) ops parts.1 (none_right (op_faults around ss 0 p) behind e),
+      ops_bits around ss (at + size_of_op op) (brackets_after at op.code brackets) (zones_behind_op at op.code zones) (before_next op before) ops parts.1 (none_right (op_faults around ss 0 p) behind e),
     )
 
-code_bits : (around : Around) (ops : List OpData) → are_ops ops ≡ true → block_faults around 0 ops ≡ [] → AllByRecursion OpBit ops
+code_bits : (around : Environment) (ops : List OpData) → are_ops ops ≡ true → block_faults around 0 ops ≡ [] → AllByRecursion OpBit ops
 unfolding block_faults
-code_bits around ops is e = ops_bits around (spots ops) 0 [] [] [] ops is (none_left _ _ (none_left _ _ e))
+code_bits around ops is e = ops_bits around (statement_spots ops) 0 [] [] [] ops is (none_left _ _ (none_left _ _ e))
 
 -- ---- statements
 
@@ -127,7 +127,7 @@ blocks_bits : (lens : List (ℕ × ℕ)) (all : List BlockRecord) (bs : List Cod
 unfolding runs
 blocks_bits lens all [] heads clean = tt
 blocks_bits lens all (b ∷ bs) (head, heads) (one, more) =
-    (runs_bits [] b.code tt (code_bits (around_block (Some lens) all (record_of_block b)) b.code head.code one), blocks_bits lens all bs heads more)
+    (runs_bits [] b.code tt (code_bits (environment_of_block (Some lens) all (record_of_block b)) b.code head.code one), blocks_bits lens all bs heads more)
 
 pub program_bits : (p : Program) → IsProgram p → Verifies p → AllByRecursion (λ b. AllByRecursion RunBit (runs b.code)) p.code_blocks
 program_bits p is verified = blocks_bits (lens_of p.data_blocks) (map record_of_block p.code_blocks) p.code_blocks (program_heads p is) verified.blocks

@@ -28,7 +28,7 @@ use Rattle.flat_code.specs.declared.operations.CallOperation.TheVariants as call
 use Rattle.flat_code.specs.declared.operations.CallOperation.{CallOperation}
 use Rattle.flat_code.specs.declared.operations.EndOperation.{EndOperation}
 use Rattle.flat_code.specs.declared.operations.Operation.TheVariants as operation
-use Rattle.stl_ast.specs.Statements.{IsStatement, has_actuals, has_instance, is_call, is_called, is_empty}
+use Rattle.stl_ast.specs.Statements.{IsStatement, has_actuals, has_instance, is_call, names_called_block, is_empty_statement}
 use Rattle.stl_ast.specs.WellFormed.{IsBlock}
 use Rattle.stl_ast.specs.declared.blocks.Block.{Block}
 use Rattle.stl_ast.specs.declared.blocks.PathStep.{PathStep}
@@ -49,8 +49,8 @@ use Rattle.stl_symbols.specs.Symbol.{Symbol, symbol_named}
 use Rattle.stl_symbols.specs.declared.targets.Target.{Target}
 use Rattle.stl_symbols.specs.declared.targets.Target.TheVariants as target
 use Rattle.block_layout.specs.Blocks.{named_block}
-use Rattle.block_layout.specs.Offsets.{place_at, placed, width_of}
-use Rattle.block_layout.specs.Paths.{cells_at, elementary_at, folded_path, walked_data, walked_local}
+use Rattle.block_layout.specs.Offsets.{place_at, elementary_place, width_of}
+use Rattle.block_layout.specs.Paths.{cells_at, elementary_at, folded_path, path_end_in_data_block, walked_local}
 use Rattle.block_layout.specs.declared.blocks.BlockLayout.{BlockLayout}
 use Rattle.block_layout.specs.declared.cells.Cell.{Cell}
 use Rattle.block_layout.specs.declared.cells.Element.{Element}
@@ -58,15 +58,15 @@ use Rattle.block_layout.specs.declared.cells.Element.TheVariants as element
 use Rattle.block_layout.specs.declared.walks.ComponentAt.{ComponentAt}
 use Rattle.block_layout.specs.declared.walks.PathEnd.{PathEnd}
 use Rattle.block_layout.specs.declared.walks.PathEnd.TheVariants as walk
-use Rattle.stl_types.specs.Addresses.{address_in}
+use Rattle.stl_types.specs.Addresses.{address_in_block}
 use Rattle.stl_types.specs.Bodies.{first_context}
 use Rattle.stl_types.specs.Context.{Context, data_number, data_place, in_function}
-use Rattle.stl_types.specs.Kinds.{is_called as is_called_view}
+use Rattle.stl_types.specs.Kinds.{is_operand_of_call as is_called_view}
 use Rattle.stl_types.specs.Operands.{operand_rule, statement_rule}
 use Rattle.stl_types.specs.Parameters.{Callee, callee_of}
-use Rattle.stl_types.specs.Resolution.{called_seen, direct_seen, instance_number as number_of_instance, opened_seen, path_seen, seen, symbol_seen, target_view, whole_block}
-use Rattle.stl_types.specs.Resolved.{resolved, seen_view}
-use Rattle.stl_types.specs.Variables.{composite, data_at, data_path, data_variable, data_walked, date_or_composite, in_area, is_temporary, own_at, own_elementary, own_variable, own_walked, parameter, parameter_at, parameter_index}
+use Rattle.stl_types.specs.Resolution.{called_seen, direct_seen, instance_number as number_of_instance, opened_seen, path_seen, resolution_of, symbol_seen, target_view, whole_called_block}
+use Rattle.stl_types.specs.Resolved.{resolved_operand, seen_view}
+use Rattle.stl_types.specs.Variables.{composite_operand, data_at, data_path, data_variable, data_walked, date_or_composite, variable_in_area, is_temporary_variable, own_at, own_elementary, own_variable, own_walked, parameter_resolution, parameter_at, parameter_index}
 use Rattle.stl_types.specs.declared.forms.OperandRule.TheVariants as form
 use Rattle.stl_types.specs.declared.forms.OperandRule.{OperandRule}
 use Rattle.stl_types.specs.declared.parameters.Formal.{Formal}
@@ -75,14 +75,14 @@ use Rattle.stl_types.specs.declared.views.Resolution.{Resolution}
 use Rattle.stl_types.specs.declared.views.Resolution.TheVariants.{Resolved, Unjudged, Unknown}
 use Rattle.stl_types.specs.declared.views.ResolvedOperand.{ResolvedOperand}
 use Rattle.stl_types.specs.declared.views.ResolvedOperand.TheVariants as view
-use Rattle.stl_codegen.specs.Compiled.{Stated, StatedBlock, aimed, compiled}
-use Rattle.stl_codegen.specs.Emitted.{instance_number, passing}
-use Rattle.stl_codegen.specs.Generated.{code_block, code_block_of, code_blocks_of, each_block, returning, stated_from, statements_of}
-use Rattle.stl_codegen.specs.Instruction.{block_at, call_instr, end_instr, in_order, instr_by, instruction, jump_instr, passings_to, resolved_instr, target_of, view_instr}
-use Rattle.stl_codegen.specs.Operands.{is_in_named_block, operand_of}
-use Rattle.stl_codegen.specs.Operations.{call_of, end_of, jump_of}
+use Rattle.stl_codegen.specs.Compiled.{SourceInstruction, StatedBlock, operand_with_target, compiled_block}
+use Rattle.stl_codegen.specs.Emitted.{instance_number_or_zero, pass_ops}
+use Rattle.stl_codegen.specs.Generated.{code_block, code_block_of, code_blocks_of, each_block, return_statement, stated_from, statements_of}
+use Rattle.stl_codegen.specs.Instruction.{source_block_at, call_instr, end_instr, in_parameter_order, instr_by, instruction, jump_instr, passings_to, resolved_instr, target_of, view_instr}
+use Rattle.stl_codegen.specs.Operands.{is_in_named_block, flat_operand_of}
+use Rattle.stl_codegen.specs.Operations.{call_operation_of, end_operation_of, jump_operation_of}
 use Rattle.stl_codegen.specs.Order.{is_code_before}
-use Rattle.stl_codegen.specs.Passed.{passed_actual, passed_place, passed_seen, passed_view, passings_from, supplied, with_index}
+use Rattle.stl_codegen.specs.Passed.{passed_actual, passed_place, passed_seen, passed_view, passings_from, actual_of_formal, with_index}
 use Rattle.stl_list.specs.Runs.{Run, runs}
 use Rattle.sem_kept.proofs.accepted.OperandsCalls.{none_passed}
 use Rattle.sem_kept.proofs.accepted.Shared.{call_form, calls_called, no_call_constant, rule_there}
@@ -94,7 +94,7 @@ use Rattle.listing_laws.proofs.naming.Read.{ActualIsNoBit, OperandIsNoBit, State
 use Rattle.listing_laws.proofs.naming.Symbols.{AreNoBits, SymbolIsNoBit, TargetIsNoBit, named_no_bit}
 use Rattle.listing_laws.proofs.naming.Trees.{BlockIsNoBit}
 use Rattle.listing_laws.specs.Bodies.{IsCallBy, IsNoBit}
-use Rattle.listing_laws.specs.Statements.{offset_in, run_of}
+use Rattle.listing_laws.specs.Statements.{statement_offset, run_of}
 
 -- ---- what operands name
 
@@ -106,13 +106,13 @@ abbrev SeenIsNoBit : Resolution → Type 0
 SeenIsNoBit (Resolved v) = ViewIsNoBit v
 SeenIsNoBit _ = Unit {0}
 
-in_area_plain : (kind : Simple) (a : Area) (n bits : ℕ) → ((w : Width) → IsNoBit a w) → SeenIsNoBit (in_area kind (placed a n bits (Some kind)))
+in_area_plain : (kind : Simple) (a : Area) (n bits : ℕ) → ((w : Width) → IsNoBit a w) → SeenIsNoBit (variable_in_area kind (elementary_place a n bits (Some kind)))
 in_area_plain kind a n bits h = by (leb (bits / 8) 65535) where
-  by : (b : Bool) → SeenIsNoBit (in_area kind (if b then Some (place_at a n bits, width_of kind) else None))
+  by : (b : Bool) → SeenIsNoBit (variable_in_area kind (if b then Some (place_at a n bits, width_of kind) else None))
   by true = h (width_of kind)
   by false = tt
 
-composite_plain : (found : Option Cell) → ViewIsNoBit (composite found)
+composite_plain : (found : Option Cell) → ViewIsNoBit (composite_operand found)
 composite_plain None = tt
 composite_plain (Some c) = of_ c.of where
   of_ : (e : Element) → ViewIsNoBit (date_or_composite e)
@@ -121,25 +121,25 @@ composite_plain (Some c) = of_ c.of where
 
 parameter_plain : (c : Context) (spot : ComponentAt) (kind : Simple) → SeenIsNoBit (parameter_at c spot kind)
 parameter_plain c spot kind = by (slice_get (cells_at c.layouts c.block false) spot.place) where
-  by : (found : Option Cell) → SeenIsNoBit (parameter (parameter_index (length (cells_at c.layouts c.block false)) spot.place (slice_get c.blocks c.block)) kind found)
+  by : (found : Option Cell) → SeenIsNoBit (parameter_resolution (parameter_index (length (cells_at c.layouts c.block false)) spot.place (slice_get c.blocks c.block)) kind found)
   by None = tt
   by (Some cell) = tt
 
 own_elementary_plain : (c : Context) (temporary : Bool) (spot : ComponentAt) (kind : Simple) → SeenIsNoBit (own_elementary c temporary spot kind)
 own_elementary_plain c true spot kind = in_area_plain kind area.L 0 spot.offset (λ w. tt)
 own_elementary_plain c false spot kind =
-    either_way SeenIsNoBit (in_function c) (parameter_at c spot kind) (in_area kind (placed area.Di 0 spot.offset (Some kind)))
+    either_way SeenIsNoBit (in_function c) (parameter_at c spot kind) (variable_in_area kind (elementary_place area.Di 0 spot.offset (Some kind)))
     (parameter_plain c spot kind) (in_area_plain kind area.Di 0 spot.offset (λ w. tt))
 
 own_plain : (c : Context) (name : List ℕ) (steps : List PathStep) → SeenIsNoBit (own_variable c name steps)
 own_plain c name steps = by (walked_local c.layouts c.block name steps) where
-  by : (w : PathEnd) → SeenIsNoBit (own_walked c (is_temporary c name) w)
+  by : (w : PathEnd) → SeenIsNoBit (own_walked c (is_temporary_variable c name) w)
   by walk.Unknown = tt
   by walk.Rests = tt
   by (walk.Reaches spot) = at (elementary_at c.layouts spot) where
-    at : (kind : Option Simple) → SeenIsNoBit (own_at c (is_temporary c name) spot kind)
+    at : (kind : Option Simple) → SeenIsNoBit (own_at c (is_temporary_variable c name) spot kind)
     at None = composite_plain (slice_get (cells_at c.layouts spot.block spot.temporary) spot.place)
-    at (Some kind) = own_elementary_plain c (is_temporary c name) spot kind
+    at (Some kind) = own_elementary_plain c (is_temporary_variable c name) spot kind
 
 data_walk_plain : (c : Context) (n : ℕ) (w : PathEnd) → SeenIsNoBit (data_walked c n w)
 data_walk_plain c n walk.Unknown = tt
@@ -154,7 +154,7 @@ data_plain c name steps = by (data_number c name) (data_place c name) where
   by : (n place : Option ℕ) → SeenIsNoBit (data_path c steps n place)
   by None place = tt
   by (Some n) None = tt
-  by (Some n) (Some block) = data_walk_plain c n (walked_data c.layouts block steps)
+  by (Some n) (Some block) = data_walk_plain c n (path_end_in_data_block c.layouts block steps)
 
 target_plain : (t : Target) → TargetIsNoBit t → ViewIsNoBit (target_view t)
 target_plain (target.Variable place w) h = h
@@ -174,7 +174,7 @@ path_plain c (head.Symbol name) steps h = symbol_plain (symbol_named name c.symb
 direct_plain : (c : Context) (name : Option BlockName) (a : Letters) (w : Width) (byte bit : ℕ) → OperandIsNoBit (operand.Direct name a w byte bit) → SeenIsNoBit (direct_seen c name a w byte bit)
 direct_plain c None a w byte bit h = h
 direct_plain c (Some name) a w byte bit h = by (data_number c name) where
-  by : (n : Option ℕ) → SeenIsNoBit (address_in n a w byte bit)
+  by : (n : Option ℕ) → SeenIsNoBit (address_in_block n a w byte bit)
   by None = tt
   by (Some n) = h
 
@@ -188,12 +188,12 @@ called_plain (Some id) None instance = tt
 called_plain (Some id) (Some name) None = tt
 called_plain (Some id) (Some name) (Some n) = tt
 
-seen_plain : (c : Context) (o : Operand) → AreNoBits c.symbols → OperandIsNoBit o → SeenIsNoBit (seen c o)
-unfolding seen
+seen_plain : (c : Context) (o : Operand) → AreNoBits c.symbols → OperandIsNoBit o → SeenIsNoBit (resolution_of c o)
+unfolding resolution_of
 seen_plain c (operand.Direct name a w byte bit) h is = direct_plain c name a w byte bit is
 seen_plain c (operand.Named path steps) h is = path_plain c path steps h
 seen_plain c (operand.OpenBlock di name) h is = opened_plain di (data_number c name)
-seen_plain c (operand.Called name instance) h is = called_plain (whole_block c (named_block c.symbols name)) instance (number_of_instance c instance)
+seen_plain c (operand.Called name instance) h is = called_plain (whole_called_block c (named_block c.symbols name)) instance (number_of_instance c instance)
 seen_plain c _ h is = tt
 
 -- ---- what is passed
@@ -222,24 +222,24 @@ seen_passed index o _ h = tt
 
 actual_passed : (c : Context) (index : ℕ) (a : Option Actual) → AreNoBits c.symbols → IfSome a ActualIsNoBit → ArePassed (passed_actual c index a)
 actual_passed c index None h k = tt
-actual_passed c index (Some a) h k = seen_passed index a.value (seen c a.value) (seen_plain c a.value h k)
+actual_passed c index (Some a) h k = seen_passed index a.value (resolution_of c a.value) (seen_plain c a.value h k)
 
 all_passed : (c : Context) (actuals : List Actual) (index : ℕ) (fs : List Formal) → AreNoBits c.symbols → AllByRecursion ActualIsNoBit actuals
     → ArePassed (passings_from c actuals index fs)
 all_passed c actuals index [] h k = tt
 all_passed c actuals index (f ∷ fs) h k =
-    all_append (λ p. PassedIsNoBit p.actual) (passed_actual c index (supplied actuals f)) (passings_from c actuals (suc index) fs)
-    (actual_passed c index (supplied actuals f) h (found_among ActualIsNoBit (λ a. bytes_eq (upper_case_name a.name) f.name) actuals k)) (all_passed c actuals (suc index) fs h k)
+    all_append (λ p. PassedIsNoBit p.actual) (passed_actual c index (actual_of_formal actuals f)) (passings_from c actuals (suc index) fs)
+    (actual_passed c index (actual_of_formal actuals f) h (found_among ActualIsNoBit (λ a. bytes_eq (upper_case_name a.name) f.name) actuals k)) (all_passed c actuals (suc index) fs h k)
 
 to_passed : (c : Context) (s : Statement) (o : Option Callee) → AreNoBits c.symbols → AllByRecursion ActualIsNoBit s.actuals → ArePassed (passings_to c s o)
 to_passed c s None h k = tt
-to_passed c s (Some callee) h k = all_passed c s.actuals 0 (in_order (block_at c.blocks callee.place) callee.formals) h k
+to_passed c s (Some callee) h k = all_passed c s.actuals 0 (in_parameter_order (source_block_at c.blocks callee.place) callee.formals) h k
 
 -- nothing, where nothing is supplied
 to_none : (c : Context) (s : Statement) (o : Option Callee) → s.actuals ≡ [] → passings_to c s o ≡ []
 to_none c s None e = refl
 to_none c s (Some callee) e =
-    let formals = in_order (block_at c.blocks callee.place) callee.formals in
+    let formals = in_parameter_order (source_block_at c.blocks callee.place) callee.formals in
     ap (λ xs. passings_from c xs 0 formals) e ∙ none_passed c 0 formals
 
 -- ---- calls
@@ -249,9 +249,9 @@ HasNoInstance (Resolved (view.Called id instance)) = instance ≡ None
 HasNoInstance _ = Unit {0}
 
 -- a call that names no instance has none
-bare_seen : (c : Context) (o : Operand) → is_called o ≡ true → has_instance o ≡ false → HasNoInstance (seen c o)
-unfolding seen
-bare_seen c (operand.Called name None) e h = by (whole_block c (named_block c.symbols name))
+bare_seen : (c : Context) (o : Operand) → names_called_block o ≡ true → has_instance o ≡ false → HasNoInstance (resolution_of c o)
+unfolding resolution_of
+bare_seen c (operand.Called name None) e h = by (whole_called_block c (named_block c.symbols name))
   where
     by : (id : Option BlockId) → HasNoInstance (called_seen id None None)
     by None = tt
@@ -267,11 +267,11 @@ fb_number kinds.Db e = absurd (false≢true e)
 fb_number kinds.Sfc e = absurd (false≢true e)
 fb_number kinds.Udt e = absurd (false≢true e)
 
-instance_of : (id : BlockId) (instance : Option ℕ) → is_called_view (view.Called id instance) ≡ true → (instance_number instance ≡ 0) ⊎ (kind_number id.kind ≡ 3)
+instance_of : (id : BlockId) (instance : Option ℕ) → is_called_view (view.Called id instance) ≡ true → (instance_number_or_zero instance ≡ 0) ⊎ (kind_number id.kind ≡ 3)
 instance_of id None e = inl refl
 instance_of id (Some n) e = inr (fb_number id.kind e)
 
-call_word : (m : Mnemonic) (how : CallOperation) → call_of m ≡ Some how → is_call m ≡ true
+call_word : (m : Mnemonic) (how : CallOperation) → call_operation_of m ≡ Some how → is_call m ≡ true
 call_word mnemonic.Call how e = refl
 call_word mnemonic.Uc how e = refl
 call_word mnemonic.Cc how e = refl
@@ -283,7 +283,7 @@ IsBare calls.Call = ⊥
 IsBare calls.Uc = Unit {0}
 IsBare calls.Cc = Unit {0}
 
-bare_word : (m : Mnemonic) (how : CallOperation) → IsBare how → call_of m ≡ Some how → has_actuals m ≡ false
+bare_word : (m : Mnemonic) (how : CallOperation) → IsBare how → call_operation_of m ≡ Some how → has_actuals m ≡ false
 bare_word mnemonic.Call calls.Call b e = absurd b
 bare_word mnemonic.Call calls.Uc b e = absurd cc
 bare_word mnemonic.Call calls.Cc b e = absurd cc
@@ -297,7 +297,7 @@ OperandActs (flat.Called kind number instance) = ⊥
 OperandActs _ = Unit {0}
 
 abbrev IsCallTo : (how : CallOperation) (id : BlockId) (instance : Option ℕ) → List Passing → Type 0
-IsCallTo how id instance ps = IsCallBy (passing ps) (op_code_of (operation.Call how)) (kind_number id.kind) (instance_number instance)
+IsCallTo how id instance ps = IsCallBy (pass_ops ps) (op_code_of (operation.Call how)) (kind_number id.kind) (instance_number_or_zero instance)
 
 abbrev InstrIsNamed : Instr → Type 0
 InstrIsNamed (Does use_db w o) = OperandActs o
@@ -307,20 +307,20 @@ InstrIsNamed _ = Unit {0}
 -- what is known of a statement that calls
 record IsCaller (c : Context) (s : Statement) (how : CallOperation) (id : BlockId) (instance : Option ℕ) : Type 0 where
   is : IsStatement s
-  word : call_of s.code ≡ Some how
-  named : seen c s.operand ≡ Resolved (view.Called id instance)
+  word : call_operation_of s.code ≡ Some how
+  named : resolution_of c s.operand ≡ Resolved (view.Called id instance)
   right : statement_rule c s ≡ None
 
 no_instance : (r : Resolution) (id : BlockId) (instance : Option ℕ) → HasNoInstance r → r ≡ Resolved (view.Called id instance) → instance ≡ None
 no_instance r id instance h e = subst HasNoInstance e h
 
 bare_call : (c : Context) (s : Statement) (how : CallOperation) (id : BlockId) (instance : Option ℕ) (callee : Option Callee) → IsBare how → IsCaller c s how id instance
-    → (instance_number instance ≡ 0) × (passing (passings_to c s callee) ≡ [])
+    → (instance_number_or_zero instance ≡ 0) × (pass_ops (passings_to c s callee) ≡ [])
 bare_call c s how id instance callee b h =
     let none = bare_word s.code how b h.word in
     let called = bare_seen c s.operand (h.is.called ∙ call_word s.code how h.word) (h.is.instance none) in (
-      ap instance_number (no_instance (seen c s.operand) id instance called h.named),
-      ap passing (to_none c s callee (h.is.no_actuals none)),
+      ap instance_number_or_zero (no_instance (resolution_of c s.operand) id instance called h.named),
+      ap pass_ops (to_none c s callee (h.is.no_actuals none)),
     )
 
 view_called : (c : Context) (s : Statement) (how : CallOperation) (id : BlockId) (instance : Option ℕ) → IsCaller c s how id instance → is_called_view (view.Called id instance) ≡ true
@@ -336,8 +336,8 @@ called_by c s calls.Cc id instance callee h = inr (bare_call c s calls.Cc id ins
 
 -- ---- instructions
 
-operand_acts : (o : Operand) (v : ResolvedOperand) → ViewIsNoBit v → OperandActs (operand_of o v)
-unfolding operand_of
+operand_acts : (o : Operand) (v : ResolvedOperand) → ViewIsNoBit v → OperandActs (flat_operand_of o v)
+unfolding flat_operand_of
 operand_acts o (view.Direct place w side declared) h = h
 operand_acts o (view.NumberBy numbered.Timer from byte) h = tt
 operand_acts o (view.NumberBy numbered.Counter from byte) h = tt
@@ -364,7 +364,7 @@ record IsRight (c : Context) (s : Statement) : Type 0 where
   symbols : AreNoBits c.symbols
   no_bit : StatementIsNoBit s
 
-call_named : (c : Context) (s : Statement) (how : CallOperation) (v : ResolvedOperand) → IsRight c s → call_of s.code ≡ Some how → seen c s.operand ≡ Resolved v → statement_rule c s ≡ None
+call_named : (c : Context) (s : Statement) (how : CallOperation) (v : ResolvedOperand) → IsRight c s → call_operation_of s.code ≡ Some how → resolution_of c s.operand ≡ Resolved v → statement_rule c s ≡ None
     → InstrIsNamed (call_instr c s how v)
 call_named c s how (view.Called id instance) h word named right = (
   called_by c s how id instance (callee_of c s.operand) (record { is = h.is; word = word; named = named; right = right }),
@@ -372,19 +372,19 @@ call_named c s how (view.Called id instance) h word named right = (
 )
 call_named c s how _ h word named right = tt
 
-view_named : (c : Context) (s : Statement) (v : ResolvedOperand) → IsRight c s → seen c s.operand ≡ Resolved v → statement_rule c s ≡ None → ViewIsNoBit v
-    → InstrIsNamed (view_instr c s v (call_of s.code))
-view_named c s v h named right no_bit = by (call_of s.code) refl
+view_named : (c : Context) (s : Statement) (v : ResolvedOperand) → IsRight c s → resolution_of c s.operand ≡ Resolved v → statement_rule c s ≡ None → ViewIsNoBit v
+    → InstrIsNamed (view_instr c s v (call_operation_of s.code))
+view_named c s v h named right no_bit = by (call_operation_of s.code) refl
   where
-    by : (how : Option CallOperation) → call_of s.code ≡ how → InstrIsNamed (view_instr c s v how)
-    by None e = end_named s v (end_of s.code) no_bit
+    by : (how : Option CallOperation) → call_operation_of s.code ≡ how → InstrIsNamed (view_instr c s v how)
+    by None e = end_named s v (end_operation_of s.code) no_bit
     by (Some how) e = call_named c s how v h e named right
 
-resolved_named : (c : Context) (s : Statement) → IsRight c s → InstrIsNamed (resolved_instr c s (resolved c s))
-unfolding resolved
-resolved_named c s h = by (statement_rule c s) refl (seen c s.operand) refl (seen_plain c s.operand h.symbols h.no_bit.0)
+resolved_named : (c : Context) (s : Statement) → IsRight c s → InstrIsNamed (resolved_instr c s (resolved_operand c s))
+unfolding resolved_operand
+resolved_named c s h = by (statement_rule c s) refl (resolution_of c s.operand) refl (seen_plain c s.operand h.symbols h.no_bit.0)
   where
-    by : (rule : Option ℕ) → statement_rule c s ≡ rule → (r : Resolution) → seen c s.operand ≡ r → SeenIsNoBit r
+    by : (rule : Option ℕ) → statement_rule c s ≡ rule → (r : Resolution) → resolution_of c s.operand ≡ r → SeenIsNoBit r
         → InstrIsNamed (resolved_instr c s (if is_none rule then seen_view r else None))
     by (Some rule) e r f k = tt
     by None e (Resolved v) f k = view_named c s v h f e k
@@ -393,28 +393,28 @@ resolved_named c s h = by (statement_rule c s) refl (seen c s.operand) refl (see
 
 instr_named : (c : Context) (body : List Statement) (n : ℕ) (s : Statement) → IsRight c s → InstrIsNamed (instruction c body n s)
 unfolding instruction
-instr_named c body n s h = by (jump_of s.code) where
+instr_named c body n s h = by (jump_operation_of s.code) where
   by : (how : Option JumpOperation) → InstrIsNamed (instr_by c body n s how)
   by None = resolved_named c s h
   by (Some how) = jump_named how n (target_of body s.operand)
 
 -- ---- blocks
 
-abbrev AllNamed : List Stated → Type 0
+abbrev AllNamed : List SourceInstruction → Type 0
 AllNamed ss = AllByRecursion (λ s. InstrIsNamed s.instr) ss
 
 stated_named : (c : Context) (body : List Statement) (n : ℕ) (ss : List Statement) → AreNoBits c.symbols → AllByRecursion IsStatement ss → AllByRecursion StatementIsNoBit ss
     → AllNamed (stated_from c body n ss)
 stated_named c body n [] symbols are no_bits = tt
 stated_named c body n (s ∷ ss) symbols (one, more) (no_bit, no_bits) =
-    either_way AllNamed (is_empty s.code) (stated_from c body n ss) (record { instr = instruction c body n s; line = s.line } ∷ stated_from c body (suc n) ss)
+    either_way AllNamed (is_empty_statement s.code) (stated_from c body n ss) (record { instr = instruction c body n s; line = s.line } ∷ stated_from c body (suc n) ss)
     (stated_named c body n ss symbols more no_bits)
     (instr_named c body n s (record { is = one; symbols = symbols; no_bit = no_bit }), stated_named c body (suc n) ss symbols more no_bits)
 
 statements_named : (c : Context) (b : Block) → AreNoBits c.symbols → IsBlock b → BlockIsNoBit b → AllNamed (statements_of c b)
 unfolding statements_of
 statements_named c b symbols is no_bits =
-    all_append (λ s. InstrIsNamed s.instr) (stated_from c b.body 0 b.body) (returning b ∷ []) (stated_named c b.body 0 b.body symbols is.runs.0 no_bits) (tt, tt)
+    all_append (λ s. InstrIsNamed s.instr) (stated_from c b.body 0 b.body) (return_statement b ∷ []) (stated_named c b.body 0 b.body symbols is.runs.0 no_bits) (tt, tt)
 
 abbrev BlockIsNamed : StatedBlock → Type 0
 BlockIsNamed b = AllNamed b.statements
@@ -447,13 +447,13 @@ pub record RunIsNoBit (r : Run) : Type 0 where
   pub prepares : AllByRecursion (λ op. PreparesNoBit op.operand) r.before
   pub acts : ActsOnNoBit r.before r.op.code r.op.operand
 
-aimed_acts : (f : ℕ → ℕ) (before : List OpData) (code : ℕ) (o : FlatOperand) → OperandActs o → ActsOnNoBit before code (aimed f o)
+aimed_acts : (f : ℕ → ℕ) (before : List OpData) (code : ℕ) (o : FlatOperand) → OperandActs o → ActsOnNoBit before code (operand_with_target f o)
 aimed_acts f before code (flat.Jump kind to) h = tt
 aimed_acts f before code (flat.Direct a w byte bit) h = h
 aimed_acts f before code (flat.Called kind number instance) h = absurd h
 aimed_acts f before code _ h = tt
 
-passing_prepares : (ps : List Passing) → ArePassed ps → AllByRecursion (λ op. PreparesNoBit op.operand) (passing ps)
+passing_prepares : (ps : List Passing) → ArePassed ps → AllByRecursion (λ op. PreparesNoBit op.operand) (pass_ops ps)
 passing_prepares [] h = tt
 passing_prepares (p ∷ ps) (one, more) = (one, passing_prepares ps more)
 
@@ -465,17 +465,17 @@ run_named f (JumpsByList targets otherwise) h = record { prepares = tt; acts = t
 run_named f (Calls how id instance passings) h = record { prepares = passing_prepares passings h.1; acts = h.0 }
 run_named f (Returns how) h = record { prepares = tt; acts = tt }
 
-runs_named : (f : ℕ → ℕ) (ss : List Stated) → AllNamed ss → AllByRecursion RunIsNoBit (map (λ s. run_of f s.instr) ss)
+runs_named : (f : ℕ → ℕ) (ss : List SourceInstruction) → AllNamed ss → AllByRecursion RunIsNoBit (map (λ s. run_of f s.instr) ss)
 runs_named f [] h = tt
 runs_named f (s ∷ ss) (one, more) = (run_named f s.instr one, runs_named f ss more)
 
-compiled_named : (bs : List StatedBlock) → AllByRecursion BlockIsNamed bs → AllByRecursion (λ b. AllByRecursion RunIsNoBit (runs b.code)) (map compiled bs)
+compiled_named : (bs : List StatedBlock) → AllByRecursion BlockIsNamed bs → AllByRecursion (λ b. AllByRecursion RunIsNoBit (runs b.code)) (map compiled_block bs)
 compiled_named [] h = tt
 compiled_named (b ∷ bs) (one, more) =
-    (subst (λ (rs : List Run). AllByRecursion RunIsNoBit rs) (sym (runs_found b.statements)) (runs_named (offset_in b.statements) b.statements one), compiled_named bs more)
+    (subst (λ (rs : List Run). AllByRecursion RunIsNoBit rs) (sym (runs_found b.statements)) (runs_named (statement_offset b.statements) b.statements one), compiled_named bs more)
 
 pub program_named : (t : Tree) (symbols : List Symbol) (layouts : List BlockLayout) → AreNoBits symbols → AllByRecursion IsBlock t.blocks → AllByRecursion BlockIsNoBit t.blocks
-    → AllByRecursion (λ b. AllByRecursion RunIsNoBit (runs b.code)) (map compiled (code_blocks_of t symbols layouts))
+    → AllByRecursion (λ b. AllByRecursion RunIsNoBit (runs b.code)) (map compiled_block (code_blocks_of t symbols layouts))
 unfolding code_blocks_of
 program_named t symbols layouts no_bit are no_bits =
     compiled_named (code_blocks_of t symbols layouts)

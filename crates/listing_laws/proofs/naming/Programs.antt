@@ -17,9 +17,9 @@ use Rattle.listing_laws.proofs.naming.Coded.{ActsOnNoBit, PassedIsNoBit, Prepare
 use Rattle.listing_laws.proofs.naming.Symbols.{symbols_no_bits}
 use Rattle.listing_laws.proofs.naming.Trees.{tree_plain}
 use Rattle.listing_laws.specs.Named.{AreAcceptedRead, AreSourcesNamed}
-use Rattle.listing_laws.specs.Sources.{ActsOn, AreSourcesRead, IsNamed, PassesOn, PreparesOn}
+use Rattle.listing_laws.specs.Sources.{ActsOn, AreSourcesRead, IsRunNamed, PassesPlaceOn, PreparesOn}
 
-passes_on : (p : Passed) → PassedIsNoBit p → PassedBit p → PassesOn p
+passes_on : (p : Passed) → PassedIsNoBit p → PassedBit p → PassesPlaceOn p
 passes_on (passed.Direct a w byte bit) h k = (h, k)
 passes_on (passed.InBlock number a w byte bit) h k = (h, k)
 passes_on _ h k = tt
@@ -37,13 +37,13 @@ acts_on before code (flat.Direct a w byte bit) h k = (h, k)
 acts_on before code (flat.Called kind number instance) h k = h
 acts_on before code _ h k = tt
 
-all_named : (rs : List Run) → AllByRecursion RunIsNoBit rs → AllByRecursion RunBit rs → AllByRecursion IsNamed rs
+all_named : (rs : List Run) → AllByRecursion RunIsNoBit rs → AllByRecursion RunBit rs → AllByRecursion IsRunNamed rs
 all_named [] h k = tt
 all_named (r ∷ rs) (one, more) (bit, bits) =
     (record { prepares = all_prepare r.before one.prepares bit.0; acts = acts_on r.before r.op.code r.op.operand one.acts bit.1 }, all_named rs more bits)
 
 blocks_named : (bs : List CodeBlock) → AllByRecursion (λ b. AllByRecursion RunIsNoBit (runs b.code)) bs → AllByRecursion (λ b. AllByRecursion RunBit (runs b.code)) bs
-    → AllByRecursion (λ b. AllByRecursion IsNamed (runs b.code)) bs
+    → AllByRecursion (λ b. AllByRecursion IsRunNamed (runs b.code)) bs
 blocks_named [] h k = tt
 blocks_named (b ∷ bs) (one, more) (bit, bits) = (all_named (runs b.code) one bit, blocks_named bs more bits)
 

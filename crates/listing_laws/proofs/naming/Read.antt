@@ -25,11 +25,11 @@ use Rattle.stl_lexer.specs.declared.kinds.Token.{Token}
 use Rattle.stl_lexer.specs.declared.kinds.TokenKind.{TokenKind}
 use Rattle.stl_lexer.specs.declared.kinds.TokenKind.TheVariants as kind
 use Rattle.stl_lexer.specs.declared.marks.Mark.TheVariants as mark
-use Rattle.stl_parser.specs.Addresses.{address_at, bit_of, block_at, glued_at, letter_count, numbered_at, separate_at}
-use Rattle.stl_parser.specs.Literals.{literal_of, unquoted}
+use Rattle.stl_parser.specs.Addresses.{address_at, bit_of, block_at, glued_letters_and_number, letter_count, letters_and_number_at, separate_letters_and_number}
+use Rattle.stl_parser.specs.Literals.{literal_of, text_between_quotes}
 use Rattle.stl_parser.specs.Numbers.{number_of}
 use Rattle.stl_parser.specs.Operands as spec
-use Rattle.stl_parser.specs.Parts.{parts_from, whole}
+use Rattle.stl_parser.specs.Parts.{parts_from, complete_reading}
 use Rattle.stl_parser.specs.Statements as stated
 use Rattle.stl_parser.specs.Tables.{addresses, flags, look_up, mnemonics, opening_mnemonics, registers}
 use Rattle.stl_parser.specs.Terminals.{has_kind, is_key, is_mark}
@@ -40,14 +40,14 @@ use Rattle.stl_parser.specs.declared.tables.Address.TheVariants as address
 use Rattle.stl_parser.specs.declared.tables.OperandSyntax.{OperandSyntax}
 use Rattle.stl_parser.specs.declared.tables.OperandSyntax.TheVariants as form
 use Rattle.stl_parser.proofs.OptionLemmas.{all_push, both, chained, either, entry_passes, mapped, none_holds, parts_hold, passed, weakened, whole_holds}
-use Rattle.stl_types.specs.Addresses.{area_of}
+use Rattle.stl_types.specs.Addresses.{area_for_letters}
 use Rattle.listing_laws.proofs.naming.Places.{made, no_bit, no_bit_is}
 use Rattle.listing_laws.specs.Bodies.{IsNoBit}
 
 -- an address of an operand, whatever data block stands before it, and that of a pointer, which is one of a bit
 abbrev pub OperandIsNoBit : Operand → Type 0
-OperandIsNoBit (operand.Direct name a w byte bit) = IsNoBit (area_of a) w
-OperandIsNoBit (operand.Pointer (Some a) byte bit) = IsNoBit (area_of a) width.Bit
+OperandIsNoBit (operand.Direct name a w byte bit) = IsNoBit (area_for_letters a) w
+OperandIsNoBit (operand.Pointer (Some a) byte bit) = IsNoBit (area_for_letters a) width.Bit
 OperandIsNoBit _ = Unit {0}
 
 abbrev pub ActualIsNoBit : Actual → Type 0
@@ -60,7 +60,7 @@ StatementIsNoBit s = OperandIsNoBit s.operand × AllByRecursion ActualIsNoBit s.
 -- ---- addresses
 
 abbrev letters_no_bit : Address → Bool
-letters_no_bit (address.Area a w) = no_bit (area_of a) w
+letters_no_bit (address.Area a w) = no_bit (area_for_letters a) w
 letters_no_bit _ = true
 
 addresses_pass : list_all (λ e. letters_no_bit e.1) addresses ≡ true
@@ -70,60 +70,60 @@ addresses_pass = refl
 abbrev FirstIsNoBit : Address × ℕ × List Token → Type 0
 FirstIsNoBit r = letters_no_bit r.0 ≡ true
 
-glued_plain : (text : List ℕ) (rest : List Token) → IfSome (glued_at addresses text rest) FirstIsNoBit
-unfolding glued_at
+glued_plain : (text : List ℕ) (rest : List Token) → IfSome (glued_letters_and_number addresses text rest) FirstIsNoBit
+unfolding glued_letters_and_number
 glued_plain text rest =
     chained (look_up addresses (take (letter_count text) text)) _ (λ a. letters_no_bit a ≡ true) FirstIsNoBit
     (entry_passes addresses (take (letter_count text) text) letters_no_bit addresses_pass)
     (λ a h. made (decimal_up_to (greatest_number false) (drop (letter_count text) text)) (λ n. (a, n, rest)) FirstIsNoBit (λ n. h))
 
-separate_plain : (source text : List ℕ) (tokens : List Token) → IfSome (separate_at addresses source text tokens) FirstIsNoBit
-unfolding separate_at
+separate_plain : (source text : List ℕ) (tokens : List Token) → IfSome (separate_letters_and_number addresses source text tokens) FirstIsNoBit
+unfolding separate_letters_and_number
 separate_plain source text [] = tt
 separate_plain source text (n ∷ rest) =
     chained (look_up addresses text) _ (λ a. letters_no_bit a ≡ true) FirstIsNoBit (entry_passes addresses text letters_no_bit addresses_pass)
     (λ a h. made (number_of source n) (λ number. (a, number, rest)) FirstIsNoBit (λ number. h))
 
 address_plain : (source : List ℕ) (tokens : List Token) → IfSome (address_at source tokens) FirstIsNoBit
-unfolding address_at numbered_at
+unfolding address_at letters_and_number_at
 address_plain source [] = tt
 address_plain source (w ∷ rest) =
     passed (has_kind w kind.Word) _ FirstIsNoBit
-    (λ test. either (glued_at addresses (text_of source w) rest) _ FirstIsNoBit (glued_plain (text_of source w) rest) (separate_plain source (text_of source w) rest))
+    (λ test. either (glued_letters_and_number addresses (text_of source w) rest) _ FirstIsNoBit (glued_plain (text_of source w) rest) (separate_plain source (text_of source w) rest))
 
 -- ---- operands
 
 path_plain : (source : List ℕ) (h : PathHead) (tokens : List Token) → IfSome (spec.path_of source h tokens) OperandIsNoBit
 unfolding spec.path_of
-path_plain source h tokens = made (whole (spec.steps_from source [] tokens)) _ OperandIsNoBit (λ steps. tt)
+path_plain source h tokens = made (complete_reading (spec.steps_from source [] tokens)) _ OperandIsNoBit (λ steps. tt)
 
-area_plain : (source : List ℕ) (a : Letters) (w : Width) (byte : ℕ) (rest : List Token) → IsNoBit (area_of a) w → IfSome (spec.area_of source a w byte rest) OperandIsNoBit
-unfolding spec.area_of
+area_plain : (source : List ℕ) (a : Letters) (w : Width) (byte : ℕ) (rest : List Token) → IsNoBit (area_for_letters a) w → IfSome (spec.area_operand source a w byte rest) OperandIsNoBit
+unfolding spec.area_operand
 area_plain source a w byte rest h = made (spec.place_bit source w rest) _ OperandIsNoBit (λ bit. h)
 
 block_path_plain : (source : List ℕ) (name : BlockName) (tokens : List Token) → IfSome (spec.block_path source name tokens) OperandIsNoBit
 unfolding spec.block_path
 block_path_plain source name [] = tt
-block_path_plain source name (w ∷ rest) = passed (has_kind w kind.Word) _ OperandIsNoBit (λ test. made (whole (spec.steps_from source _ rest)) _ OperandIsNoBit (λ steps. tt))
+block_path_plain source name (w ∷ rest) = passed (has_kind w kind.Word) _ OperandIsNoBit (λ test. made (complete_reading (spec.steps_from source _ rest)) _ OperandIsNoBit (λ steps. tt))
 
-in_block_plain : (source : List ℕ) (name : BlockName) (tokens : List Token) → IfSome (spec.in_block source name tokens) OperandIsNoBit
-unfolding spec.in_block
+in_block_plain : (source : List ℕ) (name : BlockName) (tokens : List Token) → IfSome (spec.operand_in_block source name tokens) OperandIsNoBit
+unfolding spec.operand_in_block
 in_block_plain source name tokens =
     either (option_map _ (spec.block_place source tokens)) _ OperandIsNoBit (made (spec.block_place source tokens) _ OperandIsNoBit (λ p. tt)) (block_path_plain source name tokens)
 
-behind_block_plain : (source : List ℕ) (name : BlockName) (tokens : List Token) → IfSome (spec.behind_block source name tokens) OperandIsNoBit
-unfolding spec.behind_block
+behind_block_plain : (source : List ℕ) (name : BlockName) (tokens : List Token) → IfSome (spec.operand_behind_block source name tokens) OperandIsNoBit
+unfolding spec.operand_behind_block
 behind_block_plain source name [] = tt
 behind_block_plain source name (dot ∷ rest) = passed (is_mark source dot mark.Dot) _ OperandIsNoBit (λ test. in_block_plain source name rest)
 
-data_block_plain : (source : List ℕ) (n : ℕ) (tokens : List Token) → IfSome (spec.data_block source n tokens) OperandIsNoBit
-unfolding spec.data_block
+data_block_plain : (source : List ℕ) (n : ℕ) (tokens : List Token) → IfSome (spec.data_block_operand source n tokens) OperandIsNoBit
+unfolding spec.data_block_operand
 data_block_plain source n [] = tt
 data_block_plain source n (t ∷ rest) = behind_block_plain source (spec.data_block_name n) (t ∷ rest)
 
-direct_plain : (source : List ℕ) (a : Address) (n : ℕ) (tokens : List Token) → letters_no_bit a ≡ true → IfSome (spec.direct_of source a n tokens) OperandIsNoBit
-unfolding spec.direct_of
-direct_plain source (address.Area a w) n rest h = area_plain source a w n rest (no_bit_is (area_of a) w h)
+direct_plain : (source : List ℕ) (a : Address) (n : ℕ) (tokens : List Token) → letters_no_bit a ≡ true → IfSome (spec.direct_address_operand source a n tokens) OperandIsNoBit
+unfolding spec.direct_address_operand
+direct_plain source (address.Area a w) n rest h = area_plain source a w n rest (no_bit_is (area_for_letters a) w h)
 direct_plain source address.Timer n [] h = tt
 direct_plain source address.Timer n (t ∷ rest) h = tt
 direct_plain source address.Counter n [] h = tt
@@ -132,22 +132,22 @@ direct_plain source (address.Block false) n rest h = data_block_plain source n r
 direct_plain source (address.Block true) n [] h = tt
 direct_plain source (address.Block true) n (t ∷ rest) h = tt
 
-by_register_plain : (source : List ℕ) (a : Option Letters) (w : Width) (tokens : List Token) → IfSome (spec.by_register source a w tokens) OperandIsNoBit
-unfolding spec.by_register
+by_register_plain : (source : List ℕ) (a : Option Letters) (w : Width) (tokens : List Token) → IfSome (spec.operand_by_register source a w tokens) OperandIsNoBit
+unfolding spec.operand_by_register
 by_register_plain source a w tokens = made (spec.register_pointer source tokens) _ OperandIsNoBit (λ p. tt)
 
-number_by_plain : (source : List ℕ) (what : Numbered) (tokens : List Token) → IfSome (spec.number_by source what tokens) OperandIsNoBit
-unfolding spec.number_by
+number_by_plain : (source : List ℕ) (what : Numbered) (tokens : List Token) → IfSome (spec.operand_by_memory_number source what tokens) OperandIsNoBit
+unfolding spec.operand_by_memory_number
 number_by_plain source what tokens = made (spec.memory_pointer source false tokens) _ OperandIsNoBit (λ p. tt)
 
-area_by_plain : (source : List ℕ) (a : Letters) (w : Width) (tokens : List Token) → IfSome (spec.area_by source a w tokens) OperandIsNoBit
-unfolding spec.area_by
+area_by_plain : (source : List ℕ) (a : Letters) (w : Width) (tokens : List Token) → IfSome (spec.operand_by_pointer source a w tokens) OperandIsNoBit
+unfolding spec.operand_by_pointer
 area_by_plain source a w tokens =
     either (option_map _ (spec.memory_pointer source true tokens)) _ OperandIsNoBit (made (spec.memory_pointer source true tokens) _ OperandIsNoBit (λ p. tt))
     (by_register_plain source (Some a) w tokens)
 
-indirect_plain : (source : List ℕ) (a : Address) (tokens : List Token) → IfSome (spec.indirect_of source a tokens) OperandIsNoBit
-unfolding spec.indirect_of
+indirect_plain : (source : List ℕ) (a : Address) (tokens : List Token) → IfSome (spec.indirect_operand source a tokens) OperandIsNoBit
+unfolding spec.indirect_operand
 indirect_plain source (address.Area a w) tokens = area_by_plain source a w tokens
 indirect_plain source address.Timer tokens = number_by_plain source numbered.Timer tokens
 indirect_plain source address.Counter tokens = number_by_plain source numbered.Counter tokens
@@ -156,7 +156,7 @@ indirect_plain source (address.Block true) tokens = number_by_plain source numbe
 
 area_pointer_plain : (source : List ℕ) (a : Address) (byte : ℕ) (rest : List Token) → letters_no_bit a ≡ true → IfSome (spec.area_pointer source a byte rest) OperandIsNoBit
 unfolding spec.area_pointer
-area_pointer_plain source (address.Area a width.Bit) byte rest h = made (bit_of source rest) _ OperandIsNoBit (λ bit. no_bit_is (area_of a) width.Bit h)
+area_pointer_plain source (address.Area a width.Bit) byte rest h = made (bit_of source rest) _ OperandIsNoBit (λ bit. no_bit_is (area_for_letters a) width.Bit h)
 area_pointer_plain source _ byte rest h = tt
 
 plain_pointer_plain : (source : List ℕ) (tokens : List Token) → IfSome (spec.plain_pointer source tokens) OperandIsNoBit
@@ -165,8 +165,8 @@ plain_pointer_plain source [] = tt
 plain_pointer_plain source (n ∷ rest) =
     chained (number_of source n) _ (λ byte. Unit {0}) OperandIsNoBit (none_holds (number_of source n)) (λ byte h. made (bit_of source rest) _ OperandIsNoBit (λ bit. tt))
 
-pointer_plain : (source : List ℕ) (tokens : List Token) → IfSome (spec.pointer_of source tokens) OperandIsNoBit
-unfolding spec.pointer_of
+pointer_plain : (source : List ℕ) (tokens : List Token) → IfSome (spec.pointer_constant_operand source tokens) OperandIsNoBit
+unfolding spec.pointer_constant_operand
 pointer_plain source tokens =
     either (spec.plain_pointer source tokens) _ OperandIsNoBit (plain_pointer_plain source tokens)
     (chained (address_at source tokens) _ FirstIsNoBit OperandIsNoBit (address_plain source tokens) (λ r h. area_pointer_plain source r.0 r.1 r.2 h))
@@ -175,13 +175,13 @@ condition_plain : (source : List ℕ) (t : Token) → IfSome (spec.condition_of 
 unfolding spec.condition_of
 condition_plain source t = made (look_up flags (text_of source t)) _ OperandIsNoBit (λ f. tt)
 
-other_if_plain : (name : List ℕ) (o : Option Bool) → IfSome (spec.other_if name o) OperandIsNoBit
+other_if_plain : (name : List ℕ) (o : Option Bool) → IfSome (spec.register_name_operand_if name o) OperandIsNoBit
 other_if_plain name None = tt
 other_if_plain name (Some true) = tt
 other_if_plain name (Some false) = tt
 
-alone_plain : (source : List ℕ) (t : Token) (rest : List Token) → IfSome (spec.alone_of source t rest) OperandIsNoBit
-unfolding spec.alone_of spec.other_of
+alone_plain : (source : List ℕ) (t : Token) (rest : List Token) → IfSome (spec.lone_word_operand source t rest) OperandIsNoBit
+unfolding spec.lone_word_operand spec.register_name_operand
 alone_plain source t [] =
     either (spec.condition_of source t) _ OperandIsNoBit (condition_plain source t) (other_if_plain (text_of source t) (look_up registers (text_of source t)))
 alone_plain source t (u ∷ rest) = tt
@@ -197,27 +197,27 @@ sized_plain source t rest =
     (both (is_key source t key.W) _ _ OperandIsNoBit (by_register_plain source None width.Word rest)
     (both (is_key source t key.D) _ _ OperandIsNoBit (by_register_plain source None width.Dword rest) tt))
 
-with_number_plain : (source : List ℕ) (tokens : List Token) → IfSome (spec.with_number source tokens) OperandIsNoBit
-unfolding spec.with_number
+with_number_plain : (source : List ℕ) (tokens : List Token) → IfSome (spec.operand_with_number source tokens) OperandIsNoBit
+unfolding spec.operand_with_number
 with_number_plain source tokens = chained (address_at source tokens) _ FirstIsNoBit OperandIsNoBit (address_plain source tokens) (λ r h. direct_plain source r.0 r.1 r.2 h)
 
-with_pointer_plain : (source : List ℕ) (t : Token) (rest : List Token) → IfSome (spec.with_pointer source t rest) OperandIsNoBit
-unfolding spec.with_pointer
+with_pointer_plain : (source : List ℕ) (t : Token) (rest : List Token) → IfSome (spec.operand_with_pointer source t rest) OperandIsNoBit
+unfolding spec.operand_with_pointer
 with_pointer_plain source t rest =
     chained (look_up addresses (text_of source t)) _ (λ a. Unit {0}) OperandIsNoBit (none_holds (look_up addresses (text_of source t))) (λ a h. indirect_plain source a rest)
 
 word_operand_plain : (source : List ℕ) (t : Token) (rest tokens : List Token) → IfSome (spec.word_operand source t rest tokens) OperandIsNoBit
 unfolding spec.word_operand
 word_operand_plain source t rest tokens =
-    either (spec.alone_of source t rest) _ OperandIsNoBit (alone_plain source t rest)
-    (either (spec.with_number source tokens) _ OperandIsNoBit (with_number_plain source tokens)
-    (either (spec.with_pointer source t rest) _ OperandIsNoBit (with_pointer_plain source t rest)
+    either (spec.lone_word_operand source t rest) _ OperandIsNoBit (alone_plain source t rest)
+    (either (spec.operand_with_number source tokens) _ OperandIsNoBit (with_number_plain source tokens)
+    (either (spec.operand_with_pointer source t rest) _ OperandIsNoBit (with_pointer_plain source t rest)
     (either (spec.sized_by_register source t rest) _ OperandIsNoBit (sized_plain source t rest) (plain_path_plain source t rest))))
 
 quoted_plain : (source : List ℕ) (t : Token) (rest : List Token) → IfSome (spec.quoted_operand source t rest) OperandIsNoBit
 unfolding spec.quoted_operand
 quoted_plain source t [] = tt
-quoted_plain source t (u ∷ rest) = behind_block_plain source (block.Quoted (unquoted (text_of source t))) (u ∷ rest)
+quoted_plain source t (u ∷ rest) = behind_block_plain source (block.Quoted (text_between_quotes (text_of source t))) (u ∷ rest)
 
 mark_plain : (source : List ℕ) (t : Token) (rest tokens : List Token) → IfSome (spec.mark_operand source t rest tokens) OperandIsNoBit
 unfolding spec.mark_operand
@@ -301,11 +301,11 @@ call_plain source code tokens =
 
 block_call_plain : (source : List ℕ) (code : Mnemonic) (tokens : List Token) → IfSome (stated.block_call_of source code tokens) BareIsNoBit
 unfolding stated.block_call_of
-block_call_plain source code tokens = made (whole (block_at source tokens)) _ BareIsNoBit (λ name. (tt, tt))
+block_call_plain source code tokens = made (complete_reading (block_at source tokens)) _ BareIsNoBit (λ name. (tt, tt))
 
-with_operand_plain : (source : List ℕ) (code : Mnemonic) (tokens : List Token) → IfSome (stated.with_operand source code tokens) BareIsNoBit
-unfolding stated.with_operand
-with_operand_plain source code tokens = mapped (spec.operand_of source tokens) (stated.plain code) OperandIsNoBit BareIsNoBit (operand_plain source tokens) (λ o h. (h, tt))
+with_operand_plain : (source : List ℕ) (code : Mnemonic) (tokens : List Token) → IfSome (stated.statement_with_operand source code tokens) BareIsNoBit
+unfolding stated.statement_with_operand
+with_operand_plain source code tokens = mapped (spec.operand_of source tokens) (stated.statement_without_actuals code) OperandIsNoBit BareIsNoBit (operand_plain source tokens) (λ o h. (h, tt))
 
 jump_plain : (source : List ℕ) (code : Mnemonic) (tokens : List Token) → IfSome (stated.jump_of source code tokens) BareIsNoBit
 unfolding stated.jump_of
@@ -327,8 +327,8 @@ behind_word_plain source form.Open code tokens = open_plain source code tokens
 behind_word_plain source form.BlockCall code tokens = block_call_plain source code tokens
 behind_word_plain source form.Call code tokens = call_plain source code tokens
 
-opening_plain : (source : List ℕ) (t : Token) (rest : List Token) → IfSome (stated.opening_of source t rest) BareIsNoBit
-unfolding stated.opening_of
+opening_plain : (source : List ℕ) (t : Token) (rest : List Token) → IfSome (stated.opening_instruction source t rest) BareIsNoBit
+unfolding stated.opening_instruction
 opening_plain source t rest =
     chained (look_up opening_mnemonics (text_of source t)) _ (λ m. Unit {0}) BareIsNoBit (none_holds (look_up opening_mnemonics (text_of source t)))
     (λ m h. chained (stated.after_paren source rest) _ (λ behind. Unit {0}) BareIsNoBit (none_holds (stated.after_paren source rest)) (λ behind k. with_operand_plain source m behind))
@@ -339,8 +339,8 @@ zone_end_plain source t [] = tt
 zone_end_plain source t (w ∷ rest) =
     passed (is_mark source t mark.CloseParen && is_key source w key.Mcr) _ BareIsNoBit (λ test. with_operand_plain source mnemonic.McrClose rest)
 
-closed_plain : (source : List ℕ) (t : Token) (rest : List Token) → IfSome (stated.closed_of source t rest) BareIsNoBit
-unfolding stated.closed_of
+closed_plain : (source : List ℕ) (t : Token) (rest : List Token) → IfSome (stated.one_token_instruction source t rest) BareIsNoBit
+unfolding stated.one_token_instruction
 closed_plain source t rest =
     chained (look_up mnemonics (text_of source t)) _ (λ m. Unit {0}) BareIsNoBit (none_holds (look_up mnemonics (text_of source t))) (λ m h. behind_word_plain source m.1 m.0 rest)
 
@@ -348,18 +348,18 @@ instruction_plain : (source : List ℕ) (tokens : List Token) → IfSome (stated
 unfolding stated.instruction_of
 instruction_plain source [] = tt
 instruction_plain source (t ∷ rest) =
-    either (stated.opening_of source t rest) _ BareIsNoBit (opening_plain source t rest)
+    either (stated.opening_instruction source t rest) _ BareIsNoBit (opening_plain source t rest)
     (either (stated.zone_end_of source t rest) _ BareIsNoBit (zone_end_plain source t rest) (closed_plain source t rest))
 
 abbrev ReadIsNoBit : Statement × Bool → Type 0
 ReadIsNoBit r = StatementIsNoBit r.0
 
-unlabelled_plain : (source : List ℕ) (line : ℕ) (tokens : List Token) → IfSome (stated.unlabelled source line tokens) ReadIsNoBit
-unfolding stated.unlabelled
+unlabelled_plain : (source : List ℕ) (line : ℕ) (tokens : List Token) → IfSome (stated.unlabelled_statement source line tokens) ReadIsNoBit
+unfolding stated.unlabelled_statement
 unlabelled_plain source line tokens = mapped (stated.instruction_of source tokens) _ BareIsNoBit ReadIsNoBit (instruction_plain source tokens) (λ i h. h)
 
-labelled_plain : (source : List ℕ) (line : ℕ) (w : Token) (tokens : List Token) → IfSome (stated.labelled source line w tokens) ReadIsNoBit
-unfolding stated.labelled
+labelled_plain : (source : List ℕ) (line : ℕ) (w : Token) (tokens : List Token) → IfSome (stated.labelled_statement source line w tokens) ReadIsNoBit
+unfolding stated.labelled_statement
 labelled_plain source line w tokens = mapped (stated.instruction_of source tokens) _ BareIsNoBit ReadIsNoBit (instruction_plain source tokens) (λ i h. h)
 
 -- a statement before its `;`

@@ -11,10 +11,10 @@ use Rattle.plc_base.specs.declared.places.Area.TheVariants as area
 use Rattle.plc_base.specs.declared.places.Width.TheVariants as width
 use Rattle.plc_base.specs.declared.refusals.Refusal.{Refusal}
 use Rattle.stl_parser.proofs.OptionLemmas.{chained, mapped, passed, none_holds}
-use Rattle.stl_symbols.specs.Address.{address_letters, address_of, bit_address, bit_behind, has_type, look_up, number_of, numbered, spelled, variable}
-use Rattle.stl_symbols.specs.Line.{Columns, columns}
+use Rattle.stl_symbols.specs.Address.{address_letters, address_of, bit_address, bit_behind, has_type, letters_spelled_as, number_of_address, numbered_address, letters_in_language, variable_address}
+use Rattle.stl_symbols.specs.Line.{Columns, columns_of_line}
 use Rattle.stl_symbols.specs.Symbol.{Symbol, symbol_named}
-use Rattle.stl_symbols.specs.Symbols.{and_then_lines, declaration, declaration_of, declared, is_name, most_symbols, symbols_in, with_columns, with_declaration, with_line, with_lines, with_symbol, without_blanks, without_last_blanks}
+use Rattle.stl_symbols.specs.Symbols.{and_then_lines, symbol_declaration, declaration_in_columns, declared_symbol, is_name, most_symbols, symbols_in, with_columns, with_declaration, with_line, with_lines, with_symbol, without_blanks, without_last_blanks}
 use Rattle.stl_symbols.specs.declared.languages.Language.{Language}
 use Rattle.stl_symbols.specs.declared.targets.Target.{Target}
 use Rattle.stl_symbols.specs.declared.targets.Target.TheVariants as target
@@ -38,38 +38,38 @@ abbrev Declares : {A : Type 0} → (A → Option Symbol) → A → Type 0
 Declares view a = IfSome (view a) SymbolIsNoBit
 
 -- that of a bit
-bits : (name : List ℕ) (a : Area) → IsNoBit a width.Bit → (text : List ℕ) → IfSome (bit_address a text) (Declares (declared name))
+bits : (name : List ℕ) (a : Area) → IsNoBit a width.Bit → (text : List ℕ) → IfSome (bit_address a text) (Declares (declared_symbol name))
 unfolding bit_address
 bits name a is text =
     let point = prefix_len (λ b. not (b == 46)) text in
-    chained (number_of (take point text)) _ (λ byte. Unit {0}) (Declares (declared name)) (none_holds (number_of (take point text)))
-    (λ byte h. made (bit_behind (drop point text)) (λ bit. variable a width.Bit byte bit) (Declares (declared name)) (λ bit. is))
+    chained (number_of_address (take point text)) _ (λ byte. Unit {0}) (Declares (declared_symbol name)) (none_holds (number_of_address (take point text)))
+    (λ byte h. made (bit_behind (drop point text)) (λ bit. variable_address a width.Bit byte bit) (Declares (declared_symbol name)) (λ bit. is))
 
 -- an address by a number alone
-wide : {A : Type 0} (view : A → Option Symbol) (f : ℕ → A) → ((n : ℕ) → Declares view (f n)) → (text : List ℕ) → IfSome (option_map f (number_of text)) (Declares view)
-wide view f h text = made (number_of text) f (Declares view) h
+wide : {A : Type 0} (view : A → Option Symbol) (f : ℕ → A) → ((n : ℕ) → Declares view (f n)) → (text : List ℕ) → IfSome (option_map f (number_of_address text)) (Declares view)
+wide view f h text = made (number_of_address text) f (Declares view) h
 
 -- all letters of addresses, one by one
-all_plain : (name : List ℕ) → AllByRecursion (λ e. (text : List ℕ) → IfSome (numbered e.2 text) (Declares (declared name))) address_letters
+all_plain : (name : List ℕ) → AllByRecursion (λ e. (text : List ℕ) → IfSome (numbered_address e.2 text) (Declares (declared_symbol name))) address_letters
 unfolding address_letters
 all_plain name =
     let b = bits name in
-    let w = wide (declared name) in
+    let w = wide (declared_symbol name) in
     let t : ℕ → Unit {0} = λ n. tt in
     (b area.I tt, (w _ t, (w _ t, (w _ t, (b area.Q tt, (w _ t, (w _ t, (w _ t, (b area.M tt, (w _ t, (w _ t, (w _ t, (w _ t, (w _ t, (w _ t, (w _ t, (w _ t, (w _ t, (w _ t, (w _ t, (w _ t, (w _ t, (w _ t, (w _ t, (w _ t, (w _ t, (w _ t, (w _ t, (w _ t, tt)))))))))))))))))))))))))))))
 
-letters_plain : (language : Language) (name word : List ℕ) → IfSome (look_up language address_letters word) (λ l. (text : List ℕ) → IfSome (numbered l text) (Declares (declared name)))
-unfolding look_up
+letters_plain : (language : Language) (name word : List ℕ) → IfSome (letters_spelled_as language address_letters word) (λ l. (text : List ℕ) → IfSome (numbered_address l text) (Declares (declared_symbol name)))
+unfolding letters_spelled_as
 letters_plain language name word =
-    mapped (find (λ e. bytes_eq word (spelled language e.0 e.1)) address_letters) _ (λ e. (text : List ℕ) → IfSome (numbered e.2 text) (Declares (declared name)))
-    (λ l. (text : List ℕ) → IfSome (numbered l text) (Declares (declared name)))
-    (found_among _ (λ e. bytes_eq word (spelled language e.0 e.1)) address_letters (all_plain name)) (λ e h. h)
+    mapped (find (λ e. bytes_eq word (letters_in_language language e.0 e.1)) address_letters) _ (λ e. (text : List ℕ) → IfSome (numbered_address e.2 text) (Declares (declared_symbol name)))
+    (λ l. (text : List ℕ) → IfSome (numbered_address l text) (Declares (declared_symbol name)))
+    (found_among _ (λ e. bytes_eq word (letters_in_language language e.0 e.1)) address_letters (all_plain name)) (λ e h. h)
 
-address_plain : (language : Language) (name text : List ℕ) → IfSome (address_of language text) (Declares (declared name))
+address_plain : (language : Language) (name text : List ℕ) → IfSome (address_of language text) (Declares (declared_symbol name))
 unfolding address_of
 address_plain language name text =
     let digits = prefix_len (λ b. not (is_ascii_digit b)) text in
-    chained (look_up language address_letters (take digits text)) _ (λ l. (text : List ℕ) → IfSome (numbered l text) (Declares (declared name))) (Declares (declared name))
+    chained (letters_spelled_as language address_letters (take digits text)) _ (λ l. (text : List ℕ) → IfSome (numbered_address l text) (Declares (declared_symbol name))) (Declares (declared_symbol name))
     (letters_plain language name (take digits text)) (λ l h. h (drop digits text))
 
 -- ---- a line
@@ -77,11 +77,11 @@ address_plain language name text =
 abbrev DeclaredIsNoBit : Option Symbol → Type 0
 DeclaredIsNoBit d = IfSome d SymbolIsNoBit
 
-declaration_plain : (language : Language) (name address kind : List ℕ) → IfSome (declaration language name address kind) DeclaredIsNoBit
+declaration_plain : (language : Language) (name address kind : List ℕ) → IfSome (symbol_declaration language name address kind) DeclaredIsNoBit
 declaration_plain language name address kind =
     passed (is_name name) _ DeclaredIsNoBit
-    (λ named. chained (address_of language address) _ (Declares (declared name)) DeclaredIsNoBit (address_plain language name address)
-    (λ a h. passed (has_type a kind) (Some (declared name a)) DeclaredIsNoBit (λ typed. h)))
+    (λ named. chained (address_of language address) _ (Declares (declared_symbol name)) DeclaredIsNoBit (address_plain language name address)
+    (λ a h. passed (has_type a kind) (Some (declared_symbol name a)) DeclaredIsNoBit (λ typed. h)))
 
 symbol_added : (xs : List Symbol) (x : Symbol) → AreNoBits xs → SymbolIsNoBit x → IfOk (with_symbol xs x) AreNoBits
 unfolding with_symbol
@@ -98,15 +98,15 @@ declaration_added xs (Some None) h k = h
 declaration_added xs (Some (Some x)) h k = symbol_added xs x h k
 
 columns_added : (language : Language) (xs : List Symbol) (o : Option Columns) → AreNoBits xs → IfOk (with_columns language xs o) AreNoBits
-unfolding declaration_of
+unfolding declaration_in_columns
 columns_added language xs None h = tt
 columns_added language xs (Some c) h =
-    declaration_added xs (declaration_of language c) h (declaration_plain language (without_last_blanks c.name) (without_blanks c.address) (without_last_blanks c.kind))
+    declaration_added xs (declaration_in_columns language c) h (declaration_plain language (without_last_blanks c.name) (without_blanks c.address) (without_last_blanks c.kind))
 
 line_added : (language : Language) (xs : List Symbol) (line : List ℕ) → AreNoBits xs → IfOk (with_line language xs line) AreNoBits
 unfolding with_line
 line_added language xs [] h = h
-line_added language xs (b ∷ line) h = columns_added language xs (columns (b ∷ line)) h
+line_added language xs (b ∷ line) h = columns_added language xs (columns_of_line (b ∷ line)) h
 
 -- ---- a file
 

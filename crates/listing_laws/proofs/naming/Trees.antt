@@ -17,8 +17,8 @@ use Rattle.stl_lexer.specs.declared.marks.Mark.TheVariants as mark
 use Rattle.stl_parser.specs.Addresses.{block_at}
 use Rattle.stl_parser.specs.Clauses as spec
 use Rattle.stl_parser.specs.Declarations.{declaration_of, structure_at}
-use Rattle.stl_parser.specs.Source.{IsTree, Reads}
-use Rattle.stl_parser.specs.Spelling.{is_kept, spelled_block, spelled_part, spelled_shape}
+use Rattle.stl_parser.specs.Source.{IsTree, ReadsClauses}
+use Rattle.stl_parser.specs.Spelling.{is_kept_by_tree, spelled_block, spelled_part, spelled_shape}
 use Rattle.stl_parser.specs.Statements.{statement_of}
 use Rattle.stl_parser.specs.Tables.{head_words, keywords, look_up}
 use Rattle.stl_parser.specs.Terminals.{is_mark}
@@ -46,10 +46,10 @@ ReadIsNoBit r = ClauseIsNoBit r.0
 abbrev InsideIsNoBit : Clause × Bool → Type 0
 InsideIsNoBit r = ClauseIsNoBit r.0
 
-head_plain : (source : List ℕ) (line : ℕ) (k : BlockKind) (tokens : List Token) → IfSome (spec.head_of source line k tokens) ReadIsNoBit
-unfolding spec.head_of
+head_plain : (source : List ℕ) (line : ℕ) (k : BlockKind) (tokens : List Token) → IfSome (spec.head_clause source line k tokens) ReadIsNoBit
+unfolding spec.head_clause
 head_plain source line k tokens =
-    chained (spec.named_at source k tokens) _ (λ b. Unit {0}) ReadIsNoBit (none_holds (spec.named_at source k tokens))
+    chained (spec.block_of_kind_at source k tokens) _ (λ b. Unit {0}) ReadIsNoBit (none_holds (spec.block_of_kind_at source k tokens))
     (λ b h. made (spec.result_at source k b.1) _ ReadIsNoBit (λ r. tt))
 
 inner_end_plain : (source : List ℕ) (tokens : List Token) → IfSome (spec.inner_end source tokens) ReadIsNoBit
@@ -72,10 +72,10 @@ head_word_plain : (source : List ℕ) (p : ClausePlace) (w : HeadWord) (rest : L
 unfolding spec.head_word_clause
 head_word_plain source p w rest = made (spec.head_word_at source w rest) _ ReadIsNoBit (λ behind. tt)
 
-based_plain : (source : List ℕ) (tokens : List Token) → IfSome (spec.based_at source tokens) ReadIsNoBit
-unfolding spec.based_at
+based_plain : (source : List ℕ) (tokens : List Token) → IfSome (spec.base_block_at source tokens) ReadIsNoBit
+unfolding spec.base_block_at
 based_plain source tokens =
-    chained (block_at source tokens) _ (λ r. Unit {0}) ReadIsNoBit (none_holds (block_at source tokens)) (λ r h. passed (spec.is_base r.0) _ ReadIsNoBit (λ test. tt))
+    chained (block_at source tokens) _ (λ r. Unit {0}) ReadIsNoBit (none_holds (block_at source tokens)) (λ r h. passed (spec.is_base_block r.0) _ ReadIsNoBit (λ test. tt))
 
 structure_plain : (source : List ℕ) (p : ClausePlace) (tokens : List Token) → IfSome (spec.structure_clause source p tokens) ReadIsNoBit
 unfolding spec.structure_clause
@@ -106,7 +106,7 @@ other_plain : (source : List ℕ) (p : ClausePlace) (line : ℕ) (tokens : List 
 unfolding spec.other_clause
 other_plain source p line tokens =
     both (spec.in_data_head p) _ _ ReadIsNoBit
-    (either (spec.based_at source tokens) _ ReadIsNoBit (based_plain source tokens) (plain_plain source p line tokens))
+    (either (spec.base_block_at source tokens) _ ReadIsNoBit (based_plain source tokens) (plain_plain source p line tokens))
     (plain_plain source p line tokens)
 
 free_word_plain : (source : List ℕ) (p : ClausePlace) (t : Token) (rest tokens : List Token) (w : Option HeadWord) → IfSome (spec.free_word_clause source p t rest tokens w) ReadIsNoBit
@@ -136,18 +136,18 @@ clause_plain source p (t ∷ rest) = kind_plain source p t rest (t ∷ rest) t.k
 abbrev AreNoBits : List Clause → Type 0
 AreNoBits cs = AllByRecursion ClauseIsNoBit cs
 
-reads_plain : (source : List ℕ) (p : ClausePlace) (ts : List Token) (cs : List Clause) (q : ClausePlace) (rest : List Token) → Reads source p ts cs q rest → AreNoBits cs
+reads_plain : (source : List ℕ) (p : ClausePlace) (ts : List Token) (cs : List Clause) (q : ClausePlace) (rest : List Token) → ReadsClauses source p ts cs q rest → AreNoBits cs
 reads_plain source p ts [] q rest reads = tt
 reads_plain source p ts (c ∷ cs) q rest reads = (
   some_holds (spec.clause_at source p ts) (c, reads.0, false) ReadIsNoBit (right_clause source p ts c reads.0 reads.1 reads.2).0 (clause_plain source p ts),
   reads_plain source reads.1 reads.0 cs q rest reads.3,
 )
 
-kept_plain : (cs : List Clause) → AreNoBits cs → AreNoBits (filter is_kept cs)
+kept_plain : (cs : List Clause) → AreNoBits cs → AreNoBits (filter is_kept_by_tree cs)
 kept_plain [] h = tt
-kept_plain (c ∷ cs) (one, more) = by (is_kept c) (kept_plain cs more)
+kept_plain (c ∷ cs) (one, more) = by (is_kept_by_tree c) (kept_plain cs more)
   where
-    by : (b : Bool) → AreNoBits (filter is_kept cs) → AreNoBits (cond b (c ∷ filter is_kept cs) (filter is_kept cs))
+    by : (b : Bool) → AreNoBits (filter is_kept_by_tree cs) → AreNoBits (cond b (c ∷ filter is_kept_by_tree cs) (filter is_kept_by_tree cs))
     by true k = (one, k)
     by false k = k
 

@@ -16,25 +16,25 @@ use Rattle.stl_ast.specs.declared.blocks.Tree.{Tree}
 use Rattle.stl_symbols.specs.Symbol.{Symbol}
 use Rattle.block_layout.specs.Cells.{components_of}
 use Rattle.block_layout.specs.Layouts.{block_layout, layouts_by, layouts_from, layouts_of}
-use Rattle.block_layout.specs.Measures.{types_of}
+use Rattle.block_layout.specs.Measures.{types_of_source}
 use Rattle.block_layout.specs.Types.{Types}
 use Rattle.block_layout.specs.declared.blocks.BlockLayout.{BlockLayout}
 use Rattle.stl_types.specs.Parameters.{formals_of as formals_in}
 use Rattle.stl_types.specs.declared.parameters.Formal.{Formal}
-use Rattle.stl_codegen.specs.Compiled.{compiled}
+use Rattle.stl_codegen.specs.Compiled.{compiled_block}
 use Rattle.stl_codegen.specs.Generated.{code_block}
-use Rattle.stl_codegen.specs.Instruction.{in_order}
+use Rattle.stl_codegen.specs.Instruction.{in_parameter_order}
 use Rattle.stl_list.specs.CodeBlocks.{in_lines, listed_block}
 use Rattle.stl_list.specs.Joined.{Chains, chains_of}
 use Rattle.stl_list.specs.Lines.{stands_before}
 use Rattle.stl_list.specs.Parameters.{name_of, parameter_name, return_name, section_of}
-use Rattle.stl_list.specs.Signatures.{Signature, formals_from, formals_of, is_behind}
+use Rattle.stl_list.specs.Signatures.{Signature, formals_from, formals_of_block, is_behind}
 use Rattle.sem_kept.specs.Accepted.{IsAccepted, program_in}
 use Rattle.sem_kept.proofs.accepted.OperandsCells.{all_there}
 use Rattle.listing_laws.specs.Again.{IsMadeOf, IsWholeAgain, context_at, listed_again}
 use Rattle.listing_laws.specs.Called.{ReturnsLast}
 use Rattle.listing_laws.specs.Declared.{signatures_in}
-use Rattle.listing_laws.specs.Passings.{AreNamedApart, upper}
+use Rattle.listing_laws.specs.Passings.{AreNamedApart, in_upper_case}
 use Rattle.listing_laws.proofs.BlockLemmas.{all_sorted}
 use Rattle.listing_laws.proofs.called.Names.{own_names_apart}
 use Rattle.listing_laws.proofs.declared.Blocks.{HasShape, IsKnown, IsSourced, OfInstance, Ordinary, codes_known, grouped}
@@ -117,13 +117,13 @@ pub record IsListedCode (symbols : List Symbol) (t : Tree) (others : List Symbol
   pub there : slice_get (layouts_of (listed_again symbols t) others) again ≡ Some layout
   pub whole : layout.broken ≡ false
   pub components : layout.components
-      ≡ components_of (types_of others (listed_again symbols t).blocks) (listed_block (signatures_in (program_in symbols t)) reached b)
+      ≡ components_of (types_of_source others (listed_again symbols t).blocks) (listed_block (signatures_in (program_in symbols t)) reached b)
   pub sourced : IsSourced b
   pub known : IsKnown (chains_of (program_in symbols t).code_blocks) (signatures_in (program_in symbols t)) b
-  pub groups : AreGrouped (formals_of (signatures_in (program_in symbols t)) b.id)
-  pub order : in_order (Some (listed_block (signatures_in (program_in symbols t)) reached b)) (formals_in layout.components)
-      ≡ map upper (formals_of (signatures_in (program_in symbols t)) b.id)
-  pub named : AreNamedApart (formals_of (signatures_in (program_in symbols t)) b.id)
+  pub groups : AreGrouped (formals_of_block (signatures_in (program_in symbols t)) b.id)
+  pub order : in_parameter_order (Some (listed_block (signatures_in (program_in symbols t)) reached b)) (formals_in layout.components)
+      ≡ map in_upper_case (formals_of_block (signatures_in (program_in symbols t)) b.id)
+  pub named : AreNamedApart (formals_of_block (signatures_in (program_in symbols t)) b.id)
 
 laid_there : (y : Types) (blocks before bs : List Block) (k : ℕ) (b : Block) → slice_get bs k ≡ Some b
     → (front : List Block) × (slice_get (layouts_from y blocks before bs) k ≡ Some (block_layout y blocks front b))
@@ -132,9 +132,9 @@ laid_there y blocks before (x ∷ bs) zero b e = let same : x ≡ b = cc in (bef
 laid_there y blocks before (x ∷ bs) (suc k) b e = laid_there y blocks (x ∷ before) bs k b e
 
 laid_again : (symbols : List Symbol) (t : Tree) (k : ℕ) (b : Block) → slice_get t.blocks k ≡ Some b
-    → (front : List Block) × (slice_get (layouts_of t symbols) k ≡ Some (block_layout (types_of symbols t.blocks) t.blocks front b))
+    → (front : List Block) × (slice_get (layouts_of t symbols) k ≡ Some (block_layout (types_of_source symbols t.blocks) t.blocks front b))
 unfolding layouts_of layouts_by
-laid_again symbols t k b e = laid_there (types_of symbols t.blocks) t.blocks [] t.blocks k b e
+laid_again symbols t k b e = laid_there (types_of_source symbols t.blocks) t.blocks [] t.blocks k b e
 
 laid_components : (y : Types) (blocks front : List Block) (b : Block) → (block_layout y blocks front b).components ≡ components_of y b
 unfolding block_layout
@@ -160,7 +160,7 @@ output_last fs g h = by g.ends
 -- what is listed at a place is such a block
 pub listed_code : (source file : List ℕ) (symbols : List Symbol) (t : Tree) → IsAccepted source file symbols t → AreBytes source → AreBytes file
     → (others : List Symbol) → IsWholeAgain symbols t others → (again place : ℕ) (b : Block) (l : BlockLayout) (id : BlockId) → IsMadeOf symbols t again place b l id
-    → IsListedCode symbols t others again (compiled (code_block (context_at symbols t place) b l id))
+    → IsListedCode symbols t others again (compiled_block (code_block (context_at symbols t place) b l id))
 unfolding in_lines
 listed_code source file symbols t accepted bytes file_bytes others clean again place b l id made =
     record {
@@ -174,14 +174,14 @@ listed_code source file symbols t accepted bytes file_bytes others clean again p
       known = both.1;
       groups = groups;
       order =
-          ap (λ cells. in_order (Some (listed_block ss made.reached cb)) (formals_in cells)) (laid_components y blocks front.0 (listed_block ss made.reached cb))
-          ∙ order_again y ss made.reached cb groups (output_last (formals_of ss cb.id) groups outputs);
+          ap (λ cells. in_parameter_order (Some (listed_block ss made.reached cb)) (formals_in cells)) (laid_components y blocks front.0 (listed_block ss made.reached cb))
+          ∙ order_again y ss made.reached cb groups (output_last (formals_of_block ss cb.id) groups outputs);
       named = subst AreNamedApart (sym both.1.are)
           (own_names_apart c (is_function cb.id.kind) both.1.first cb.params (few (length cb.params) both.0.few) (returns_last (is_function cb.id.kind) cb.params (groups_of cb both.0)));
     }
   where
     cb : CodeBlock
-    cb = compiled (code_block (context_at symbols t place) b l id)
+    cb = compiled_block (code_block (context_at symbols t place) b l id)
 
     c : Chains
     c = chains_of (program_in symbols t).code_blocks
@@ -193,7 +193,7 @@ listed_code source file symbols t accepted bytes file_bytes others clean again p
     blocks = (listed_again symbols t).blocks
 
     y : Types
-    y = types_of others blocks
+    y = types_of_source others blocks
 
     front : (front : List Block) × (slice_get (layouts_of (listed_again symbols t) others) again ≡ Some (block_layout y blocks front (listed_block ss made.reached cb)))
     front = laid_again others (listed_again symbols t) again (listed_block ss made.reached cb) made.listed
@@ -206,10 +206,10 @@ listed_code source file symbols t accepted bytes file_bytes others clean again p
         (all_sorted (λ z. IsSourced z × IsKnown c ss z) stands_before (program_in symbols t).code_blocks (codes_known source file symbols t accepted bytes file_bytes))
         made.ordered
 
-    groups : AreGrouped (formals_of ss cb.id)
+    groups : AreGrouped (formals_of_block ss cb.id)
     groups = grouped c ss cb both.0 both.1
 
-    outputs : AllByRecursion (λ f. f.name ≡ return_name → f.section ≡ part.Output) (formals_of ss cb.id)
+    outputs : AllByRecursion (λ f. f.name ≡ return_name → f.section ≡ part.Output) (formals_of_block ss cb.id)
     outputs = subst (AllByRecursion (λ f. f.name ≡ return_name → f.section ≡ part.Output)) (sym both.1.are)
         (returned_output c (is_function cb.id.kind) false 0 both.1.first cb.params)
 

@@ -10,7 +10,7 @@ use Rattle.flat_code.specs.declared.kinds.JumpOperation.{JumpOperation}
 use Rattle.flat_code.specs.declared.kinds.JumpOperation.TheVariants as jump
 use Rattle.flat_code.specs.declared.operations.CallOperation.{CallOperation}
 use Rattle.stl_ast.specs.Literals.{AreBytes}
-use Rattle.stl_ast.specs.Statements.{is_call, is_called as is_called_operand, is_empty}
+use Rattle.stl_ast.specs.Statements.{is_call, names_called_block as is_called_operand, is_empty_statement}
 use Rattle.stl_ast.specs.declared.blocks.Block.{Block}
 use Rattle.stl_ast.specs.declared.blocks.Tree.{Tree}
 use Rattle.stl_ast.specs.declared.mnemonics.Mnemonic.{Mnemonic}
@@ -20,28 +20,28 @@ use Rattle.stl_ast.specs.declared.names.BlockName.TheVariants as block
 use Rattle.stl_ast.specs.declared.operands.Operand.TheVariants as operand
 use Rattle.stl_ast.specs.declared.statements.Statement.{Statement}
 use Rattle.stl_symbols.specs.Symbol.{Symbol}
-use Rattle.block_layout.specs.Measures.{types_of}
+use Rattle.block_layout.specs.Measures.{types_of_source}
 use Rattle.block_layout.specs.declared.blocks.BlockLayout.{BlockLayout}
 use Rattle.stl_types.specs.Context.{Context, data_number}
 use Rattle.stl_types.specs.Forms.{form_of}
-use Rattle.stl_types.specs.Operands.{operand_rule, rule_of, rule_seen, statement_rule}
+use Rattle.stl_types.specs.Operands.{operand_rule, rule_of_resolved_operand, rule_seen, statement_rule}
 use Rattle.stl_types.specs.Parameters.{callee_of}
-use Rattle.stl_types.specs.Resolution.{seen, whole_block}
+use Rattle.stl_types.specs.Resolution.{resolution_of, whole_called_block}
 use Rattle.stl_types.specs.declared.parameters.Formal.{Formal}
 use Rattle.stl_types.specs.declared.views.Resolution.TheVariants.{Resolved}
 use Rattle.stl_types.specs.declared.views.ResolvedOperand.TheVariants as view
-use Rattle.stl_codegen.specs.Compiled.{Stated, StatedBlock, lines_in}
-use Rattle.stl_codegen.specs.Emitted.{passing}
+use Rattle.stl_codegen.specs.Compiled.{SourceInstruction, StatedBlock, lines_in}
+use Rattle.stl_codegen.specs.Emitted.{pass_ops}
 use Rattle.stl_codegen.specs.Generated.{stated_from, statements_of}
 use Rattle.stl_codegen.specs.Instruction.{instruction, jump_instr, passings_to, target_in, target_of}
-use Rattle.stl_codegen.specs.Operations.{call_of, jump_of}
+use Rattle.stl_codegen.specs.Operations.{call_operation_of, jump_operation_of}
 use Rattle.stl_list.specs.Actuals.{actuals_before}
-use Rattle.stl_list.specs.Labels.{label_of}
-use Rattle.stl_list.specs.Lines.{line_at}
-use Rattle.stl_list.specs.Operands.{data_block_name}
+use Rattle.stl_list.specs.Labels.{label_of_number}
+use Rattle.stl_list.specs.Lines.{line_of_statement}
+use Rattle.stl_list.specs.Operands.{name_of_data_block}
 use Rattle.stl_list.specs.Runs.{number_at}
-use Rattle.stl_list.specs.Signatures.{Signature, called_formals, formals_of}
-use Rattle.stl_list.specs.Statements.{Surroundings, statement}
+use Rattle.stl_list.specs.Signatures.{Signature, called_formals, formals_of_block}
+use Rattle.stl_list.specs.Statements.{Surroundings, listed_statement}
 use Rattle.sem_kept.specs.Accepted.{IsAccepted, program_in}
 use Rattle.sem_kept.specs.Settled.{HasCalled, HasInstruction, HasOperand, IsSettled}
 use Rattle.sem_kept.proofs.accepted.Accepted.{IsSound, IsSoundStatement, IsSoundTree, right_tree}
@@ -51,12 +51,12 @@ use Rattle.sem_kept.proofs.accepted.SizesOps.{whole_count}
 use Rattle.listing_laws.specs.Again.{IsMadeOf, IsWholeAgain, again_at, context_at}
 use Rattle.listing_laws.specs.AgainBodies.{AreBodiesKeptAgain, around_again, body_again, made_block}
 use Rattle.listing_laws.specs.CallsAgain.{AreStatementsAgain, IsFoundAgain, IsRightStatement}
-use Rattle.listing_laws.specs.Calls.{IsNumbered}
+use Rattle.listing_laws.specs.Calls.{IsInstanceNumbered}
 use Rattle.listing_laws.specs.Declared.{signatures_in}
-use Rattle.listing_laws.specs.Instructions.{HasAgain, IsKept}
+use Rattle.listing_laws.specs.Instructions.{HasAgain, IsInstructionKept}
 use Rattle.listing_laws.specs.LabelRules.{LeadsWithin}
 use Rattle.listing_laws.specs.ListedBodies.{AreKeptFrom}
-use Rattle.listing_laws.specs.Statements.{jumps_to, offset_in, run_of}
+use Rattle.listing_laws.specs.Statements.{jumps_to, statement_offset, run_of}
 use Rattle.listing_laws.proofs.LabelLemmas.{labels_reached}
 use Rattle.listing_laws.proofs.RunLemmas.{numbers_found}
 use Rattle.listing_laws.proofs.WordLemmas.{have_words}
@@ -93,7 +93,7 @@ leaps_to jump.Jmz n target = eq-eqb target target refl
 leaps_to jump.Juo n target = eq-eqb target target refl
 leaps_to jump.Loop n target = eq-eqb target target refl
 
-any_at : (P : Stated → Bool) (before : List Stated) (s : Stated) (after : List Stated) → P s ≡ true → list_any P (before ++ s ∷ after) ≡ true
+any_at : (P : SourceInstruction → Bool) (before : List SourceInstruction) (s : SourceInstruction) (after : List SourceInstruction) → P s ≡ true → list_any P (before ++ s ∷ after) ≡ true
 any_at P [] s after e = ap (λ (t : Bool). t || list_any P after) e
 any_at P (x ∷ before) s after e = by (P x) (any_at P before s after e)
   where
@@ -106,9 +106,9 @@ smaller n count h = omega (arith, h)
 
 -- ---- calls
 
-numbered : (listed : Context) (instance : Option ℕ) → IsInstanceAgain listed instance → IsNumbered instance
+numbered : (listed : Context) (instance : Option ℕ) → IsInstanceAgain listed instance → IsInstanceNumbered instance
 numbered listed None h e = absurd cc
-numbered listed (Some n) h e = no_zero listed (subst (λ m. data_number listed (data_block_name m) ≡ Some m) (same n e) h)
+numbered listed (Some n) h e = no_zero listed (subst (λ m. data_number listed (name_of_data_block m) ≡ Some m) (same n e) h)
   where
     same : (m : ℕ) → Some m ≡ Some 0 → m ≡ 0
     same m e = cc
@@ -131,7 +131,7 @@ module _ (source file : List ℕ) (symbols : List Symbol) (t : Tree) (accepted :
   ss = signatures_in (program_in symbols t)
 
   abbrev own : List Formal
-  own = formals_of ss id
+  own = formals_of_block ss id
 
   abbrev sb : StatedBlock
   sb = made_block symbols t place b l id
@@ -143,7 +143,7 @@ module _ (source file : List ℕ) (symbols : List Symbol) (t : Tree) (accepted :
   sur = around_again symbols t sb
 
   abbrev f : ℕ → ℕ
-  f = offset_in sb.statements
+  f = statement_offset sb.statements
 
   tree : IsSoundTree symbols t
   tree = right_tree source file symbols t accepted
@@ -156,9 +156,9 @@ module _ (source file : List ℕ) (symbols : List Symbol) (t : Tree) (accepted :
 
   -- ---- a statement
 
-  module _ (s : Statement) (front rest : List Statement) (split : b.body ≡ front ++ s ∷ rest) (some : is_empty s.code ≡ false) where
+  module _ (s : Statement) (front rest : List Statement) (split : b.body ≡ front ++ s ∷ rest) (some : is_empty_statement s.code ≡ false) where
     abbrev IsKeptHere : ℕ → ℕ → Instr → Type 0
-    IsKeptHere n k i = IsKept listed body n s.code i (statement sur k (run_of f i))
+    IsKeptHere n k i = IsInstructionKept listed body n s.code i (listed_statement sur k (run_of f i))
 
     settled : IsSettled c b.body s
     settled = split_holds (IsSettled c b.body) b.body front s rest (statements_settle source file symbols t accepted bytes place b made.source.block) split
@@ -167,14 +167,14 @@ module _ (source file : List ℕ) (symbols : List Symbol) (t : Tree) (accepted :
     right = split_holds (IsRightStatement symbols) b.body front s rest
         (all_there (λ (z : Block). AllByRecursion (IsRightStatement symbols) z.body) t.blocks place b (operands_right source file symbols t accepted bytes) made.source.block) split
 
-    sound_here : IsSoundStatement (types_of symbols t.blocks) c s
-    sound_here = split_holds (IsSoundStatement (types_of symbols t.blocks) c) b.body front s rest sound.statements split
+    sound_here : IsSoundStatement (types_of_source symbols t.blocks) c s
+    sound_here = split_holds (IsSoundStatement (types_of_source symbols t.blocks) c) b.body front s rest sound.statements split
 
     here : IsStated c b.body (statements_of c b) s
     here = stated c b front s rest split some
 
     -- a jump
-    jump_kept : (how : JumpOperation) → jump_of s.code ≡ Some how → (n k : ℕ) → IsKeptHere n k (instruction c b.body n s)
+    jump_kept : (how : JumpOperation) → jump_operation_of s.code ≡ Some how → (n k : ℕ) → IsKeptHere n k (instruction c b.body n s)
     jump_kept how is n k = jumps_kept c listed sur f b.body body n k s (λ none. never (sym none ∙ is)) at reached
       where
         never : None ≡ Some how → ⊥
@@ -188,7 +188,7 @@ module _ (source file : List ℕ) (symbols : List Symbol) (t : Tree) (accepted :
 
         within : target < length sb.statements
         within =
-            split_holds (λ (z : Stated). LeadsWithin (length (statements_of c b)) z.instr) (statements_of c b) here.before
+            split_holds (λ (z : SourceInstruction). LeadsWithin (length (statements_of c b)) z.instr) (statements_of c b) here.before
             (record { instr = instruction c b.body here.number s; line = s.line }) here.after (jumps_within c b) here.is target leaps
 
         at : number_at sur.starts (f target) ≡ target
@@ -200,14 +200,14 @@ module _ (source file : List ℕ) (symbols : List Symbol) (t : Tree) (accepted :
         few : length sb.statements ≤ 93312
         few = let count = whole_count c b in let most = ltb-false 65534 _ sound.head.by_55 in omega (arith, long, count, most)
 
-        reached : target_in (label_of target) body ≡ target
+        reached : target_in (label_of_number target) body ≡ target
         reached =
             labels_reached ss (lines_in sb.statements) sb target (have_words c b) long few within
-            (ap (list_any (λ (z : Stated). jumps_to target z.instr)) here.is
-            ∙ any_at (λ (z : Stated). jumps_to target z.instr) here.before (record { instr = instruction c b.body here.number s; line = s.line }) here.after leaps)
+            (ap (list_any (λ (z : SourceInstruction). jumps_to target z.instr)) here.is
+            ∙ any_at (λ (z : SourceInstruction). jumps_to target z.instr) here.before (record { instr = instruction c b.body here.number s; line = s.line }) here.after leaps)
 
     -- a call
-    call_kept : (how : CallOperation) → call_of s.code ≡ Some how → HasCalled c s → (n k : ℕ) → IsKeptHere n k (instruction c b.body n s)
+    call_kept : (how : CallOperation) → call_operation_of s.code ≡ Some how → HasCalled c s → (n k : ℕ) → IsKeptHere n k (instruction c b.body n s)
     call_kept how is h n k =
         subst (IsKeptHere n k) (sym (called_instr c b.body n s how h.id h.instance h.callee is h.called h.found)) kept
       where
@@ -215,15 +215,15 @@ module _ (source file : List ℕ) (symbols : List Symbol) (t : Tree) (accepted :
         ps = passings_to c s (Some h.callee)
 
         listing : Statement
-        listing = statement sur k (run_of f (Calls how h.id h.instance ps))
+        listing = listed_statement sur k (run_of f (Calls how h.id h.instance ps))
 
-        sees : seen c s.operand ≡ Resolved (view.Called h.id h.instance)
+        sees : resolution_of c s.operand ≡ Resolved (view.Called h.id h.instance)
         sees = what_seen c s (view.Called h.id h.instance) h.called
 
         is_called : is_called_operand s.operand ≡ true
         is_called = sound_here.well_formed.called ∙ word_calls s.code how is
           where
-            word_calls : (m : Mnemonic) (how : CallOperation) → call_of m ≡ Some how → is_call m ≡ true
+            word_calls : (m : Mnemonic) (how : CallOperation) → call_operation_of m ≡ Some how → is_call m ≡ true
             word_calls code.Call how e = refl
             word_calls code.Uc how e = refl
             word_calls code.Cc how e = refl
@@ -233,15 +233,15 @@ module _ (source file : List ℕ) (symbols : List Symbol) (t : Tree) (accepted :
         st = sees_called c listed own s.operand (view.Called h.id h.instance) stands_again
             (calls source file symbols t accepted bytes file_bytes others clean again place b l id made) is_called sees
 
-        rule : rule_of (form_of s.code) (view.Called h.id h.instance) ≡ None
+        rule : rule_of_resolved_operand (form_of s.code) (view.Called h.id h.instance) ≡ None
         rule = rule_called c (form_of s.code) s.operand (view.Called h.id h.instance) is_called (rule_broken c s (view.Called h.id h.instance) h.called) sees
 
         plain : is_data_type h.id.kind ≡ false
         plain = called_plain h.id h.instance (same_kind s.code how (view.Called h.id h.instance) is (taken_view (form_of s.code) (view.Called h.id h.instance) rule))
 
-        whole : whole_block listed (Some h.id) ≡ Some h.id
+        whole : whole_called_block listed (Some h.id) ≡ Some h.id
         whole =
-            subst (λ (i : BlockId). is_data_type i.kind ≡ false → whole_block listed (Some i) ≡ Some i) (sym (same_id h.id st.id h.instance st.instance st.is)) st.whole plain
+            subst (λ (i : BlockId). is_data_type i.kind ≡ false → whole_called_block listed (Some i) ≡ Some i) (sym (same_id h.id st.id h.instance st.instance st.is)) st.whole plain
 
         instance_there : IsInstanceAgain listed h.instance
         instance_there = subst (IsInstanceAgain listed) (sym (same_instance h.id st.id h.instance st.instance st.is)) st.again
@@ -252,37 +252,37 @@ module _ (source file : List ℕ) (symbols : List Symbol) (t : Tree) (accepted :
         callable : is_callable h.id.kind ≡ true
         callable = callable_here source file symbols t accepted bytes file_bytes others clean again place b l id made s front rest split h.id h.instance h.callee h.called h.found
 
-        made_words : (listing.code ≡ s.code) × (listing.actuals ≡ actuals_before (line_at sur.lines k) sur.formals (called_formals sur.signatures h.id) (passing ps))
+        made_words : (listing.code ≡ s.code) × (listing.actuals ≡ actuals_before (line_of_statement sur.lines k) sur.formals (called_formals sur.signatures h.id) (pass_ops ps))
         made_words = statements_listed sur k f s.code how h.id h.instance ps callable is
 
-        operand_is : listing.operand ≡ operand.Called (block.Number h.id) (option_map data_block_name h.instance)
+        operand_is : listing.operand ≡ operand.Called (block.Number h.id) (option_map name_of_data_block h.instance)
         operand_is = calls_listed sur.formals sur.starts f how h.id h.instance ps callable (numbered listed h.instance instance_there)
 
-        listing_sees : seen listed listing.operand ≡ Resolved (view.Called h.id h.instance)
+        listing_sees : resolution_of listed listing.operand ≡ Resolved (view.Called h.id h.instance)
         listing_sees =
-            ap (seen listed) operand_is
-            ∙ ap (λ (x : Option BlockName). seen listed (operand.Called (block.Number h.id) x)) (sym (instance_is h.instance (numbered listed h.instance instance_there)))
+            ap (resolution_of listed) operand_is
+            ∙ ap (λ (x : Option BlockName). resolution_of listed (operand.Called (block.Number h.id) x)) (sym (instance_is h.instance (numbered listed h.instance instance_there)))
             ∙ called_again listed h.id h.instance whole instance_there
 
         right_again : statement_rule listed listing ≡ None
         right_again =
             ap (λ (x : Mnemonic). operand_rule listed (form_of x) listing.operand) made_words.0
             ∙ ap (operand_rule listed (form_of s.code)) operand_is
-            ∙ ap (rule_seen (form_of s.code)) (ap (seen listed) (sym operand_is) ∙ listing_sees) ∙ rule
+            ∙ ap (rule_seen (form_of s.code)) (ap (resolution_of listed) (sym operand_is) ∙ listing_sees) ∙ rule
 
         kept : IsKeptHere n k (Calls how h.id h.instance ps)
         kept = record {
           word = made_words.0;
           right = right_again;
-          instr = calls_kept listed body n listing how h.id h.instance own (called_formals ss h.id) found.found ps (ap call_of made_words.0 ∙ is)
+          instr = calls_kept listed body n listing how h.id h.instance own (called_formals ss h.id) found.found ps (ap call_operation_of made_words.0 ∙ is)
               (resolves listed listing (view.Called h.id h.instance) right_again listing_sees) (ap (callee_of listed) operand_is ∙ found.is)
               (record { actuals = made_words.1; order = found.order; named = found.named; passable = found.passable; rising = found.rising });
         }
 
     pub statement_kept : (n k : ℕ) → IsKeptHere n k (instruction c b.body n s)
-    statement_kept n k = by (jump_of s.code) refl (call_of s.code) refl settled.instruction
+    statement_kept n k = by (jump_operation_of s.code) refl (call_operation_of s.code) refl settled.instruction
       where
-        by : (j : Option JumpOperation) → jump_of s.code ≡ j → (o : Option CallOperation) → call_of s.code ≡ o → HasInstruction c b.body s (jump_of s.code)
+        by : (j : Option JumpOperation) → jump_operation_of s.code ≡ j → (o : Option CallOperation) → call_operation_of s.code ≡ o → HasInstruction c b.body s (jump_operation_of s.code)
             → IsKeptHere n k (instruction c b.body n s)
         by (Some how) is o e h = jump_kept how is n k
         by None is (Some how) e h = call_kept how e (subst (HasOperand c s) e (subst (HasInstruction c b.body s) is h)) n k
@@ -295,24 +295,24 @@ module _ (source file : List ℕ) (symbols : List Symbol) (t : Tree) (accepted :
   pub kept_from : (front rest : List Statement) → b.body ≡ front ++ rest → (n : ℕ) → AreKeptFrom listed body sur f n (stated_from c b.body n rest)
   kept_from front [] e n = tt
   kept_from front (s ∷ rest) e n =
-      by (is_empty s.code) refl (kept_from (front ++ s ∷ []) rest (e ∙ sym (append_assoc front (s ∷ []) rest)) n)
+      by (is_empty_statement s.code) refl (kept_from (front ++ s ∷ []) rest (e ∙ sym (append_assoc front (s ∷ []) rest)) n)
       (kept_from (front ++ s ∷ []) rest (e ∙ sym (append_assoc front (s ∷ []) rest)) (suc n))
     where
-      by : (t' : Bool) → is_empty s.code ≡ t' → AreKeptFrom listed body sur f n (stated_from c b.body n rest) → AreKeptFrom listed body sur f (suc n) (stated_from c b.body (suc n) rest)
+      by : (t' : Bool) → is_empty_statement s.code ≡ t' → AreKeptFrom listed body sur f n (stated_from c b.body n rest) → AreKeptFrom listed body sur f (suc n) (stated_from c b.body (suc n) rest)
           → AreKeptFrom listed body sur f n
           (if t' then stated_from c b.body n rest else record { instr = instruction c b.body n s; line = s.line } ∷ stated_from c b.body (suc n) rest)
       by true is same next = same
       by false is same next =
           let kept = statement_kept s front rest e is n n in
-          (ap is_empty kept.word ∙ is, kept.instr, next)
+          (ap is_empty_statement kept.word ∙ is, kept.instr, next)
 
 pub statements_again : AreStatementsAgain
 statements_again source file symbols t accepted bytes file_bytes others clean again place b l id made =
     all_split
-    (λ s. is_empty s.code ≡ false → (n k : ℕ)
-    → IsKept (again_at symbols t others again) (body_again symbols t (made_block symbols t place b l id)) n s.code (instruction (context_at symbols t place) b.body n s)
-    (statement (around_again symbols t (made_block symbols t place b l id)) k
-    (run_of (offset_in (made_block symbols t place b l id).statements) (instruction (context_at symbols t place) b.body n s))))
+    (λ s. is_empty_statement s.code ≡ false → (n k : ℕ)
+    → IsInstructionKept (again_at symbols t others again) (body_again symbols t (made_block symbols t place b l id)) n s.code (instruction (context_at symbols t place) b.body n s)
+    (listed_statement (around_again symbols t (made_block symbols t place b l id)) k
+    (run_of (statement_offset (made_block symbols t place b l id).statements) (instruction (context_at symbols t place) b.body n s))))
     b.body
     (λ front s rest e some n k. statement_kept source file symbols t accepted bytes file_bytes others clean again place b l id made s front rest e some n k)
 

@@ -9,7 +9,7 @@ use Rattle.plc_base.specs.Widths.{width_number}
 use Rattle.plc_base.specs.declared.blocks.BlockId.{BlockId}
 use Rattle.plc_base.specs.declared.blocks.BlockKind.{BlockKind}
 use Rattle.plc_base.specs.declared.blocks.BlockKind.TheVariants as kinds
-use Rattle.flat_code.specs.Blocks.{BlockSignature as FlatSignature, block_with, callee as flat_callee, signature_of, callee_of_system, system_params}
+use Rattle.flat_code.specs.Blocks.{BlockSignature as FlatSignature, block_with, callee_among as flat_callee, signature_of, callee_of_system, system_params}
 use Rattle.flat_code.specs.Image.{record_of_block, record_of_param}
 use Rattle.flat_code.specs.Programs.{CodeBlock, DataBlock, Program}
 use Rattle.flat_code.specs.declared.image_fields.ParameterRecord.{ParameterRecord}
@@ -26,17 +26,17 @@ use Rattle.block_layout.specs.Layouts.{layouts_of}
 use Rattle.block_layout.specs.Paths.{cells_in}
 use Rattle.block_layout.specs.declared.blocks.BlockLayout.{BlockLayout}
 use Rattle.block_layout.specs.declared.cells.Cell.{Cell}
-use Rattle.stl_types.specs.Context.{Context, ids, whole_place}
-use Rattle.stl_types.specs.Parameters.{Callee, callee_at, callee_by, dtime, formals_of as formals_in, is_sound_formal, mode, ob_nr, returns, sign, sound_formals, source_callee, system_callee, system_formals}
-use Rattle.stl_types.specs.Resolution.{id_at, whole_block}
+use Rattle.stl_types.specs.Context.{Context, source_block_ids, whole_place}
+use Rattle.stl_types.specs.Parameters.{Callee, callee_at, callee_by, dtime_formal, formals_of as formals_in, is_sound_formal, mode_formal, ob_nr_formal, return_value_formal, sign_formal, sound_formals, source_callee, system_callee, system_formals}
+use Rattle.stl_types.specs.Resolution.{id_at, whole_called_block}
 use Rattle.stl_types.specs.declared.parameters.Formal.{Formal}
-use Rattle.stl_codegen.specs.Compiled.{compiled}
+use Rattle.stl_codegen.specs.Compiled.{compiled_block}
 use Rattle.stl_codegen.specs.Generated.{code_block, params_of, section_number}
-use Rattle.stl_codegen.specs.Instruction.{block_at, in_order}
+use Rattle.stl_codegen.specs.Instruction.{source_block_at, in_parameter_order}
 use Rattle.stl_list.specs.CodeBlocks.{in_lines}
 use Rattle.stl_list.specs.Joined.{Chains, chains_of, system_parameters}
 use Rattle.stl_list.specs.Parameters.{section_of}
-use Rattle.stl_list.specs.Signatures.{Signature, called_formals, formals_of}
+use Rattle.stl_list.specs.Signatures.{Signature, called_formals, formals_of_block}
 use Rattle.sem_kept.specs.Accepted.{IsAccepted, program_in}
 use Rattle.sem_kept.proofs.accepted.Accepted.{IsSoundTree, right_tree}
 use Rattle.sem_kept.proofs.accepted.OperandsCells.{known_there}
@@ -44,12 +44,12 @@ use Rattle.sem_kept.proofs.accepted.OperandsFormals.{IsRecordOf, Matched, system
 use Rattle.sem_kept.proofs.accepted.OperandsMembers.{called_block}
 use Rattle.listing_laws.specs.AcceptedTypes.{declared_kinds}
 use Rattle.listing_laws.specs.Again.{IsMadeOf, IsWholeAgain, again_at, context_at, listed_again}
-use Rattle.listing_laws.specs.Chains.{is_listed}
+use Rattle.listing_laws.specs.Chains.{is_listed_type}
 use Rattle.listing_laws.specs.Declared.{signatures_in}
 use Rattle.listing_laws.specs.Fitting.{IsListedAs}
 use Rattle.listing_laws.specs.HandedOn.{called_kinds}
 use Rattle.listing_laws.specs.Ids.{data_id, program_ids}
-use Rattle.listing_laws.specs.Passings.{AreNamedApart, upper}
+use Rattle.listing_laws.specs.Passings.{AreNamedApart, in_upper_case}
 use Rattle.listing_laws.proofs.IdLemmas.{ids_listed}
 use Rattle.listing_laws.proofs.called.AcceptedTypes.{body_owed, whole_known}
 use Rattle.listing_laws.proofs.called.Listed.{kind_listed, parameters_listed}
@@ -73,7 +73,7 @@ pub record IsCalleeAgain (symbols : List Symbol) (t : Tree) (others : List Symbo
   pub callee : Callee
   pub found : callee_by (again_at symbols t others again) id id.kind ≡ Some callee
   pub same : callee.id ≡ id
-  pub order : in_order (block_at (listed_again symbols t).blocks callee.place) callee.formals ≡ map upper (called_formals (signatures_in (program_in symbols t)) id)
+  pub order : in_parameter_order (source_block_at (listed_again symbols t).blocks callee.place) callee.formals ≡ map in_upper_case (called_formals (signatures_in (program_in symbols t)) id)
   pub named : AreNamedApart (called_formals (signatures_in (program_in symbols t)) id)
   pub kind : ℕ
   pub bytes : ℕ
@@ -88,38 +88,38 @@ pub record IsCalleeAgain (symbols : List Symbol) (t : Tree) (others : List Symbo
 
 -- their parameters are named in upper case, and have types that a listing has
 abbrev AreUpper : List Formal → Type 0
-AreUpper fs = AllByRecursion (λ f. (upper f ≡ f) × (is_listed f.kind ≡ true)) fs
+AreUpper fs = AllByRecursion (λ f. (in_upper_case f ≡ f) × (is_listed_type f.kind ≡ true)) fs
 
 abbrev formals_by : (a b c d e f g h i : Bool) → Option (List Formal)
 formals_by a b c d e f g h i =
-    if a then Some (ob_nr ∷ dtime ∷ sign ∷ returns simple.Int ∷ [])
-    else if b then Some (ob_nr ∷ returns simple.Int ∷ [])
-    else if (if c then true else if d then true else false) then Some (mode ∷ ob_nr ∷ returns simple.Int ∷ [])
-    else if (if e then true else if f then true else false) then Some (returns simple.Int ∷ [])
+    if a then Some (ob_nr_formal ∷ dtime_formal ∷ sign_formal ∷ return_value_formal simple.Int ∷ [])
+    else if b then Some (ob_nr_formal ∷ return_value_formal simple.Int ∷ [])
+    else if (if c then true else if d then true else false) then Some (mode_formal ∷ ob_nr_formal ∷ return_value_formal simple.Int ∷ [])
+    else if (if e then true else if f then true else false) then Some (return_value_formal simple.Int ∷ [])
     else if (if g then true else if h then true else false) then Some []
-    else if i then Some (returns simple.Time ∷ [])
+    else if i then Some (return_value_formal simple.Time ∷ [])
     else None
 
 upper_as : (fs gs : List Formal) → AreUpper fs → Some fs ≡ Some gs → AreUpper gs
 upper_as fs gs h e = subst AreUpper (same_Some fs gs e) h
 
 upper_by : (a b c d e f g h i : Bool) (fs : List Formal) → formals_by a b c d e f g h i ≡ Some fs → AreUpper fs
-upper_by true b c d e f g h i fs s = upper_as (ob_nr ∷ dtime ∷ sign ∷ returns simple.Int ∷ []) fs ((refl, refl), ((refl, refl), ((refl, refl), ((refl, refl), tt)))) s
-upper_by false true c d e f g h i fs s = upper_as (ob_nr ∷ returns simple.Int ∷ []) fs ((refl, refl), ((refl, refl), tt)) s
-upper_by false false true d e f g h i fs s = upper_as (mode ∷ ob_nr ∷ returns simple.Int ∷ []) fs ((refl, refl), ((refl, refl), ((refl, refl), tt))) s
-upper_by false false false true e f g h i fs s = upper_as (mode ∷ ob_nr ∷ returns simple.Int ∷ []) fs ((refl, refl), ((refl, refl), ((refl, refl), tt))) s
-upper_by false false false false true f g h i fs s = upper_as (returns simple.Int ∷ []) fs ((refl, refl), tt) s
-upper_by false false false false false true g h i fs s = upper_as (returns simple.Int ∷ []) fs ((refl, refl), tt) s
+upper_by true b c d e f g h i fs s = upper_as (ob_nr_formal ∷ dtime_formal ∷ sign_formal ∷ return_value_formal simple.Int ∷ []) fs ((refl, refl), ((refl, refl), ((refl, refl), ((refl, refl), tt)))) s
+upper_by false true c d e f g h i fs s = upper_as (ob_nr_formal ∷ return_value_formal simple.Int ∷ []) fs ((refl, refl), ((refl, refl), tt)) s
+upper_by false false true d e f g h i fs s = upper_as (mode_formal ∷ ob_nr_formal ∷ return_value_formal simple.Int ∷ []) fs ((refl, refl), ((refl, refl), ((refl, refl), tt))) s
+upper_by false false false true e f g h i fs s = upper_as (mode_formal ∷ ob_nr_formal ∷ return_value_formal simple.Int ∷ []) fs ((refl, refl), ((refl, refl), ((refl, refl), tt))) s
+upper_by false false false false true f g h i fs s = upper_as (return_value_formal simple.Int ∷ []) fs ((refl, refl), tt) s
+upper_by false false false false false true g h i fs s = upper_as (return_value_formal simple.Int ∷ []) fs ((refl, refl), tt) s
 upper_by false false false false false false true h i fs s = upper_as [] fs tt s
 upper_by false false false false false false false true i fs s = upper_as [] fs tt s
-upper_by false false false false false false false false true fs s = upper_as (returns simple.Time ∷ []) fs ((refl, refl), tt) s
+upper_by false false false false false false false false true fs s = upper_as (return_value_formal simple.Time ∷ []) fs ((refl, refl), tt) s
 upper_by false false false false false false false false false fs s = absurd cc
 
 system_upper : (n : ℕ) (fs : List Formal) → system_formals n ≡ Some fs → AreUpper fs
 unfolding system_formals
 system_upper n fs e = upper_by (nat_eq n 32) (nat_eq n 33) (nat_eq n 39) (nat_eq n 40) (nat_eq n 41) (nat_eq n 42) (nat_eq n 43) (nat_eq n 46) (nat_eq n 64) fs e
 
-upper_all : (fs : List Formal) → AreUpper fs → fs ≡ map upper fs
+upper_all : (fs : List Formal) → AreUpper fs → fs ≡ map in_upper_case fs
 upper_all [] h = refl
 upper_all (f ∷ fs) (one, more) =
     let here = sym one.0 in
@@ -136,7 +136,7 @@ section_again part.Temp e = absurd cc
 matched_formals : (fs : List Formal) (rs : List ParameterRecord) → Matched fs rs → AreUpper fs → HasFormals fs rs
 matched_formals fs rs h k = record { formals = at fs rs h k }
   where
-    one : (f : Formal) (r : ParameterRecord) → IsRecordOf f r → is_listed f.kind ≡ true → IsListedAs f r
+    one : (f : Formal) (r : ParameterRecord) → IsRecordOf f r → is_listed_type f.kind ≡ true → IsListedAs f r
     one f r is listed = record { section = sym (ap section_of is.0 ∙ section_again f.section is.2); width = is.1; kind = listed }
 
     at : (fs : List Formal) (rs : List ParameterRecord) → Matched fs rs → AreUpper fs → (index : ℕ) (r : ParameterRecord) → slice_get rs index ≡ Some r
@@ -173,14 +173,14 @@ system_again symbols t others again id fs sys e =
     let system = system_matched id.number fs e in
     let uppers = system_upper id.number fs e in
     let listed : called_formals (signatures_in (program_in symbols t)) id ≡ fs =
-    ap (λ (b : Bool). if b then system_parameters id.number else formals_of (signatures_in (program_in symbols t)) id) sys ∙ ap (λ (o : Option (List Formal)). unwrap_or o []) e in
+    ap (λ (b : Bool). if b then system_parameters id.number else formals_of_block (signatures_in (program_in symbols t)) id) sys ∙ ap (λ (o : Option (List Formal)). unwrap_or o []) e in
     record {
       callee = made;
       found = ap (λ (b : Bool). if b then system_callee id else if is_function id.kind then source_callee (again_at symbols t others again) id
           else if is_function_block id.kind then source_callee (again_at symbols t others again) id else None) sys
           ∙ ap (option_map (λ formals. record { id = id; place = None; formals = formals })) e;
       same = refl;
-      order = upper_all fs uppers ∙ ap (map upper) (sym listed);
+      order = upper_all fs uppers ∙ ap (map in_upper_case) (sym listed);
       named = subst AreNamedApart (sym listed) (system_names_apart id.number fs e);
       kind = kind_number kinds.Sfc;
       bytes = 0;
@@ -191,7 +191,7 @@ system_again symbols t others again id fs sys e =
       count = ap length listed ∙ matched_count fs system.params system.matched;
       kinds = ap (λ (b : Bool). length (if b then map (λ (f : Formal). f.kind) (system_parameters id.number) else declared_kinds t symbols id)) sys
           ∙ length-map (system_parameters id.number) (λ (f : Formal). f.kind)
-          ∙ ap (λ (b : Bool). length (if b then system_parameters id.number else formals_of (signatures_in (program_in symbols t)) id)) (sym sys);
+          ∙ ap (λ (b : Bool). length (if b then system_parameters id.number else formals_of_block (signatures_in (program_in symbols t)) id)) (sym sys);
     }
 
 -- ---- blocks of the source
@@ -255,7 +255,7 @@ source_flat blocks kinds.Db n h k = absurd cc
 source_flat blocks kinds.Udt n h k = absurd cc
 
 -- the place of a block that is whole
-place_whole : (c : Context) (id : BlockId) → is_system_function id.kind ≡ false → whole_block c (Some id) ≡ Some id → (p : ℕ) × (whole_place c id ≡ Some p)
+place_whole : (c : Context) (id : BlockId) → is_system_function id.kind ≡ false → whole_called_block c (Some id) ≡ Some id → (p : ℕ) × (whole_place c id ≡ Some p)
 place_whole c id other e = by (whole_place c id) refl (sym (ap (λ (b : Bool). if b then Some id else id_at id (whole_place c id)) other) ∙ e)
   where
     by : (o : Option ℕ) → whole_place c id ≡ o → id_at id o ≡ Some id → (p : ℕ) × (whole_place c id ≡ Some p)
@@ -280,21 +280,21 @@ module _ (source file : List ℕ) (symbols : List Symbol) (t : Tree) (accepted :
       let within = slice_get_within (in_lines (program_in symbols t).code_blocks) k at.0 at.1 in
       let count = lines_count (program_in symbols t).code_blocks in
       let made = made_of_source source file symbols t accepted bytes file_bytes k (omega (arith, within, count)) in
-      let same : made.3 ≡ id = ap (λ (b : CodeBlock). b.id) (same_Some (compiled (code_block (context_at symbols t made.0) made.1 made.2 made.3)) at.0 (sym made.4.ordered ∙ at.1)) ∙ at.2 in
+      let same : made.3 ≡ id = ap (λ (b : CodeBlock). b.id) (same_Some (compiled_block (code_block (context_at symbols t made.0) made.1 made.2 made.3)) at.0 (sym made.4.ordered ∙ at.1)) ∙ at.2 in
       record { place = made.0; block = made.1; layout = made.2; made = subst (λ (i : BlockId). IsMadeOf symbols t k made.0 made.1 made.2 i) same made.4 }
 
   -- its formals are the parameters of the code
-  pub block_formals : (k place : ℕ) (b : Block) (l : BlockLayout) (id : BlockId) → IsListedCode symbols t others k (compiled (code_block (context_at symbols t place) b l id))
-      → HasFormals (formals_of ss id) (map record_of_param (params_of b l))
+  pub block_formals : (k place : ℕ) (b : Block) (l : BlockLayout) (id : BlockId) → IsListedCode symbols t others k (compiled_block (code_block (context_at symbols t place) b l id))
+      → HasFormals (formals_of_block ss id) (map record_of_param (params_of b l))
   block_formals k place b l id h = record { formals = at }
     where
       chains : Chains
       chains = chains_of (program_in symbols t).code_blocks
 
-      at : (index : ℕ) (r : ParameterRecord) → slice_get (map record_of_param (params_of b l)) index ≡ Some r → (f : Formal) × (slice_get (formals_of ss id) index ≡ Some f) × IsListedAs f r
+      at : (index : ℕ) (r : ParameterRecord) → slice_get (map record_of_param (params_of b l)) index ≡ Some r → (f : Formal) × (slice_get (formals_of_block ss id) index ≡ Some f) × IsListedAs f r
       at index r e =
           let own = mapped_from record_of_param (params_of b l) index r e in
-          let found : IsFormalAt (formals_of ss id) index own.0 =
+          let found : IsFormalAt (formals_of_block ss id) index own.0 =
           subst (λ fs. IsFormalAt fs index own.0) (sym h.known.are)
           (formal_at chains (is_function id.kind) false 0 h.known.first (params_of b l) h.known.wide index own.0 own.1) in
           let listed = parameters_listed chains (program_in symbols t).code_blocks id index found.formal found.there in (
@@ -303,12 +303,12 @@ module _ (source file : List ℕ) (symbols : List Symbol) (t : Tree) (accepted :
             record {
               section = found.section ∙ ap (λ (z : ParameterRecord). section_of z.section) own.2;
               width = ap (λ (z : ParameterRecord). z.width) (sym own.2) ∙ ap width_number (sym found.width);
-              kind = ap is_listed listed.kind ∙ kind_listed chains _ listed.param.width;
+              kind = ap is_listed_type listed.kind ∙ kind_listed chains _ listed.param.width;
             },
           )
 
   -- a block that is whole in the listing
-  pub block_again : (again : ℕ) (id : BlockId) → is_callable id.kind ≡ true → is_system_function id.kind ≡ false → whole_block (again_at symbols t others again) (Some id) ≡ Some id
+  pub block_again : (again : ℕ) (id : BlockId) → is_callable id.kind ≡ true → is_system_function id.kind ≡ false → whole_called_block (again_at symbols t others again) (Some id) ≡ Some id
       → IsCalleeAgain symbols t others again id
   block_again again id callable other e = record {
     callee = record { id = id; place = Some k; formals = formals_in h.layout.components };
@@ -318,7 +318,7 @@ module _ (source file : List ℕ) (symbols : List Symbol) (t : Tree) (accepted :
         ∙ ap (λ (b : Bool). option_map (λ formals. record { id = id; place = Some k; formals = formals }) (if b then Some (formals_in h.layout.components) else None))
         (ap (list_all is_sound_formal) h.components ∙ all_sound _ ss h.reached cb h.groups));
     same = refl;
-    order = ap (λ (o : Option Block). in_order o (formals_in h.layout.components)) h.block ∙ h.order ∙ ap (map upper) (sym listed);
+    order = ap (λ (o : Option Block). in_parameter_order o (formals_in h.layout.components)) h.block ∙ h.order ∙ ap (map in_upper_case) (sym listed);
     named = subst AreNamedApart (sym listed) h.named;
     kind = kind_number id.kind;
     bytes = _;
@@ -351,7 +351,7 @@ module _ (source file : List ℕ) (symbols : List Symbol) (t : Tree) (accepted :
       listed_there : slice_get (map (λ i. Some i) (program_ids (program_in symbols t))) k ≡ Some (Some id)
       listed_there =
           ap (λ is. slice_get is k) (sym (ids_in others (listed_again symbols t) ∙ ids_listed others (program_in symbols t)))
-          ∙ known_there id (ids c) k (whole_known (layouts_of (listed_again symbols t) others) (known_block id (ids c)) k whole.1)
+          ∙ known_there id (source_block_ids c) k (whole_known (layouts_of (listed_again symbols t) others) (known_block id (source_block_ids c)) k whole.1)
 
       there : slice_get (program_ids (program_in symbols t)) k ≡ Some id
       there =
@@ -362,15 +362,15 @@ module _ (source file : List ℕ) (symbols : List Symbol) (t : Tree) (accepted :
       at = made_at k id there code
 
       cb : CodeBlock
-      cb = compiled (code_block (context_at symbols t at.place) at.block at.layout id)
+      cb = compiled_block (code_block (context_at symbols t at.place) at.block at.layout id)
 
       h : IsListedCode symbols t others k cb
       h = listed_code source file symbols t accepted bytes file_bytes others clean k at.place at.block at.layout id at.made
 
-      listed : called_formals ss id ≡ formals_of ss id
-      listed = ap (λ (b : Bool). if b then system_parameters id.number else formals_of ss id) other
+      listed : called_formals ss id ≡ formals_of_block ss id
+      listed = ap (λ (b : Bool). if b then system_parameters id.number else formals_of_block ss id) other
 
-      long : length (formals_of ss id) ≡ length (params_of at.block at.layout)
+      long : length (formals_of_block ss id) ≡ length (params_of at.block at.layout)
       long =
           ap length h.known.are
           ∙ formals_length (chains_of (program_in symbols t).code_blocks) (is_function id.kind) false 0 h.known.first (params_of at.block at.layout)

@@ -13,7 +13,7 @@ use Rattle.plc_base.specs.declared.blocks.BlockId.{BlockId}
 use Rattle.plc_base.specs.declared.blocks.BlockKind.{BlockKind}
 use Rattle.plc_base.specs.declared.blocks.BlockKind.TheVariants as kinds
 use Rattle.plc_base.specs.declared.places.Width.{Width}
-use Rattle.flat_code.specs.Blocks.{Around, CalleeSeen as FlatCallee, are_passed, is_bad_actual, is_bad_call, is_in_parameter, lacks_own, misfits_index, misfits_parameter, parameter_meant, signature_of}
+use Rattle.flat_code.specs.Blocks.{Environment, CalleeSeen as FlatCallee, are_all_passed, is_bad_actual, is_bad_call, is_in_parameter, lacks_own_parameter, misfits_index, misfits_parameter, parameter_meant, signature_of}
 use Rattle.flat_code.specs.Forms.{actual_fits}
 use Rattle.flat_code.specs.Image.{record_of_block, record_of_param}
 use Rattle.flat_code.specs.Instr.{Calls, Instr, Passing}
@@ -23,7 +23,7 @@ use Rattle.flat_code.specs.declared.operands.Passed.{Passed}
 use Rattle.flat_code.specs.declared.operands.Passed.TheVariants as passed
 use Rattle.flat_code.specs.declared.operations.CallOperation.{CallOperation}
 use Rattle.stl_ast.specs.Literals.{AreBytes}
-use Rattle.stl_ast.specs.Statements.{has_actuals, is_call, is_called as is_called_operand, is_empty}
+use Rattle.stl_ast.specs.Statements.{has_actuals, is_call, names_called_block as is_called_operand, is_empty_statement}
 use Rattle.stl_ast.specs.declared.blocks.Block.{Block}
 use Rattle.stl_ast.specs.declared.blocks.Tree.{Tree}
 use Rattle.stl_ast.specs.declared.declarations.Simple.{Simple}
@@ -35,28 +35,28 @@ use Rattle.stl_ast.specs.declared.operands.Operand.TheVariants as operand
 use Rattle.stl_ast.specs.declared.statements.Statement.{Statement}
 use Rattle.stl_symbols.specs.Symbol.{Symbol}
 use Rattle.block_layout.specs.Layouts.{block_layout, layouts_of}
-use Rattle.block_layout.specs.Lengths.{farthest, local_len}
-use Rattle.block_layout.specs.Measures.{types_of}
+use Rattle.block_layout.specs.Lengths.{farthest_operand_end, local_len}
+use Rattle.block_layout.specs.Measures.{types_of_source}
 use Rattle.block_layout.specs.Offsets.{width_of}
 use Rattle.block_layout.specs.declared.blocks.BlockLayout.{BlockLayout}
 use Rattle.stl_types.specs.Calls.{calls_unknown, is_unknown_function}
 use Rattle.stl_types.specs.Context.{Context, data_number}
 use Rattle.stl_types.specs.Forms.{form_of}
 use Rattle.stl_types.specs.Parameters.{Callee, callee_by, callee_of, system_formals}
-use Rattle.stl_types.specs.Resolution.{seen, whole_block}
-use Rattle.stl_types.specs.Resolved.{resolved}
+use Rattle.stl_types.specs.Resolution.{resolution_of, whole_called_block}
+use Rattle.stl_types.specs.Resolved.{resolved_operand}
 use Rattle.stl_types.specs.Variables.{own_variable}
 use Rattle.stl_types.specs.declared.parameters.Formal.{Formal}
 use Rattle.stl_types.specs.declared.views.Resolution.TheVariants.{Resolved}
 use Rattle.stl_types.specs.declared.views.ResolvedOperand.TheVariants as view
-use Rattle.stl_codegen.specs.Compiled.{StatedBlock, compiled}
-use Rattle.stl_codegen.specs.Emitted.{instance_number, ops_of, passing}
+use Rattle.stl_codegen.specs.Compiled.{StatedBlock, compiled_block}
+use Rattle.stl_codegen.specs.Emitted.{instance_number_or_zero, ops_of, pass_ops}
 use Rattle.stl_codegen.specs.Generated.{code_block, code_blocks_of, data_blocks_of, params_of}
-use Rattle.stl_codegen.specs.Instruction.{block_at, in_order, instr_by, instruction, passings_to, resolved_instr, return_last, view_instr}
-use Rattle.stl_codegen.specs.Operations.{call_of}
+use Rattle.stl_codegen.specs.Instruction.{source_block_at, in_parameter_order, instr_by, instruction, passings_to, resolved_instr, return_last, view_instr}
+use Rattle.stl_codegen.specs.Operations.{call_operation_of}
 use Rattle.stl_list.specs.Joined.{system_parameters}
-use Rattle.stl_list.specs.Operands.{data_block_name, name_at, own_parameter as own_named}
-use Rattle.stl_list.specs.Signatures.{Signature, called_formals, formals_of}
+use Rattle.stl_list.specs.Operands.{name_of_data_block, name_at, own_parameter as own_named}
+use Rattle.stl_list.specs.Signatures.{Signature, called_formals, formals_of_block}
 use Rattle.sem_kept.specs.Accepted.{IsAccepted, program_in}
 use Rattle.sem_kept.specs.Coded.{StatementHasBytes}
 use Rattle.sem_kept.specs.Operands.{ArePassed, InstrFits}
@@ -78,10 +78,10 @@ use Rattle.listing_laws.specs.Calling.{AreCalledAgain}
 use Rattle.listing_laws.specs.CallsAgain.{AreCallsAgain, IsCalledAgain, IsFoundAgain, IsRightStatement}
 use Rattle.listing_laws.specs.Declared.{signatures_in}
 use Rattle.listing_laws.specs.Fitting.{IsBacked, IsListedAs}
-use Rattle.listing_laws.specs.HandedOn.{OwesCall, ordered}
+use Rattle.listing_laws.specs.HandedOn.{OwesCall, formals_by_index}
 use Rattle.listing_laws.specs.Instructions.{HasAgain}
-use Rattle.listing_laws.specs.Passings.{IsPassable, upper}
-use Rattle.listing_laws.specs.Steps.{PassesOn}
+use Rattle.listing_laws.specs.Passings.{IsPassable, in_upper_case}
+use Rattle.listing_laws.specs.Steps.{PassesParameterOn}
 use Rattle.listing_laws.proofs.called.AcceptedTypes.{form_calls, operand_called, owed, resolved_seen, rule_called, seen_named, taken_calls}
 use Rattle.listing_laws.proofs.called.Fitting.{fitting_listed, width_is}
 use Rattle.listing_laws.proofs.made.Found.{called_found, data_found}
@@ -96,13 +96,13 @@ use Rattle.listing_laws.proofs.ruled.Calling.{no_jump, no_zero, sees_called}
 
 -- ---- words
 
-pub call_word : (m : Mnemonic) → is_call m ≡ true → (how : CallOperation) × (call_of m ≡ Some how)
+pub call_word : (m : Mnemonic) → is_call m ≡ true → (how : CallOperation) × (call_operation_of m ≡ Some how)
 call_word code.Call e = (_, refl)
 call_word code.Uc e = (_, refl)
 call_word code.Cc e = (_, refl)
 call_word _ e = absurd cc
 
-call_some : (m : Mnemonic) → is_call m ≡ true → is_empty m ≡ false
+call_some : (m : Mnemonic) → is_call m ≡ true → is_empty_statement m ≡ false
 call_some code.Call e = refl
 call_some code.Uc e = refl
 call_some code.Cc e = refl
@@ -126,8 +126,8 @@ other_number kinds.Udt e f = absurd cc
 
 -- ---- what a call passes
 
-pub called_instr : (c : Context) (body : List Statement) (n : ℕ) (s : Statement) (how : CallOperation) (id : BlockId) (instance : Option ℕ) (callee : Callee) → call_of s.code ≡ Some how
-    → resolved c s ≡ Some (view.Called id instance) → callee_of c s.operand ≡ Some callee → instruction c body n s ≡ Calls how id instance (passings_to c s (Some callee))
+pub called_instr : (c : Context) (body : List Statement) (n : ℕ) (s : Statement) (how : CallOperation) (id : BlockId) (instance : Option ℕ) (callee : Callee) → call_operation_of s.code ≡ Some how
+    → resolved_operand c s ≡ Some (view.Called id instance) → callee_of c s.operand ≡ Some callee → instruction c body n s ≡ Calls how id instance (passings_to c s (Some callee))
 unfolding instruction
 called_instr c body n s how id instance callee word e found =
     ap (instr_by c body n s) (no_jump s.code how word) ∙ ap (resolved_instr c s) e ∙ ap (view_instr c s (view.Called id instance)) word
@@ -147,7 +147,7 @@ second_true true false e = refl
 second_true true true e = absurd cc
 second_true false b e = absurd cc
 
-order_long : (o : Option Block) (fs : List Formal) → length (in_order o fs) ≡ length fs
+order_long : (o : Option Block) (fs : List Formal) → length (in_parameter_order o fs) ≡ length fs
 order_long None fs = refl
 order_long (Some b) fs = by b.result fs
   where
@@ -161,14 +161,14 @@ order_long (Some b) fs = by b.result fs
     by (Some r) (f ∷ fs) = longer fs f
 
 -- the width of a place that is passed is that of both parameters
-same_kinds_wide : (f g : Formal) (q r : ParameterRecord) (w : Width) → IsListedAs f q → IsListedAs g r → not (q.width == width_number w) ≡ false → lacks_own (Some r) w ≡ false → width_of g.kind ≡ width_of f.kind
+same_kinds_wide : (f g : Formal) (q r : ParameterRecord) (w : Width) → IsListedAs f q → IsListedAs g r → not (q.width == width_number w) ≡ false → lacks_own_parameter (Some r) w ≡ false → width_of g.kind ≡ width_of f.kind
 same_kinds_wide f g q r w h k e own = sym (width_is g r w k own) ∙ width_is f q w h e
 
-no_own : (o : Option ParameterRecord) (w : Width) → lacks_own o w ≡ false → (r : ParameterRecord) × (o ≡ Some r)
+no_own : (o : Option ParameterRecord) (w : Width) → lacks_own_parameter o w ≡ false → (r : ParameterRecord) × (o ≡ Some r)
 no_own None w e = absurd cc
 no_own (Some r) w e = (r, refl)
 
-some_index : (a : Around) (o : Option ParameterRecord) (p : Passed) → misfits_index a o p ≡ false → (r : ParameterRecord) × (o ≡ Some r) × (misfits_parameter a r p ≡ false)
+some_index : (a : Environment) (o : Option ParameterRecord) (p : Passed) → misfits_index a o p ≡ false → (r : ParameterRecord) × (o ≡ Some r) × (misfits_parameter a r p ≡ false)
 some_index a None p e = absurd cc
 some_index a (Some r) p e = (r, refl, e)
 
@@ -179,11 +179,11 @@ known_function id e sys = by (system_formals id.number) refl (sym (ap (λ (t : B
     by None is k = absurd cc
     by (Some fs) is k = (fs, is)
 
-own_seen : (c : Context) (own : List Formal) (index : ℕ) → seen c (own_named own index) ≡ own_variable c (upper_case_name (name_at own index)) []
-unfolding seen
+own_seen : (c : Context) (own : List Formal) (index : ℕ) → resolution_of c (own_named own index) ≡ own_variable c (upper_case_name (name_at own index)) []
+unfolding resolution_of
 own_seen c own index = refl
 
-local_is : (symbols : List Symbol) (t : Tree) (k : ℕ) (b : Block) (l : BlockLayout) → IsSound symbols t k b l → l.local_len ≡ local_len (types_of symbols t.blocks) b
+local_is : (symbols : List Symbol) (t : Tree) (k : ℕ) (b : Block) (l : BlockLayout) → IsSound symbols t k b l → l.local_len ≡ local_len (types_of_source symbols t.blocks) b
 unfolding block_layout
 local_is symbols t k b l h = ap (λ (z : BlockLayout). z.local_len) h.layout
 
@@ -204,7 +204,7 @@ module _ (source file : List ℕ) (symbols : List Symbol) (t : Tree) (accepted :
   ss = signatures_in (program_in symbols t)
 
   abbrev own : List Formal
-  own = formals_of ss id
+  own = formals_of_block ss id
 
   abbrev sb : StatedBlock
   sb = code_block c b l id
@@ -230,16 +230,16 @@ module _ (source file : List ℕ) (symbols : List Symbol) (t : Tree) (accepted :
   pub calls : AreCalledAgain c listed
   calls = called_found symbols t others place again clean
 
-  here_listed : IsListedCode symbols t others again (compiled sb)
+  here_listed : IsListedCode symbols t others again (compiled_block sb)
   here_listed = listed_code source file symbols t accepted bytes file_bytes others clean again place b l id made
 
   -- the block among all code blocks
-  abbrev here : Around
+  abbrev here : Environment
   here = record {
     kind = kind_number b.kind;
     local_len = l.local_len;
     params = map record_of_param (params_of b l);
-    blocks = map signature_of (map record_of_block (map compiled (code_blocks_of t symbols (layouts_of t symbols))));
+    blocks = map signature_of (map record_of_block (map compiled_block (code_blocks_of t symbols (layouts_of t symbols))));
     data_lens = None;
   }
 
@@ -248,7 +248,7 @@ module _ (source file : List ℕ) (symbols : List Symbol) (t : Tree) (accepted :
 
   ends : AllByRecursion (EndsBy l.local_len) b.body
   ends = ends_by l.local_len b.body
-      (subst (λ (n : ℕ). farthest b.body ≤ n) (sym (local_is symbols t place b l sound)) (holds_locals (types_of symbols t.blocks) b is_code_here sound.head.by_50).operands)
+      (subst (λ (n : ℕ). farthest_operand_end b.body ≤ n) (sym (local_is symbols t place b l sound)) (holds_locals (types_of_source symbols t.blocks) b is_code_here sound.head.by_50).operands)
 
   has_bytes : AllByRecursion StatementHasBytes b.body
   has_bytes = all_there (λ (z : Block). AllByRecursion StatementHasBytes z.body) t.blocks place b (tree_has source accepted.tokens t bytes accepted.parsed) made.source.block
@@ -265,7 +265,7 @@ module _ (source file : List ℕ) (symbols : List Symbol) (t : Tree) (accepted :
     formal : Formal
     there : slice_get own index ≡ Some formal
     as_listed : IsListedAs formal r
-    sees : seen listed (own_named own index) ≡ Resolved (view.Parameter index formal.section formal.kind)
+    sees : resolution_of listed (own_named own index) ≡ Resolved (view.Parameter index formal.section formal.kind)
 
   own_there : (index : ℕ) (r : ParameterRecord) → parameter_meant here index ≡ Some r → IsOwn index r
   own_there index r e = by (kind_number b.kind == kind_number kinds.Fc) refl e
@@ -280,36 +280,36 @@ module _ (source file : List ℕ) (symbols : List Symbol) (t : Tree) (accepted :
             there = found.1;
             as_listed = found.2;
             sees = own_seen listed own index ∙ ap (λ n. own_variable listed (upper_case_name n) []) (name_there own index found.0 found.1)
-                ∙ formal_again symbols t others again (compiled sb) here_listed function index found.0 found.1;
+                ∙ formal_again symbols t others again (compiled_block sb) here_listed function index found.0 found.1;
           }
 
   -- ---- a statement that calls
 
   module _ (s : Statement) (front rest : List Statement) (split : b.body ≡ front ++ s ∷ rest) (cid : BlockId) (instance : Option ℕ) (callee : Callee)
-      (res : resolved c s ≡ Some (view.Called cid instance)) (found : callee_of c s.operand ≡ Some callee) where
+      (res : resolved_operand c s ≡ Some (view.Called cid instance)) (found : callee_of c s.operand ≡ Some callee) where
     abbrev called : List Formal
     called = called_formals ss cid
 
     abbrev ps : List Passing
     ps = passings_to c s (Some callee)
 
-    sound_here : IsSoundStatement (types_of symbols t.blocks) c s
-    sound_here = split_holds (IsSoundStatement (types_of symbols t.blocks) c) b.body front s rest sound.statements split
+    sound_here : IsSoundStatement (types_of_source symbols t.blocks) c s
+    sound_here = split_holds (IsSoundStatement (types_of_source symbols t.blocks) c) b.body front s rest sound.statements split
 
-    sees : seen c s.operand ≡ Resolved (view.Called cid instance)
+    sees : resolution_of c s.operand ≡ Resolved (view.Called cid instance)
     sees = resolved_seen c s (view.Called cid instance) res
 
     is_word : is_call s.code ≡ true
     is_word = form_calls s.code
         (taken_calls (form_of s.code) cid instance (allowed (form_of s.code) (view.Called cid instance) (rule_called c (form_of s.code) s.operand cid instance sees sound_here.allowed)).taken)
 
-    how : (how : CallOperation) × (call_of s.code ≡ Some how)
+    how : (how : CallOperation) × (call_operation_of s.code ≡ Some how)
     how = call_word s.code is_word
 
     is_called : is_called_operand s.operand ≡ true
     is_called = sound_here.well_formed.called ∙ is_word
 
-    owes : OwesCall (declared_kinds t symbols) (map compiled (code_blocks_of t symbols (layouts_of t symbols))) c s cid
+    owes : OwesCall (declared_kinds t symbols) (map compiled_block (code_blocks_of t symbols (layouts_of t symbols))) c s cid
     owes = owed symbols t tree place b l sound s sound_here cid instance res
 
     pub callable_here : is_callable cid.kind ≡ true
@@ -329,11 +329,11 @@ module _ (source file : List ℕ) (symbols : List Symbol) (t : Tree) (accepted :
         same i j m n e = cc
 
     -- the block in the listing
-    whole_again : is_data_type cid.kind ≡ false → whole_block listed (Some cid) ≡ Some cid
+    whole_again : is_data_type cid.kind ≡ false → whole_called_block listed (Some cid) ≡ Some cid
     whole_again plain =
         let st = sees_called c listed own s.operand (view.Called cid instance) has calls is_called sees in
         let one : cid ≡ st.id = same cid st.id instance st.instance st.is in
-        subst (λ (i : BlockId). is_data_type i.kind ≡ false → whole_block listed (Some i) ≡ Some i) (sym one) st.whole plain
+        subst (λ (i : BlockId). is_data_type i.kind ≡ false → whole_called_block listed (Some i) ≡ Some i) (sym one) st.whole plain
       where
         same : (i j : BlockId) (m n : Option ℕ) → view.Called i m ≡ view.Called j n → i ≡ j
         same i j m n e = cc
@@ -349,7 +349,7 @@ module _ (source file : List ℕ) (symbols : List Symbol) (t : Tree) (accepted :
     one_of_nine : is_system_function cid.kind ≡ true → (fs : List Formal) × (system_formals cid.number ≡ Some fs)
     one_of_nine sys =
         let o = operand_called s.operand is_called in
-        let n = seen_named c o.0 o.1 cid instance (ap (seen c) (sym o.2) ∙ sees) in
+        let n = seen_named c o.0 o.1 cid instance (ap (resolution_of c) (sym o.2) ∙ sees) in
         known_function cid (ap is_unknown_function (sym n.0) ∙ ap (calls_unknown c) (sym o.2) ∙ sound_here.one_of_nine) sys
 
     again_called : IsCalleeAgain symbols t others again cid
@@ -393,11 +393,11 @@ module _ (source file : List ℕ) (symbols : List Symbol) (t : Tree) (accepted :
     stored : AreStored listed ps
     stored =
         from_stored c listed own has s.actuals (split_holds (IsRightStatement symbols) b.body front s rest rights split).actuals 0
-        (in_order (block_at c.blocks callee.place) callee.formals)
+        (in_parameter_order (source_block_at c.blocks callee.place) callee.formals)
 
     -- a parameter that is passed on
     passes_on : (lower : List Passing) (index number : ℕ) (w : Width) (higher : List Passing)
-        → ps ≡ lower ++ record { index = index; actual = passed.Parameter number w } ∷ higher → PassesOn sb cid index number
+        → ps ≡ lower ++ record { index = index; actual = passed.Parameter number w } ∷ higher → PassesParameterOn sb cid index number
     passes_on lower index number w higher e =
         let at = stated c b front s rest split (call_some s.code is_word) in
         record {
@@ -418,17 +418,17 @@ module _ (source file : List ℕ) (symbols : List Symbol) (t : Tree) (accepted :
     in_program : IsAmong symbols t sb
     in_program = among symbols t place b l id sound made.source.known made.source.code
 
-    type_kept : (index number : ℕ) (g f : Formal) → PassesOn sb cid index number → slice_get own number ≡ Some g → slice_get called index ≡ Some f → (q : ParameterRecord) → IsListedAs f q → width_of g.kind ≡ width_of f.kind
+    type_kept : (index number : ℕ) (g f : Formal) → PassesParameterOn sb cid index number → slice_get own number ≡ Some g → slice_get called index ≡ Some f → (q : ParameterRecord) → IsListedAs f q → width_of g.kind ≡ width_of f.kind
         → g.kind ≡ f.kind
     type_kept index number g f on there asks q as_listed wide = by (is_system_function cid.kind) refl
       where
         by : (t' : Bool) → is_system_function cid.kind ≡ t' → g.kind ≡ f.kind
         by true sys =
             given source file symbols t accepted bytes file_bytes sb in_program.front in_program.back in_program.is cid number index g f on sys there
-            (ap (λ (t' : Bool). slice_get (if t' then system_parameters cid.number else formals_of ss cid) index) (sym sys) ∙ asks) wide as_listed.kind
+            (ap (λ (t' : Bool). slice_get (if t' then system_parameters cid.number else formals_of_block ss cid) index) (sym sys) ∙ asks) wide as_listed.kind
         by false other =
             asked source file symbols t accepted bytes file_bytes sb in_program.front in_program.back in_program.is cid number index g f on other there
-            (ap (λ (t' : Bool). slice_get (if t' then system_parameters cid.number else formals_of ss cid) index) (sym other) ∙ asks) wide
+            (ap (λ (t' : Bool). slice_get (if t' then system_parameters cid.number else formals_of_block ss cid) index) (sym other) ∙ asks) wide
 
     -- one that is passed
     passable : (lower : List Passing) (p : Passing) (higher : List Passing) → ps ≡ lower ++ p ∷ higher → IsPassable listed own called p
@@ -457,13 +457,13 @@ module _ (source file : List ℕ) (symbols : List Symbol) (t : Tree) (accepted :
             some_number false z = refl
             some_number true z =
                 let zero_is : number ≡ 0 = eqb-true number 0 z in
-                absurd (no_zero listed (subst (λ n. data_number listed (data_block_name n) ≡ Some n) zero_is store))
+                absurd (no_zero listed (subst (λ n. data_number listed (name_of_data_block n) ≡ Some n) zero_is store))
         backed (passed.Parameter number w) is right k store =
             let record_there = no_own (parameter_meant here number) w right in
             let mine = own_there number record_there.0 record_there.1 in
             let parts = or_parts (not (q.0.width == width_number w)) (not (q.0.section == 1) && is_in_parameter (parameter_meant here number)) k in
             let wide : width_of mine.formal.kind ≡ width_of asks.0.kind
-            = same_kinds_wide asks.0 mine.formal q.0 record_there.0 w asks.2 mine.as_listed parts.0 (ap (λ o. lacks_own o w) (sym record_there.1) ∙ right) in
+            = same_kinds_wide asks.0 mine.formal q.0 record_there.0 w asks.2 mine.as_listed parts.0 (ap (λ o. lacks_own_parameter o w) (sym record_there.1) ∙ right) in
             let on = passes_on lower p.index number w higher (e ∙ ap (λ (x : Passed). lower ++ record { index = p.index; actual = x } ∷ higher) is) in
             (mine.formal, record_there.0, record_there.1, mine.as_listed, type_kept p.index number mine.formal asks.0 on mine.there asks.1 q.0 asks.2 wide, mine.sees)
 
@@ -472,18 +472,18 @@ module _ (source file : List ℕ) (symbols : List Symbol) (t : Tree) (accepted :
     pub call_again : IsFoundAgain c listed own called s cid instance callee
     call_again = record {
       found = again_called.callee;
-      is = callee_numbered listed cid (option_map data_block_name instance) again_called.callee again_called.found;
+      is = callee_numbered listed cid (option_map name_of_data_block instance) again_called.callee again_called.found;
       same = again_called.same ∙ sym same_callee;
-      size = sym (order_long (block_at listed.blocks again_called.callee.place) again_called.callee.formals) ∙ ap length again_called.order ∙ length-map called upper
+      size = sym (order_long (source_block_at listed.blocks again_called.callee.place) again_called.callee.formals) ∙ ap length again_called.order ∙ length-map called in_upper_case
           ∙ sym again_called.kinds
-          ∙ ap length ((owes.1 callee found).2) ∙ length-map (ordered c callee) (λ (f : Formal). f.kind) ∙ order_long (block_at c.blocks callee.place) callee.formals;
+          ∙ ap length ((owes.1 callee found).2) ∙ length-map (formals_by_index c callee) (λ (f : Formal). f.kind) ∙ order_long (source_block_at c.blocks callee.place) callee.formals;
       order = again_called.order;
       named = again_called.named;
       passable = all_split (IsPassable listed own called) ps passable;
       rising = rising here (Some flat) None 0 ps refl passed_here;
       complete = λ e. all_passed called again_called.params ps again_called.count
-          (complete_call (again_called.kind == kind_number kinds.Fb) (are_passed 0 again_called.params (passing ps)) _
-          (ap (λ o. is_bad_call (lens_of (data_blocks_of t symbols (layouts_of t symbols))) o (instance_number instance) (passing ps)) (sym again_called.flat) ∙ fits.2)
+          (complete_call (again_called.kind == kind_number kinds.Fb) (are_all_passed 0 again_called.params (pass_ops ps)) _
+          (ap (λ o. is_bad_call (lens_of (data_blocks_of t symbols (layouts_of t symbols))) o (instance_number_or_zero instance) (pass_ops ps)) (sym again_called.flat) ∙ fits.2)
           (ap (λ n. n == kind_number kinds.Fb) again_called.is_kind
           ∙ other_number cid.kind callable_here (ap (λ (i : BlockId). is_function_block i.kind) (sym same_callee) ∙ second_true (has_actuals s.code) (is_function_block callee.id.kind) e)));
     }
@@ -494,5 +494,5 @@ module _ (source file : List ℕ) (symbols : List Symbol) (t : Tree) (accepted :
 
 pub calls_again : AreCallsAgain
 calls_again source file symbols t accepted bytes file_bytes others clean again place b l id made =
-    all_split (IsCalledAgain (context_at symbols t place) (again_at symbols t others again) (signatures_in (program_in symbols t)) (formals_of (signatures_in (program_in symbols t)) id)) b.body
+    all_split (IsCalledAgain (context_at symbols t place) (again_at symbols t others again) (signatures_in (program_in symbols t)) (formals_of_block (signatures_in (program_in symbols t)) id)) b.body
     (each_again source file symbols t accepted bytes file_bytes others clean again place b l id made)

@@ -18,12 +18,12 @@ use Rattle.block_layout.specs.declared.cells.Cell.{Cell}
 use Rattle.block_layout.specs.declared.cells.Element.TheVariants.{Plain}
 use Rattle.stl_types.specs.Parameters.{formal_here, formals_of as formals_in, is_sound_formal}
 use Rattle.stl_types.specs.declared.parameters.Formal.{Formal}
-use Rattle.stl_codegen.specs.Instruction.{in_order, return_last}
+use Rattle.stl_codegen.specs.Instruction.{in_parameter_order, return_last}
 use Rattle.stl_list.specs.CodeBlocks.{listed_block}
 use Rattle.stl_list.specs.Parameters.{return_name}
 use Rattle.stl_list.specs.Sections.{static_bytes, static_len, static_name}
-use Rattle.stl_list.specs.Signatures.{Signature, formals_of}
-use Rattle.listing_laws.specs.Passings.{upper}
+use Rattle.stl_list.specs.Signatures.{Signature, formals_of_block}
+use Rattle.listing_laws.specs.Passings.{in_upper_case}
 use Rattle.listing_laws.proofs.declared.Cells.{byte_cell, byte_cells, plain_cell, plain_cells}
 use Rattle.listing_laws.proofs.declared.Sections.{AreGrouped, IsLast, Nothing as NoLast, Returned as LastReturned, last_result, listed_cells, result_is}
 
@@ -32,20 +32,20 @@ use Rattle.listing_laws.proofs.declared.Sections.{AreGrouped, IsLast, Nothing as
 abbrev pub AreIn : PartKind → List Formal → Type 0
 AreIn kind fs = AllByRecursion (λ f. f.section ≡ kind) fs
 
-plain_here : (kind : PartKind) (opens : Bool) (f : Formal) → is_parameter kind ≡ true → f.section ≡ kind → formal_here (plain_cell opens kind f) ≡ upper f ∷ []
+plain_here : (kind : PartKind) (opens : Bool) (f : Formal) → is_parameter kind ≡ true → f.section ≡ kind → formal_here (plain_cell opens kind f) ≡ in_upper_case f ∷ []
 plain_here kind opens f is section =
     let s = sym section in
     ap (λ (t : Bool). if t then record { name = upper_case_name f.name; section = kind; kind = f.kind } ∷ [] else []) is
     ∙ (λ i. record { name = upper_case_name f.name; section = s i; kind = f.kind } ∷ [])
 
-plain_later : (kind : PartKind) (fs : List Formal) → is_parameter kind ≡ true → AreIn kind fs → formals_in (map (plain_cell false kind) fs) ≡ map upper fs
+plain_later : (kind : PartKind) (fs : List Formal) → is_parameter kind ≡ true → AreIn kind fs → formals_in (map (plain_cell false kind) fs) ≡ map in_upper_case fs
 plain_later kind [] is h = refl
 plain_later kind (f ∷ fs) is (one, more) =
     let here = plain_here kind false f is one in
     let rest = plain_later kind fs is more in
     λ i. here i ++ rest i
 
-plain_all : (kind : PartKind) (fs : List Formal) → is_parameter kind ≡ true → AreIn kind fs → formals_in (plain_cells kind fs) ≡ map upper fs
+plain_all : (kind : PartKind) (fs : List Formal) → is_parameter kind ≡ true → AreIn kind fs → formals_in (plain_cells kind fs) ≡ map in_upper_case fs
 plain_all kind [] is h = refl
 plain_all kind (f ∷ fs) is (one, more) =
     let here = plain_here kind true f is one in
@@ -61,13 +61,13 @@ no_parameters bytes = by (bytes == 0)
 
 -- the return value is declared first, and is the last parameter
 returned_last : (last : List Formal) (rest : List Cell) (fs : List Formal) → IsLast last → AreIn part.Output last → formals_in rest ≡ fs
-    → return_last (last_result last) (formals_in (returned_cells (last_result last) ++ rest)) ≡ fs ++ map upper last
+    → return_last (last_result last) (formals_in (returned_cells (last_result last) ++ rest)) ≡ fs ++ map in_upper_case last
 returned_last last rest fs (NoLast e) h made =
-    ap (λ z. return_last (last_result z) (formals_in (returned_cells (last_result z) ++ rest))) e ∙ made ∙ sym (append-nil fs) ∙ ap (λ z. fs ++ map upper z) (sym e)
+    ap (λ z. return_last (last_result z) (formals_in (returned_cells (last_result z) ++ rest))) e ∙ made ∙ sym (append-nil fs) ∙ ap (λ z. fs ++ map in_upper_case z) (sym e)
 returned_last last rest fs (LastReturned f name e) h made =
     ap (λ z. return_last (last_result z) (formals_in (returned_cells (last_result z) ++ rest))) e
     ∙ (λ i. made i ++ record { name = upper_case_name (back i); section = section i; kind = f.kind } ∷ [])
-    ∙ ap (λ z. fs ++ map upper z) (sym e)
+    ∙ ap (λ z. fs ++ map in_upper_case z) (sym e)
   where
     back : return_name ≡ f.name
     back = sym name
@@ -75,15 +75,15 @@ returned_last last rest fs (LastReturned f name e) h made =
     section : part.Output ≡ f.section
     section = sym ((subst (AreIn part.Output) e h).0)
 
-pub order_again : (y : Types) (ss : List Signature) (reached : ℕ) (b : CodeBlock) (g : AreGrouped (formals_of ss b.id)) → AreIn part.Output g.last
-    → in_order (Some (listed_block ss reached b)) (formals_in (components_of y (listed_block ss reached b))) ≡ map upper (formals_of ss b.id)
+pub order_again : (y : Types) (ss : List Signature) (reached : ℕ) (b : CodeBlock) (g : AreGrouped (formals_of_block ss b.id)) → AreIn part.Output g.last
+    → in_parameter_order (Some (listed_block ss reached b)) (formals_in (components_of y (listed_block ss reached b))) ≡ map in_upper_case (formals_of_block ss b.id)
 order_again y ss reached b g h =
     (λ i. return_last (result_is fs g i) (formals_in (cells i)))
-    ∙ returned_last g.last (pi ++ (po ++ (pb ++ ps))) (map upper g.ins ++ (map upper g.outs ++ (map upper g.both ++ []))) g.ends h parts
+    ∙ returned_last g.last (pi ++ (po ++ (pb ++ ps))) (map in_upper_case g.ins ++ (map in_upper_case g.outs ++ (map in_upper_case g.both ++ []))) g.ends h parts
     ∙ back
   where
     fs : List Formal
-    fs = formals_of ss b.id
+    fs = formals_of_block ss b.id
 
     pi : List Cell
     pi = plain_cells part.Input g.ins
@@ -100,21 +100,21 @@ order_again y ss reached b g h =
     cells : components_of y (listed_block ss reached b) ≡ returned_cells (last_result g.last) ++ (pi ++ (po ++ (pb ++ ps)))
     cells = (listed_cells y ss reached b g).0
 
-    parts : formals_in (pi ++ (po ++ (pb ++ ps))) ≡ map upper g.ins ++ (map upper g.outs ++ (map upper g.both ++ []))
+    parts : formals_in (pi ++ (po ++ (pb ++ ps))) ≡ map in_upper_case g.ins ++ (map in_upper_case g.outs ++ (map in_upper_case g.both ++ []))
     parts =
         flat_map-append formal_here pi (po ++ (pb ++ ps))
         ∙ ap (λ z. formals_in pi ++ z) (flat_map-append formal_here po (pb ++ ps) ∙ ap (λ z. formals_in po ++ z) (flat_map-append formal_here pb ps))
         ∙ (λ i. plain_all part.Input g.ins refl g.input.sections i
         ++ (plain_all part.Output g.outs refl g.output.sections i ++ (plain_all part.InOut g.both refl g.in_out.sections i ++ no_parameters (static_bytes b) i)))
 
-    back : (map upper g.ins ++ (map upper g.outs ++ (map upper g.both ++ []))) ++ map upper g.last ≡ map upper fs
+    back : (map in_upper_case g.ins ++ (map in_upper_case g.outs ++ (map in_upper_case g.both ++ []))) ++ map in_upper_case g.last ≡ map in_upper_case fs
     back =
-        append_assoc (map upper g.ins) (map upper g.outs ++ (map upper g.both ++ [])) (map upper g.last)
-        ∙ ap (λ z. map upper g.ins ++ z)
-        (append_assoc (map upper g.outs) (map upper g.both ++ []) (map upper g.last)
-        ∙ ap (λ z. map upper g.outs ++ z) (ap (λ z. z ++ map upper g.last) (append-nil (map upper g.both)) ∙ sym (map-append upper g.both g.last))
-        ∙ sym (map-append upper g.outs (g.both ++ g.last)))
-        ∙ sym (map-append upper g.ins (g.outs ++ (g.both ++ g.last))) ∙ ap (map upper) (sym g.are)
+        append_assoc (map in_upper_case g.ins) (map in_upper_case g.outs ++ (map in_upper_case g.both ++ [])) (map in_upper_case g.last)
+        ∙ ap (λ z. map in_upper_case g.ins ++ z)
+        (append_assoc (map in_upper_case g.outs) (map in_upper_case g.both ++ []) (map in_upper_case g.last)
+        ∙ ap (λ z. map in_upper_case g.outs ++ z) (ap (λ z. z ++ map in_upper_case g.last) (append-nil (map in_upper_case g.both)) ∙ sym (map-append in_upper_case g.both g.last))
+        ∙ sym (map-append in_upper_case g.outs (g.both ++ g.last)))
+        ∙ sym (map-append in_upper_case g.ins (g.outs ++ (g.both ++ g.last))) ∙ ap (map in_upper_case) (sym g.are)
 
 -- ---- each of them is sound and of elementary type
 
@@ -143,7 +143,7 @@ returned_are None = tt
 returned_are (Some k) = (record { kind = k; of_kind = refl; sound = refl; bounds = refl; level = refl; parameter = refl }, tt)
 
 -- all components of a block that is no function block
-pub all_plain : (y : Types) (ss : List Signature) (reached : ℕ) (b : CodeBlock) → AreGrouped (formals_of ss b.id) → is_function_block b.id.kind ≡ false
+pub all_plain : (y : Types) (ss : List Signature) (reached : ℕ) (b : CodeBlock) → AreGrouped (formals_of_block ss b.id) → is_function_block b.id.kind ≡ false
     → AllByRecursion IsPlainCell (components_of y (listed_block ss reached b))
 all_plain y ss reached b g other =
     subst (AllByRecursion IsPlainCell) (sym cells)
@@ -187,7 +187,7 @@ all_listed : (cs : List Cell) → AllByRecursion IsSoundCell cs → list_all is_
 all_listed [] h = refl
 all_listed (c ∷ cs) (one, more) = ap (λ (t : Bool). t && list_all is_sound_formal cs) one ∙ all_listed cs more
 
-pub all_sound : (y : Types) (ss : List Signature) (reached : ℕ) (b : CodeBlock) → AreGrouped (formals_of ss b.id) → list_all is_sound_formal (components_of y (listed_block ss reached b)) ≡ true
+pub all_sound : (y : Types) (ss : List Signature) (reached : ℕ) (b : CodeBlock) → AreGrouped (formals_of_block ss b.id) → list_all is_sound_formal (components_of y (listed_block ss reached b)) ≡ true
 all_sound y ss reached b g =
     ap (list_all is_sound_formal) (listed_cells y ss reached b g).0
     ∙ all_listed _

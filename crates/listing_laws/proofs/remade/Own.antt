@@ -13,9 +13,9 @@ use Rattle.stl_types.specs.Variables.{behind_others, own_variable}
 use Rattle.stl_types.specs.declared.parameters.Formal.{Formal}
 use Rattle.stl_types.specs.declared.views.Resolution.TheVariants.{Resolved}
 use Rattle.stl_types.specs.declared.views.ResolvedOperand.TheVariants as view
-use Rattle.stl_codegen.specs.Instruction.{in_order, return_last}
+use Rattle.stl_codegen.specs.Instruction.{in_parameter_order, return_last}
 use Rattle.listing_laws.specs.OwnParameters.{IsFunctionAt}
-use Rattle.listing_laws.specs.Passings.{AreNamedApart, upper}
+use Rattle.listing_laws.specs.Passings.{AreNamedApart, in_upper_case}
 use Rattle.listing_laws.proofs.called.Owned.{in_order_at}
 use Rattle.listing_laws.proofs.remade.Cells.{IsPlainCell}
 use Rattle.listing_laws.proofs.ruled.Parameters.{own_parameters_found}
@@ -113,7 +113,7 @@ levels (c ∷ cells) h = (h.0.level, levels cells h.1)
 -- ---- the name of a parameter
 
 module _ (c : Context) (b : Block) (l : BlockLayout) (at : IsFunctionAt c b l) (cells : AllByRecursion IsPlainCell l.components) (called : List Formal)
-    (order : in_order (Some b) (formals_of l.components) ≡ map upper called) (named : AreNamedApart called) where
+    (order : in_parameter_order (Some b) (formals_of l.components) ≡ map in_upper_case called) (named : AreNamedApart called) where
   abbrev fs : List Formal
   fs = formals_of l.components
 
@@ -125,7 +125,7 @@ module _ (c : Context) (b : Block) (l : BlockLayout) (at : IsFunctionAt c b l) (
       other : (k : ℕ) (d : Cell) → k < j → slice_get l.components k ≡ Some d → bytes_eq name d.name ≡ false
       other k d less e =
           let own = formal_from l.components cells k d e in
-          let found = mapped_from upper called (behind_others (length fs) k b.result) (formal d.name d.section own.0)
+          let found = mapped_from in_upper_case called (behind_others (length fs) k b.result) (formal d.name d.section own.0)
           (ap (λ (z : List Formal). slice_get z (behind_others (length fs) k b.result)) (sym order)
           ∙ in_order_at (Some b) fs (length fs) k (formal d.name d.section own.0) refl own.1) in
           ap₂ bytes_eq is (sym (ap (λ (z : Formal). z.name) found.2))
@@ -141,15 +141,15 @@ module _ (c : Context) (b : Block) (l : BlockLayout) (at : IsFunctionAt c b l) (
         sound = found.plain.sound;
         bounds = found.plain.bounds;
         of_kind = found.plain.of_kind;
-        first = firsts index spot.0 f found.cell.name there name spot.2 (slice_get_within fs spot.0 (upper f) spot.1);
+        first = firsts index spot.0 f found.cell.name there name spot.2 (slice_get_within fs spot.0 (in_upper_case f) spot.1);
       })
       ∙ (λ i. Resolved (view.Parameter (index_is i) (section i) (kind i)))
     where
-      spot : (j : ℕ) × (slice_get fs j ≡ Some (upper f)) × (behind_others (length fs) j b.result ≡ index)
-      spot = place_from b.result fs index (upper f) (ap (λ (z : List Formal). slice_get z index) order ∙ mapped_at upper called index f there)
+      spot : (j : ℕ) × (slice_get fs j ≡ Some (in_upper_case f)) × (behind_others (length fs) j b.result ≡ index)
+      spot = place_from b.result fs index (in_upper_case f) (ap (λ (z : List Formal). slice_get z index) order ∙ mapped_at in_upper_case called index f there)
 
-      found : IsOfCell l.components spot.0 (upper f)
-      found = cell_from l.components cells spot.0 (upper f) spot.1
+      found : IsOfCell l.components spot.0 (in_upper_case f)
+      found = cell_from l.components cells spot.0 (in_upper_case f) spot.1
 
       name : found.cell.name ≡ upper_case_name f.name
       name = ap (λ (z : Formal). z.name) found.is

@@ -19,7 +19,7 @@ use Rattle.stl_ast.specs.declared.declarations.Simple.{Simple}
 use Rattle.stl_symbols.specs.Symbol.{Symbol}
 use Rattle.block_layout.specs.Layouts.{layouts_of}
 use Rattle.block_layout.specs.Offsets.{width_of}
-use Rattle.block_layout.specs.Measures.{types_of}
+use Rattle.block_layout.specs.Measures.{types_of_source}
 use Rattle.block_layout.specs.Paths.{cells_at}
 use Rattle.block_layout.specs.declared.blocks.BlockLayout.{BlockLayout}
 use Rattle.block_layout.specs.declared.cells.Cell.{Cell}
@@ -30,14 +30,14 @@ use Rattle.stl_types.specs.Variables.{own_variable}
 use Rattle.stl_types.specs.declared.parameters.Formal.{Formal}
 use Rattle.stl_types.specs.declared.views.Resolution.TheVariants.{Resolved}
 use Rattle.stl_types.specs.declared.views.ResolvedOperand.TheVariants as view
-use Rattle.stl_codegen.specs.Compiled.{compiled}
+use Rattle.stl_codegen.specs.Compiled.{compiled_block}
 use Rattle.stl_codegen.specs.Generated.{code_block, params_of, section_number}
-use Rattle.stl_codegen.specs.Instruction.{in_order}
+use Rattle.stl_codegen.specs.Instruction.{in_parameter_order}
 use Rattle.stl_list.specs.CodeBlocks.{listed_block}
 use Rattle.stl_list.specs.Joined.{Chains, chains_of}
 use Rattle.stl_list.specs.Operands.{name_at}
 use Rattle.stl_list.specs.Parameters.{section_of}
-use Rattle.stl_list.specs.Signatures.{formals_from, formals_of, is_behind}
+use Rattle.stl_list.specs.Signatures.{formals_from, formals_of_block, is_behind}
 use Rattle.sem_kept.specs.Accepted.{program_in}
 use Rattle.sem_kept.proofs.accepted.Accepted.{IsSound, IsSoundTree, right_tree, sound_at}
 use Rattle.sem_kept.proofs.accepted.OperandsCells.{cells_are}
@@ -120,14 +120,14 @@ function_no_block kinds.Sfc e = refl
 -- ---- a parameter of a listed function, by its name
 
 pub formal_again : (symbols : List Symbol) (t : Tree) (others : List Symbol) (again : ℕ) (b : CodeBlock) → IsListedCode symbols t others again b → is_function b.id.kind ≡ true
-    → (index : ℕ) (f : Formal) → slice_get (formals_of (signatures_in (program_in symbols t)) b.id) index ≡ Some f
+    → (index : ℕ) (f : Formal) → slice_get (formals_of_block (signatures_in (program_in symbols t)) b.id) index ≡ Some f
     → own_variable (again_at symbols t others again) (upper_case_name f.name) [] ≡ Resolved (view.Parameter index f.section f.kind)
 formal_again symbols t others again b h function index f there =
     own_again (again_at symbols t others again) (listed_block (signatures_in (program_in symbols t)) h.reached b) h.layout
     (record { block = h.block; kind = function; layout = h.there; whole = h.whole })
     (subst (AllByRecursion IsPlainCell) (sym h.components)
-    (all_plain (types_of others (listed_again symbols t).blocks) (signatures_in (program_in symbols t)) h.reached b h.groups (function_no_block b.id.kind function)))
-    (formals_of (signatures_in (program_in symbols t)) b.id) h.order h.named index f there
+    (all_plain (types_of_source others (listed_again symbols t).blocks) (signatures_in (program_in symbols t)) h.reached b h.groups (function_no_block b.id.kind function)))
+    (formals_of_block (signatures_in (program_in symbols t)) b.id) h.order h.named index f there
 
 -- ---- of the source
 
@@ -155,10 +155,10 @@ parameters_again source file symbols t accepted bytes file_bytes others clean ag
     c = context_at symbols t place
 
     cb : CodeBlock
-    cb = compiled (code_block c b l id)
+    cb = compiled_block (code_block c b l id)
 
     formals : List Formal
-    formals = formals_of (signatures_in (program_in symbols t)) id
+    formals = formals_of_block (signatures_in (program_in symbols t)) id
 
     tree : IsSoundTree symbols t
     tree = right_tree source file symbols t accepted
@@ -177,13 +177,13 @@ parameters_again source file symbols t accepted bytes file_bytes others clean ag
         ap is_function (sym (source_kind symbols t tree again place b l id made))
         ∙ ap is_of_function (sym made.source.block) ∙ own_function c name steps index section kind e
 
-    own : (f : Formal) × (slice_get (in_order (slice_get t.blocks place) (formals_in cells)) index ≡ Some f) × (f.kind ≡ kind) × (f.section ≡ section)
+    own : (f : Formal) × (slice_get (in_parameter_order (slice_get t.blocks place) (formals_in cells)) index ≡ Some f) × (f.kind ≡ kind) × (f.section ≡ section)
     own = own_formal c (own_parameters symbols t tree place b l sound) name steps index section kind e
 
     param : IsParamAt (params_of b l) index own.0
-    param = param_at (in_order (Some b) (formals_in cells)) (params_of b l)
+    param = param_at (in_parameter_order (Some b) (formals_in cells)) (params_of b l)
         (source_matched b l cells (components_same symbols t place b l sound ∙ sym (cells_are symbols t place b l sound false))) index own.0
-        (ap (λ (o : Option Block). slice_get (in_order o (formals_in cells)) index) (sym made.source.block) ∙ own.1)
+        (ap (λ (o : Option Block). slice_get (in_parameter_order o (formals_in cells)) index) (sym made.source.block) ∙ own.1)
 
     found : IsFormalAt formals index param.param
     found =

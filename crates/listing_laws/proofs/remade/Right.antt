@@ -17,13 +17,13 @@ use Rattle.stl_ast.specs.declared.operands.Operand.{Operand}
 use Rattle.stl_ast.specs.declared.operands.Operand.TheVariants as operand
 use Rattle.stl_ast.specs.declared.statements.Actual.{Actual}
 use Rattle.stl_ast.specs.declared.statements.Statement.{Statement}
-use Rattle.stl_symbols.specs.Symbol.{IsSymbol, IsTarget, Symbol, symbol_named}
+use Rattle.stl_symbols.specs.Symbol.{IsSymbol, IsSymbolTarget, Symbol, symbol_named}
 use Rattle.stl_symbols.proofs.FileLemmas.{symbols_right}
-use Rattle.block_layout.specs.Fits.{bits_of, fits}
+use Rattle.block_layout.specs.Fits.{bits_of, fits_elementary_type}
 use Rattle.block_layout.specs.Layouts.{layouts_of}
-use Rattle.block_layout.specs.Measures.{types_of}
+use Rattle.block_layout.specs.Measures.{types_of_source}
 use Rattle.block_layout.specs.declared.blocks.BlockLayout.{BlockLayout}
-use Rattle.stl_types.specs.Addresses.{area_left, area_of}
+use Rattle.stl_types.specs.Addresses.{area_left, area_for_letters}
 use Rattle.stl_types.specs.Context.{Context}
 use Rattle.sem_kept.specs.Coded.{HasBytes, OperandHasBytes, StatementHasBytes}
 use Rattle.sem_kept.proofs.accepted.Accepted.{AllLaid, IsSound, IsSoundStatement, right_tree}
@@ -33,21 +33,21 @@ use Rattle.listing_laws.specs.Again.{context_at}
 use Rattle.listing_laws.specs.Bodies.{IsNoBit}
 use Rattle.listing_laws.specs.CallsAgain.{AreOperandsRight, IsRightStatement}
 use Rattle.listing_laws.specs.Instructions.{IsCodedOperand, IsRightOperand}
-use Rattle.listing_laws.specs.Operands.{IsCoded}
+use Rattle.listing_laws.specs.Operands.{IsConstantCoded}
 use Rattle.listing_laws.proofs.naming.Read.{OperandIsNoBit, ActualIsNoBit, StatementIsNoBit}
 use Rattle.listing_laws.proofs.naming.Trees.{BlockIsNoBit, tree_plain}
 
 -- ---- operands
 
-constant_coded : (value : Literal) → IsLiteral value → HasBytes value → IsCoded value
+constant_coded : (value : Literal) → IsLiteral value → HasBytes value → IsConstantCoded value
 constant_coded value is has = record { literal = is; word = word }
   where
-    word : fits value simple.Word ≡ true → bits_of value ≤ 65535
+    word : fits_elementary_type value simple.Word ≡ true → bits_of value ≤ 65535
     word e = let few = value_fits value simple.Word is has e in omega (arith, few)
 
 pointer_coded : (a : Option Letters) (byte bit : ℕ) → OperandIsNoBit (operand.Pointer a byte bit) → area_left a ≡ Some area.P → ⊥
 pointer_coded None byte bit h e = absurd cc
-pointer_coded (Some a) byte bit h e = subst (λ (z : Area). IsNoBit z width.Bit) (same (area_of a) e) h
+pointer_coded (Some a) byte bit h e = subst (λ (z : Area). IsNoBit z width.Bit) (same (area_for_letters a) e) h
   where
     same : (z : Area) → Some z ≡ Some area.P → z ≡ area.P
     same z e = cc
@@ -59,18 +59,18 @@ operand_coded _ is has plain = tt
 
 -- ---- symbols
 
-found_symbol : (test : Symbol → Bool) (ss : List Symbol) → AllByRecursion IsSymbol ss → (s : Symbol) → find test ss ≡ Some s → IsTarget s.target
+found_symbol : (test : Symbol → Bool) (ss : List Symbol) → AllByRecursion IsSymbol ss → (s : Symbol) → find test ss ≡ Some s → IsSymbolTarget s.target
 found_symbol test [] h s e = absurd cc
 found_symbol test (x ∷ ss) h s e = by (test x) e (found_symbol test ss h.1 s)
   where
     same : (y : Symbol) → Some x ≡ Some y → x ≡ y
     same y k = cc
 
-    by : (b : Bool) → (if b then Some x else find test ss) ≡ Some s → (find test ss ≡ Some s → IsTarget s.target) → IsTarget s.target
-    by true k more = subst (λ (z : Symbol). IsTarget z.target) (same s k) h.0.target
+    by : (b : Bool) → (if b then Some x else find test ss) ≡ Some s → (find test ss ≡ Some s → IsSymbolTarget s.target) → IsSymbolTarget s.target
+    by true k more = subst (λ (z : Symbol). IsSymbolTarget z.target) (same s k) h.0.target
     by false k more = more k
 
-named_target : (name : List ℕ) (symbols : List Symbol) → AllByRecursion IsSymbol symbols → (s : Symbol) → symbol_named name symbols ≡ Some s → IsTarget s.target
+named_target : (name : List ℕ) (symbols : List Symbol) → AllByRecursion IsSymbol symbols → (s : Symbol) → symbol_named name symbols ≡ Some s → IsSymbolTarget s.target
 unfolding symbol_named
 named_target name symbols h s e = found_symbol (λ symbol. is_same_name name symbol.name) symbols h s e
 
@@ -84,7 +84,7 @@ actuals_right symbols each (x ∷ xs) is has plain = (
   actuals_right symbols each xs is.1 has.1 plain.1,
 )
 
-statements_right : (symbols : List Symbol) (t : Tree) (c : Context) → AllByRecursion IsSymbol symbols → (ss : List Statement) → AllByRecursion (IsSoundStatement (types_of symbols t.blocks) c) ss
+statements_right : (symbols : List Symbol) (t : Tree) (c : Context) → AllByRecursion IsSymbol symbols → (ss : List Statement) → AllByRecursion (IsSoundStatement (types_of_source symbols t.blocks) c) ss
     → AllByRecursion StatementHasBytes ss → AllByRecursion StatementIsNoBit ss → AllByRecursion (IsRightStatement symbols) ss
 statements_right symbols t c each [] sound has plain = tt
 statements_right symbols t c each (s ∷ ss) sound has plain = (

@@ -3,7 +3,7 @@ use Rattle.std.proofs.Common.{◌≡◌, ℕ, suc, Bool, true, false, List, [], 
 use Rattle.std.specs.List.{AllByRecursion}
 use Rattle.plc_base.specs.Kinds.{is_code}
 use Rattle.plc_base.specs.declared.blocks.BlockId.{BlockId}
-use Rattle.stl_ast.specs.Statements.{is_empty}
+use Rattle.stl_ast.specs.Statements.{is_empty_statement}
 use Rattle.stl_ast.specs.declared.blocks.Block.{Block}
 use Rattle.stl_ast.specs.declared.blocks.Tree.{Tree}
 use Rattle.stl_ast.specs.declared.statements.Statement.{Statement}
@@ -11,8 +11,8 @@ use Rattle.stl_symbols.specs.Symbol.{Symbol}
 use Rattle.block_layout.specs.Layouts.{layouts_of}
 use Rattle.block_layout.specs.declared.blocks.BlockLayout.{BlockLayout}
 use Rattle.stl_types.specs.Context.{Context}
-use Rattle.stl_codegen.specs.Compiled.{Stated, StatedBlock}
-use Rattle.stl_codegen.specs.Generated.{code_block, code_blocks_of, returning, stated_from, statements_of}
+use Rattle.stl_codegen.specs.Compiled.{SourceInstruction, StatedBlock}
+use Rattle.stl_codegen.specs.Generated.{code_block, code_blocks_of, return_statement, stated_from, statements_of}
 use Rattle.stl_codegen.specs.Instruction.{instruction}
 use Rattle.sem_kept.proofs.accepted.Accepted.{IsSound}
 use Rattle.sem_kept.proofs.accepted.OperandsMembers.{code_block_there}
@@ -52,13 +52,13 @@ among symbols t k b l id sound known code =
 -- ---- statements
 
 -- a statement among those of a block
-pub record IsStated (c : Context) (body : List Statement) (all : List Stated) (s : Statement) : Type 0 where
-  pub before : List Stated
-  pub after : List Stated
+pub record IsStated (c : Context) (body : List Statement) (all : List SourceInstruction) (s : Statement) : Type 0 where
+  pub before : List SourceInstruction
+  pub after : List SourceInstruction
   pub number : ℕ
   pub is : all ≡ before ++ record { instr = instruction c body number s; line = s.line } ∷ after
 
-stated_among : (c : Context) (body : List Statement) (n : ℕ) (front : List Statement) (s : Statement) (rest : List Statement) → is_empty s.code ≡ false
+stated_among : (c : Context) (body : List Statement) (n : ℕ) (front : List Statement) (s : Statement) (rest : List Statement) → is_empty_statement s.code ≡ false
     → IsStated c body (stated_from c body n (front ++ s ∷ rest)) s
 stated_among c body n [] s rest some = record {
   before = [];
@@ -66,7 +66,7 @@ stated_among c body n [] s rest some = record {
   number = n;
   is = ap (λ (b : Bool). if b then stated_from c body n rest else record { instr = instruction c body n s; line = s.line } ∷ stated_from c body (suc n) rest) some;
 }
-stated_among c body n (x ∷ front) s rest some = by (is_empty x.code) (stated_among c body n front s rest some) (stated_among c body (suc n) front s rest some)
+stated_among c body n (x ∷ front) s rest some = by (is_empty_statement x.code) (stated_among c body n front s rest some) (stated_among c body (suc n) front s rest some)
   where
     by : (b : Bool) → IsStated c body (stated_from c body n (front ++ s ∷ rest)) s → IsStated c body (stated_from c body (suc n) (front ++ s ∷ rest)) s
         → IsStated c body
@@ -80,14 +80,14 @@ stated_among c body n (x ∷ front) s rest some = by (is_empty x.code) (stated_a
       is = ap (λ z. record { instr = instruction c body n x; line = x.line } ∷ z) next.is;
     }
 
-pub stated : (c : Context) (b : Block) (front : List Statement) (s : Statement) (rest : List Statement) → b.body ≡ front ++ s ∷ rest → is_empty s.code ≡ false
+pub stated : (c : Context) (b : Block) (front : List Statement) (s : Statement) (rest : List Statement) → b.body ≡ front ++ s ∷ rest → is_empty_statement s.code ≡ false
     → IsStated c b.body (statements_of c b) s
 unfolding statements_of
 stated c b front s rest e some =
     let inner = subst (λ z. IsStated c b.body (stated_from c b.body 0 z) s) (sym e) (stated_among c b.body 0 front s rest some) in
     record {
       before = inner.before;
-      after = inner.after ++ returning b ∷ [];
+      after = inner.after ++ return_statement b ∷ [];
       number = inner.number;
-      is = ap (λ z. z ++ returning b ∷ []) inner.is ∙ append_assoc inner.before (record { instr = instruction c b.body inner.number s; line = s.line } ∷ inner.after) (returning b ∷ []);
+      is = ap (λ z. z ++ return_statement b ∷ []) inner.is ∙ append_assoc inner.before (record { instr = instruction c b.body inner.number s; line = s.line } ∷ inner.after) (return_statement b ∷ []);
     }

@@ -12,21 +12,21 @@ use Rattle.stl_symbols.specs.Symbol.{Symbol}
 use Rattle.block_layout.specs.Layouts.{layouts_of}
 use Rattle.block_layout.specs.Offsets.{width_of}
 use Rattle.stl_types.specs.declared.parameters.Formal.{Formal}
-use Rattle.stl_codegen.specs.Compiled.{StatedBlock, compiled}
+use Rattle.stl_codegen.specs.Compiled.{StatedBlock, compiled_block}
 use Rattle.stl_codegen.specs.Generated.{code_blocks_of}
 use Rattle.stl_codegen.specs.Order.{is_code_before}
-use Rattle.stl_list.specs.Joined.{Chains, chains_of, first_of, kind_at, links, parameter_count, system_parameters}
-use Rattle.stl_list.specs.Signatures.{formals_from, formals_of, signatures, signatures_from}
+use Rattle.stl_list.specs.Joined.{Chains, chains_of, first_of, kind_at, links, total_parameter_count, system_parameters}
+use Rattle.stl_list.specs.Signatures.{formals_from, formals_of_block, signatures, signatures_from}
 use Rattle.sem_kept.specs.Accepted.{IsAccepted, program_in}
 use Rattle.sem_kept.proofs.accepted.Accepted.{right_tree}
 use Rattle.sem_kept.proofs.accepted.RecordBlocks.{code_blocks_rise}
 use Rattle.sem_kept.proofs.accepted.RecordOrder.{Rise}
 use Rattle.listing_laws.specs.AcceptedTypes.{declared_kinds}
-use Rattle.listing_laws.specs.Chains.{AreKept, HasStep, HasTyped, is_listed}
+use Rattle.listing_laws.specs.Chains.{AreTypesAsDeclared, HasStep, HasTyped, is_listed_type}
 use Rattle.listing_laws.specs.Declared.{AreWide, signatures_in}
-use Rattle.listing_laws.specs.HandedOn.{declared_in}
+use Rattle.listing_laws.specs.HandedOn.{declared_type_in}
 use Rattle.listing_laws.specs.Listed.{IsParameterOf, params_in}
-use Rattle.listing_laws.specs.Steps.{PassesOn}
+use Rattle.listing_laws.specs.Steps.{PassesParameterOn}
 use Rattle.listing_laws.proofs.called.AcceptedTypes.{accepted_types_kept}
 use Rattle.listing_laws.proofs.called.Listed.{ends_alike, parameters_listed}
 use Rattle.listing_laws.proofs.called.Steps.{first_found, seeds_found, steps_found}
@@ -35,15 +35,15 @@ use Rattle.listing_laws.proofs.declared.Blocks.{codes_wide, fronts_apart}
 -- ---- widths
 
 wide_in : (c : Chains) (first : ℕ) (bs : List CodeBlock) → AllByRecursion (λ s. AreWide s.params s.formals) (signatures_from c first bs) → (id : BlockId)
-    → AreWide (params_in bs id) (formals_of (signatures_from c first bs) id)
+    → AreWide (params_in bs id) (formals_of_block (signatures_from c first bs) id)
 wide_in c first [] h id = tt
 wide_in c first (b ∷ bs) h id = by (is_same_block b.id id) h.0 (wide_in c (first + length b.params) bs h.1 id)
   where
     own : List Formal
     own = formals_from c (is_function b.id.kind) false 0 first b.params
 
-    by : (t : Bool) → AreWide b.params own → AreWide (params_in bs id) (formals_of (signatures_from c (first + length b.params) bs) id)
-        → AreWide (if t then b.params else params_in bs id) (if t then own else formals_of (signatures_from c (first + length b.params) bs) id)
+    by : (t : Bool) → AreWide b.params own → AreWide (params_in bs id) (formals_of_block (signatures_from c (first + length b.params) bs) id)
+        → AreWide (if t then b.params else params_in bs id) (if t then own else formals_of_block (signatures_from c (first + length b.params) bs) id)
     by true one more = one
     by false one more = more
 
@@ -62,23 +62,23 @@ module _ (source file : List ℕ) (symbols : List Symbol) (t : Tree) (accepted :
   abbrev chains : Chains
   chains = chains_of blocks
 
-  kept : AreKept blocks (declared_in (declared_kinds t symbols) blocks)
+  kept : AreTypesAsDeclared blocks (declared_type_in (declared_kinds t symbols) blocks)
   kept = accepted_types_kept source file symbols t accepted
 
-  of_width : (id : BlockId) (i : ℕ) (f : Formal) → slice_get (formals_of (signatures chains blocks) id) i ≡ Some f → (h : IsParameterOf chains blocks id i f) → width_of f.kind ≡ h.param.width
+  of_width : (id : BlockId) (i : ℕ) (f : Formal) → slice_get (formals_of_block (signatures chains blocks) id) i ≡ Some f → (h : IsParameterOf chains blocks id i f) → width_of f.kind ≡ h.param.width
   unfolding signatures
   of_width id i f there h =
-      wide_at (params_in blocks id) (formals_of (signatures chains blocks) id) (wide_in chains 0 blocks (codes_wide source file symbols t accepted bytes file_bytes) id) i h.param f h.there there
+      wide_at (params_in blocks id) (formals_of_block (signatures chains blocks) id) (wide_in chains 0 blocks (codes_wide source file symbols t accepted bytes file_bytes) id) i h.param f h.there there
 
-  pub type_asked : (own other : BlockId) (i j : ℕ) (g f : Formal) → slice_get (formals_of (signatures_in (program_in symbols t)) own) i ≡ Some g
-      → slice_get (formals_of (signatures_in (program_in symbols t)) other) j ≡ Some f → width_of g.kind ≡ width_of f.kind
+  pub type_asked : (own other : BlockId) (i j : ℕ) (g f : Formal) → slice_get (formals_of_block (signatures_in (program_in symbols t)) own) i ≡ Some g
+      → slice_get (formals_of_block (signatures_in (program_in symbols t)) other) j ≡ Some f → width_of g.kind ≡ width_of f.kind
       → HasStep (links blocks) (first_of blocks own + i) (first_of blocks other + j) → g.kind ≡ f.kind
   type_asked own other i j g f there here wide step =
       let h = parameters_listed chains blocks own i g there in
       let k = parameters_listed chains blocks other j f here in
-      ends_alike blocks (declared_in (declared_kinds t symbols) blocks) own other i j g f kept h k (sym (of_width own i g there h) ∙ wide ∙ of_width other j f here k) step
+      ends_alike blocks (declared_type_in (declared_kinds t symbols) blocks) own other i j g f kept h k (sym (of_width own i g there h) ∙ wide ∙ of_width other j f here k) step
 
-  pub type_given : (own : BlockId) (i : ℕ) (g f : Formal) → slice_get (formals_of (signatures_in (program_in symbols t)) own) i ≡ Some g → width_of g.kind ≡ width_of f.kind → is_listed f.kind ≡ true
+  pub type_given : (own : BlockId) (i : ℕ) (g f : Formal) → slice_get (formals_of_block (signatures_in (program_in symbols t)) own) i ≡ Some g → width_of g.kind ≡ width_of f.kind → is_listed_type f.kind ≡ true
       → HasTyped (links blocks) (first_of blocks own + i) f.kind → g.kind ≡ f.kind
   type_given own i g f there wide listed typed =
       let h = parameters_listed chains blocks own i g there in
@@ -87,26 +87,26 @@ module _ (source file : List ℕ) (symbols : List Symbol) (t : Tree) (accepted :
   -- ---- by what a statement passes on
 
   module _ (b : StatedBlock) (front back : List StatedBlock) (is : code_blocks_of t symbols (layouts_of t symbols) ≡ front ++ b ∷ back) where
-    all_is : map compiled (front ++ b ∷ back) ≡ blocks
-    all_is = ap (map compiled) (sym is)
+    all_is : map compiled_block (front ++ b ∷ back) ≡ blocks
+    all_is = ap (map compiled_block) (sym is)
 
-    first_is : first_of blocks b.id ≡ parameter_count (map compiled front)
+    first_is : first_of blocks b.id ≡ total_parameter_count (map compiled_block front)
     first_is =
         ap (λ z. first_of z b.id) (sym all_is)
         ∙ first_found front back b (fronts_apart front back b (subst (Rise is_code_before) is (code_blocks_rise symbols t (right_tree source file symbols t accepted))))
 
-    pub asked : (other : BlockId) (i j : ℕ) (g f : Formal) → PassesOn b other j i → is_system_function other.kind ≡ false
-        → slice_get (formals_of (signatures_in (program_in symbols t)) b.id) i ≡ Some g → slice_get (formals_of (signatures_in (program_in symbols t)) other) j ≡ Some f
+    pub asked : (other : BlockId) (i j : ℕ) (g f : Formal) → PassesParameterOn b other j i → is_system_function other.kind ≡ false
+        → slice_get (formals_of_block (signatures_in (program_in symbols t)) b.id) i ≡ Some g → slice_get (formals_of_block (signatures_in (program_in symbols t)) other) j ≡ Some f
         → width_of g.kind ≡ width_of f.kind → g.kind ≡ f.kind
     asked other i j g f on no_system there here wide =
         type_asked b.id other i j g f there here wide
         (subst (λ n. HasStep (links blocks) (n + i) (first_of blocks other + j)) (sym first_is)
-        (subst (λ z. HasStep (links z) (parameter_count (map compiled front) + i) (first_of z other + j)) all_is (steps_found front back b other j i on no_system)))
+        (subst (λ z. HasStep (links z) (total_parameter_count (map compiled_block front) + i) (first_of z other + j)) all_is (steps_found front back b other j i on no_system)))
 
-    pub given : (other : BlockId) (i j : ℕ) (g f : Formal) → PassesOn b other j i → is_system_function other.kind ≡ true
-        → slice_get (formals_of (signatures_in (program_in symbols t)) b.id) i ≡ Some g → slice_get (system_parameters other.number) j ≡ Some f
-        → width_of g.kind ≡ width_of f.kind → is_listed f.kind ≡ true → g.kind ≡ f.kind
+    pub given : (other : BlockId) (i j : ℕ) (g f : Formal) → PassesParameterOn b other j i → is_system_function other.kind ≡ true
+        → slice_get (formals_of_block (signatures_in (program_in symbols t)) b.id) i ≡ Some g → slice_get (system_parameters other.number) j ≡ Some f
+        → width_of g.kind ≡ width_of f.kind → is_listed_type f.kind ≡ true → g.kind ≡ f.kind
     given other i j g f on system there here wide listed =
         type_given b.id i g f there wide listed
         (subst (λ n. HasTyped (links blocks) (n + i) f.kind) (sym first_is)
-        (subst (λ z. HasTyped (links z) (parameter_count (map compiled front) + i) f.kind) all_is (seeds_found front back b other j i f on system here)))
+        (subst (λ z. HasTyped (links z) (total_parameter_count (map compiled_block front) + i) f.kind) all_is (seeds_found front back b other j i f on system here)))

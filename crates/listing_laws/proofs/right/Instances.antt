@@ -10,7 +10,7 @@ use Rattle.plc_base.specs.declared.blocks.BlockKind.{BlockKind}
 use Rattle.plc_base.specs.declared.blocks.BlockKind.TheVariants as kinds
 use Rattle.flat_code.specs.Programs.{CodeBlock, DataBlock, Program}
 use Rattle.flat_code.specs.declared.operations.CallOperation.{CallOperation}
-use Rattle.stl_ast.specs.Statements.{is_called}
+use Rattle.stl_ast.specs.Statements.{names_called_block}
 use Rattle.stl_ast.specs.declared.blocks.Block.{Block}
 use Rattle.stl_ast.specs.declared.blocks.Tree.{Tree}
 use Rattle.stl_ast.specs.declared.names.BlockName.{BlockName}
@@ -22,7 +22,7 @@ use Rattle.stl_symbols.specs.Symbol.{Symbol}
 use Rattle.block_layout.specs.Blocks.{ids_of, known_block, named_block}
 use Rattle.block_layout.specs.Layouts.{block_layout, layouts_by, layouts_from, layouts_of}
 use Rattle.block_layout.specs.Lengths.{shape_at, shape_of}
-use Rattle.block_layout.specs.Measures.{types_of}
+use Rattle.block_layout.specs.Measures.{types_of_source}
 use Rattle.block_layout.specs.Paths.{if_whole, whole_at, whole_block as whole_layout}
 use Rattle.block_layout.specs.Rule23.{is_unknown_called, is_unknown_data, names_unknown}
 use Rattle.block_layout.specs.Rule44.{rule_44}
@@ -31,19 +31,19 @@ use Rattle.block_layout.specs.declared.blocks.BlockLayout.{BlockLayout}
 use Rattle.block_layout.specs.declared.blocks.Shape.{Shape}
 use Rattle.block_layout.specs.declared.blocks.Shape.TheVariants as shape
 use Rattle.stl_types.specs.Calls.{has_wrong_instance, is_instance, is_no_instance, is_of_block}
-use Rattle.stl_types.specs.Context.{Context, data_number, data_place, ids, number_of, whole_data_place, whole_place}
+use Rattle.stl_types.specs.Context.{Context, data_number, data_place, source_block_ids, number_of_block, whole_data_place, whole_place}
 use Rattle.stl_types.specs.Forms.{form_of}
 use Rattle.stl_types.specs.Parameters.{Callee, callee_at, callee_by, callee_of, source_callee, system_callee}
-use Rattle.stl_types.specs.Resolution.{called_seen, instance_number, seen, whole_block}
-use Rattle.stl_types.specs.Resolved.{resolved}
+use Rattle.stl_types.specs.Resolution.{called_seen, instance_number, resolution_of, whole_called_block}
+use Rattle.stl_types.specs.Resolved.{resolved_operand}
 use Rattle.stl_types.specs.declared.parameters.Formal.{Formal}
 use Rattle.stl_types.specs.declared.views.Resolution.TheVariants.{Resolved}
 use Rattle.stl_types.specs.declared.views.ResolvedOperand.TheVariants as view
-use Rattle.stl_codegen.specs.Generated.{data_block, function_block_number, instance_in}
-use Rattle.stl_codegen.specs.Operations.{call_of}
+use Rattle.stl_codegen.specs.Generated.{generated_data_block, function_block_number, instance_in}
+use Rattle.stl_codegen.specs.Operations.{call_operation_of}
 use Rattle.stl_list.specs.CodeBlocks.{in_lines, line_reached}
 use Rattle.stl_list.specs.DataBlocks.{function_block, listed_data}
-use Rattle.stl_list.specs.Operands.{data_block_name}
+use Rattle.stl_list.specs.Operands.{name_of_data_block}
 use Rattle.stl_list.specs.Signatures.{Signature}
 use Rattle.sem_kept.specs.Accepted.{program_in}
 use Rattle.sem_kept.proofs.accepted.Accepted.{IsSoundStatement, IsSoundTree, context_at}
@@ -106,9 +106,9 @@ laid_shape y blocks before [] k b l e f = absurd cc
 laid_shape y blocks before (x ∷ bs) zero b l e f = ap (λ (z : BlockLayout). z.shape) (sym (same_Some (block_layout y blocks before x) l f)) ∙ ap (shape_of y) (same_Some x b e)
 laid_shape y blocks before (x ∷ bs) (suc k) b l e f = laid_shape y blocks (x ∷ before) bs k b l e f
 
-shape_laid : (symbols : List Symbol) (t : Tree) (k : ℕ) (b : Block) (l : BlockLayout) → slice_get t.blocks k ≡ Some b → slice_get (layouts_of t symbols) k ≡ Some l → l.shape ≡ shape_of (types_of symbols t.blocks) b
+shape_laid : (symbols : List Symbol) (t : Tree) (k : ℕ) (b : Block) (l : BlockLayout) → slice_get t.blocks k ≡ Some b → slice_get (layouts_of t symbols) k ≡ Some l → l.shape ≡ shape_of (types_of_source symbols t.blocks) b
 unfolding layouts_of layouts_by
-shape_laid symbols t k b l e f = laid_shape (types_of symbols t.blocks) t.blocks [] t.blocks k b l e f
+shape_laid symbols t k b l e f = laid_shape (types_of_source symbols t.blocks) t.blocks [] t.blocks k b l e f
 
 -- a whole block at a place
 record IsWholeAt (l : List BlockLayout) (p : ℕ) : Type 0 where
@@ -116,14 +116,14 @@ record IsWholeAt (l : List BlockLayout) (p : ℕ) : Type 0 where
   there : slice_get l p ≡ Some layout
   is : if_whole l p ≡ Some p
 
-whole_there : (l : List BlockLayout) (p n : ℕ) → option_and_then (λ (b : BlockLayout). number_of b.id) (whole_at l p) ≡ Some n → IsWholeAt l p
+whole_there : (l : List BlockLayout) (p n : ℕ) → option_and_then (λ (b : BlockLayout). number_of_block b.id) (whole_at l p) ≡ Some n → IsWholeAt l p
 whole_there l p n e = by (slice_get l p) refl e
   where
-    by : (o : Option BlockLayout) → slice_get l p ≡ o → option_and_then (λ (b : BlockLayout). number_of b.id) (whole_layout o) ≡ Some n → IsWholeAt l p
+    by : (o : Option BlockLayout) → slice_get l p ≡ o → option_and_then (λ (b : BlockLayout). number_of_block b.id) (whole_layout o) ≡ Some n → IsWholeAt l p
     by None is e = absurd cc
     by (Some at) is e = whether at.broken refl e
       where
-        whether : (broken : Bool) → at.broken ≡ broken → option_and_then (λ (b : BlockLayout). number_of b.id) (if broken then None else Some at) ≡ Some n → IsWholeAt l p
+        whether : (broken : Bool) → at.broken ≡ broken → option_and_then (λ (b : BlockLayout). number_of_block b.id) (if broken then None else Some at) ≡ Some n → IsWholeAt l p
         whether true b e = absurd cc
         whether false b e = record { layout = at; there = is; is = ap (λ (o : Option BlockLayout). if is_some o then Some p else None) (whole_is l p at is b) }
 
@@ -141,7 +141,7 @@ whole_known l (Some p) q e = by (is_some (whole_at l p)) e
 record IsCalleeAt (c : Context) (id : BlockId) (callee : Callee) : Type 0 where
   place : ℕ
   is : callee.place ≡ Some place
-  known : known_block id (ids c) ≡ Some place
+  known : known_block id (source_block_ids c) ≡ Some place
 
 place_mapped : (c : Context) (id : BlockId) (p : ℕ) (o : Option (List Formal)) (callee : Callee) → option_map (λ (formals : List Formal). record { id = id; place = Some p; formals = formals }) o ≡ Some callee → callee.place ≡ Some p
 place_mapped c id p None callee e = absurd cc
@@ -152,7 +152,7 @@ source_placed c id callee e = by (whole_place c id) refl e
   where
     by : (place : Option ℕ) → whole_place c id ≡ place → option_and_then (callee_at c id) place ≡ Some callee → IsCalleeAt c id callee
     by None is e = absurd cc
-    by (Some q) is e = record { place = q; is = place_mapped c id q _ callee e; known = whole_known c.layouts (known_block id (ids c)) q is }
+    by (Some q) is e = record { place = q; is = place_mapped c id q _ callee e; known = whole_known c.layouts (known_block id (source_block_ids c)) q is }
 
 callee_placed : (c : Context) (id : BlockId) (callee : Callee) → is_function_block id.kind ≡ true → callee_by c id id.kind ≡ Some callee → IsCalleeAt c id callee
 callee_placed c id callee fb e = source_placed c id callee (by id.kind fb e)
@@ -215,10 +215,10 @@ names_numbered c (Some x) (Some name) id n e = by (data_number c name) refl e
     by None is e = absurd cc
     by (Some m) is e = (name, refl, is ∙ some_called x id (Some m) n e)
 
-names_instance : (c : Context) (o : Operand) (id : BlockId) (n : ℕ) (callee : Callee) → seen c o ≡ Resolved (view.Called id (Some n)) → callee_of c o ≡ Some callee → NamesInstance c o callee n
-unfolding seen callee_of
+names_instance : (c : Context) (o : Operand) (id : BlockId) (n : ℕ) (callee : Callee) → resolution_of c o ≡ Resolved (view.Called id (Some n)) → callee_of c o ≡ Some callee → NamesInstance c o callee n
+unfolding resolution_of callee_of
 names_instance c (operand.Called name i) id n callee e f =
-    let numbered = names_numbered c (whole_block c (named_block c.symbols name)) i id n e in
+    let numbered = names_numbered c (whole_called_block c (named_block c.symbols name)) i id n e in
     let named = found_named c (named_block c.symbols name) callee f in
     record {
       name = name;
@@ -259,12 +259,12 @@ number_in l q id fb e =
     ∙ ap function_block_number from.image
     ∙ ap (λ (b : Bool). if b then Some id.number else None) fb
 
-source_instance : (symbols : List Symbol) (t : Tree) → IsSoundTree symbols t → (k : ℕ) (s : Statement) → IsSoundStatement (types_of symbols t.blocks) (context_at symbols t k) s
+source_instance : (symbols : List Symbol) (t : Tree) → IsSoundTree symbols t → (k : ℕ) (s : Statement) → IsSoundStatement (types_of_source symbols t.blocks) (context_at symbols t k) s
     → (id : BlockId) (n : ℕ) (callee : Callee) → is_function_block id.kind ≡ true → callee.id ≡ id
     → NamesInstance (context_at symbols t k) s.operand callee n → has_wrong_instance (context_at symbols t k) callee s.operand ≡ false
     → IsSourceInstance symbols t id n
 source_instance symbols t tree k s sound id n callee fb same names right = record {
-  stored = data_block (context_at symbols t there.place) there.block.layout there.block.id;
+  stored = generated_data_block (context_at symbols t there.place) there.block.layout there.block.id;
   place = stands.0;
   there = stands.1;
   number = number;
@@ -274,18 +274,18 @@ source_instance symbols t tree k s sound id n callee fb same names right = recor
     c : Context
     c = context_at symbols t k
 
-    unknown : (is_unknown_called (types_of symbols t.blocks) names.name || is_unknown_data (types_of symbols t.blocks) names.instance_name) ≡ false
-    unknown = ap (names_unknown (types_of symbols t.blocks)) (sym names.is) ∙ sound.there
+    unknown : (is_unknown_called (types_of_source symbols t.blocks) names.name || is_unknown_data (types_of_source symbols t.blocks) names.instance_name) ≡ false
+    unknown = ap (names_unknown (types_of_source symbols t.blocks)) (sym names.is) ∙ sound.there
 
     there : IsData symbols t k names.instance_name
     there =
         data_there symbols t tree k names.instance_name
-        (or_second (is_unknown_called (types_of symbols t.blocks) names.name) (is_unknown_data (types_of symbols t.blocks) names.instance_name) unknown)
+        (or_second (is_unknown_called (types_of_source symbols t.blocks) names.name) (is_unknown_data (types_of_source symbols t.blocks) names.instance_name) unknown)
 
     number : there.block.id.number ≡ n
     number = same_Some there.block.id.number n (sym there.number ∙ names.number)
 
-    stands : StandsIn (program_in symbols t).data_blocks (data_block (context_at symbols t there.place) there.block.layout there.block.id)
+    stands : StandsIn (program_in symbols t).data_blocks (generated_data_block (context_at symbols t there.place) there.block.layout there.block.id)
     stands =
         data_block_there symbols t (StandsIn (program_in symbols t).data_blocks) (stands_all (program_in symbols t).data_blocks)
         there.place there.block.block there.block.layout there.block.id there.block.sound there.block.is there.block.kind
@@ -300,7 +300,7 @@ source_instance symbols t tree k s sound id n callee fb same names right = recor
     placed = subst (λ (i : BlockId). IsCalleeAt c i callee) id_is (callee_placed c names.id callee (ap (λ (i : BlockId). is_function_block i.kind) id_is ∙ fb) names.found)
 
     known : slice_get (map (λ (b : BlockLayout). b.id) (layouts_of t symbols)) placed.place ≡ Some (Some id)
-    known = known_there id (ids c) placed.place placed.known
+    known = known_there id (source_block_ids c) placed.place placed.known
 
     whole_place_is : whole_data_place c names.instance_name ≡ Some there.place
     whole_place_is =
@@ -331,8 +331,8 @@ listed_ids symbols t others = ids_same others (listed_again symbols t) ∙ sourc
 
 instance_placed : (symbols : List Symbol) (t : Tree) → IsSoundTree symbols t → (others : List Symbol) (again : ℕ) (id : BlockId) (n : ℕ) (found : Callee)
     → is_function_block id.kind ≡ true → IsSourceInstance symbols t id n → IsCalleeAt (context_at others (listed_again symbols t) again) id found
-    → data_number (context_at others (listed_again symbols t) again) (data_block_name n) ≡ Some n
-    → IsInstanceAt (context_at others (listed_again symbols t) again) found.place (Some (data_block_name n))
+    → data_number (context_at others (listed_again symbols t) again) (name_of_data_block n) ≡ Some n
+    → IsInstanceAt (context_at others (listed_again symbols t) again) found.place (Some (name_of_data_block n))
 instance_placed symbols t tree others again id n found fb inst placed numbered = (m, whole.layout, placed.place, placed.is, place_is, whole.there, shape_is)
   where
     p : Program
@@ -347,21 +347,21 @@ instance_placed symbols t tree others again id n found fb inst placed numbered =
     m : ℕ
     m = length p.code_blocks + inst.place
 
-    there : known_block (data_id n) (ids c) ≡ Some m
+    there : known_block (data_id n) (source_block_ids c) ≡ Some m
     there =
         ap (known_block (data_id n)) (listed_ids symbols t others)
         ∙ blocks_found t symbols others m (data_id n) tree.by_layout.by_22 (rule_44_of symbols t tree)
         (id_at p inst.place inst.stored inst.there ∙ ap (λ (k : ℕ). Some (data_id k)) inst.number)
 
-    data_is : data_place c (data_block_name n) ≡ Some m
+    data_is : data_place c (name_of_data_block n) ≡ Some m
     data_is = there
 
     whole : IsWholeAt (layouts_of listed others) m
     whole =
         whole_there (layouts_of listed others) m n
-        (ap (λ (o : Option ℕ). option_and_then (λ (b : BlockLayout). number_of b.id) (option_and_then (whole_at (layouts_of listed others)) o)) (sym data_is) ∙ numbered)
+        (ap (λ (o : Option ℕ). option_and_then (λ (b : BlockLayout). number_of_block b.id) (option_and_then (whole_at (layouts_of listed others)) o)) (sym data_is) ∙ numbered)
 
-    place_is : whole_data_place c (data_block_name n) ≡ Some m
+    place_is : whole_data_place c (name_of_data_block n) ≡ Some m
     place_is = ap (option_and_then (if_whole (layouts_of listed others))) data_is ∙ whole.is
 
     names : List Signature
@@ -371,7 +371,7 @@ instance_placed symbols t tree others again id n found fb inst placed numbered =
     line = line_reached 1 (in_lines p.code_blocks)
 
     y : Types
-    y = types_of others (listed_again symbols t).blocks
+    y = types_of_source others (listed_again symbols t).blocks
 
     refers : (of : Option ℕ) → of ≡ Some id.number → shape_of y (listed_data names line inst.stored.number inst.stored.bytes of) ≡ shape_at (known_block (function_block id.number) y.ids)
     refers of e = ap (λ (o : Option ℕ). shape_of y (listed_data names line inst.stored.number inst.stored.bytes o)) e
@@ -387,13 +387,13 @@ callee_is : (c : Context) (id : BlockId) (instance : Option BlockName) (callee :
 unfolding callee_of
 callee_is c id instance callee e = e
 
-pub instance_there : (symbols : List Symbol) (t : Tree) → IsSoundTree symbols t → (k : ℕ) (s : Statement) → IsSoundStatement (types_of symbols t.blocks) (context_at symbols t k) s
+pub instance_there : (symbols : List Symbol) (t : Tree) → IsSoundTree symbols t → (k : ℕ) (s : Statement) → IsSoundStatement (types_of_source symbols t.blocks) (context_at symbols t k) s
     → (others : List Symbol) (again : ℕ) (own : List Formal) → HasAgain (context_at symbols t k) (context_at others (listed_again symbols t) again) own
     → (how : CallOperation) (id : BlockId) (instance : Option ℕ) (callee found : Callee)
-    → call_of s.code ≡ Some how → is_called s.operand ≡ true → resolved (context_at symbols t k) s ≡ Some (view.Called id instance)
+    → call_operation_of s.code ≡ Some how → names_called_block s.operand ≡ true → resolved_operand (context_at symbols t k) s ≡ Some (view.Called id instance)
     → callee_of (context_at symbols t k) s.operand ≡ Some callee → callee.id ≡ id
-    → callee_of (context_at others (listed_again symbols t) again) (operand.Called (block.Number id) (option_map data_block_name instance)) ≡ Some found
-    → IsInstanceAt (context_at others (listed_again symbols t) again) found.place (option_map data_block_name instance)
+    → callee_of (context_at others (listed_again symbols t) again) (operand.Called (block.Number id) (option_map name_of_data_block instance)) ≡ Some found
+    → IsInstanceAt (context_at others (listed_again symbols t) again) found.place (option_map name_of_data_block instance)
 instance_there symbols t tree k s sound others again own has how id None callee found h is_call e f same g = tt
 instance_there symbols t tree k s sound others again own has how id (Some n) callee found h is_call e f same g =
     let c = context_at symbols t k in
@@ -404,5 +404,5 @@ instance_there symbols t tree k s sound others again own has how id (Some n) cal
     let names = names_instance c s.operand id n callee sees f in
     instance_placed symbols t tree others again id n found fb
     (source_instance symbols t tree k s sound id n callee fb same names (sound.calls callee f).instance)
-    (callee_placed listed id found fb (callee_is listed id (Some (data_block_name n)) found g))
+    (callee_placed listed id found fb (callee_is listed id (Some (name_of_data_block n)) found g))
     (has.data_blocks names.instance_name n names.number)

@@ -23,15 +23,15 @@ use Rattle.stl_ast.specs.declared.operands.Operand.TheVariants as operand
 use Rattle.stl_ast.specs.declared.operands.PathHead.TheVariants as head
 use Rattle.stl_symbols.specs.Symbol.{Symbol}
 use Rattle.block_layout.specs.Blocks.{found_block, known_block, named_block}
-use Rattle.block_layout.specs.Paths.{folded_path, further, if_whole, in_sections, is_judged, walked_local, whole_at}
+use Rattle.block_layout.specs.Paths.{folded_path, holds_where_reached, if_whole, in_sections, is_judged, walked_local, whole_at}
 use Rattle.block_layout.specs.Rule23.{is_unknown_called, is_unknown_data, is_unknown_id, is_unknown_instance, names_unknown}
 use Rattle.block_layout.specs.Rule42.{operand_is_outside}
 use Rattle.block_layout.specs.Types.{Types}
 use Rattle.block_layout.specs.declared.walks.PathEnd.{PathEnd}
 use Rattle.block_layout.specs.declared.walks.PathEnd.TheVariants as walk
-use Rattle.stl_types.specs.Addresses.{address_in}
-use Rattle.stl_types.specs.Context.{Context, data_number, data_place, ids, number_of, whole_place}
-use Rattle.stl_types.specs.Resolution.{called_seen, id_at, instance_number, opened_seen, seen, whole_block}
+use Rattle.stl_types.specs.Addresses.{address_in_block}
+use Rattle.stl_types.specs.Context.{Context, data_number, data_place, source_block_ids, number_of_block, whole_place}
+use Rattle.stl_types.specs.Resolution.{called_seen, id_at, instance_number, opened_seen, resolution_of, whole_called_block}
 use Rattle.stl_types.specs.Variables.{data_path}
 use Rattle.stl_types.specs.declared.parameters.Formal.{Formal}
 use Rattle.stl_types.specs.declared.views.Resolution.TheVariants.{Resolved}
@@ -45,12 +45,12 @@ use Rattle.stl_list.specs.Operands.{implied_operand, operand_by, plain_operand}
 -- the blocks that the rules know are those of the context
 pub record AreTypesOf (y : Types) (c : Context) : Type 0 where
   pub symbols : y.symbols ≡ c.symbols
-  pub ids : y.ids ≡ ids c
+  pub ids : y.ids ≡ source_block_ids c
 
 data_same : (y : Types) (c : Context) (name : BlockName) → AreTypesOf y c → is_unknown_data y name ≡ is_none (data_place c name)
 data_same y c name h = ap₂ (λ (s : List Symbol) (is : List (Option BlockId)). is_none (found_block s is is_data_block name)) h.symbols h.ids
 
-some_place : (c : Context) (place : Option ℕ) (n : ℕ) → option_and_then (λ b. number_of b.id) (option_and_then (whole_at c.layouts) place) ≡ Some n → is_none place ≡ false
+some_place : (c : Context) (place : Option ℕ) (n : ℕ) → option_and_then (λ b. number_of_block b.id) (option_and_then (whole_at c.layouts) place) ≡ Some n → is_none place ≡ false
 some_place c None n e = absurd cc
 some_place c (Some k) n e = refl
 
@@ -58,10 +58,10 @@ data_is : (y : Types) (c : Context) (name : BlockName) (n : ℕ) → AreTypesOf 
 data_is y c name n h e = data_same y c name h ∙ some_place c (data_place c name) n e
 
 -- where a number is needed there is one
-in_direct : (y : Types) (c : Context) (name : BlockName) (a : Letters) (w : Width) (byte bit : ℕ) (v : ResolvedOperand) → AreTypesOf y c → address_in (data_number c name) a w byte bit ≡ Resolved v → is_unknown_data y name ≡ false
+in_direct : (y : Types) (c : Context) (name : BlockName) (a : Letters) (w : Width) (byte bit : ℕ) (v : ResolvedOperand) → AreTypesOf y c → address_in_block (data_number c name) a w byte bit ≡ Resolved v → is_unknown_data y name ≡ false
 in_direct y c name a w byte bit v h = by (data_number c name) refl
   where
-    by : (n : Option ℕ) → data_number c name ≡ n → address_in n a w byte bit ≡ Resolved v → is_unknown_data y name ≡ false
+    by : (n : Option ℕ) → data_number c name ≡ n → address_in_block n a w byte bit ≡ Resolved v → is_unknown_data y name ≡ false
     by None is e = absurd cc
     by (Some n) is e = data_is y c name n h is
 
@@ -84,35 +84,35 @@ some_id : (c : Context) (id : BlockId) (place : Option ℕ) (w : BlockId) → id
 some_id c id None w e = absurd cc
 some_id c id (Some k) w e = refl
 
-id_is : (y : Types) (c : Context) (x : Option BlockId) (w : BlockId) → AreTypesOf y c → whole_block c x ≡ Some w → is_unknown_id y x ≡ false
+id_is : (y : Types) (c : Context) (x : Option BlockId) (w : BlockId) → AreTypesOf y c → whole_called_block c x ≡ Some w → is_unknown_id y x ≡ false
 id_is y c None w h e = absurd cc
 id_is y c (Some id) w h e = by (is_system_function id.kind) e
   where
     by : (b : Bool) → (if b then Some id else id_at id (whole_place c id)) ≡ Some w → (if b then false else is_none (known_block id y.ids)) ≡ false
     by true e = refl
-    by false e = ap (λ (is : List (Option BlockId)). is_none (known_block id is)) h.ids ∙ some_id c id (known_block id (ids c)) w e
+    by false e = ap (λ (is : List (Option BlockId)). is_none (known_block id is)) h.ids ∙ some_id c id (known_block id (source_block_ids c)) w e
 
-called_is : (y : Types) (c : Context) (name : BlockName) (w : BlockId) → AreTypesOf y c → whole_block c (named_block c.symbols name) ≡ Some w → is_unknown_called y name ≡ false
+called_is : (y : Types) (c : Context) (name : BlockName) (w : BlockId) → AreTypesOf y c → whole_called_block c (named_block c.symbols name) ≡ Some w → is_unknown_called y name ≡ false
 called_is y c name w h e = ap (λ (s : List Symbol). is_unknown_id y (named_block s name)) h.symbols ∙ id_is y c (named_block c.symbols name) w h e
 
 in_called : (y : Types) (c : Context) (name : BlockName) (instance : Option BlockName) (v : ResolvedOperand) → AreTypesOf y c
-    → called_seen (whole_block c (named_block c.symbols name)) instance (instance_number c instance) ≡ Resolved v
+    → called_seen (whole_called_block c (named_block c.symbols name)) instance (instance_number c instance) ≡ Resolved v
     → (is_unknown_called y name || is_unknown_instance y instance) ≡ false
-in_called y c name instance v h e = by (whole_block c (named_block c.symbols name)) refl instance e
+in_called y c name instance v h e = by (whole_called_block c (named_block c.symbols name)) refl instance e
   where
-    numbered : (w : BlockId) (i : BlockName) → whole_block c (named_block c.symbols name) ≡ Some w → (n : Option ℕ) → data_number c i ≡ n → called_seen (Some w) (Some i) n ≡ Resolved v
+    numbered : (w : BlockId) (i : BlockName) → whole_called_block c (named_block c.symbols name) ≡ Some w → (n : Option ℕ) → data_number c i ≡ n → called_seen (Some w) (Some i) n ≡ Resolved v
         → (is_unknown_called y name || is_unknown_data y i) ≡ false
     numbered w i is None at e = absurd cc
     numbered w i is (Some n) at e = ap₂ (λ (a b : Bool). a || b) (called_is y c name w h is) (data_is y c i n h at)
 
-    by : (x : Option BlockId) → whole_block c (named_block c.symbols name) ≡ x → (i : Option BlockName) → called_seen x i (instance_number c i) ≡ Resolved v
+    by : (x : Option BlockId) → whole_called_block c (named_block c.symbols name) ≡ x → (i : Option BlockName) → called_seen x i (instance_number c i) ≡ Resolved v
         → (is_unknown_called y name || is_unknown_instance y i) ≡ false
     by None is i e = absurd cc
     by (Some w) is None e = ap (λ (b : Bool). b || false) (called_is y c name w h is)
     by (Some w) is (Some i) e = numbered w i is (data_number c i) refl e
 
-pub seen_there : (y : Types) (c : Context) (o : Operand) (v : ResolvedOperand) → AreTypesOf y c → seen c o ≡ Resolved v → names_unknown y o ≡ false
-unfolding seen
+pub seen_there : (y : Types) (c : Context) (o : Operand) (v : ResolvedOperand) → AreTypesOf y c → resolution_of c o ≡ Resolved v → names_unknown y o ≡ false
+unfolding resolution_of
 seen_there y c (operand.Direct None a w byte bit) v h e = refl
 seen_there y c (operand.Direct (Some name) a w byte bit) v h e = in_direct y c name a w byte bit v h e
 seen_there y c (operand.Named (head.Local name) steps) v h e = refl
@@ -130,7 +130,7 @@ IsBare (operand.Named (head.Local name) steps) = steps ≡ []
 IsBare (operand.Named _ steps) = ⊥
 IsBare _ = Unit {0}
 
-no_further : (end : PathEnd) → further end (λ spot. false) ≡ false
+no_further : (end : PathEnd) → holds_where_reached end (λ spot. false) ≡ false
 no_further (walk.Reaches spot) = refl
 no_further walk.Unknown = refl
 no_further walk.Rests = refl
@@ -142,7 +142,7 @@ and_false false b e = refl
 pub bare_inside : (y : Types) (c : Context) (o : Operand) → IsBare o → operand_is_outside y c.layouts c.block o ≡ false
 bare_inside y c (operand.Named (head.Local name) steps) h =
     ap (λ (p : List PathStep). operand_is_outside y c.layouts c.block (operand.Named (head.Local name) p)) h
-    ∙ and_false (is_judged (walked_local c.layouts c.block (upper_case_name name) [])) (further (in_sections c.layouts c.block (upper_case_name name)) (λ spot. false)) (no_further (in_sections c.layouts c.block (upper_case_name name)))
+    ∙ and_false (is_judged (walked_local c.layouts c.block (upper_case_name name) [])) (holds_where_reached (in_sections c.layouts c.block (upper_case_name name)) (λ spot. false)) (no_further (in_sections c.layouts c.block (upper_case_name name)))
 bare_inside y c (operand.Named (head.InBlock name) steps) h = absurd h
 bare_inside y c (operand.Named (head.Symbol name) steps) h = absurd h
 bare_inside y c _ h = refl

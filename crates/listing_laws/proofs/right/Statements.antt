@@ -20,7 +20,7 @@ use Rattle.flat_code.specs.declared.operations.Logic.TheVariants as logic
 use Rattle.flat_code.specs.declared.operations.Operation.{Operation}
 use Rattle.flat_code.specs.declared.operations.Operation.TheVariants as operation
 use Rattle.flat_code.specs.declared.operations.PointerOperation.TheVariants as pointers
-use Rattle.stl_ast.specs.Statements.{has_actuals, is_called, is_empty}
+use Rattle.stl_ast.specs.Statements.{has_actuals, names_called_block, is_empty_statement}
 use Rattle.stl_ast.specs.declared.mnemonics.Mnemonic.{Mnemonic}
 use Rattle.stl_ast.specs.declared.names.BlockName.{BlockName}
 use Rattle.stl_ast.specs.declared.names.BlockName.TheVariants as block
@@ -35,10 +35,10 @@ use Rattle.block_layout.specs.Types.{Types}
 use Rattle.stl_types.specs.Calls.{calls_unknown, has_no_instance, has_wrong_instance, is_unknown_function, sees_date}
 use Rattle.stl_types.specs.Context.{Context, data_number, whole_place}
 use Rattle.stl_types.specs.Forms.{form_of}
-use Rattle.stl_types.specs.Operands.{operand_rule, rule_of, rule_seen, statement_rule}
+use Rattle.stl_types.specs.Operands.{operand_rule, rule_of_resolved_operand, rule_seen, statement_rule}
 use Rattle.stl_types.specs.Parameters.{Callee, callee_at, callee_by, callee_of, source_callee, system_callee, system_formals}
-use Rattle.stl_types.specs.Resolution.{called_seen, id_at, instance_number, seen, whole_block}
-use Rattle.stl_types.specs.Resolved.{resolved}
+use Rattle.stl_types.specs.Resolution.{called_seen, id_at, instance_number, resolution_of, whole_called_block}
+use Rattle.stl_types.specs.Resolved.{resolved_operand}
 use Rattle.stl_types.specs.Unknown.{is_unknown}
 use Rattle.stl_types.specs.declared.parameters.Formal.{Formal}
 use Rattle.stl_types.specs.declared.views.Register.TheVariants as register
@@ -46,25 +46,25 @@ use Rattle.stl_types.specs.declared.views.Resolution.{Resolution}
 use Rattle.stl_types.specs.declared.views.Resolution.TheVariants.{Resolved, Unknown, Unjudged}
 use Rattle.stl_types.specs.declared.views.ResolvedOperand.{ResolvedOperand}
 use Rattle.stl_types.specs.declared.views.ResolvedOperand.TheVariants as view
-use Rattle.stl_codegen.specs.Compiled.{aimed}
-use Rattle.stl_codegen.specs.Emitted.{passing}
+use Rattle.stl_codegen.specs.Compiled.{operand_with_target}
+use Rattle.stl_codegen.specs.Emitted.{pass_ops}
 use Rattle.stl_codegen.specs.Instruction.{instruction, jump_instr, passings_to, target_of}
-use Rattle.stl_codegen.specs.Operands.{operand_of}
-use Rattle.stl_codegen.specs.Operations.{call_of, end_of, jump_of}
+use Rattle.stl_codegen.specs.Operands.{flat_operand_of}
+use Rattle.stl_codegen.specs.Operations.{call_operation_of, end_operation_of, jump_operation_of}
 use Rattle.stl_codegen.specs.Passed.{passed_seen}
-use Rattle.stl_list.specs.Actuals.{actual, actuals_before, actuals_by, passed_operand}
+use Rattle.stl_list.specs.Actuals.{actual_of_passed, actuals_before, actuals_by, passed_operand}
 use Rattle.stl_list.specs.Constants.{instruction_constant}
-use Rattle.stl_list.specs.Labels.{label_of}
-use Rattle.stl_list.specs.Operands.{data_block_name, implied_operand, operand_by, plain_operand}
+use Rattle.stl_list.specs.Labels.{label_of_number}
+use Rattle.stl_list.specs.Operands.{name_of_data_block, implied_operand, operand_by, plain_operand}
 use Rattle.stl_list.specs.Runs.{number_at}
 use Rattle.stl_list.specs.Signatures.{called_formals}
-use Rattle.stl_list.specs.Statements.{Surroundings, statement}
+use Rattle.stl_list.specs.Statements.{Surroundings, listed_statement}
 use Rattle.sem_kept.specs.Settled.{HasCalled, HasInstruction, HasOperand, IsSettled}
 use Rattle.sem_kept.proofs.accepted.Accepted.{IsSoundActual, IsSoundCall, IsSoundStatement}
 use Rattle.sem_kept.proofs.accepted.Shared.{callable_by}
 use Rattle.listing_laws.specs.Calls.{IsInstanceAt}
 use Rattle.listing_laws.specs.Instructions.{HasAgain, IsRightOperand}
-use Rattle.listing_laws.specs.Operands.{acting}
+use Rattle.listing_laws.specs.Operands.{operand_instruction}
 use Rattle.listing_laws.specs.Passings.{BreaksNone, FitsListed, IsListedCall}
 use Rattle.listing_laws.specs.CallsAgain.{IsCalledAgain, IsFoundAgain}
 use Rattle.listing_laws.specs.Statements.{run_of}
@@ -81,7 +81,7 @@ use Rattle.listing_laws.proofs.ruled.Views.{stands}
 
 -- a statement breaks no rule by what it names and calls
 pub record IsRightAgain (y : Types) (c : Context) (s : Statement) : Type 0 where
-  pub known : is_unknown (seen c s.operand) ≡ false
+  pub known : is_unknown (resolution_of c s.operand) ≡ false
   pub there : names_unknown y s.operand ≡ false
   pub inside : operand_is_outside y c.layouts c.block s.operand ≡ false
   pub allowed : statement_rule c s ≡ None
@@ -94,19 +94,19 @@ known_by x v e = ap is_unknown e
 
 -- ---- what calls nothing
 
-not_unknown : (c : Context) (o : Operand) → is_called o ≡ false → calls_unknown c o ≡ false
+not_unknown : (c : Context) (o : Operand) → names_called_block o ≡ false → calls_unknown c o ≡ false
 not_unknown c (operand.Called name instance) e = absurd cc
 not_unknown c _ e = refl
 
-no_callee : (c : Context) (o : Operand) (callee : Callee) → is_called o ≡ false → callee_of c o ≡ Some callee → ⊥
+no_callee : (c : Context) (o : Operand) (callee : Callee) → names_called_block o ≡ false → callee_of c o ≡ Some callee → ⊥
 unfolding callee_of
 no_callee c (operand.Called name instance) callee e h = absurd cc
 no_callee c _ callee e h = absurd cc
 
-right_plain : (y : Types) (c : Context) (s : Statement) (v : ResolvedOperand) → AreTypesOf y c → seen c s.operand ≡ Resolved v → IsBare s.operand → statement_rule c s ≡ None
-    → is_called s.operand ≡ false → s.actuals ≡ [] → IsRightAgain y c s
+right_plain : (y : Types) (c : Context) (s : Statement) (v : ResolvedOperand) → AreTypesOf y c → resolution_of c s.operand ≡ Resolved v → IsBare s.operand → statement_rule c s ≡ None
+    → names_called_block s.operand ≡ false → s.actuals ≡ [] → IsRightAgain y c s
 right_plain y c s v types sees bare rule calls none = record {
-  known = known_by (seen c s.operand) v sees;
+  known = known_by (resolution_of c s.operand) v sees;
   there = seen_there y c s.operand v types sees;
   inside = bare_inside y c s.operand bare;
   allowed = rule;
@@ -125,7 +125,7 @@ IsNoCall (Does u w o) = IsNoCalled o
 IsNoCall (Calls how id instance ps) = ⊥
 IsNoCall _ = Unit {0}
 
-aimed_none : (f : ℕ → ℕ) (o : FlatOperand) → IsNoCalled o → IsNoCalled (aimed f o)
+aimed_none : (f : ℕ → ℕ) (o : FlatOperand) → IsNoCalled o → IsNoCalled (operand_with_target f o)
 aimed_none f (flat.Jump kind target) h = tt
 aimed_none f (flat.Called kind number instance) h = h
 aimed_none f _ h = tt
@@ -137,14 +137,14 @@ run_none f (JumpsByList targets otherwise) h = tt
 run_none f (Calls how id instance ps) h = absurd h
 run_none f (Returns how) h = tt
 
-implied_none : (w : Operation) → is_called (implied_operand w) ≡ false
+implied_none : (w : Operation) → names_called_block (implied_operand w) ≡ false
 implied_none operation.LoadStatus = refl
 implied_none operation.TransferStatus = refl
 implied_none (operation.Pointer pointers.Lar1Ar2) = refl
 implied_none (operation.Pointer pointers.Tar1Ar2) = refl
 implied_none _ = refl
 
-constant_none : (w : Operation) (bits : ℕ) → is_called (instruction_constant w bits) ≡ false
+constant_none : (w : Operation) (bits : ℕ) → names_called_block (instruction_constant w bits) ≡ false
 constant_none operation.Load bits = refl
 constant_none (operation.Logic logic.Ad) bits = refl
 constant_none (operation.Logic logic.Od) bits = refl
@@ -155,11 +155,11 @@ constant_none (operation.Add adding.Dword) bits = refl
 constant_none operation.LoadOpenBlock bits = refl
 constant_none _ bits = refl
 
-timer_none : (b : Bool) (number : ℕ) → is_called (if b then operand.Timer number else operand.Counter number) ≡ false
+timer_none : (b : Bool) (number : ℕ) → names_called_block (if b then operand.Timer number else operand.Counter number) ≡ false
 timer_none true number = refl
 timer_none false number = refl
 
-operand_none : (formals : List Formal) (starts : List ℕ) (opened : Option ℕ) (w : Operation) (f : FlatOperand) → IsNoCalled f → is_called (operand_by formals starts opened w f) ≡ false
+operand_none : (formals : List Formal) (starts : List ℕ) (opened : Option ℕ) (w : Operation) (f : FlatOperand) → IsNoCalled f → names_called_block (operand_by formals starts opened w f) ≡ false
 unfolding operand_by plain_operand
 operand_none formals starts opened w flat.Nothing h = implied_none w
 operand_none formals starts opened w (flat.Literal value) h = constant_none w value
@@ -176,8 +176,8 @@ jump_none : (how : JumpOperation) (k n : ℕ) → IsNoCall (jump_instr how k n)
 jump_none jump.Jl k n = tt
 jump_none _ k n = tt
 
-acting_none : (o : Operand) (v : ResolvedOperand) → IsNoCalled (operand_of o v)
-unfolding operand_of
+acting_none : (o : Operand) (v : ResolvedOperand) → IsNoCalled (flat_operand_of o v)
+unfolding flat_operand_of
 acting_none o (view.NumberBy numbered.Timer from byte) = tt
 acting_none o (view.NumberBy numbered.Counter from byte) = tt
 acting_none o (view.NumberBy numbered.Db from byte) = tt
@@ -191,41 +191,41 @@ acting_none o _ = tt
 
 -- by its instruction
 abbrev IsShownAgain : Types → Context → Surroundings → (ℕ → ℕ) → (k : ℕ) → Instr → Type 0
-IsShownAgain y listed sur f k i = IsRightAgain y listed (statement sur k (run_of f i))
+IsShownAgain y listed sur f k i = IsRightAgain y listed (listed_statement sur k (run_of f i))
 
 right_instr : (y : Types) (listed : Context) (sur : Surroundings) (f : ℕ → ℕ) (k : ℕ) (i : Instr) (v : ResolvedOperand) → AreTypesOf y listed → IsNoCall i
-    → seen listed (statement sur k (run_of f i)).operand ≡ Resolved v → statement_rule listed (statement sur k (run_of f i)) ≡ None → IsShownAgain y listed sur f k i
+    → resolution_of listed (listed_statement sur k (run_of f i)).operand ≡ Resolved v → statement_rule listed (listed_statement sur k (run_of f i)) ≡ None → IsShownAgain y listed sur f k i
 right_instr y listed sur f k i v types none sees rule =
-    right_plain y listed (statement sur k (run_of f i)) v types sees (operand_bare sur.formals sur.starts _ _ (run_of f i).op.operand) rule
+    right_plain y listed (listed_statement sur k (run_of f i)) v types sees (operand_bare sur.formals sur.starts _ _ (run_of f i).op.operand) rule
     (operand_none sur.formals sur.starts _ _ (run_of f i).op.operand (run_none f i none))
     (actuals_none sur _ (run_of f i).before (run_of f i).op.operand (run_none f i none))
 
 -- ---- jumps
 
 jump_right : (y : Types) (c listed : Context) (sur : Surroundings) (f : ℕ → ℕ) (body : List Statement) (k : ℕ) (s : Statement) (how : JumpOperation)
-    → AreTypesOf y listed → jump_of s.code ≡ Some how → (listed_as sur f c body k s).code ≡ s.code → IsRightAgain y listed (listed_as sur f c body k s)
+    → AreTypesOf y listed → jump_operation_of s.code ≡ Some how → (listed_as sur f c body k s).code ≡ s.code → IsRightAgain y listed (listed_as sur f c body k s)
 jump_right y c listed sur f body k s how types h word =
     subst (IsShownAgain y listed sur f k) (sym is)
-    (right_instr y listed sur f k (jump_instr how k n) view.Label types (jump_none how k n) (ap (seen listed) shown ∙ labels_seen listed name) rule)
+    (right_instr y listed sur f k (jump_instr how k n) view.Label types (jump_none how k n) (ap (resolution_of listed) shown ∙ labels_seen listed name) rule)
   where
     n : ℕ
     n = target_of body s.operand
 
     name : List ℕ
-    name = label_of (number_at sur.starts (f (target_of body s.operand)))
+    name = label_of_number (number_at sur.starts (f (target_of body s.operand)))
 
     is : instruction c body k s ≡ jump_instr how k n
     is = jumped c body k s how h
 
-    shown : (statement sur k (run_of f (jump_instr how k n))).operand ≡ operand.Label name
+    shown : (listed_statement sur k (run_of f (jump_instr how k n))).operand ≡ operand.Label name
     shown = leap_operand sur k f how k n
 
-    code_is : (statement sur k (run_of f (jump_instr how k n))).code ≡ s.code
-    code_is = ap (λ (i : Instr). (statement sur k (run_of f i)).code) (sym is) ∙ word
+    code_is : (listed_statement sur k (run_of f (jump_instr how k n))).code ≡ s.code
+    code_is = ap (λ (i : Instr). (listed_statement sur k (run_of f i)).code) (sym is) ∙ word
 
-    rule : statement_rule listed (statement sur k (run_of f (jump_instr how k n))) ≡ None
+    rule : statement_rule listed (listed_statement sur k (run_of f (jump_instr how k n))) ≡ None
     rule =
-        ap (λ (m : Mnemonic). operand_rule listed (form_of m) (statement sur k (run_of f (jump_instr how k n))).operand) code_is
+        ap (λ (m : Mnemonic). operand_rule listed (form_of m) (listed_statement sur k (run_of f (jump_instr how k n))).operand) code_is
         ∙ ap (operand_rule listed (form_of s.code)) shown
         ∙ jump_taken listed s.code how name h
 
@@ -233,36 +233,36 @@ jump_right y c listed sur f body k s how types h word =
 
 does_right : (y : Types) (c listed : Context) (sur : Surroundings) (f : ℕ → ℕ) (k : ℕ) (s : Statement) (v : ResolvedOperand)
     → AreTypesOf y listed → HasAgain c listed sur.formals → IsRightOperand c.symbols s.operand
-    → is_empty s.code ≡ false → jump_of s.code ≡ None → call_of s.code ≡ None → end_of s.code ≡ None → resolved c s ≡ Some v
-    → IsShownAgain y listed sur f k (acting s.code s.operand v)
+    → is_empty_statement s.code ≡ false → jump_operation_of s.code ≡ None → call_operation_of s.code ≡ None → end_operation_of s.code ≡ None → resolved_operand c s ≡ Some v
+    → IsShownAgain y listed sur f k (operand_instruction s.code s.operand v)
 does_right y c listed sur f k s v types has right some jumps calls ends e =
     let sees = what_seen c s v e in
     let both = stands c listed sur.formals s.operand v has right sees in
     let acted = operands_kept c listed sur.formals sur.starts f s.code s.operand v (record { some = some; jumps = jumps; calls = calls; ends = ends }) (rule_broken c s v e) sees both.1 both.0 in
-    right_instr y listed sur f k (acting s.code s.operand v) acted.found types (acting_none s.operand v) acted.sees
-    (ap (λ (m : Mnemonic). operand_rule listed (form_of m) (statement sur k (run_of f (acting s.code s.operand v))).operand) (acting_word f s.code s.operand v some jumps calls ends) ∙ acted.right)
+    right_instr y listed sur f k (operand_instruction s.code s.operand v) acted.found types (acting_none s.operand v) acted.sees
+    (ap (λ (m : Mnemonic). operand_rule listed (form_of m) (listed_statement sur k (run_of f (operand_instruction s.code s.operand v))).operand) (acting_word f s.code s.operand v some jumps calls ends) ∙ acted.right)
 
 end_right : (y : Types) (listed : Context) (sur : Surroundings) (f : ℕ → ℕ) (k : ℕ) (m : Mnemonic) (how : EndOperation)
-    → AreTypesOf y listed → end_of m ≡ Some how → (statement sur k (run_of f (Returns how))).code ≡ m → IsShownAgain y listed sur f k (Returns how)
+    → AreTypesOf y listed → end_operation_of m ≡ Some how → (listed_statement sur k (run_of f (Returns how))).code ≡ m → IsShownAgain y listed sur f k (Returns how)
 end_right y listed sur f k m how types ends word =
-    right_instr y listed sur f k (Returns how) view.Nothing types tt (ap (seen listed) (end_operand sur k f how) ∙ nothing_seen listed)
-    (ap (λ (x : Mnemonic). operand_rule listed (form_of x) (statement sur k (run_of f (Returns how))).operand) word
+    right_instr y listed sur f k (Returns how) view.Nothing types tt (ap (resolution_of listed) (end_operand sur k f how) ∙ nothing_seen listed)
+    (ap (λ (x : Mnemonic). operand_rule listed (form_of x) (listed_statement sur k (run_of f (Returns how))).operand) word
     ∙ ap (operand_rule listed (form_of m)) (end_operand sur k f how) ∙ end_taken listed m how ends)
 
 other_right : (y : Types) (c listed : Context) (sur : Surroundings) (f : ℕ → ℕ) (body : List Statement) (k : ℕ) (s : Statement) (v : ResolvedOperand)
     → AreTypesOf y listed → HasAgain c listed sur.formals → IsRightOperand c.symbols s.operand
-    → is_empty s.code ≡ false → jump_of s.code ≡ None → call_of s.code ≡ None → resolved c s ≡ Some v → (listed_as sur f c body k s).code ≡ s.code
+    → is_empty_statement s.code ≡ false → jump_operation_of s.code ≡ None → call_operation_of s.code ≡ None → resolved_operand c s ≡ Some v → (listed_as sur f c body k s).code ≡ s.code
     → IsRightAgain y listed (listed_as sur f c body k s)
-other_right y c listed sur f body k s v types has right some jumps calls e word = by (end_of s.code) refl
+other_right y c listed sur f body k s v types has right some jumps calls e word = by (end_operation_of s.code) refl
   where
-    by : (ending : Option EndOperation) → end_of s.code ≡ ending → IsRightAgain y listed (listed_as sur f c body k s)
+    by : (ending : Option EndOperation) → end_operation_of s.code ≡ ending → IsRightAgain y listed (listed_as sur f c body k s)
     by None ends =
         subst (IsShownAgain y listed sur f k) (sym (comes_to c body k s v None jumps calls ends e))
         (does_right y c listed sur f k s v types has right some jumps calls ends e)
     by (Some how) ends =
         let is = comes_to c body k s v (Some how) jumps calls ends e in
         subst (IsShownAgain y listed sur f k) (sym is)
-        (end_right y listed sur f k s.code how types ends (ap (λ (i : Instr). (statement sur k (run_of f i)).code) (sym is) ∙ word))
+        (end_right y listed sur f k s.code how types ends (ap (λ (i : Instr). (listed_statement sur k (run_of f i)).code) (sym is) ∙ word))
 
 -- ---- what a call calls
 
@@ -276,7 +276,7 @@ found_system id None callee e = absurd cc
 found_system id (Some formals) callee e = refl
 
 record IsThere (c : Context) (id : BlockId) : Type 0 where
-  whole : whole_block c (Some id) ≡ Some id
+  whole : whole_called_block c (Some id) ≡ Some id
   known : is_unknown_function (Some id) ≡ false
 
 callee_there : (c : Context) (id : BlockId) (callee : Callee) → callee_by c id id.kind ≡ Some callee → IsThere c id
@@ -327,30 +327,30 @@ names_by c name (Some x) (Some i) id instance e = by (data_number c i) refl e
         let same : Some m ≡ instance = called_views x id (Some m) instance e in
         record { none = ap is_none same; number = λ n at. (i, is ∙ same ∙ at) }
 
-names_instance : (c : Context) (o : Operand) (id : BlockId) (instance : Option ℕ) → is_called o ≡ true → seen c o ≡ Resolved (view.Called id instance) → NamesInstance c o instance
-unfolding seen
-names_instance c (operand.Called name i) id instance is e = names_by c name (whole_block c (named_block c.symbols name)) i id instance e
+names_instance : (c : Context) (o : Operand) (id : BlockId) (instance : Option ℕ) → names_called_block o ≡ true → resolution_of c o ≡ Resolved (view.Called id instance) → NamesInstance c o instance
+unfolding resolution_of
+names_instance c (operand.Called name i) id instance is e = names_by c name (whole_called_block c (named_block c.symbols name)) i id instance e
 names_instance c _ id instance is e = absurd cc
 
 -- and it stands in the listing
 abbrev IsInstanceThere : Context → Option ℕ → Type 0
-IsInstanceThere listed instance = (n : ℕ) → instance ≡ Some n → data_number listed (data_block_name n) ≡ Some n
+IsInstanceThere listed instance = (n : ℕ) → instance ≡ Some n → data_number listed (name_of_data_block n) ≡ Some n
 
-zero_none : (listed : Context) → data_number listed (data_block_name 0) ≡ Some 0 → ⊥
+zero_none : (listed : Context) → data_number listed (name_of_data_block 0) ≡ Some 0 → ⊥
 zero_none listed e = no e
   where
     no : None ≡ Some zero → ⊥
     no e = absurd cc
 
-called_seen_again : (listed : Context) (id : BlockId) (instance : Option ℕ) → whole_block listed (Some id) ≡ Some id → IsInstanceThere listed instance
-    → seen listed (operand.Called (block.Number id) (option_map data_block_name instance)) ≡ Resolved (view.Called id instance)
-unfolding seen
+called_seen_again : (listed : Context) (id : BlockId) (instance : Option ℕ) → whole_called_block listed (Some id) ≡ Some id → IsInstanceThere listed instance
+    → resolution_of listed (operand.Called (block.Number id) (option_map name_of_data_block instance)) ≡ Resolved (view.Called id instance)
+unfolding resolution_of
 called_seen_again listed id None h k = ap (λ (x : Option BlockId). called_seen x None None) h
 called_seen_again listed id (Some number) h k =
-    ap (λ (x : Option BlockId). called_seen x (Some (data_block_name number)) (data_number listed (data_block_name number))) h
-    ∙ ap (called_seen (Some id) (Some (data_block_name number))) (k number refl)
+    ap (λ (x : Option BlockId). called_seen x (Some (name_of_data_block number)) (data_number listed (name_of_data_block number))) h
+    ∙ ap (called_seen (Some id) (Some (name_of_data_block number))) (k number refl)
 
-lacks_again : (id : BlockId) (instance : Option ℕ) → has_no_instance (operand.Called (block.Number id) (option_map data_block_name instance)) ≡ is_none instance
+lacks_again : (id : BlockId) (instance : Option ℕ) → has_no_instance (operand.Called (block.Number id) (option_map name_of_data_block instance)) ≡ is_none instance
 lacks_again id None = refl
 lacks_again id (Some n) = refl
 
@@ -361,11 +361,11 @@ passed_known o (Resolved v) p e = (v, refl)
 passed_known o Unknown p e = absurd cc
 passed_known o Unjudged p e = absurd cc
 
-actual_sound : (y : Types) (c : Context) (own : List Formal) (line : ℕ) (f : Formal) (p : Passed) → AreTypesOf y c → FitsListed c own f p → sees_date (seen c (passed_operand own f p)) ≡ false → IsSoundActual y c (actual line own f p)
+actual_sound : (y : Types) (c : Context) (own : List Formal) (line : ℕ) (f : Formal) (p : Passed) → AreTypesOf y c → FitsListed c own f p → sees_date (resolution_of c (passed_operand own f p)) ≡ false → IsSoundActual y c (actual_of_passed line own f p)
 actual_sound y c own line f p types fits undated =
-    let found = passed_known (passed_operand own f p) (seen c (passed_operand own f p)) p (sees c own f p fits) in
+    let found = passed_known (passed_operand own f p) (resolution_of c (passed_operand own f p)) p (sees c own f p fits) in
     record {
-      known = known_by (seen c (passed_operand own f p)) found.0 found.1;
+      known = known_by (resolution_of c (passed_operand own f p)) found.0 found.1;
       there = seen_there y c (passed_operand own f p) found.0 types found.1;
       inside = bare_inside y c (passed_operand own f p) (passed_bare own f p);
       undated = undated;
@@ -377,18 +377,18 @@ actual_sound y c own line f p types fits undated =
 abbrev pub IsInstanceKept : (c listed : Context) → Statement → Type 0
 IsInstanceKept c listed s =
     (how : CallOperation) (id : BlockId) (instance : Option ℕ) (callee found : Callee)
-    → call_of s.code ≡ Some how → is_called s.operand ≡ true → resolved c s ≡ Some (view.Called id instance)
+    → call_operation_of s.code ≡ Some how → names_called_block s.operand ≡ true → resolved_operand c s ≡ Some (view.Called id instance)
     → callee_of c s.operand ≡ Some callee → callee.id ≡ id
-    → callee_of listed (operand.Called (block.Number id) (option_map data_block_name instance)) ≡ Some found
-    → IsInstanceAt listed found.place (option_map data_block_name instance)
+    → callee_of listed (operand.Called (block.Number id) (option_map name_of_data_block instance)) ≡ Some found
+    → IsInstanceAt listed found.place (option_map name_of_data_block instance)
 
 called_right : (y : Types) (c listed : Context) (sur : Surroundings) (f : ℕ → ℕ) (k : ℕ) (s : Statement) (how : CallOperation) (id : BlockId) (instance : Option ℕ) (callee : Callee)
-    → AreTypesOf y listed → HasAgain c listed sur.formals → call_of s.code ≡ Some how → resolved c s ≡ Some (view.Called id instance) → is_called s.operand ≡ true
+    → AreTypesOf y listed → HasAgain c listed sur.formals → call_operation_of s.code ≡ Some how → resolved_operand c s ≡ Some (view.Called id instance) → names_called_block s.operand ≡ true
     → IsSoundCall c callee s → (q : IsFoundAgain c listed sur.formals (called_formals sur.signatures id) s id instance callee)
-    → IsInstanceAt listed q.found.place (option_map data_block_name instance)
+    → IsInstanceAt listed q.found.place (option_map name_of_data_block instance)
     → IsShownAgain y listed sur f k (Calls how id instance (passings_to c s (Some callee)))
 called_right y c listed sur f k s how id instance callee types has h e is_call sound q instances = record {
-  known = known_by (seen listed again.operand) (view.Called id instance) sees_again;
+  known = known_by (resolution_of listed again.operand) (view.Called id instance) sees_again;
   there = seen_there y listed again.operand (view.Called id instance) types sees_again;
   inside = ap (operand_is_outside y listed.layouts listed.block) shown;
   allowed =
@@ -471,14 +471,14 @@ called_right y c listed sur f k s how id instance callee types has h e is_call s
     }
 
 call_right : (y y' : Types) (c listed : Context) (sur : Surroundings) (f : ℕ → ℕ) (body : List Statement) (k : ℕ) (s : Statement) (how : CallOperation)
-    → AreTypesOf y listed → HasAgain c listed sur.formals → call_of s.code ≡ Some how → HasCalled c s → IsSoundStatement y' c s → IsCalledAgain c listed sur.signatures sur.formals s → IsInstanceKept c listed s
+    → AreTypesOf y listed → HasAgain c listed sur.formals → call_operation_of s.code ≡ Some how → HasCalled c s → IsSoundStatement y' c s → IsCalledAgain c listed sur.signatures sur.formals s → IsInstanceKept c listed s
     → IsRightAgain y listed (listed_as sur f c body k s)
 call_right y y' c listed sur f body k s how types has h called sound kept instances =
     subst (IsShownAgain y listed sur f k) (sym is)
     (called_right y c listed sur f k s how called.id called.instance called.callee types has h called.called is_call (sound.calls called.callee called.found) q
     (instances how called.id called.instance called.callee q.found h is_call called.called called.found called.same q.is))
   where
-    is_call : is_called s.operand ≡ true
+    is_call : names_called_block s.operand ≡ true
     is_call = sound.well_formed.called ∙ calls_block s.code how h
 
     q : IsFoundAgain c listed sur.formals (called_formals sur.signatures called.id) s called.id called.instance called.callee
@@ -493,17 +493,17 @@ call_right y y' c listed sur f body k s how types has h called sound kept instan
 
 pub statement_right : (y y' : Types) (c listed : Context) (sur : Surroundings) (f : ℕ → ℕ) (body : List Statement) (k : ℕ) (s : Statement)
     → AreTypesOf y listed → HasAgain c listed sur.formals → IsRightOperand c.symbols s.operand → IsCalledAgain c listed sur.signatures sur.formals s → IsInstanceKept c listed s
-    → IsSettled c body s → IsSoundStatement y' c s → is_empty s.code ≡ false
+    → IsSettled c body s → IsSoundStatement y' c s → is_empty_statement s.code ≡ false
     → IsRightAgain y listed (listed_as sur f c body k s)
-statement_right y y' c listed sur f body k s types has right kept instances settled sound some = by (jump_of s.code) refl settled.instruction
+statement_right y y' c listed sur f body k s types has right kept instances settled sound some = by (jump_operation_of s.code) refl settled.instruction
   where
     word : (listed_as sur f c body k s).code ≡ s.code
     word = word_is c body k f s (readable y' c body s settled sound) some
 
-    by_call : (how : Option CallOperation) → jump_of s.code ≡ None → call_of s.code ≡ how → HasOperand c s how → IsRightAgain y listed (listed_as sur f c body k s)
+    by_call : (how : Option CallOperation) → jump_operation_of s.code ≡ None → call_operation_of s.code ≡ how → HasOperand c s how → IsRightAgain y listed (listed_as sur f c body k s)
     by_call None jumps calls o = other_right y c listed sur f body k s o.0 types has right some jumps calls o.1 word
     by_call (Some how) jumps calls o = call_right y y' c listed sur f body k s how types has calls o sound kept instances
 
-    by : (how : Option JumpOperation) → jump_of s.code ≡ how → HasInstruction c body s how → IsRightAgain y listed (listed_as sur f c body k s)
-    by None jumps o = by_call (call_of s.code) jumps refl o
+    by : (how : Option JumpOperation) → jump_operation_of s.code ≡ how → HasInstruction c body s how → IsRightAgain y listed (listed_as sur f c body k s)
+    by None jumps o = by_call (call_operation_of s.code) jumps refl o
     by (Some how) jumps o = jump_right y c listed sur f body k s how types jumps word

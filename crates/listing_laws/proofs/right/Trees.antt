@@ -14,26 +14,26 @@ use Rattle.stl_ast.specs.declared.statements.Statement.{Statement}
 use Rattle.stl_symbols.specs.Symbol.{Symbol}
 use Rattle.block_layout.specs.ByPlace.{by_place}
 use Rattle.block_layout.specs.Layouts.{layouts_of}
-use Rattle.block_layout.specs.Measures.{types_of}
+use Rattle.block_layout.specs.Measures.{types_of_source}
 use Rattle.block_layout.specs.Operands.{in_body}
 use Rattle.block_layout.specs.Rule23.{operand_23}
 use Rattle.block_layout.specs.Rule42.{operand_42}
 use Rattle.block_layout.specs.Types.{Types}
 use Rattle.block_layout.specs.declared.blocks.BlockLayout.{BlockLayout}
 use Rattle.stl_types.specs.Bodies.{in_bodies, in_contexts}
-use Rattle.stl_types.specs.Brackets.{closes_none, is_eighth, left_open, rule_29, rule_30, rule_31, with_brackets}
-use Rattle.stl_types.specs.Calls.{call_37, calls_unknown, dates_in, has_wrong_instance, is_bare_call, lacks_actual, rule_24_of_actuals, rule_34, rule_35, rule_36, rule_37, rule_38, rule_40, rule_46, supplied_twice, unnamed}
+use Rattle.stl_types.specs.Brackets.{closes_no_bracket, is_eighth_bracket, brackets_left_open, rule_29, rule_30, rule_31, with_brackets}
+use Rattle.stl_types.specs.Calls.{call_37, calls_unknown, dates_in, has_wrong_instance, is_bare_call, lacks_actual, rule_24_of_actuals, rule_34, rule_35, rule_36, rule_37, rule_38, rule_40, rule_46, actuals_supplied_twice, actuals_without_formal}
 use Rattle.stl_types.specs.Context.{Context}
 use Rattle.stl_types.specs.Labels.{labels_of, labels_twice, rule_26, rule_27, unknown_labels}
 use Rattle.stl_types.specs.Landings.{rule_33}
 use Rattle.stl_types.specs.Lists.{lists_from, rule_32}
 use Rattle.stl_types.specs.Operands.{operands_24, rules_24_25_39}
 use Rattle.stl_types.specs.Unknown.{operand_20}
-use Rattle.stl_types.specs.Zones.{ends_none, is_ninth, rule_47, rule_48, rule_49, with_zones, zones_left_open}
+use Rattle.stl_types.specs.Zones.{ends_no_zone, is_ninth_zone, rule_47, rule_48, rule_49, with_zones, zones_left_open}
 use Rattle.stl_list.specs.CodeBlocks.{in_lines, line_reached, listed_blocks}
 use Rattle.stl_list.specs.DataBlocks.{listed_data, listed_data_blocks}
 use Rattle.stl_list.specs.Listing.{listed_tree}
-use Rattle.stl_list.specs.Signatures.{Signature, formals_of}
+use Rattle.stl_list.specs.Signatures.{Signature, formals_of_block}
 use Rattle.sem_kept.specs.Accepted.{IsAccepted, program_in}
 use Rattle.sem_kept.proofs.accepted.Accepted.{AllFrom, context_at}
 use Rattle.sem_kept.proofs.accepted.OperandsCells.{all_there, measured_symbols}
@@ -93,54 +93,54 @@ mapped P Q f k (b ∷ bs) h = (f k b h.0, mapped P Q f (suc k) bs h.1)
 
 -- each body breaks none
 abbrev AreAllRight : (symbols : List Symbol) → Tree → Type 0
-AreAllRight symbols t = AllFrom (λ k b. IsRightBody (types_of symbols t.blocks) (context_at symbols t k) b.body) 0 t.blocks
+AreAllRight symbols t = AllFrom (λ k b. IsRightBody (types_of_source symbols t.blocks) (context_at symbols t k) b.body) 0 t.blocks
 
 module _ (symbols : List Symbol) (t : Tree) (h : AreAllRight symbols t) where
   y : Types
-  y = types_of symbols t.blocks
+  y = types_of_source symbols t.blocks
 
-  each : (Q : ℕ → Block → Type 0) → ((k : ℕ) (b : Block) → IsRightBody (types_of symbols t.blocks) (context_at symbols t k) b.body → Q k b) → AllFrom Q 0 t.blocks
-  each Q f = mapped (λ k b. IsRightBody (types_of symbols t.blocks) (context_at symbols t k) b.body) Q f 0 t.blocks h
+  each : (Q : ℕ → Block → Type 0) → ((k : ℕ) (b : Block) → IsRightBody (types_of_source symbols t.blocks) (context_at symbols t k) b.body → Q k b) → AllFrom Q 0 t.blocks
+  each Q f = mapped (λ k b. IsRightBody (types_of_source symbols t.blocks) (context_at symbols t k) b.body) Q f 0 t.blocks h
 
-  bodies : (broken : List Statement → List Refusal) → ((k : ℕ) (b : Block) → IsRightBody (types_of symbols t.blocks) (context_at symbols t k) b.body → broken b.body ≡ []) → in_bodies broken t.blocks ≡ []
+  bodies : (broken : List Statement → List Refusal) → ((k : ℕ) (b : Block) → IsRightBody (types_of_source symbols t.blocks) (context_at symbols t k) b.body → broken b.body ≡ []) → in_bodies broken t.blocks ≡ []
   bodies broken f = bodies_empty broken 0 t.blocks (each (λ k b. broken b.body ≡ []) f)
 
-  contexts : (broken : Context → List Statement → List Refusal) → ((k : ℕ) (b : Block) → IsRightBody (types_of symbols t.blocks) (context_at symbols t k) b.body → broken (context_at symbols t k) b.body ≡ [])
+  contexts : (broken : Context → List Statement → List Refusal) → ((k : ℕ) (b : Block) → IsRightBody (types_of_source symbols t.blocks) (context_at symbols t k) b.body → broken (context_at symbols t k) b.body ≡ [])
       → in_contexts broken (context_at symbols t 0) t.blocks ≡ []
   contexts broken f = contexts_empty broken symbols t 0 t.blocks (each (λ k b. broken (context_at symbols t k) b.body ≡ []) f)
 
-  tree_right : AreBodiesRight (types_of symbols t.blocks) (context_at symbols t 0) t.blocks
+  tree_right : AreBodiesRight (types_of_source symbols t.blocks) (context_at symbols t 0) t.blocks
   unfolding rules_24_25_39 rule_24_of_actuals rule_26 rule_27 rule_29 rule_30 rule_31 rule_32 rule_33 rule_34 rule_35 rule_36 rule_37 rule_38 rule_40 rule_46 rule_47 rule_48 rule_49
   tree_right = record {
     by_20 = contexts (λ c body. in_body (operand_20 c) body) (λ k b r. r.by_20);
-    by_23 = bodies (λ body. in_body (operand_23 (types_of symbols t.blocks)) body) (λ k b r. r.by_23);
+    by_23 = bodies (λ body. in_body (operand_23 (types_of_source symbols t.blocks)) body) (λ k b r. r.by_23);
     by_24 = contexts operands_24 (λ k b r. r.by_24);
     dates = contexts dates_in (λ k b r. r.dates);
     by_26 = bodies (λ body. unknown_labels (labels_of body) body) (λ k b r. r.by_26);
     by_27 = bodies (λ body. labels_twice [] body) (λ k b r. r.by_27);
-    by_29 = bodies (with_brackets (λ brackets s. broken_if (closes_none brackets s) s.line 29) []) (λ k b r. r.by_29);
-    by_30 = bodies left_open (λ k b r. r.by_30);
-    by_31 = bodies (with_brackets (λ brackets s. broken_if (is_eighth brackets s) s.line 31) []) (λ k b r. r.by_31);
+    by_29 = bodies (with_brackets (λ brackets s. broken_if (closes_no_bracket brackets s) s.line 29) []) (λ k b r. r.by_29);
+    by_30 = bodies brackets_left_open (λ k b r. r.by_30);
+    by_31 = bodies (with_brackets (λ brackets s. broken_if (is_eighth_bracket brackets s) s.line 31) []) (λ k b r. r.by_31);
     by_32 = bodies (λ body. lists_from [] body) (λ k b r. r.by_32);
     by_33 = bodies crossing (λ k b r. r.by_33);
-    by_34 = contexts (by_calls (λ c callee s. unnamed callee.formals s.actuals)) (λ k b r. r.by_34);
-    by_35 = contexts (by_calls (λ c callee s. supplied_twice callee.formals [] s.actuals)) (λ k b r. r.by_35);
+    by_34 = contexts (by_calls (λ c callee s. actuals_without_formal callee.formals s.actuals)) (λ k b r. r.by_34);
+    by_35 = contexts (by_calls (λ c callee s. actuals_supplied_twice callee.formals [] s.actuals)) (λ k b r. r.by_35);
     by_36 = contexts (by_calls (λ c callee s. broken_if (lacks_actual callee s) s.line 36)) (λ k b r. r.by_36);
     by_37 = contexts (by_calls call_37) (λ k b r. r.by_37);
     by_38 = contexts (by_calls (λ c callee s. broken_if (has_wrong_instance c callee s.operand) s.line 38)) (λ k b r. r.by_38);
     by_40 = contexts (by_calls (λ c callee s. broken_if (is_bare_call callee s) s.line 40)) (λ k b r. r.by_40);
     by_42 =
-        places_empty (λ k b. in_body (operand_42 (types_of symbols t.blocks) (layouts_of t symbols) k) b.body) 0 t.blocks
-        (each (λ k b. in_body (operand_42 (types_of symbols t.blocks) (layouts_of t symbols) k) b.body ≡ []) (λ k b r. r.by_42));
+        places_empty (λ k b. in_body (operand_42 (types_of_source symbols t.blocks) (layouts_of t symbols) k) b.body) 0 t.blocks
+        (each (λ k b. in_body (operand_42 (types_of_source symbols t.blocks) (layouts_of t symbols) k) b.body ≡ []) (λ k b r. r.by_42));
     by_46 = contexts (λ c body. flat_map (λ s. broken_if (calls_unknown c s.operand) s.line 46) body) (λ k b r. r.by_46);
-    by_47 = bodies (with_zones (λ zones s. broken_if (ends_none zones s) s.line 47) []) (λ k b r. r.by_47);
+    by_47 = bodies (with_zones (λ zones s. broken_if (ends_no_zone zones s) s.line 47) []) (λ k b r. r.by_47);
     by_48 = bodies zones_left_open (λ k b r. r.by_48);
-    by_49 = bodies (with_zones (λ zones s. broken_if (is_ninth zones s) s.line 49) []) (λ k b r. r.by_49);
+    by_49 = bodies (with_zones (λ zones s. broken_if (is_ninth_zone zones s) s.line 49) []) (λ k b r. r.by_49);
   }
 
 -- ---- the blocks of a listing
 
-types_are : (symbols : List Symbol) (t : Tree) (k : ℕ) → AreTypesOf (types_of symbols t.blocks) (context_at symbols t k)
+types_are : (symbols : List Symbol) (t : Tree) (k : ℕ) → AreTypesOf (types_of_source symbols t.blocks) (context_at symbols t k)
 types_are symbols t k = record { symbols = measured_symbols symbols t.blocks; ids = sym (ids_same symbols t) }
 
 -- behind the code blocks stand data blocks, which have no statements
@@ -174,7 +174,7 @@ right_operands symbols (s ∷ ss) h = (h.0.operand, right_operands symbols ss h.
 -- what a body of an accepted source names and calls is there
 body_ready : (source file : List ℕ) (symbols : List Symbol) (t : Tree) → IsAccepted source file symbols t → AreBytes source → AreBytes file → (others : List Symbol) → IsWholeAgain symbols t others
     → (again place : ℕ) (b : Block) (l : BlockLayout) (id : BlockId) → IsMadeOf symbols t again place b l id
-    → IsBodyReady (source_at symbols t place) (again_at symbols t others again) (signatures_in (program_in symbols t)) (formals_of (signatures_in (program_in symbols t)) id) b.body
+    → IsBodyReady (source_at symbols t place) (again_at symbols t others again) (signatures_in (program_in symbols t)) (formals_of_block (signatures_in (program_in symbols t)) id) b.body
 body_ready source file symbols t accepted bytes file_bytes others whole again place b l id made = record {
   has = record {
     data_blocks = data_found symbols t others place again whole;
@@ -188,11 +188,11 @@ body_ready source file symbols t accepted bytes file_bytes others whole again pl
 pub listed_bodies_right : AreListedBodiesRight
 listed_bodies_right source file symbols t accepted bytes file_bytes others whole =
     tree_right others (listed_again symbols t)
-    (from_each (λ k b. IsRightBody (types_of others (listed_again symbols t).blocks) (context_at others (listed_again symbols t) k) b.body) 0 (listed_again symbols t).blocks
+    (from_each (λ k b. IsRightBody (types_of_source others (listed_again symbols t).blocks) (context_at others (listed_again symbols t) k) b.body) 0 (listed_again symbols t).blocks
     (λ i x e. subst (λ (n : ℕ). IsRightBody y (context_at others (listed_again symbols t) n) x.body) (from_zero i) (at i x e)))
   where
     y : Types
-    y = types_of others (listed_again symbols t).blocks
+    y = types_of_source others (listed_again symbols t).blocks
 
     from_zero : (i : ℕ) → i ≡ 0 + i
     from_zero i = omega arith

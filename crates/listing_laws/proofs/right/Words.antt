@@ -10,9 +10,9 @@ use Rattle.stl_ast.specs.declared.statements.Statement.{Statement}
 use Rattle.stl_symbols.specs.Symbol.{Symbol}
 use Rattle.block_layout.specs.declared.blocks.BlockLayout.{BlockLayout}
 use Rattle.stl_types.specs.Labels.{labels_of}
-use Rattle.stl_types.specs.Landings.{crossing_jumps, landings_at_labels, outside}
+use Rattle.stl_types.specs.Landings.{crossing_jumps, landings_at_labels, empty_nesting}
 use Rattle.stl_types.specs.Lists.{lists_from}
-use Rattle.stl_codegen.specs.Compiled.{compiled, lines_in}
+use Rattle.stl_codegen.specs.Compiled.{compiled_block, lines_in}
 use Rattle.stl_codegen.specs.Generated.{code_block}
 use Rattle.stl_list.specs.CodeBlocks.{listed_block}
 use Rattle.stl_list.specs.Statements.{surroundings}
@@ -23,7 +23,7 @@ use Rattle.listing_laws.specs.Again.{IsMadeOf, context_at, listed_again}
 use Rattle.listing_laws.specs.Declared.{signatures_in}
 use Rattle.listing_laws.specs.JumpLists.{AreListsKept}
 use Rattle.listing_laws.specs.ListedLandings.{AreLandingsKept}
-use Rattle.listing_laws.specs.Statements.{offset_in}
+use Rattle.listing_laws.specs.Statements.{statement_offset}
 use Rattle.listing_laws.proofs.right.Numbered.{landings_kept, lists_kept}
 use Rattle.listing_laws.proofs.right.Placed.{body_is, listed_as, source_block}
 
@@ -41,31 +41,31 @@ right_from body h = right_body body (record {
 -- the listed block at its place
 pub listed_is : (symbols : List Symbol) (t : Tree) (again place : ℕ) (b : Block) (l : BlockLayout) (id : BlockId) (made : IsMadeOf symbols t again place b l id) (x : Block)
     → slice_get (listed_again symbols t).blocks again ≡ Some x
-    → listed_block (signatures_in (program_in symbols t)) made.reached (compiled (code_block (context_at symbols t place) b l id)) ≡ x
+    → listed_block (signatures_in (program_in symbols t)) made.reached (compiled_block (code_block (context_at symbols t place) b l id)) ≡ x
 listed_is symbols t again place b l id made x e =
-    same_Some (listed_block (signatures_in (program_in symbols t)) made.reached (compiled (code_block (context_at symbols t place) b l id))) x (sym made.listed ∙ e)
+    same_Some (listed_block (signatures_in (program_in symbols t)) made.reached (compiled_block (code_block (context_at symbols t place) b l id))) x (sym made.listed ∙ e)
 
 pub listed_lists : AreListsKept
 listed_lists source file symbols t accepted bytes file_bytes again place b l id made x e =
     let c = context_at symbols t place in
     let stated = code_block c b l id in
-    let sur = surroundings (signatures_in (program_in symbols t)) (lines_in stated.statements) (compiled stated) in
+    let sur = surroundings (signatures_in (program_in symbols t)) (lines_in stated.statements) (compiled_block stated) in
     let is = body_is source file symbols t accepted bytes again place b l id made in
     ap (λ (z : Block). lists_from [] z.body) (sym (listed_is symbols t again place b l id made x e))
     ∙ ap (lists_from []) is.is
-    ∙ lists_kept b.body sur.targets (listed_as sur (offset_in stated.statements) c b.body)
+    ∙ lists_kept b.body sur.targets (listed_as sur (statement_offset stated.statements) c b.body)
     (right_from b.body (source_block source file symbols t accepted again place b l id made).body) is.placed
 
 abbrev pub crossing : List Statement → List Refusal
-crossing body = crossing_jumps (labels_of body) (landings_at_labels outside body) body
+crossing body = crossing_jumps (labels_of body) (landings_at_labels empty_nesting body) body
 
 pub listed_landings : AreLandingsKept
 listed_landings source file symbols t accepted bytes file_bytes again place b l id made x e =
     let c = context_at symbols t place in
     let stated = code_block c b l id in
-    let sur = surroundings (signatures_in (program_in symbols t)) (lines_in stated.statements) (compiled stated) in
+    let sur = surroundings (signatures_in (program_in symbols t)) (lines_in stated.statements) (compiled_block stated) in
     let is = body_is source file symbols t accepted bytes again place b l id made in
     ap (λ (z : Block). crossing z.body) (sym (listed_is symbols t again place b l id made x e))
     ∙ ap crossing is.is
-    ∙ landings_kept b.body sur.targets (listed_as sur (offset_in stated.statements) c b.body) is.placed
+    ∙ landings_kept b.body sur.targets (listed_as sur (statement_offset stated.statements) c b.body) is.placed
     (source_block source file symbols t accepted again place b l id made).body.by_33

@@ -7,7 +7,7 @@ use Rattle.plc_base.specs.declared.blocks.BlockKind.{BlockKind}
 use Rattle.plc_base.specs.declared.blocks.BlockKind.TheVariants as kinds
 use Rattle.flat_code.specs.Instr.{Calls, Passing}
 use Rattle.flat_code.specs.declared.operations.CallOperation.{CallOperation}
-use Rattle.stl_ast.specs.Statements.{is_called}
+use Rattle.stl_ast.specs.Statements.{names_called_block}
 use Rattle.stl_ast.specs.declared.mnemonics.Mnemonic.{Mnemonic}
 use Rattle.stl_ast.specs.declared.mnemonics.Mnemonic.TheVariants as code
 use Rattle.stl_ast.specs.declared.names.BlockName.{BlockName}
@@ -19,26 +19,26 @@ use Rattle.stl_ast.specs.declared.statements.Statement.{Statement}
 use Rattle.block_layout.specs.Blocks.{named_block}
 use Rattle.stl_types.specs.Context.{Context, data_number, whole_place}
 use Rattle.stl_types.specs.Forms.{form_of}
-use Rattle.stl_types.specs.Kinds.{is_called as is_called_view}
-use Rattle.stl_types.specs.Operands.{operand_rule, rule_of, rule_seen, statement_rule, takes}
+use Rattle.stl_types.specs.Kinds.{is_operand_of_call as is_called_view}
+use Rattle.stl_types.specs.Operands.{operand_rule, rule_of_resolved_operand, rule_seen, statement_rule, takes_operand}
 use Rattle.stl_types.specs.Parameters.{Callee, callee_of}
-use Rattle.stl_types.specs.Resolution.{called_seen, id_at, instance_number, seen, whole_block}
-use Rattle.stl_types.specs.Resolved.{resolved}
+use Rattle.stl_types.specs.Resolution.{called_seen, id_at, instance_number, resolution_of, whole_called_block}
+use Rattle.stl_types.specs.Resolved.{resolved_operand}
 use Rattle.stl_types.specs.declared.forms.OperandRule.{OperandRule}
 use Rattle.stl_types.specs.declared.parameters.Formal.{Formal}
 use Rattle.stl_types.specs.declared.views.Resolution.TheVariants.{Resolved}
 use Rattle.stl_types.specs.declared.views.ResolvedOperand.{ResolvedOperand}
 use Rattle.stl_types.specs.declared.views.ResolvedOperand.TheVariants as view
-use Rattle.stl_codegen.specs.Emitted.{instance_number as instance_of}
-use Rattle.stl_codegen.specs.Instruction.{block_at, in_order, instr_by, instruction, passings_to, resolved_instr, view_instr}
-use Rattle.stl_codegen.specs.Operations.{call_of, jump_of}
+use Rattle.stl_codegen.specs.Emitted.{instance_number_or_zero as instance_of}
+use Rattle.stl_codegen.specs.Instruction.{source_block_at, in_parameter_order, instr_by, instruction, passings_to, resolved_instr, view_instr}
+use Rattle.stl_codegen.specs.Operations.{call_operation_of, jump_operation_of}
 use Rattle.stl_codegen.specs.Passed.{passings_from}
 use Rattle.stl_list.specs.Actuals.{actuals_by}
 use Rattle.stl_list.specs.Joined.{called_id}
-use Rattle.stl_list.specs.Operands.{data_block_name, instance_name, operand_by, plain_operand}
-use Rattle.stl_list.specs.Statements.{Surroundings, statement}
-use Rattle.listing_laws.specs.Calling.{AreCalledAgain, AreCallsKept}
-use Rattle.listing_laws.specs.Instructions.{HasAgain, IsKept}
+use Rattle.stl_list.specs.Operands.{name_of_data_block, instance_name, operand_by, plain_operand}
+use Rattle.stl_list.specs.Statements.{Surroundings, listed_statement}
+use Rattle.listing_laws.specs.Calling.{AreCalledAgain, AreBareCallsKept}
+use Rattle.listing_laws.specs.Instructions.{HasAgain, IsInstructionKept}
 use Rattle.listing_laws.specs.Statements.{run_of}
 use Rattle.listing_laws.proofs.WordLemmas.{call_words_found}
 use Rattle.listing_laws.proofs.ruled.Instructions.{resolves, rule_broken, what_seen}
@@ -53,16 +53,16 @@ none_from c index (f ∷ fs) = none_from c (suc index) fs
 none_passed : (c : Context) (s : Statement) (callee : Option Callee) → s.actuals ≡ [] → passings_to c s callee ≡ []
 none_passed c s None h = refl
 none_passed c s (Some callee) h =
-    let fs : List Formal = in_order (block_at c.blocks callee.place) callee.formals in
+    let fs : List Formal = in_parameter_order (source_block_at c.blocks callee.place) callee.formals in
     ap (λ (actuals : List Actual). passings_from c actuals 0 fs) h ∙ none_from c 0 fs
 
-pub no_jump : (m : Mnemonic) (how : CallOperation) → call_of m ≡ Some how → jump_of m ≡ None
+pub no_jump : (m : Mnemonic) (how : CallOperation) → call_operation_of m ≡ Some how → jump_operation_of m ≡ None
 no_jump code.Call how h = refl
 no_jump code.Uc how h = refl
 no_jump code.Cc how h = refl
 no_jump _ how h = absurd cc
 
-calls_to : (c : Context) (body : List Statement) (n : ℕ) (s : Statement) (how : CallOperation) (id : BlockId) (instance : Option ℕ) → call_of s.code ≡ Some how → s.actuals ≡ [] → resolved c s ≡ Some (view.Called id instance)
+calls_to : (c : Context) (body : List Statement) (n : ℕ) (s : Statement) (how : CallOperation) (id : BlockId) (instance : Option ℕ) → call_operation_of s.code ≡ Some how → s.actuals ≡ [] → resolved_operand c s ≡ Some (view.Called id instance)
     → instruction c body n s ≡ Calls how id instance []
 unfolding instruction
 calls_to c body n s how id instance h none e =
@@ -71,8 +71,8 @@ calls_to c body n s how id instance h none e =
 
 -- ---- the block that is called
 
-pub same_kind : (m : Mnemonic) (how : CallOperation) (v : ResolvedOperand) → call_of m ≡ Some how → takes (form_of m) v ≡ true → is_called_view v ≡ true
-unfolding takes form_of
+pub same_kind : (m : Mnemonic) (how : CallOperation) (v : ResolvedOperand) → call_operation_of m ≡ Some how → takes_operand (form_of m) v ≡ true → is_called_view v ≡ true
+unfolding takes_operand form_of
 same_kind code.Call how v h e = e
 same_kind code.Uc how v h e = e
 same_kind code.Cc how v h e = e
@@ -111,35 +111,35 @@ named_id i id true place e = cc
 named_id i id false None e = absurd cc
 named_id i id false (Some p) e = cc
 
-whole_id : (c : Context) (x : Option BlockId) (id : BlockId) → whole_block c x ≡ Some id → whole_block c (Some id) ≡ Some id
+whole_id : (c : Context) (x : Option BlockId) (id : BlockId) → whole_called_block c x ≡ Some id → whole_called_block c (Some id) ≡ Some id
 whole_id c None id e = absurd cc
-whole_id c (Some i) id e = ap (λ (y : BlockId). whole_block c (Some y)) (sym (named_id i id (is_system_function i.kind) (whole_place c i) e)) ∙ e
+whole_id c (Some i) id e = ap (λ (y : BlockId). whole_called_block c (Some y)) (sym (named_id i id (is_system_function i.kind) (whole_place c i) e)) ∙ e
 
 -- ---- its instance
 
 abbrev pub IsInstanceAgain : Context → Option ℕ → Type 0
 IsInstanceAgain listed None = Unit {0}
-IsInstanceAgain listed (Some number) = data_number listed (data_block_name number) ≡ Some number
+IsInstanceAgain listed (Some number) = data_number listed (name_of_data_block number) ≡ Some number
 
 -- no data block has the number 0
-pub no_zero : (listed : Context) → data_number listed (data_block_name 0) ≡ Some 0 → ⊥
+pub no_zero : (listed : Context) → data_number listed (name_of_data_block 0) ≡ Some 0 → ⊥
 no_zero listed e = no e
   where
     no : None ≡ Some zero → ⊥
     no e = absurd cc
 
-named_instance : (listed : Context) (number : ℕ) → data_number listed (data_block_name number) ≡ Some number → instance_name number ≡ Some (data_block_name number)
+named_instance : (listed : Context) (number : ℕ) → data_number listed (name_of_data_block number) ≡ Some number → instance_name number ≡ Some (name_of_data_block number)
 named_instance listed zero e = absurd (no_zero listed e)
 named_instance listed (suc n) e = rw (ne_eqb (suc n) 0 (λ h. omega (arith, h))) refl
 
-pub called_again : (listed : Context) (id : BlockId) (instance : Option ℕ) → whole_block listed (Some id) ≡ Some id → IsInstanceAgain listed instance
-    → seen listed (operand.Called (block.Number id) (instance_name (instance_of instance))) ≡ Resolved (view.Called id instance)
-unfolding seen
+pub called_again : (listed : Context) (id : BlockId) (instance : Option ℕ) → whole_called_block listed (Some id) ≡ Some id → IsInstanceAgain listed instance
+    → resolution_of listed (operand.Called (block.Number id) (instance_name (instance_of instance))) ≡ Resolved (view.Called id instance)
+unfolding resolution_of
 called_again listed id None h k = ap (λ (x : Option BlockId). called_seen x None None) h
 called_again listed id (Some number) h k =
-    ap (λ (x : Option BlockName). called_seen (whole_block listed (Some id)) x (instance_number listed x)) (named_instance listed number k)
-    ∙ ap (λ (x : Option BlockId). called_seen x (Some (data_block_name number)) (data_number listed (data_block_name number))) h
-    ∙ ap (called_seen (Some id) (Some (data_block_name number))) k
+    ap (λ (x : Option BlockName). called_seen (whole_called_block listed (Some id)) x (instance_number listed x)) (named_instance listed number k)
+    ∙ ap (λ (x : Option BlockId). called_seen x (Some (name_of_data_block number)) (data_number listed (name_of_data_block number))) h
+    ∙ ap (called_seen (Some id) (Some (name_of_data_block number))) k
 
 -- ---- the statement
 
@@ -148,52 +148,52 @@ pub record StandsCalled (listed : Context) (v : ResolvedOperand) : Type 0 where
   pub id : BlockId
   pub instance : Option ℕ
   pub is : v ≡ view.Called id instance
-  pub whole : is_data_type id.kind ≡ false → whole_block listed (Some id) ≡ Some id
+  pub whole : is_data_type id.kind ≡ false → whole_called_block listed (Some id) ≡ Some id
   pub again : IsInstanceAgain listed instance
 
 view_is : (y w : ResolvedOperand) → Resolved y ≡ Resolved w → w ≡ y
 view_is y w e = cc
 
 found_called : (c listed : Context) (formals : List Formal) (x : Option BlockId) (named : Option BlockName) (v : ResolvedOperand) → HasAgain c listed formals → AreCalledAgain c listed
-    → called_seen (whole_block c x) named (instance_number c named) ≡ Resolved v → StandsCalled listed v
-found_called c listed formals x named v has called e = by (whole_block c x) named (instance_number c named) refl refl e
+    → called_seen (whole_called_block c x) named (instance_number c named) ≡ Resolved v → StandsCalled listed v
+found_called c listed formals x named v has called e = by (whole_called_block c x) named (instance_number c named) refl refl e
   where
-    by : (y : Option BlockId) (i : Option BlockName) (number : Option ℕ) → whole_block c x ≡ y → instance_number c i ≡ number → called_seen y i number ≡ Resolved v → StandsCalled listed v
+    by : (y : Option BlockId) (i : Option BlockName) (number : Option ℕ) → whole_called_block c x ≡ y → instance_number c i ≡ number → called_seen y i number ≡ Resolved v → StandsCalled listed v
     by None i number g k e = absurd cc
     by (Some id) None number g k e = record { id = id; instance = None; is = view_is (view.Called id None) v e; whole = λ plain. called id plain (whole_id c x id g); again = tt }
     by (Some id) (Some name) None g k e = absurd cc
     by (Some id) (Some name) (Some number) g k e =
         record { id = id; instance = Some number; is = view_is (view.Called id (Some number)) v e; whole = λ plain. called id plain (whole_id c x id g); again = has.data_blocks name number k }
 
-pub sees_called : (c listed : Context) (formals : List Formal) (o : Operand) (v : ResolvedOperand) → HasAgain c listed formals → AreCalledAgain c listed → is_called o ≡ true → seen c o ≡ Resolved v → StandsCalled listed v
-unfolding seen
+pub sees_called : (c listed : Context) (formals : List Formal) (o : Operand) (v : ResolvedOperand) → HasAgain c listed formals → AreCalledAgain c listed → names_called_block o ≡ true → resolution_of c o ≡ Resolved v → StandsCalled listed v
+unfolding resolution_of
 sees_called c listed formals (operand.Called name instance) v has called is e = found_called c listed formals (named_block c.symbols name) instance v has called e
 sees_called c listed formals _ v has called is e = absurd cc
 
-pub rule_called : (c : Context) (f : OperandRule) (o : Operand) (v : ResolvedOperand) → is_called o ≡ true → operand_rule c f o ≡ None → seen c o ≡ Resolved v → rule_of f v ≡ None
+pub rule_called : (c : Context) (f : OperandRule) (o : Operand) (v : ResolvedOperand) → names_called_block o ≡ true → operand_rule c f o ≡ None → resolution_of c o ≡ Resolved v → rule_of_resolved_operand f v ≡ None
 rule_called c f (operand.Called name instance) v is h e = sym (ap (rule_seen f) e) ∙ h
 rule_called c f _ v is h e = absurd cc
 
 call_operand : (sur : Surroundings) (k : ℕ) (f : ℕ → ℕ) (how : CallOperation) (id : BlockId) (instance : Option ℕ) → is_called_view (view.Called id instance) ≡ true
-    → (statement sur k (run_of f (Calls how id instance []))).operand ≡ operand.Called (block.Number id) (instance_name (instance_of instance))
+    → (listed_statement sur k (run_of f (Calls how id instance []))).operand ≡ operand.Called (block.Number id) (instance_name (instance_of instance))
 unfolding operand_by plain_operand
 call_operand sur k f how id instance h = ap (λ (i : BlockId). operand.Called (block.Number i) (instance_name (instance_of instance))) (id_again id instance h)
 
-no_actuals : (sur : Surroundings) (k : ℕ) (f : ℕ → ℕ) (how : CallOperation) (id : BlockId) (instance : Option ℕ) → (statement sur k (run_of f (Calls how id instance []))).actuals ≡ []
+no_actuals : (sur : Surroundings) (k : ℕ) (f : ℕ → ℕ) (how : CallOperation) (id : BlockId) (instance : Option ℕ) → (listed_statement sur k (run_of f (Calls how id instance []))).actuals ≡ []
 unfolding actuals_by
 no_actuals sur k f how id instance = refl
 
 calls_again : (listed : Context) (sur : Surroundings) (f : ℕ → ℕ) (again : List Statement) (n k : ℕ) (m : Mnemonic) (how : CallOperation) (id : BlockId) (instance : Option ℕ)
-    → call_of m ≡ Some how → rule_of (form_of m) (view.Called id instance) ≡ None → whole_block listed (Some id) ≡ Some id → IsInstanceAgain listed instance
-    → IsKept listed again n m (Calls how id instance []) (statement sur k (run_of f (Calls how id instance [])))
+    → call_operation_of m ≡ Some how → rule_of_resolved_operand (form_of m) (view.Called id instance) ≡ None → whole_called_block listed (Some id) ≡ Some id → IsInstanceAgain listed instance
+    → IsInstructionKept listed again n m (Calls how id instance []) (listed_statement sur k (run_of f (Calls how id instance [])))
 calls_again listed sur f again n k m how id instance h rule whole stands = record {
   word = word;
   right = right;
-  instr = calls_to listed again n listing how id instance (ap call_of word ∙ h) (no_actuals sur k f how id instance) (resolves listed listing (view.Called id instance) right (ap (seen listed) is ∙ sees));
+  instr = calls_to listed again n listing how id instance (ap call_operation_of word ∙ h) (no_actuals sur k f how id instance) (resolves listed listing (view.Called id instance) right (ap (resolution_of listed) is ∙ sees));
 }
   where
     listing : Statement
-    listing = statement sur k (run_of f (Calls how id instance []))
+    listing = listed_statement sur k (run_of f (Calls how id instance []))
 
     word : listing.code ≡ m
     word = call_words_found m how h
@@ -201,20 +201,20 @@ calls_again listed sur f again n k m how id instance h rule whole stands = recor
     is : listing.operand ≡ operand.Called (block.Number id) (instance_name (instance_of instance))
     is = call_operand sur k f how id instance (same_kind m how (view.Called id instance) h (taken_view (form_of m) (view.Called id instance) rule))
 
-    sees : seen listed (operand.Called (block.Number id) (instance_name (instance_of instance))) ≡ Resolved (view.Called id instance)
+    sees : resolution_of listed (operand.Called (block.Number id) (instance_name (instance_of instance))) ≡ Resolved (view.Called id instance)
     sees = called_again listed id instance whole stands
 
     right : statement_rule listed listing ≡ None
     right = ap (λ (x : Mnemonic). operand_rule listed (form_of x) listing.operand) word ∙ ap (operand_rule listed (form_of m)) is ∙ ap (rule_seen (form_of m)) sees ∙ rule
 
-pub calls_kept : AreCallsKept
+pub calls_kept : AreBareCallsKept
 calls_kept c listed sur f body again n k s v how has called is none h e =
     by (sees_called c listed sur.formals s.operand v has called is (what_seen c s v e))
   where
-    by : StandsCalled listed v → IsKept listed again n s.code (instruction c body n s) (statement sur k (run_of f (instruction c body n s)))
+    by : StandsCalled listed v → IsInstructionKept listed again n s.code (instruction c body n s) (listed_statement sur k (run_of f (instruction c body n s)))
     by st =
-        let rule : rule_of (form_of s.code) (view.Called st.id st.instance) ≡ None =
-        ap (rule_of (form_of s.code)) (sym st.is) ∙ rule_called c (form_of s.code) s.operand v is (rule_broken c s v e) (what_seen c s v e) in
+        let rule : rule_of_resolved_operand (form_of s.code) (view.Called st.id st.instance) ≡ None =
+        ap (rule_of_resolved_operand (form_of s.code)) (sym st.is) ∙ rule_called c (form_of s.code) s.operand v is (rule_broken c s v e) (what_seen c s v e) in
         let plain = called_plain st.id st.instance (same_kind s.code how (view.Called st.id st.instance) h (taken_view (form_of s.code) (view.Called st.id st.instance) rule)) in
         rw (calls_to c body n s how st.id st.instance h none (e ∙ ap (λ (x : ResolvedOperand). Some x) st.is))
         (calls_again listed sur f again n k s.code how st.id st.instance h rule (st.whole plain) st.again)

@@ -16,25 +16,25 @@ use Rattle.stl_ast.specs.declared.mnemonics.Mnemonic.{Mnemonic}
 use Rattle.stl_ast.specs.declared.mnemonics.Mnemonic.TheVariants as code
 use Rattle.stl_ast.specs.declared.operands.Operand.{Operand}
 use Rattle.stl_ast.specs.declared.operands.Operand.TheVariants as operand
-use Rattle.block_layout.specs.Fits.{bits_of, fits, twos}
+use Rattle.block_layout.specs.Fits.{bits_of, fits_elementary_type, twos_complement_bits}
 use Rattle.stl_types.specs.Addresses.{area_left}
 use Rattle.stl_types.specs.Constants.{is_count, takes_constant}
 use Rattle.stl_types.specs.Context.{Context}
 use Rattle.stl_types.specs.Forms.{form_of}
-use Rattle.stl_types.specs.Operands.{rule_of, takes}
-use Rattle.stl_types.specs.Resolution.{seen}
+use Rattle.stl_types.specs.Operands.{rule_of_resolved_operand, takes_operand}
+use Rattle.stl_types.specs.Resolution.{resolution_of}
 use Rattle.stl_types.specs.declared.views.Resolution.TheVariants.{Resolved}
 use Rattle.stl_types.specs.declared.views.ResolvedOperand.TheVariants as view
-use Rattle.stl_codegen.specs.Operands.{operand_of, pointer_bits}
+use Rattle.stl_codegen.specs.Operands.{flat_operand_of, pointer_bits}
 use Rattle.stl_codegen.specs.Operations.{operation_for}
 use Rattle.stl_list.specs.Constants.{instruction_constant, pointer_area, pointer_constant, pointer_letters}
-use Rattle.listing_laws.specs.Operands.{IsActedAgain, IsCoded, IsPointer}
+use Rattle.listing_laws.specs.Operands.{IsActedAgain, IsConstantCoded, IsPointer}
 use Rattle.listing_laws.proofs.ruled.Rules.{unchanged}
 
 acted : (c : Context) (m : Mnemonic) (value again : Literal) → takes_constant (form_of m) again ≡ true → bits_of again ≡ bits_of value
     → operation_for m (operand.Constant again) view.Constant ≡ operation_for m (operand.Constant value) view.Constant
     → IsActedAgain c m (operand.Constant value) (operand.Constant again) view.Constant
-unfolding seen operand_of
+unfolding resolution_of flat_operand_of
 acted c m value again taken bits operation = record {
   found = view.Constant;
   sees = refl;
@@ -58,38 +58,38 @@ counted_again most (literal.Number (pos n)) h e =
     (ap (λ (k : ℕ). nat_le k most) same ∙ e, same)
 counted_again most _ h e = absurd cc
 
-decimal_low : (v : ℤ) → IsDecimal v → twos 16 v % 65536 ≡ twos 16 v
+decimal_low : (v : ℤ) → IsDecimal v → twos_complement_bits 16 v % 65536 ≡ twos_complement_bits 16 v
 decimal_low (pos n) h = omega (arith, h)
 decimal_low (negsuc n) h = omega (arith, h)
 
-long_low : (v : ℤ) → IsLong v → twos 32 v < 2 ^ 32
+long_low : (v : ℤ) → IsLong v → twos_complement_bits 32 v < 2 ^ 32
 long_low (pos n) h = omega (arith, h)
 long_low (negsuc n) h = omega (arith, h)
 
 plus_one : (n : ℕ) → n + 1 ≡ suc n
 plus_one n = omega arith
 
-unsigned : (v : ℤ) → twos 32 v ≡ cast_unsigned w32 v
+unsigned : (v : ℤ) → twos_complement_bits 32 v ≡ cast_unsigned w32 v
 unsigned (pos n) = refl
 unsigned (negsuc n) = ap (λ (k : ℕ). 4294967296 - k) (plus_one n)
 
-long_again : (v : ℤ) → IsLong v → twos 32 (cast_signed w32 (twos 32 v)) ≡ twos 32 v
-long_again v h = unsigned (cast_signed w32 (twos 32 v)) ∙ of_z-to_z w32 (twos 32 v) (long_low v h)
+long_again : (v : ℤ) → IsLong v → twos_complement_bits 32 (cast_signed w32 (twos_complement_bits 32 v)) ≡ twos_complement_bits 32 v
+long_again v h = unsigned (cast_signed w32 (twos_complement_bits 32 v)) ∙ of_z-to_z w32 (twos_complement_bits 32 v) (long_low v h)
 
-adds_again : (c : Context) (value : Literal) → IsCoded value → takes_constant (form_of code.Add) value ≡ true
+adds_again : (c : Context) (value : Literal) → IsConstantCoded value → takes_constant (form_of code.Add) value ≡ true
     → IsActedAgain c code.Add (operand.Constant value) (instruction_constant (operation_for code.Add (operand.Constant value) view.Constant) (bits_of value)) view.Constant
 unfolding takes_constant form_of operation_for bits_of
-adds_again c (literal.Number v) h e = acted c code.Add (literal.Number v) (literal.Number (pos (twos 16 v % 65536))) refl (decimal_low v h.literal) refl
-adds_again c (literal.Long v) h e = acted c code.Add (literal.Long v) (literal.Long (cast_signed w32 (twos 32 v))) refl (long_again v h.literal) refl
+adds_again c (literal.Number v) h e = acted c code.Add (literal.Number v) (literal.Number (pos (twos_complement_bits 16 v % 65536))) refl (decimal_low v h.literal) refl
+adds_again c (literal.Long v) h e = acted c code.Add (literal.Long v) (literal.Long (cast_signed w32 (twos_complement_bits 32 v))) refl (long_again v h.literal) refl
 adds_again c _ h e = absurd cc
 
-word_again : (value : Literal) → IsCoded value → fits value simple.Word ≡ true → bits_of value % 65536 ≡ bits_of value
+word_again : (value : Literal) → IsConstantCoded value → fits_elementary_type value simple.Word ≡ true → bits_of value % 65536 ≡ bits_of value
 word_again value h e = low (bits_of value) 65535 (h.word e) (omega arith)
 
 -- an instruction takes the constant that its listing has
-pub constant_again : (c : Context) (m : Mnemonic) (value : Literal) → IsCoded value → takes_constant (form_of m) value ≡ true
+pub constant_again : (c : Context) (m : Mnemonic) (value : Literal) → IsConstantCoded value → takes_constant (form_of m) value ≡ true
     → IsActedAgain c m (operand.Constant value) (instruction_constant (operation_for m (operand.Constant value) view.Constant) (bits_of value)) view.Constant
-unfolding takes_constant form_of operation_for fits bits_of
+unfolding takes_constant form_of operation_for fits_elementary_type bits_of
 constant_again c code.L value h e = acted c code.L value (literal.Dword (bits_of value)) refl refl refl
 constant_again c code.Nop value h e = let k = counted_again 1 value (omega arith) e in acted c code.Nop value (decimal value) k.0 k.1 refl
 constant_again c code.Bld value h e = let k = counted_again 255 value (omega arith) e in acted c code.Bld value (decimal value) k.0 k.1 refl
@@ -150,8 +150,8 @@ bit_again : (a : Option Area) (byte bit : ℕ) → IsPointer a byte bit → poin
 bit_again None byte bit h = let g = h.low_bit in omega (arith, g)
 bit_again (Some a) byte bit h = crossing_bit (area_number a) byte bit h.low_bit
 
-pub pointer_seen : (c : Context) (a : Option Area) (byte bit : ℕ) → IsPointer a byte bit → seen c (pointer_constant (pointer_bits a byte bit)) ≡ Resolved (view.Pointer a byte bit)
-unfolding seen
+pub pointer_seen : (c : Context) (a : Option Area) (byte bit : ℕ) → IsPointer a byte bit → resolution_of c (pointer_constant (pointer_bits a byte bit)) ≡ Resolved (view.Pointer a byte bit)
+unfolding resolution_of
 pointer_seen c a byte bit h =
     ap (λ (x : Option Area). Resolved (view.Pointer x (pointer_bits a byte bit / 8 % 65536) (pointer_bits a byte bit % 8))) (area_again a byte bit h)
     ∙ ap (λ (x : ℕ). Resolved (view.Pointer a x (pointer_bits a byte bit % 8))) (byte_again a byte bit h)
@@ -160,7 +160,7 @@ pointer_seen c a byte bit h =
 -- a pointer that L loads is a constant there
 pub pointer_loaded : (c : Context) (o : Operand) (a : Option Area) (byte bit : ℕ)
     → IsActedAgain c code.L o (operand.Constant (literal.Dword (pointer_bits a byte bit))) (view.Pointer a byte bit)
-unfolding seen operand_of operation_for form_of takes_constant bits_of
+unfolding resolution_of flat_operand_of operation_for form_of takes_constant bits_of
 pointer_loaded c o a byte bit = record {
   found = view.Constant;
   sees = refl;
@@ -171,9 +171,9 @@ pointer_loaded c o a byte bit = record {
 }
 
 pub pointer_acts : (c : Context) (m : Mnemonic) (o : Operand) (a : Option Area) (byte bit : ℕ) → IsPointer a byte bit
-    → rule_of (form_of m) (view.Pointer a byte bit) ≡ None → takes (form_of m) (view.Pointer a byte bit) ≡ true
+    → rule_of_resolved_operand (form_of m) (view.Pointer a byte bit) ≡ None → takes_operand (form_of m) (view.Pointer a byte bit) ≡ true
     → IsActedAgain c m o (instruction_constant (operation_for m o (view.Pointer a byte bit)) (pointer_bits a byte bit)) (view.Pointer a byte bit)
-unfolding takes form_of operation_for
+unfolding takes_operand form_of operation_for
 pointer_acts c code.L o a byte bit h e k = pointer_loaded c o a byte bit
 pointer_acts c code.Lar1 o a byte bit h e k = unchanged c code.Lar1 o (pointer_constant (pointer_bits a byte bit)) (view.Pointer a byte bit) tt e refl (pointer_seen c a byte bit h)
 pointer_acts c code.Lar2 o a byte bit h e k = unchanged c code.Lar2 o (pointer_constant (pointer_bits a byte bit)) (view.Pointer a byte bit) tt e refl (pointer_seen c a byte bit h)

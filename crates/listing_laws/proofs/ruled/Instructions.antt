@@ -10,7 +10,7 @@ use Rattle.flat_code.specs.declared.operands.Operand.{Operand as FlatOperand}
 use Rattle.flat_code.specs.declared.operations.EndOperation.{EndOperation}
 use Rattle.flat_code.specs.declared.operations.Operation.{Operation}
 use Rattle.flat_code.specs.declared.operations.Operation.TheVariants as operation
-use Rattle.stl_ast.specs.Statements.{is_empty}
+use Rattle.stl_ast.specs.Statements.{is_empty_statement}
 use Rattle.stl_ast.specs.declared.mnemonics.Mnemonic.{Mnemonic}
 use Rattle.stl_ast.specs.declared.mnemonics.Mnemonic.TheVariants as code
 use Rattle.stl_ast.specs.declared.operands.Operand.{Operand}
@@ -18,23 +18,23 @@ use Rattle.stl_ast.specs.declared.operands.Operand.TheVariants as operand
 use Rattle.stl_ast.specs.declared.statements.Statement.{Statement}
 use Rattle.stl_types.specs.Context.{Context}
 use Rattle.stl_types.specs.Forms.{form_of}
-use Rattle.stl_types.specs.Operands.{operand_rule, rule_of, statement_rule, takes, takes_width}
-use Rattle.stl_types.specs.Resolution.{seen}
-use Rattle.stl_types.specs.Resolved.{resolved, seen_view}
+use Rattle.stl_types.specs.Operands.{operand_rule, rule_of_resolved_operand, statement_rule, takes_operand, takes_width}
+use Rattle.stl_types.specs.Resolution.{resolution_of}
+use Rattle.stl_types.specs.Resolved.{resolved_operand, seen_view}
 use Rattle.stl_types.specs.declared.views.Resolution.{Resolution}
 use Rattle.stl_types.specs.declared.views.Resolution.TheVariants.{Resolved, Unjudged, Unknown}
 use Rattle.stl_types.specs.declared.views.ResolvedOperand.{ResolvedOperand}
 use Rattle.stl_types.specs.declared.views.ResolvedOperand.TheVariants as view
 use Rattle.stl_codegen.specs.Instruction.{end_instr, instr_by, instruction, jump_instr, resolved_instr, target_in, target_of, view_instr}
-use Rattle.stl_codegen.specs.Operands.{opened_by, operand_of}
-use Rattle.stl_codegen.specs.Operations.{call_of, end_of, jump_of, operation_for}
-use Rattle.stl_list.specs.Labels.{label_of}
+use Rattle.stl_codegen.specs.Operands.{block_opened_by_operand, flat_operand_of}
+use Rattle.stl_codegen.specs.Operations.{call_operation_of, end_operation_of, jump_operation_of, operation_for}
+use Rattle.stl_list.specs.Labels.{label_of_number}
 use Rattle.stl_list.specs.Mnemonics.{mnemonic_of, word_by}
 use Rattle.stl_list.specs.Operands.{implied_operand, operand_by}
 use Rattle.stl_list.specs.Runs.{number_at}
-use Rattle.stl_list.specs.Statements.{Surroundings, statement}
-use Rattle.listing_laws.specs.Instructions.{AreInstructionsKept, AreJumpsKept, HasAgain, IsKept, IsRightOperand}
-use Rattle.listing_laws.specs.Operands.{IsActedAgain, acting}
+use Rattle.stl_list.specs.Statements.{Surroundings, listed_statement}
+use Rattle.listing_laws.specs.Instructions.{AreInstructionsKept, AreJumpsKept, HasAgain, IsInstructionKept, IsRightOperand}
+use Rattle.listing_laws.specs.Operands.{IsActedAgain, operand_instruction}
 use Rattle.listing_laws.specs.Statements.{run_of}
 use Rattle.listing_laws.proofs.LabelLemmas.{same_word}
 use Rattle.listing_laws.proofs.RunLemmas.{unaimed}
@@ -60,32 +60,32 @@ view_seen None Unknown v e = absurd cc
 view_seen None Unjudged v e = absurd cc
 view_seen (Some n) r v e = absurd cc
 
-pub rule_broken : (c : Context) (s : Statement) (v : ResolvedOperand) → resolved c s ≡ Some v → statement_rule c s ≡ None
-unfolding resolved
-rule_broken c s v e = no_rule (statement_rule c s) (seen c s.operand) v e
+pub rule_broken : (c : Context) (s : Statement) (v : ResolvedOperand) → resolved_operand c s ≡ Some v → statement_rule c s ≡ None
+unfolding resolved_operand
+rule_broken c s v e = no_rule (statement_rule c s) (resolution_of c s.operand) v e
 
-pub what_seen : (c : Context) (s : Statement) (v : ResolvedOperand) → resolved c s ≡ Some v → seen c s.operand ≡ Resolved v
-unfolding resolved
-what_seen c s v e = view_seen (statement_rule c s) (seen c s.operand) v e
+pub what_seen : (c : Context) (s : Statement) (v : ResolvedOperand) → resolved_operand c s ≡ Some v → resolution_of c s.operand ≡ Resolved v
+unfolding resolved_operand
+what_seen c s v e = view_seen (statement_rule c s) (resolution_of c s.operand) v e
 
-pub resolves : (c : Context) (s : Statement) (v : ResolvedOperand) → statement_rule c s ≡ None → seen c s.operand ≡ Resolved v → resolved c s ≡ Some v
-unfolding resolved
-resolves c s v h e = ap (λ (rule : Option ℕ). view_if rule (seen c s.operand)) h ∙ ap seen_view e
+pub resolves : (c : Context) (s : Statement) (v : ResolvedOperand) → statement_rule c s ≡ None → resolution_of c s.operand ≡ Resolved v → resolved_operand c s ≡ Some v
+unfolding resolved_operand
+resolves c s v h e = ap (λ (rule : Option ℕ). view_if rule (resolution_of c s.operand)) h ∙ ap seen_view e
 
 -- the instruction of a statement that calls nothing and doesn't jump
-pub comes_to : (c : Context) (body : List Statement) (n : ℕ) (s : Statement) (v : ResolvedOperand) (ending : Option EndOperation) → jump_of s.code ≡ None → call_of s.code ≡ None → end_of s.code ≡ ending
-    → resolved c s ≡ Some v → instruction c body n s ≡ end_instr s v ending
+pub comes_to : (c : Context) (body : List Statement) (n : ℕ) (s : Statement) (v : ResolvedOperand) (ending : Option EndOperation) → jump_operation_of s.code ≡ None → call_operation_of s.code ≡ None → end_operation_of s.code ≡ ending
+    → resolved_operand c s ≡ Some v → instruction c body n s ≡ end_instr s v ending
 unfolding instruction
 comes_to c body n s v ending jumps calls ends e =
     ap (instr_by c body n s) jumps ∙ ap (resolved_instr c s) e ∙ ap (view_instr c s v) calls ∙ ap (end_instr s v) ends
 
 -- ---- words
 
-pub acting_word : (f : ℕ → ℕ) (m : Mnemonic) (o : Operand) (v : ResolvedOperand) → is_empty m ≡ false → jump_of m ≡ None → call_of m ≡ None → end_of m ≡ None
-    → mnemonic_of (run_of f (acting m o v)).op ≡ m
+pub acting_word : (f : ℕ → ℕ) (m : Mnemonic) (o : Operand) (v : ResolvedOperand) → is_empty_statement m ≡ false → jump_operation_of m ≡ None → call_operation_of m ≡ None → end_operation_of m ≡ None
+    → mnemonic_of (run_of f (operand_instruction m o v)).op ≡ m
 acting_word f m o v some jumps calls ends =
-    same_word f (acting m o v)
-    ∙ ap (word_by (op_code_of (operation_for m o v))) (unaimed (operand_of o v))
+    same_word f (operand_instruction m o v)
+    ∙ ap (word_by (op_code_of (operation_for m o v))) (unaimed (flat_operand_of o v))
     ∙ operand_plain o v (op_code_of (operation_for m o v))
     ∙ words_found m o v (record { some = some; jumps = jumps; calls = calls; ends = ends })
 
@@ -93,8 +93,8 @@ acting_word f m o v some jumps calls ends =
 
 does_again : (c listed : Context) (sur : Surroundings) (f : ℕ → ℕ) (again : List Statement) (n k : ℕ) (s : Statement) (v : ResolvedOperand)
     → HasAgain c listed sur.formals → IsRightOperand c.symbols s.operand
-    → is_empty s.code ≡ false → jump_of s.code ≡ None → call_of s.code ≡ None → end_of s.code ≡ None → resolved c s ≡ Some v
-    → IsKept listed again n s.code (acting s.code s.operand v) (statement sur k (run_of f (acting s.code s.operand v)))
+    → is_empty_statement s.code ≡ false → jump_operation_of s.code ≡ None → call_operation_of s.code ≡ None → end_operation_of s.code ≡ None → resolved_operand c s ≡ Some v
+    → IsInstructionKept listed again n s.code (operand_instruction s.code s.operand v) (listed_statement sur k (run_of f (operand_instruction s.code s.operand v)))
 does_again c listed sur f again n k s v has right some jumps calls ends e =
     let sees = what_seen c s v e in
     let both = stands c listed sur.formals s.operand v has right sees in
@@ -102,54 +102,54 @@ does_again c listed sur f again n k s v has right some jumps calls ends e =
     by acted
   where
     listing : Statement
-    listing = statement sur k (run_of f (acting s.code s.operand v))
+    listing = listed_statement sur k (run_of f (operand_instruction s.code s.operand v))
 
     word : listing.code ≡ s.code
     word = acting_word f s.code s.operand v some jumps calls ends
 
-    by : IsActedAgain listed s.code s.operand listing.operand v → IsKept listed again n s.code (acting s.code s.operand v) listing
+    by : IsActedAgain listed s.code s.operand listing.operand v → IsInstructionKept listed again n s.code (operand_instruction s.code s.operand v) listing
     by acted =
         let rule : statement_rule listed listing ≡ None = ap (λ (m : Mnemonic). operand_rule listed (form_of m) listing.operand) word ∙ acted.right in
         record {
           word = word;
           right = rule;
           instr =
-              comes_to listed again n listing acted.found None (ap jump_of word ∙ jumps) (ap call_of word ∙ calls) (ap end_of word ∙ ends) (resolves listed listing acted.found rule acted.sees)
-              ∙ ap (λ (m : Mnemonic). acting m listing.operand acted.found) word
-              ∙ ap (λ (x : Option ℕ). Does x (operation_for s.code listing.operand acted.found) (operand_of listing.operand acted.found)) acted.opened
-              ∙ ap (λ (w : Operation). Does (opened_by v) w (operand_of listing.operand acted.found)) acted.operation
-              ∙ ap (λ (o : FlatOperand). Does (opened_by v) (operation_for s.code s.operand v) o) acted.operand;
+              comes_to listed again n listing acted.found None (ap jump_operation_of word ∙ jumps) (ap call_operation_of word ∙ calls) (ap end_operation_of word ∙ ends) (resolves listed listing acted.found rule acted.sees)
+              ∙ ap (λ (m : Mnemonic). operand_instruction m listing.operand acted.found) word
+              ∙ ap (λ (x : Option ℕ). Does x (operation_for s.code listing.operand acted.found) (flat_operand_of listing.operand acted.found)) acted.opened
+              ∙ ap (λ (w : Operation). Does (block_opened_by_operand v) w (flat_operand_of listing.operand acted.found)) acted.operation
+              ∙ ap (λ (o : FlatOperand). Does (block_opened_by_operand v) (operation_for s.code s.operand v) o) acted.operand;
         }
 
 -- ---- the end of a block
 
-pub end_taken : (listed : Context) (m : Mnemonic) (how : EndOperation) → end_of m ≡ Some how → operand_rule listed (form_of m) operand.Nothing ≡ None
-unfolding form_of takes rule_of takes_width seen
+pub end_taken : (listed : Context) (m : Mnemonic) (how : EndOperation) → end_operation_of m ≡ Some how → operand_rule listed (form_of m) operand.Nothing ≡ None
+unfolding form_of takes_operand rule_of_resolved_operand takes_width resolution_of
 end_taken listed code.Be how h = refl
 end_taken listed code.Bec how h = refl
 end_taken listed code.Beu how h = refl
 end_taken listed _ how h = absurd cc
 
-pub end_operand : (sur : Surroundings) (k : ℕ) (f : ℕ → ℕ) (how : EndOperation) → (statement sur k (run_of f (Returns how))).operand ≡ operand.Nothing
+pub end_operand : (sur : Surroundings) (k : ℕ) (f : ℕ → ℕ) (how : EndOperation) → (listed_statement sur k (run_of f (Returns how))).operand ≡ operand.Nothing
 unfolding operand_by
 end_operand sur k f how = ap implied_operand (operation_again (operation.End how))
 
-pub nothing_seen : (c : Context) → seen c operand.Nothing ≡ Resolved view.Nothing
-unfolding seen
+pub nothing_seen : (c : Context) → resolution_of c operand.Nothing ≡ Resolved view.Nothing
+unfolding resolution_of
 nothing_seen c = refl
 
 ends_again : (listed : Context) (sur : Surroundings) (f : ℕ → ℕ) (again : List Statement) (n k : ℕ) (m : Mnemonic) (how : EndOperation)
-    → jump_of m ≡ None → call_of m ≡ None → end_of m ≡ Some how
-    → IsKept listed again n m (Returns how) (statement sur k (run_of f (Returns how)))
+    → jump_operation_of m ≡ None → call_operation_of m ≡ None → end_operation_of m ≡ Some how
+    → IsInstructionKept listed again n m (Returns how) (listed_statement sur k (run_of f (Returns how)))
 ends_again listed sur f again n k m how jumps calls ends = record {
   word = word;
   right = rule;
-  instr = comes_to listed again n listing view.Nothing (Some how) (ap jump_of word ∙ jumps) (ap call_of word ∙ calls) (ap end_of word ∙ ends)
-      (resolves listed listing view.Nothing rule (ap (seen listed) (end_operand sur k f how) ∙ nothing_seen listed));
+  instr = comes_to listed again n listing view.Nothing (Some how) (ap jump_operation_of word ∙ jumps) (ap call_operation_of word ∙ calls) (ap end_operation_of word ∙ ends)
+      (resolves listed listing view.Nothing rule (ap (resolution_of listed) (end_operand sur k f how) ∙ nothing_seen listed));
 }
   where
     listing : Statement
-    listing = statement sur k (run_of f (Returns how))
+    listing = listed_statement sur k (run_of f (Returns how))
 
     word : listing.code ≡ m
     word = end_words_found m how ends
@@ -160,16 +160,16 @@ ends_again listed sur f again n k m how jumps calls ends = record {
 -- ---- either
 
 pub instructions_kept : AreInstructionsKept
-instructions_kept c listed sur f body again n k s v has right some jumps calls e = by (end_of s.code) refl
+instructions_kept c listed sur f body again n k s v has right some jumps calls e = by (end_operation_of s.code) refl
   where
-    by : (ending : Option EndOperation) → end_of s.code ≡ ending → IsKept listed again n s.code (instruction c body n s) (statement sur k (run_of f (instruction c body n s)))
+    by : (ending : Option EndOperation) → end_operation_of s.code ≡ ending → IsInstructionKept listed again n s.code (instruction c body n s) (listed_statement sur k (run_of f (instruction c body n s)))
     by None ends = rw (comes_to c body n s v None jumps calls ends e) (does_again c listed sur f again n k s v has right some jumps calls ends e)
     by (Some how) ends = rw (comes_to c body n s v (Some how) jumps calls ends e) (ends_again listed sur f again n k s.code how jumps calls ends)
 
 -- ---- jumps
 
-pub jump_taken : (listed : Context) (m : Mnemonic) (how : JumpOperation) (name : List ℕ) → jump_of m ≡ Some how → operand_rule listed (form_of m) (operand.Label name) ≡ None
-unfolding form_of takes rule_of takes_width seen
+pub jump_taken : (listed : Context) (m : Mnemonic) (how : JumpOperation) (name : List ℕ) → jump_operation_of m ≡ Some how → operand_rule listed (form_of m) (operand.Label name) ≡ None
+unfolding form_of takes_operand rule_of_resolved_operand takes_width resolution_of
 jump_taken listed code.Ju how name h = refl
 jump_taken listed code.Jl how name h = refl
 jump_taken listed code.Jc how name h = refl
@@ -194,7 +194,7 @@ jump_taken listed _ how name h = absurd cc
 abbrev pub leap : JumpOperation → (n target : ℕ) → Instr
 leap how n target = jump_instr how n target
 
-pub leap_word : (f : ℕ → ℕ) (m : Mnemonic) (how : JumpOperation) (n target : ℕ) → jump_of m ≡ Some how → mnemonic_of (run_of f (leap how n target)).op ≡ m
+pub leap_word : (f : ℕ → ℕ) (m : Mnemonic) (how : JumpOperation) (n target : ℕ) → jump_operation_of m ≡ Some how → mnemonic_of (run_of f (leap how n target)).op ≡ m
 leap_word f m jump.Jl n target h = jump_words_found m jump.Jl h
 leap_word f m jump.Ju n target h = jump_words_found m jump.Ju h
 leap_word f m jump.Jc n target h = jump_words_found m jump.Jc h
@@ -214,36 +214,36 @@ leap_word f m jump.Jmz n target h = jump_words_found m jump.Jmz h
 leap_word f m jump.Juo n target h = jump_words_found m jump.Juo h
 leap_word f m jump.Loop n target h = jump_words_found m jump.Loop h
 
-pub leap_operand : (sur : Surroundings) (k : ℕ) (f : ℕ → ℕ) (how : JumpOperation) (n target : ℕ) → (statement sur k (run_of f (leap how n target))).operand ≡ operand.Label (label_of (number_at sur.starts (f target)))
+pub leap_operand : (sur : Surroundings) (k : ℕ) (f : ℕ → ℕ) (how : JumpOperation) (n target : ℕ) → (listed_statement sur k (run_of f (leap how n target))).operand ≡ operand.Label (label_of_number (number_at sur.starts (f target)))
 unfolding operand_by
 leap_operand sur k f jump.Jl n target = refl
 leap_operand sur k f _ n target = refl
 
-pub jumped : (c : Context) (body : List Statement) (n : ℕ) (s : Statement) (how : JumpOperation) → jump_of s.code ≡ Some how → instruction c body n s ≡ jump_instr how n (target_of body s.operand)
+pub jumped : (c : Context) (body : List Statement) (n : ℕ) (s : Statement) (how : JumpOperation) → jump_operation_of s.code ≡ Some how → instruction c body n s ≡ jump_instr how n (target_of body s.operand)
 unfolding instruction
 jumped c body n s how h = ap (instr_by c body n s) h
 
 leaps_again : (listed : Context) (sur : Surroundings) (f : ℕ → ℕ) (again : List Statement) (n k : ℕ) (m : Mnemonic) (how : JumpOperation) (target : ℕ)
-    → jump_of m ≡ Some how → number_at sur.starts (f target) ≡ target → target_in (label_of target) again ≡ target
-    → IsKept listed again n m (leap how n target) (statement sur k (run_of f (leap how n target)))
+    → jump_operation_of m ≡ Some how → number_at sur.starts (f target) ≡ target → target_in (label_of_number target) again ≡ target
+    → IsInstructionKept listed again n m (leap how n target) (listed_statement sur k (run_of f (leap how n target)))
 leaps_again listed sur f again n k m how target h found reached = record {
   word = word;
-  right = ap (λ (x : Mnemonic). operand_rule listed (form_of x) listing.operand) word ∙ ap (operand_rule listed (form_of m)) label ∙ jump_taken listed m how (label_of target) h;
-  instr = jumped listed again n listing how (ap jump_of word ∙ h) ∙ ap (λ (o : Operand). jump_instr how n (target_of again o)) label ∙ ap (jump_instr how n) reached;
+  right = ap (λ (x : Mnemonic). operand_rule listed (form_of x) listing.operand) word ∙ ap (operand_rule listed (form_of m)) label ∙ jump_taken listed m how (label_of_number target) h;
+  instr = jumped listed again n listing how (ap jump_operation_of word ∙ h) ∙ ap (λ (o : Operand). jump_instr how n (target_of again o)) label ∙ ap (jump_instr how n) reached;
 }
   where
     listing : Statement
-    listing = statement sur k (run_of f (leap how n target))
+    listing = listed_statement sur k (run_of f (leap how n target))
 
     word : listing.code ≡ m
     word = leap_word f m how n target h
 
-    label : listing.operand ≡ operand.Label (label_of target)
-    label = leap_operand sur k f how n target ∙ ap (λ (x : ℕ). operand.Label (label_of x)) found
+    label : listing.operand ≡ operand.Label (label_of_number target)
+    label = leap_operand sur k f how n target ∙ ap (λ (x : ℕ). operand.Label (label_of_number x)) found
 
 pub jumps_kept : AreJumpsKept
-jumps_kept c listed sur f body again n k s jumps found reached = by (jump_of s.code) refl
+jumps_kept c listed sur f body again n k s jumps found reached = by (jump_operation_of s.code) refl
   where
-    by : (how : Option JumpOperation) → jump_of s.code ≡ how → IsKept listed again n s.code (instruction c body n s) (statement sur k (run_of f (instruction c body n s)))
+    by : (how : Option JumpOperation) → jump_operation_of s.code ≡ how → IsInstructionKept listed again n s.code (instruction c body n s) (listed_statement sur k (run_of f (instruction c body n s)))
     by None e = absurd (jumps e)
     by (Some how) e = rw (jumped c body n s how e) (leaps_again listed sur f again n k s.code how (target_of body s.operand) e found reached)

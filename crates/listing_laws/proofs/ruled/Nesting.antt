@@ -5,27 +5,27 @@ use Rattle.std.specs.List.{flat_map}
 use Rattle.plc_base.specs.Gathered.{refusals_along}
 use Rattle.plc_base.specs.Least.{broken_if}
 use Rattle.plc_base.specs.declared.refusals.Refusal.{Refusal}
-use Rattle.stl_ast.specs.Statements.{is_empty}
+use Rattle.stl_ast.specs.Statements.{is_empty_statement}
 use Rattle.stl_ast.specs.declared.mnemonics.Mnemonic.{Mnemonic}
 use Rattle.stl_ast.specs.declared.mnemonics.Mnemonic.TheVariants as code
 use Rattle.stl_ast.specs.declared.operands.Operand.TheVariants as operand
 use Rattle.stl_ast.specs.declared.statements.Statement.{Statement}
-use Rattle.stl_types.specs.Brackets.{behind, behind_all, closed, closes, closes_none, is_eighth, left_open, opened, opening, with_brackets}
-use Rattle.stl_types.specs.Zones.{ends_none, ends_zone, is_ninth, opens_zone, with_zones, zones_behind, zones_behind_all, zones_ended, zones_left_open}
+use Rattle.stl_types.specs.Brackets.{brackets_behind, brackets_behind_all, brackets_after_closing, is_closing_bracket, closes_no_bracket, is_eighth_bracket, brackets_left_open, brackets_after_opening, bracket_function, with_brackets}
+use Rattle.stl_types.specs.Zones.{ends_no_zone, ends_zone, is_ninth_zone, opens_zone, with_zones, zones_behind, zones_behind_all, zones_ended, zones_left_open}
 use Rattle.stl_types.specs.declared.brackets.Bracket.{Bracket}
-use Rattle.listing_laws.specs.Nesting.{AreNestingsKept, Mark, marks}
+use Rattle.listing_laws.specs.Nesting.{AreNestingsKept, NestingMark, nesting_marks}
 
 -- the plainest statement with a word on a line
-abbrev pub stub : Mark → Statement
+abbrev pub stub : NestingMark → Statement
 stub m = record { line = m.line; code = m.code; label = None; operand = operand.Nothing; actuals = [] }
 
 abbrev pub stub_of : Statement → Statement
 stub_of s = stub (record { code = s.code; line = s.line })
 
 abbrev stubs : List Statement → List Statement
-stubs ss = map stub (marks ss)
+stubs ss = map stub (nesting_marks ss)
 
-empty_code : (m : Mnemonic) → is_empty m ≡ true → m ≡ code.Empty
+empty_code : (m : Mnemonic) → is_empty_statement m ≡ true → m ≡ code.Empty
 empty_code code.Empty h = refl
 empty_code _ h = absurd cc
 
@@ -33,19 +33,19 @@ empty_code _ h = absurd cc
 
 -- a walk passes over empty statements, and sees of the others what a stub has
 record Sees {S : Type 0} (broken : S → Statement → List Refusal) (known : S → Statement → S) : Type 0 where
-  quiet : (x : S) (s : Statement) → is_empty s.code ≡ true → broken x s ≡ []
-  still : (x : S) (s : Statement) → is_empty s.code ≡ true → known x s ≡ x
+  quiet : (x : S) (s : Statement) → is_empty_statement s.code ≡ true → broken x s ≡ []
+  still : (x : S) (s : Statement) → is_empty_statement s.code ≡ true → known x s ≡ x
   same : (x : S) (s : Statement) → broken x s ≡ broken x (stub_of s)
   next : (x : S) (s : Statement) → known x s ≡ known x (stub_of s)
 
 walked : {S : Type 0} (broken : S → Statement → List Refusal) (known : S → Statement → S) → Sees broken known → (x : S) (ss : List Statement)
     → refusals_along (λ s. false) broken known x ss ≡ refusals_along (λ s. false) broken known x (stubs ss)
 walked broken known h x [] = refl
-walked {S} broken known h x (s ∷ ss) = by (is_empty s.code) refl (λ y. walked broken known h y ss)
+walked {S} broken known h x (s ∷ ss) = by (is_empty_statement s.code) refl (λ y. walked broken known h y ss)
   where
-    by : (b : Bool) → is_empty s.code ≡ b → ((y : S) → refusals_along (λ s. false) broken known y ss ≡ refusals_along (λ s. false) broken known y (stubs ss))
+    by : (b : Bool) → is_empty_statement s.code ≡ b → ((y : S) → refusals_along (λ s. false) broken known y ss ≡ refusals_along (λ s. false) broken known y (stubs ss))
         → broken x s ++ refusals_along (λ s. false) broken known (known x s) ss
-        ≡ refusals_along (λ s. false) broken known x (map stub ((if b then [] else record { code = s.code; line = s.line } ∷ []) ++ marks ss))
+        ≡ refusals_along (λ s. false) broken known x (map stub ((if b then [] else record { code = s.code; line = s.line } ∷ []) ++ nesting_marks ss))
     by true e rest =
         ap (λ (rs : List Refusal). rs ++ refusals_along (λ s. false) broken known (known x s) ss) (h.quiet x s e)
         ∙ ap (λ (y : S). refusals_along (λ s. false) broken known y ss) (h.still x s e)
@@ -56,48 +56,48 @@ walked {S} broken known h x (s ∷ ss) = by (is_empty s.code) refl (λ y. walked
 
 -- ---- brackets
 
-pub bracket_still : (x : List Bracket) (s : Statement) → is_empty s.code ≡ true → behind x s ≡ x
-unfolding opening closes
-bracket_still x s e = ap (λ (m : Mnemonic). opened x s (opening m)) (empty_code s.code e) ∙ ap (closed x) (empty_code s.code e)
+pub bracket_still : (x : List Bracket) (s : Statement) → is_empty_statement s.code ≡ true → brackets_behind x s ≡ x
+unfolding bracket_function is_closing_bracket
+bracket_still x s e = ap (λ (m : Mnemonic). brackets_after_opening x s (bracket_function m)) (empty_code s.code e) ∙ ap (brackets_after_closing x) (empty_code s.code e)
 
-pub brackets_alike : (x : List Bracket) (s : Statement) (found : Option ℕ) → opened x s found ≡ opened x (stub_of s) found
+pub brackets_alike : (x : List Bracket) (s : Statement) (found : Option ℕ) → brackets_after_opening x s found ≡ brackets_after_opening x (stub_of s) found
 brackets_alike x s None = refl
 brackets_alike x s (Some function) = refl
 
-closing_sees : Sees (λ brackets s. broken_if (closes_none brackets s) s.line 29) behind
-unfolding opening closes
+closing_sees : Sees (λ brackets s. broken_if (closes_no_bracket brackets s) s.line 29) brackets_behind
+unfolding bracket_function is_closing_bracket
 closing_sees = record {
-  quiet = λ x s e. ap (λ (m : Mnemonic). broken_if (closes m && nat_eq (length x) 0) s.line 29) (empty_code s.code e);
+  quiet = λ x s e. ap (λ (m : Mnemonic). broken_if (is_closing_bracket m && nat_eq (length x) 0) s.line 29) (empty_code s.code e);
   still = bracket_still;
   same = λ x s. refl;
-  next = λ x s. brackets_alike x s (opening s.code);
+  next = λ x s. brackets_alike x s (bracket_function s.code);
 }
 
-eighth_sees : Sees (λ brackets s. broken_if (is_eighth brackets s) s.line 31) behind
-unfolding opening closes
+eighth_sees : Sees (λ brackets s. broken_if (is_eighth_bracket brackets s) s.line 31) brackets_behind
+unfolding bracket_function is_closing_bracket
 eighth_sees = record {
-  quiet = λ x s e. ap (λ (m : Mnemonic). broken_if (is_some (opening m) && nat_le 7 (length x)) s.line 31) (empty_code s.code e);
+  quiet = λ x s e. ap (λ (m : Mnemonic). broken_if (is_some (bracket_function m) && nat_le 7 (length x)) s.line 31) (empty_code s.code e);
   still = bracket_still;
   same = λ x s. refl;
-  next = λ x s. brackets_alike x s (opening s.code);
+  next = λ x s. brackets_alike x s (bracket_function s.code);
 }
 
-brackets_left : (x : List Bracket) (ss : List Statement) → behind_all x ss ≡ behind_all x (stubs ss)
+brackets_left : (x : List Bracket) (ss : List Statement) → brackets_behind_all x ss ≡ brackets_behind_all x (stubs ss)
 brackets_left x [] = refl
-brackets_left x (s ∷ ss) = by (is_empty s.code) refl (λ y. brackets_left y ss)
+brackets_left x (s ∷ ss) = by (is_empty_statement s.code) refl (λ y. brackets_left y ss)
   where
-    by : (b : Bool) → is_empty s.code ≡ b → ((y : List Bracket) → behind_all y ss ≡ behind_all y (stubs ss))
-        → behind_all (behind x s) ss ≡ behind_all x (map stub ((if b then [] else record { code = s.code; line = s.line } ∷ []) ++ marks ss))
-    by true e rest = ap (λ (y : List Bracket). behind_all y ss) (bracket_still x s e) ∙ rest x
-    by false e rest = rest (behind x s) ∙ ap (λ (y : List Bracket). behind_all y (stubs ss)) (brackets_alike x s (opening s.code))
+    by : (b : Bool) → is_empty_statement s.code ≡ b → ((y : List Bracket) → brackets_behind_all y ss ≡ brackets_behind_all y (stubs ss))
+        → brackets_behind_all (brackets_behind x s) ss ≡ brackets_behind_all x (map stub ((if b then [] else record { code = s.code; line = s.line } ∷ []) ++ nesting_marks ss))
+    by true e rest = ap (λ (y : List Bracket). brackets_behind_all y ss) (bracket_still x s e) ∙ rest x
+    by false e rest = rest (brackets_behind x s) ∙ ap (λ (y : List Bracket). brackets_behind_all y (stubs ss)) (brackets_alike x s (bracket_function s.code))
 
 -- ---- zones
 
-pub zone_still : (x : List ℕ) (s : Statement) → is_empty s.code ≡ true → zones_behind x s ≡ x
+pub zone_still : (x : List ℕ) (s : Statement) → is_empty_statement s.code ≡ true → zones_behind x s ≡ x
 unfolding opens_zone ends_zone
 zone_still x s e = ap (λ (m : Mnemonic). if opens_zone m then x ++ s.line ∷ [] else zones_ended x m) (empty_code s.code e)
 
-ending_sees : Sees (λ zones s. broken_if (ends_none zones s) s.line 47) zones_behind
+ending_sees : Sees (λ zones s. broken_if (ends_no_zone zones s) s.line 47) zones_behind
 unfolding opens_zone ends_zone
 ending_sees = record {
   quiet = λ x s e. ap (λ (m : Mnemonic). broken_if (ends_zone m && nat_eq (length x) 0) s.line 47) (empty_code s.code e);
@@ -106,7 +106,7 @@ ending_sees = record {
   next = λ x s. refl;
 }
 
-ninth_sees : Sees (λ zones s. broken_if (is_ninth zones s) s.line 49) zones_behind
+ninth_sees : Sees (λ zones s. broken_if (is_ninth_zone zones s) s.line 49) zones_behind
 unfolding opens_zone ends_zone
 ninth_sees = record {
   quiet = λ x s e. ap (λ (m : Mnemonic). broken_if (opens_zone m && nat_le 8 (length x)) s.line 49) (empty_code s.code e);
@@ -117,24 +117,24 @@ ninth_sees = record {
 
 zones_left : (x : List ℕ) (ss : List Statement) → zones_behind_all x ss ≡ zones_behind_all x (stubs ss)
 zones_left x [] = refl
-zones_left x (s ∷ ss) = by (is_empty s.code) refl (λ y. zones_left y ss)
+zones_left x (s ∷ ss) = by (is_empty_statement s.code) refl (λ y. zones_left y ss)
   where
-    by : (b : Bool) → is_empty s.code ≡ b → ((y : List ℕ) → zones_behind_all y ss ≡ zones_behind_all y (stubs ss))
-        → zones_behind_all (zones_behind x s) ss ≡ zones_behind_all x (map stub ((if b then [] else record { code = s.code; line = s.line } ∷ []) ++ marks ss))
+    by : (b : Bool) → is_empty_statement s.code ≡ b → ((y : List ℕ) → zones_behind_all y ss ≡ zones_behind_all y (stubs ss))
+        → zones_behind_all (zones_behind x s) ss ≡ zones_behind_all x (map stub ((if b then [] else record { code = s.code; line = s.line } ∷ []) ++ nesting_marks ss))
     by true e rest = ap (λ (y : List ℕ). zones_behind_all y ss) (zone_still x s e) ∙ rest x
     by false e rest = rest (zones_behind x s)
 
 -- ---- bodies
 
-through : {A : Type 0} (of : List Statement → A) (ss ts : List Statement) → ((us : List Statement) → of us ≡ of (stubs us)) → marks ss ≡ marks ts → of ss ≡ of ts
-through of ss ts h e = h ss ∙ ap (λ (ms : List Mark). of (map stub ms)) e ∙ sym (h ts)
+through : {A : Type 0} (of : List Statement → A) (ss ts : List Statement) → ((us : List Statement) → of us ≡ of (stubs us)) → nesting_marks ss ≡ nesting_marks ts → of ss ≡ of ts
+through of ss ts h e = h ss ∙ ap (λ (ms : List NestingMark). of (map stub ms)) e ∙ sym (h ts)
 
 pub nestings_kept : AreNestingsKept
 nestings_kept ss ts e = record {
-  closing = through (λ us. with_brackets (λ brackets s. broken_if (closes_none brackets s) s.line 29) [] us) ss ts (λ us. walked (λ brackets s. broken_if (closes_none brackets s) s.line 29) behind closing_sees [] us) e;
-  left = through left_open ss ts (λ us. ap (λ (brackets : List Bracket). flat_map (λ b. broken_if true b.line 30) brackets) (brackets_left [] us)) e;
-  eighth = through (λ us. with_brackets (λ brackets s. broken_if (is_eighth brackets s) s.line 31) [] us) ss ts (λ us. walked (λ brackets s. broken_if (is_eighth brackets s) s.line 31) behind eighth_sees [] us) e;
-  ending = through (λ us. with_zones (λ zones s. broken_if (ends_none zones s) s.line 47) [] us) ss ts (λ us. walked (λ zones s. broken_if (ends_none zones s) s.line 47) zones_behind ending_sees [] us) e;
+  closing = through (λ us. with_brackets (λ brackets s. broken_if (closes_no_bracket brackets s) s.line 29) [] us) ss ts (λ us. walked (λ brackets s. broken_if (closes_no_bracket brackets s) s.line 29) brackets_behind closing_sees [] us) e;
+  left = through brackets_left_open ss ts (λ us. ap (λ (brackets : List Bracket). flat_map (λ b. broken_if true b.line 30) brackets) (brackets_left [] us)) e;
+  eighth = through (λ us. with_brackets (λ brackets s. broken_if (is_eighth_bracket brackets s) s.line 31) [] us) ss ts (λ us. walked (λ brackets s. broken_if (is_eighth_bracket brackets s) s.line 31) brackets_behind eighth_sees [] us) e;
+  ending = through (λ us. with_zones (λ zones s. broken_if (ends_no_zone zones s) s.line 47) [] us) ss ts (λ us. walked (λ zones s. broken_if (ends_no_zone zones s) s.line 47) zones_behind ending_sees [] us) e;
   zones_left = through zones_left_open ss ts (λ us. ap (λ (zones : List ℕ). flat_map (λ line. broken_if true line 48) zones) (zones_left [] us)) e;
-  ninth = through (λ us. with_zones (λ zones s. broken_if (is_ninth zones s) s.line 49) [] us) ss ts (λ us. walked (λ zones s. broken_if (is_ninth zones s) s.line 49) zones_behind ninth_sees [] us) e;
+  ninth = through (λ us. with_zones (λ zones s. broken_if (is_ninth_zone zones s) s.line 49) [] us) ss ts (λ us. walked (λ zones s. broken_if (is_ninth_zone zones s) s.line 49) zones_behind ninth_sees [] us) e;
 }

@@ -19,18 +19,18 @@ use Rattle.flat_code.specs.declared.operations.PointerOperation.TheVariants as p
 use Rattle.stl_ast.specs.declared.operands.Operand.{Operand}
 use Rattle.stl_ast.specs.declared.operands.Operand.TheVariants as operand
 use Rattle.stl_ast.specs.declared.statements.Statement.{Statement}
-use Rattle.stl_symbols.specs.Names.{place_of}
+use Rattle.stl_symbols.specs.Names.{name_place}
 use Rattle.stl_types.specs.Labels.{is_unknown_label, label_of as label_list, labels_of, unknown_labels}
 use Rattle.stl_types.specs.declared.parameters.Formal.{Formal}
-use Rattle.stl_codegen.specs.Compiled.{Stated, compiled}
+use Rattle.stl_codegen.specs.Compiled.{SourceInstruction, compiled_block}
 use Rattle.stl_list.specs.Constants.{instruction_constant}
-use Rattle.stl_list.specs.Labels.{label_of}
-use Rattle.stl_list.specs.Lines.{line_at}
+use Rattle.stl_list.specs.Labels.{label_of_number}
+use Rattle.stl_list.specs.Lines.{line_of_statement}
 use Rattle.stl_list.specs.Operands.{implied_operand, operand_by, plain_operand}
 use Rattle.stl_list.specs.Runs.{Run, number_at}
-use Rattle.stl_list.specs.Statements.{Surroundings, body_of, label_at, label_of_end, statement, statement_at, statements_from, surroundings}
-use Rattle.listing_laws.specs.LabelRules.{AreLabelsKnown, LeadsWithin}
-use Rattle.listing_laws.specs.Statements.{jumps_to, offset_in, run_of}
+use Rattle.stl_list.specs.Statements.{Surroundings, body_of, label_at, label_of_end, listed_statement, statement_at, statements_from, surroundings}
+use Rattle.listing_laws.specs.LabelRules.{AreJumpLabelsKnown, LeadsWithin}
+use Rattle.listing_laws.specs.Statements.{jumps_to, statement_offset, run_of}
 use Rattle.listing_laws.proofs.RunLemmas.{numbers_found, runs_found, targets_found}
 
 -- ---- the labels of a listed body
@@ -47,8 +47,8 @@ here_labels : (sur : Surroundings) (k : ℕ) (r : Run) (rest : List Statement) �
 unfolding statement_at
 here_labels sur k r rest = by (suc k == length sur.lines)
   where
-    by : (b : Bool) → labels_of ((if b then label_of_end (line_at sur.lines k) (label_at sur.targets k) else statement sur k r ∷ []) ++ rest) ≡ label_list (label_at sur.targets k) ++ labels_of rest
-    by true = end_labels (line_at sur.lines k) (label_at sur.targets k) rest
+    by : (b : Bool) → labels_of ((if b then label_of_end (line_of_statement sur.lines k) (label_at sur.targets k) else listed_statement sur k r ∷ []) ++ rest) ≡ label_list (label_at sur.targets k) ++ labels_of rest
+    by true = end_labels (line_of_statement sur.lines k) (label_at sur.targets k) rest
     by false = refl
 
 all_labels : (sur : Surroundings) (k : ℕ) (rs : List Run) → labels_of (statements_from sur k rs) ≡ numbered sur.targets k (length rs)
@@ -63,32 +63,32 @@ equal k n e = grind (arith, nat_tests)
 below : (k n : ℕ) → k ≤ n → (k == n) ≡ false → suc k ≤ n
 below k n low e = grind (arith, nat_tests)
 
-some_later : (name other : List ℕ) (rest : List (List ℕ)) → is_some (place_of name rest) ≡ true → is_some (place_of name (other ∷ rest)) ≡ true
-some_later name other rest h = by (bytes_eq name other) (place_of name rest) h
+some_later : (name other : List ℕ) (rest : List (List ℕ)) → is_some (name_place name rest) ≡ true → is_some (name_place name (other ∷ rest)) ≡ true
+some_later name other rest h = by (bytes_eq name other) (name_place name rest) h
   where
     by : (b : Bool) (o : Option ℕ) → is_some o ≡ true → is_some (if b then Some 0 else option_map (λ (j : ℕ). suc j) o) ≡ true
     by true o e = refl
     by false None e = absurd cc
     by false (Some j) e = refl
 
-some_behind : (name : List ℕ) (label : Option (List ℕ)) (rest : List (List ℕ)) → is_some (place_of name rest) ≡ true → is_some (place_of name (label_list label ++ rest)) ≡ true
+some_behind : (name : List ℕ) (label : Option (List ℕ)) (rest : List (List ℕ)) → is_some (name_place name rest) ≡ true → is_some (name_place name (label_list label ++ rest)) ≡ true
 some_behind name None rest h = h
 some_behind name (Some other) rest h = some_later name other rest h
 
-some_here : (name : List ℕ) (rest : List (List ℕ)) → is_some (place_of name (name ∷ rest)) ≡ true
-some_here name rest = ap (λ (b : Bool). is_some (if b then Some 0 else option_map (λ (j : ℕ). suc j) (place_of name rest))) ((bytes_eq-Decides name name).1 refl)
+some_here : (name : List ℕ) (rest : List (List ℕ)) → is_some (name_place name (name ∷ rest)) ≡ true
+some_here name rest = ap (λ (b : Bool). is_some (if b then Some 0 else option_map (λ (j : ℕ). suc j) (name_place name rest))) ((bytes_eq-Decides name name).1 refl)
 
-is_there : (targets : List Bool) (k count n : ℕ) → k ≤ n → n < k + count → unwrap_or (slice_get targets n) false ≡ true → is_some (place_of (label_of n) (numbered targets k count)) ≡ true
+is_there : (targets : List Bool) (k count n : ℕ) → k ≤ n → n < k + count → unwrap_or (slice_get targets n) false ≡ true → is_some (name_place (label_of_number n) (numbered targets k count)) ≡ true
 is_there targets k zero n low high marked = absurd (omega (arith, low, high))
 is_there targets k (suc count) n low high marked = by (k == n) refl (λ more. is_there targets (suc k) count n more (omega (arith, high)) marked)
   where
-    label_here : k ≡ n → label_at targets k ≡ Some (label_of n)
-    label_here e = ap (label_at targets) e ∙ ap (λ (b : Bool). if b then Some (label_of n) else None) marked
+    label_here : k ≡ n → label_at targets k ≡ Some (label_of_number n)
+    label_here e = ap (label_at targets) e ∙ ap (λ (b : Bool). if b then Some (label_of_number n) else None) marked
 
-    by : (b : Bool) → (k == n) ≡ b → (suc k ≤ n → is_some (place_of (label_of n) (numbered targets (suc k) count)) ≡ true)
-        → is_some (place_of (label_of n) (label_list (label_at targets k) ++ numbered targets (suc k) count)) ≡ true
-    by true e later = ap (λ (l : Option (List ℕ)). is_some (place_of (label_of n) (label_list l ++ numbered targets (suc k) count))) (label_here (equal k n e)) ∙ some_here (label_of n) (numbered targets (suc k) count)
-    by false e later = some_behind (label_of n) (label_at targets k) (numbered targets (suc k) count) (later (below k n low e))
+    by : (b : Bool) → (k == n) ≡ b → (suc k ≤ n → is_some (name_place (label_of_number n) (numbered targets (suc k) count)) ≡ true)
+        → is_some (name_place (label_of_number n) (label_list (label_at targets k) ++ numbered targets (suc k) count)) ≡ true
+    by true e later = ap (λ (l : Option (List ℕ)). is_some (name_place (label_of_number n) (label_list l ++ numbered targets (suc k) count))) (label_here (equal k n e)) ∙ some_here (label_of_number n) (numbered targets (suc k) count)
+    by false e later = some_behind (label_of_number n) (label_at targets k) (numbered targets (suc k) count) (later (below k n low e))
 
 -- ---- operands that are no labels
 
@@ -119,7 +119,7 @@ timer_no false number labels = refl
 
 -- what a jump is told by
 abbrev pub JumpsIn : (List (List ℕ)) → (starts : List ℕ) → FlatOperand → Type 0
-JumpsIn labels starts (flat.Jump kind target) = is_some (place_of (label_of (number_at starts target)) labels) ≡ true
+JumpsIn labels starts (flat.Jump kind target) = is_some (name_place (label_of_number (number_at starts target)) labels) ≡ true
 JumpsIn labels starts _ = Unit {0}
 
 none_is : {A : Type 0} (o : Option A) → is_some o ≡ true → is_none o ≡ false
@@ -130,7 +130,7 @@ pub no_unknown : (labels : List (List ℕ)) (formals : List Formal) (starts : Li
 unfolding operand_by plain_operand
 no_unknown labels formals starts opened w flat.Nothing h = implied_no w labels
 no_unknown labels formals starts opened w (flat.Literal value) h = constant_no w value labels
-no_unknown labels formals starts opened w (flat.Jump kind target) h = none_is (place_of (label_of (number_at starts target)) labels) h
+no_unknown labels formals starts opened w (flat.Jump kind target) h = none_is (name_place (label_of_number (number_at starts target)) labels) h
 no_unknown labels formals starts opened w (flat.Numbered kind number) h = timer_no (kind == 1) number labels
 no_unknown labels formals starts opened w _ h = refl
 
@@ -150,9 +150,9 @@ here_known : (sur : Surroundings) (labels : List (List ℕ)) (k : ℕ) (r : Run)
 unfolding statement_at
 here_known sur labels k r rest h = by (suc k == length sur.lines)
   where
-    by : (b : Bool) → found_in labels ((if b then label_of_end (line_at sur.lines k) (label_at sur.targets k) else statement sur k r ∷ []) ++ rest) ≡ found_in labels rest
-    by true = end_known labels (line_at sur.lines k) (label_at sur.targets k) rest
-    by false = ap (λ (b : Bool). broken_if b (line_at sur.lines k) 26 ++ found_in labels rest) (no_unknown labels sur.formals sur.starts _ _ r.op.operand h)
+    by : (b : Bool) → found_in labels ((if b then label_of_end (line_of_statement sur.lines k) (label_at sur.targets k) else listed_statement sur k r ∷ []) ++ rest) ≡ found_in labels rest
+    by true = end_known labels (line_of_statement sur.lines k) (label_at sur.targets k) rest
+    by false = ap (λ (b : Bool). broken_if b (line_of_statement sur.lines k) 26 ++ found_in labels rest) (no_unknown labels sur.formals sur.starts _ _ r.op.operand h)
 
 all_known : (sur : Surroundings) (labels : List (List ℕ)) (k : ℕ) (rs : List Run) → All labels sur.starts rs → found_in labels (statements_from sur k rs) ≡ []
 all_known sur labels k [] h = refl
@@ -164,7 +164,7 @@ itself : (t : ℕ) → (t == t) ≡ true
 itself t = eq-eqb t t refl
 
 abbrev pub IsMet : List (List ℕ) → (starts : List ℕ) → (ℕ → ℕ) → ℕ → Type 0
-IsMet labels starts f t = is_some (place_of (label_of (number_at starts (f t))) labels) ≡ true
+IsMet labels starts f t = is_some (name_place (label_of_number (number_at starts (f t))) labels) ≡ true
 
 pub one : (labels : List (List ℕ)) (starts : List ℕ) (f : ℕ → ℕ) (i : Instr) → ((t : ℕ) → jumps_to t i ≡ true → IsMet labels starts f t) → JumpsIn labels starts (run_of f i).op.operand
 one labels starts f (Does u w (flat.Jump kind t)) h = h t (itself t)
@@ -182,10 +182,10 @@ or_right : (a b : Bool) → b ≡ true → (a || b) ≡ true
 or_right true b e = refl
 or_right false b e = e
 
-abbrev any_to : ℕ → List Stated → Bool
+abbrev any_to : ℕ → List SourceInstruction → Bool
 any_to t ss = list_any (λ s. jumps_to t s.instr) ss
 
-all_of : (labels : List (List ℕ)) (starts : List ℕ) (f : ℕ → ℕ) (whole ss : List Stated) → AllByRecursion (λ s. LeadsWithin (length whole) s.instr) ss
+all_of : (labels : List (List ℕ)) (starts : List ℕ) (f : ℕ → ℕ) (whole ss : List SourceInstruction) → AllByRecursion (λ s. LeadsWithin (length whole) s.instr) ss
     → ((t : ℕ) → any_to t ss ≡ true → any_to t whole ≡ true) → ((t : ℕ) → t < length whole → any_to t whole ≡ true → IsMet labels starts f t)
     → All labels starts (map (λ s. run_of f s.instr) ss)
 all_of labels starts f whole [] w into met = tt
@@ -194,14 +194,14 @@ all_of labels starts f whole (s ∷ ss) w into met = (
   all_of labels starts f whole ss w.1 (λ t h. into t (or_right (jumps_to t s.instr) (any_to t ss) h)) met,
 )
 
-map_length : (f : Stated → Run) (xs : List Stated) → length (map f xs) ≡ length xs
+map_length : (f : SourceInstruction → Run) (xs : List SourceInstruction) → length (map f xs) ≡ length xs
 map_length f [] = refl
 map_length f (x ∷ xs) = ap suc (map_length f xs)
 
 least_is : (t n : ℕ) → t < n → min t n ≡ t
 least_is t n h = omega (arith, h)
 
-pub labels_known : AreLabelsKnown
+pub labels_known : AreJumpLabelsKnown
 unfolding body_of
 labels_known signatures lines b within =
     ap (λ (rs : List Run). unknown_labels (labels_of (statements_from sur 0 rs)) (statements_from sur 0 rs)) (runs_found b.statements)
@@ -209,10 +209,10 @@ labels_known signatures lines b within =
     ∙ all_known sur labels 0 rs (all_of labels sur.starts f b.statements b.statements within (λ t h. h) met)
   where
     sur : Surroundings
-    sur = surroundings signatures lines (compiled b)
+    sur = surroundings signatures lines (compiled_block b)
 
     f : ℕ → ℕ
-    f = offset_in b.statements
+    f = statement_offset b.statements
 
     rs : List Run
     rs = map (λ s. run_of f s.instr) b.statements
@@ -223,5 +223,5 @@ labels_known signatures lines b within =
     met : (t : ℕ) → t < length b.statements → any_to t b.statements ≡ true → IsMet labels sur.starts f t
     met t h j =
         let size = map_length (λ s. run_of f s.instr) b.statements in
-        ap (λ (n : ℕ). is_some (place_of (label_of n) labels)) (numbers_found b.statements t ∙ least_is t (length b.statements) h)
+        ap (λ (n : ℕ). is_some (name_place (label_of_number n) labels)) (numbers_found b.statements t ∙ least_is t (length b.statements) h)
         ∙ is_there sur.targets 0 (length rs) t (omega arith) (omega (arith, h, size)) (targets_found b.statements t h ∙ j)

@@ -7,13 +7,13 @@ use Rattle.stl_ast.specs.declared.operands.Operand.{Operand}
 use Rattle.stl_types.specs.Context.{Context}
 use Rattle.stl_types.specs.Forms.{form_of}
 use Rattle.stl_types.specs.Kinds.{is_composite, width_in}
-use Rattle.stl_types.specs.Operands.{composite_rule, has_width, is_input, is_on_wrong_side, operand_rule, rule_of, rule_seen, takes, writes}
-use Rattle.stl_types.specs.Resolution.{seen}
+use Rattle.stl_types.specs.Operands.{composite_rule, has_width, is_input, is_on_wrong_side, operand_rule, rule_of_resolved_operand, rule_seen, takes_operand, form_writes_operand}
+use Rattle.stl_types.specs.Resolution.{resolution_of}
 use Rattle.stl_types.specs.declared.forms.OperandRule.{OperandRule}
 use Rattle.stl_types.specs.declared.views.Resolution.TheVariants.{Resolved}
 use Rattle.stl_types.specs.declared.views.ResolvedOperand.{ResolvedOperand}
 use Rattle.stl_types.specs.declared.views.ResolvedOperand.TheVariants as view
-use Rattle.stl_codegen.specs.Operands.{operand_of}
+use Rattle.stl_codegen.specs.Operands.{flat_operand_of}
 use Rattle.stl_codegen.specs.Operations.{operation_for}
 use Rattle.listing_laws.specs.Operands.{IsActedAgain}
 
@@ -43,32 +43,32 @@ taken_by false true true false false n h = record { elementary = refl; accepted 
 
 -- no rule is broken
 abbrev pub IsTaken : OperandRule → ResolvedOperand → Type 0
-IsTaken f v = IsTakenBy (is_composite v) (takes f v) (has_width f (width_in v)) (is_on_wrong_side f v) (writes f && is_input v)
+IsTaken f v = IsTakenBy (is_composite v) (takes_operand f v) (has_width f (width_in v)) (is_on_wrong_side f v) (form_writes_operand f && is_input v)
 
-pub is_taken : (f : OperandRule) (v : ResolvedOperand) → rule_of f v ≡ None → IsTaken f v
-unfolding rule_of
-is_taken f v h = taken_by (is_composite v) (takes f v) (has_width f (width_in v)) (is_on_wrong_side f v) (writes f && is_input v) (composite_rule f v) h
+pub is_taken : (f : OperandRule) (v : ResolvedOperand) → rule_of_resolved_operand f v ≡ None → IsTaken f v
+unfolding rule_of_resolved_operand
+is_taken f v h = taken_by (is_composite v) (takes_operand f v) (has_width f (width_in v)) (is_on_wrong_side f v) (form_writes_operand f && is_input v) (composite_rule f v) h
 
 by_parts : (composite taken fits wrong written : Bool) (n : ℕ) → composite ≡ false → taken ≡ true → fits ≡ true → wrong ≡ false → written ≡ false → rule_by composite n taken fits wrong written ≡ None
 by_parts composite taken fits wrong written n e f g h k = rw (e, f, g, h, k) refl
 
-pub none_broken : (f : OperandRule) (v : ResolvedOperand) → is_composite v ≡ false → takes f v ≡ true → has_width f (width_in v) ≡ true → is_on_wrong_side f v ≡ false → (writes f && is_input v) ≡ false → rule_of f v ≡ None
-unfolding rule_of
-none_broken f v e g h k l = by_parts (is_composite v) (takes f v) (has_width f (width_in v)) (is_on_wrong_side f v) (writes f && is_input v) (composite_rule f v) e g h k l
+pub none_broken : (f : OperandRule) (v : ResolvedOperand) → is_composite v ≡ false → takes_operand f v ≡ true → has_width f (width_in v) ≡ true → is_on_wrong_side f v ≡ false → (form_writes_operand f && is_input v) ≡ false → rule_of_resolved_operand f v ≡ None
+unfolding rule_of_resolved_operand
+none_broken f v e g h k l = by_parts (is_composite v) (takes_operand f v) (has_width f (width_in v)) (is_on_wrong_side f v) (form_writes_operand f && is_input v) (composite_rule f v) e g h k l
 
-pub taken_view : (f : OperandRule) (v : ResolvedOperand) → rule_of f v ≡ None → takes f v ≡ true
+pub taken_view : (f : OperandRule) (v : ResolvedOperand) → rule_of_resolved_operand f v ≡ None → takes_operand f v ≡ true
 taken_view f v h = (is_taken f v h).accepted
 
 -- ---- `+` takes constants alone, so no other operation goes by the operand of the source
 
-pub no_adding : (v : ResolvedOperand) → rule_of (form_of code.Add) v ≡ None → ⊥
-unfolding form_of takes
+pub no_adding : (v : ResolvedOperand) → rule_of_resolved_operand (form_of code.Add) v ≡ None → ⊥
+unfolding form_of takes_operand
 no_adding v h = never (taken_view (form_of code.Add) v h)
   where
     never : false ≡ true → ⊥
     never e = absurd cc
 
-pub same_operation : (m : Mnemonic) (o again : Operand) (v : ResolvedOperand) → rule_of (form_of m) v ≡ None → operation_for m again v ≡ operation_for m o v
+pub same_operation : (m : Mnemonic) (o again : Operand) (v : ResolvedOperand) → rule_of_resolved_operand (form_of m) v ≡ None → operation_for m again v ≡ operation_for m o v
 unfolding operation_for
 same_operation code.Add o again v h = absurd (no_adding v h)
 same_operation _ o again v h = refl
@@ -78,14 +78,14 @@ abbrev pub IsOther : ResolvedOperand → Type 0
 IsOther view.Constant = ⊥
 IsOther _ = Unit {0}
 
-same_operand : (o again : Operand) (v : ResolvedOperand) → IsOther v → operand_of again v ≡ operand_of o v
-unfolding operand_of
+same_operand : (o again : Operand) (v : ResolvedOperand) → IsOther v → flat_operand_of again v ≡ flat_operand_of o v
+unfolding flat_operand_of
 same_operand o again view.Constant h = absurd h
 same_operand o again _ h = refl
 
 -- where a listing's operand names the very same
-pub unchanged : (c : Context) (m : Mnemonic) (o again : Operand) (v : ResolvedOperand) → IsOther v → rule_of (form_of m) v ≡ None
-    → operand_rule c (form_of m) again ≡ rule_seen (form_of m) (seen c again) → seen c again ≡ Resolved v → IsActedAgain c m o again v
+pub unchanged : (c : Context) (m : Mnemonic) (o again : Operand) (v : ResolvedOperand) → IsOther v → rule_of_resolved_operand (form_of m) v ≡ None
+    → operand_rule c (form_of m) again ≡ rule_seen (form_of m) (resolution_of c again) → resolution_of c again ≡ Resolved v → IsActedAgain c m o again v
 unchanged c m o again v other h e sees = record {
   found = v;
   sees = sees;

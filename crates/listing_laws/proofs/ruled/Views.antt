@@ -14,22 +14,22 @@ use Rattle.stl_ast.specs.declared.operands.Letters.{Letters}
 use Rattle.stl_ast.specs.declared.operands.Operand.{Operand}
 use Rattle.stl_ast.specs.declared.operands.Operand.TheVariants as operand
 use Rattle.stl_ast.specs.declared.operands.PathHead.TheVariants as head
-use Rattle.stl_symbols.specs.Symbol.{has_symbols, IsTarget, Symbol, symbol_named}
+use Rattle.stl_symbols.specs.Symbol.{has_symbols, IsSymbolTarget, Symbol, symbol_named}
 use Rattle.stl_symbols.specs.declared.targets.Target.{Target}
 use Rattle.stl_symbols.specs.declared.targets.Target.TheVariants as target
 use Rattle.block_layout.specs.Blocks.{named_block}
-use Rattle.block_layout.specs.Offsets.{place_at, placed, width_of}
-use Rattle.block_layout.specs.Paths.{cells_at, elementary_at, folded_path, walked_data, walked_local}
+use Rattle.block_layout.specs.Offsets.{place_at, elementary_place, width_of}
+use Rattle.block_layout.specs.Paths.{cells_at, elementary_at, folded_path, path_end_in_data_block, walked_local}
 use Rattle.block_layout.specs.declared.cells.Cell.{Cell}
 use Rattle.block_layout.specs.declared.cells.Element.{Element}
 use Rattle.block_layout.specs.declared.cells.Element.TheVariants as element
 use Rattle.block_layout.specs.declared.walks.ComponentAt.{ComponentAt}
 use Rattle.block_layout.specs.declared.walks.PathEnd.{PathEnd}
 use Rattle.block_layout.specs.declared.walks.PathEnd.TheVariants as walk
-use Rattle.stl_types.specs.Addresses.{address_in, area_left, area_of}
+use Rattle.stl_types.specs.Addresses.{address_in_block, area_left, area_for_letters}
 use Rattle.stl_types.specs.Context.{Context, data_number, data_place, in_function}
-use Rattle.stl_types.specs.Resolution.{called_seen, instance_number, opened_seen, seen, symbol_seen, target_view, whole_block}
-use Rattle.stl_types.specs.Variables.{composite, data_at, data_path, data_walked, date_or_composite, in_area, is_temporary, own_at, own_elementary, own_variable, own_walked, parameter, parameter_at, parameter_index}
+use Rattle.stl_types.specs.Resolution.{called_seen, instance_number, opened_seen, resolution_of, symbol_seen, target_view, whole_called_block}
+use Rattle.stl_types.specs.Variables.{composite_operand, data_at, data_path, data_walked, date_or_composite, variable_in_area, is_temporary_variable, own_at, own_elementary, own_variable, own_walked, parameter_resolution, parameter_at, parameter_index}
 use Rattle.stl_types.specs.declared.parameters.Formal.{Formal}
 use Rattle.stl_types.specs.declared.views.Resolution.{Resolution}
 use Rattle.stl_types.specs.declared.views.Resolution.TheVariants.{Resolved}
@@ -37,7 +37,7 @@ use Rattle.stl_types.specs.declared.views.ResolvedOperand.{ResolvedOperand}
 use Rattle.stl_types.specs.declared.views.ResolvedOperand.TheVariants as view
 use Rattle.stl_codegen.specs.Operands.{is_db, opened_by_place}
 use Rattle.listing_laws.specs.Instructions.{HasAgain, IsRightOperand}
-use Rattle.listing_laws.specs.Operands.{IsCoded, IsConstantSeen, IsOpenedAgain, IsPointer, StandsAgain}
+use Rattle.listing_laws.specs.Operands.{IsConstantCoded, IsConstantSeen, IsOpenedAgain, IsPointer, StandsAgain}
 
 -- what is known of what is named. Only a path into the block's own variables may name a parameter
 abbrev IsSeen : (own : Bool) → Context → ResolvedOperand → Type 0
@@ -71,14 +71,14 @@ opened_place listed false n h = tt
 -- ---- variables
 
 area_seen : (own : Bool) (listed : Context) (a : Area) (n : ℕ) (bits : ℕ) (kind : Simple) → IsOpenedAgain listed (opened_by_place (place_at a n bits))
-    → IfSeen own listed (in_area kind (if nat_le (bits / 8) 65535 then Some (place_at a n bits, width_of kind) else None))
+    → IfSeen own listed (variable_in_area kind (if nat_le (bits / 8) 65535 then Some (place_at a n bits, width_of kind) else None))
 area_seen own listed a n bits kind h = by (nat_le (bits / 8) 65535)
   where
-    by : (b : Bool) → IfSeen own listed (in_area kind (if b then Some (place_at a n bits, width_of kind) else None))
+    by : (b : Bool) → IfSeen own listed (variable_in_area kind (if b then Some (place_at a n bits, width_of kind) else None))
     by true = h
     by false = tt
 
-composite_seen : (own : Bool) (listed : Context) (c : Option Cell) → IsSeen own listed (composite c)
+composite_seen : (own : Bool) (listed : Context) (c : Option Cell) → IsSeen own listed (composite_operand c)
 composite_seen own listed None = tt
 composite_seen own listed (Some c) = by c.of
   where
@@ -86,7 +86,7 @@ composite_seen own listed (Some c) = by c.of
     by element.DateAndTime = tt
     by _ = tt
 
-parameter_seen : (listed : Context) (index : ℕ) (kind : Simple) (c : Option Cell) → IfSeen true listed (parameter index kind c)
+parameter_seen : (listed : Context) (index : ℕ) (kind : Simple) (c : Option Cell) → IfSeen true listed (parameter_resolution index kind c)
 parameter_seen listed index kind None = tt
 parameter_seen listed index kind (Some c) = refl
 
@@ -94,7 +94,7 @@ own_seen : (c listed : Context) (temporary : Bool) (spot : ComponentAt) (kind : 
 own_seen c listed true spot kind = area_seen true listed area.L 0 spot.offset kind tt
 own_seen c listed false spot kind = by (in_function c)
   where
-    by : (b : Bool) → IfSeen true listed (if b then parameter_at c spot kind else in_area kind (placed area.Di 0 spot.offset (Some kind)))
+    by : (b : Bool) → IfSeen true listed (if b then parameter_at c spot kind else variable_in_area kind (elementary_place area.Di 0 spot.offset (Some kind)))
     by true = parameter_seen listed (parameter_index (length (cells_at c.layouts c.block false)) spot.place (slice_get c.blocks c.block)) kind (slice_get (cells_at c.layouts c.block false) spot.place)
     by false = area_seen true listed area.Di 0 spot.offset kind tt
 
@@ -117,7 +117,7 @@ data_walk_seen c listed n walk.Unknown h = tt
 data_walk_seen c listed n walk.Rests h = tt
 
 data_path_seen : (c listed : Context) (steps : List PathStep) (number block : Option ℕ) → IsOpenedAgain listed number → IfSeen false listed (data_path c steps number block)
-data_path_seen c listed steps (Some n) (Some block) h = data_walk_seen c listed n (walked_data c.layouts block steps) h
+data_path_seen c listed steps (Some n) (Some block) h = data_walk_seen c listed n (path_end_in_data_block c.layouts block steps) h
 data_path_seen c listed steps (Some n) None h = tt
 data_path_seen c listed steps None block h = tt
 
@@ -139,22 +139,22 @@ no_data_block area.Di h = refl
 no_data_block area.L h = refl
 no_data_block area.P h = refl
 
-target_seen : (listed : Context) (t : Target) → IsTarget t → IsSeen false listed (target_view t)
+target_seen : (listed : Context) (t : Target) → IsSymbolTarget t → IsSeen false listed (target_view t)
 target_seen listed (target.Variable place width) h = closed_place listed (is_db place.area) place.number (no_data_block place.area h.area)
 target_seen listed (target.Timer number) h = tt
 target_seen listed (target.Counter number) h = tt
 target_seen listed (target.Block id) h = tt
 
-symbol_is_seen : (listed : Context) (symbols : List Symbol) (name : List ℕ) → ((s : Symbol) → symbol_named name symbols ≡ Some s → IsTarget s.target) → IfSeen false listed (symbol_seen (symbol_named name symbols))
+symbol_is_seen : (listed : Context) (symbols : List Symbol) (name : List ℕ) → ((s : Symbol) → symbol_named name symbols ≡ Some s → IsSymbolTarget s.target) → IfSeen false listed (symbol_seen (symbol_named name symbols))
 symbol_is_seen listed symbols name h = by (symbol_named name symbols) refl
   where
     by : (o : Option Symbol) → symbol_named name symbols ≡ o → IfSeen false listed (symbol_seen o)
     by None e = tt
     by (Some s) e = target_seen listed s.target (h s e)
 
-address_seen : (listed : Context) (number : Option ℕ) (a : Letters) (width : Width) (byte bit : ℕ) → IsOpenedAgain listed number → IfSeen false listed (address_in number a width byte bit)
+address_seen : (listed : Context) (number : Option ℕ) (a : Letters) (width : Width) (byte bit : ℕ) → IsOpenedAgain listed number → IfSeen false listed (address_in_block number a width byte bit)
 address_seen listed None a width byte bit h = tt
-address_seen listed (Some n) a width byte bit h = by (is_db (area_of a)) (nat_eq n 0)
+address_seen listed (Some n) a width byte bit h = by (is_db (area_for_letters a)) (nat_eq n 0)
   where
     by : (d z : Bool) → IsOpenedAgain listed (number_if (d && not z) n)
     by true true = tt
@@ -180,10 +180,10 @@ IsNamed (operand.Pointer a byte bit) = ⊥
 IsNamed (operand.Named (head.Local name) steps) = ⊥
 IsNamed _ = Unit {0}
 
-named_seen : (c listed : Context) (formals : List Formal) (o : Operand) → HasAgain c listed formals → IsRightOperand c.symbols o → IsNamed o → IfSeen false listed (seen c o)
-unfolding seen
+named_seen : (c listed : Context) (formals : List Formal) (o : Operand) → HasAgain c listed formals → IsRightOperand c.symbols o → IsNamed o → IfSeen false listed (resolution_of c o)
+unfolding resolution_of
 named_seen c listed formals operand.Nothing has h n = tt
-named_seen c listed formals (operand.Direct None a width byte bit) has h n = none_place listed (is_db (area_of a))
+named_seen c listed formals (operand.Direct None a width byte bit) has h n = none_place listed (is_db (area_for_letters a))
 named_seen c listed formals (operand.Direct (Some name) a width byte bit) has h n = address_seen listed (data_number c name) a width byte bit (number_stands c listed formals has name)
 named_seen c listed formals (operand.Timer number) has h n = tt
 named_seen c listed formals (operand.Counter number) has h n = tt
@@ -199,7 +199,7 @@ named_seen c listed formals (operand.Label name) has h n = tt
 named_seen c listed formals (operand.OfStatus flag) has h n = tt
 named_seen c listed formals (operand.Other name) has h n = tt
 named_seen c listed formals (operand.OpenBlock di name) has h n = opened_is_seen listed di (data_number c name) (number_stands c listed formals has name)
-named_seen c listed formals (operand.Called name instance) has h n = called_is_seen listed (whole_block c (named_block c.symbols name)) instance (instance_number c instance)
+named_seen c listed formals (operand.Called name instance) has h n = called_is_seen listed (whole_called_block c (named_block c.symbols name)) instance (instance_number c instance)
 
 -- what is seen is this
 seen_is : (own : Bool) (listed : Context) (r : Resolution) (v : ResolvedOperand) → r ≡ Resolved v → IfSeen own listed r → IsSeen own listed v
@@ -236,30 +236,30 @@ own_stands c listed formals name steps (view.OpenBlock di number) has e h = h
 own_stands c listed formals name steps (view.Pointer a byte bit) has e h = absurd h
 own_stands c listed formals name steps _ has e h = tt
 
-both_named : (c listed : Context) (formals : List Formal) (o : Operand) (v : ResolvedOperand) → HasAgain c listed formals → IsRightOperand c.symbols o → IsNamed o → IsPlain o → seen c o ≡ Resolved v → Both listed formals o v
+both_named : (c listed : Context) (formals : List Formal) (o : Operand) (v : ResolvedOperand) → HasAgain c listed formals → IsRightOperand c.symbols o → IsNamed o → IsPlain o → resolution_of c o ≡ Resolved v → Both listed formals o v
 both_named c listed formals o v has h n plain e =
-    let is : IsSeen false listed v = seen_is false listed (seen c o) v e (named_seen c listed formals o has h n) in
+    let is : IsSeen false listed v = seen_is false listed (resolution_of c o) v e (named_seen c listed formals o has h n) in
     (named_stands listed formals v is, other_by false listed o v plain is)
 
-both_own : (c listed : Context) (formals : List Formal) (name : List ℕ) (steps : List PathStep) (v : ResolvedOperand) → HasAgain c listed formals → seen c (operand.Named (head.Local name) steps) ≡ Resolved v
+both_own : (c listed : Context) (formals : List Formal) (name : List ℕ) (steps : List PathStep) (v : ResolvedOperand) → HasAgain c listed formals → resolution_of c (operand.Named (head.Local name) steps) ≡ Resolved v
     → Both listed formals (operand.Named (head.Local name) steps) v
-unfolding seen
+unfolding resolution_of
 both_own c listed formals name steps v has e =
-    let is : IsSeen true listed v = seen_is true listed (own_variable c (upper_case_name name) (folded_path steps)) v e (own_walk_seen c listed (is_temporary c (upper_case_name name)) (walked_local c.layouts c.block (upper_case_name name) (folded_path steps))) in
+    let is : IsSeen true listed v = seen_is true listed (own_variable c (upper_case_name name) (folded_path steps)) v e (own_walk_seen c listed (is_temporary_variable c (upper_case_name name)) (walked_local c.layouts c.block (upper_case_name name) (folded_path steps))) in
     (own_stands c listed formals (upper_case_name name) (folded_path steps) v has e is, other_by true listed (operand.Named (head.Local name) steps) v tt is)
 
-both_constant : (c listed : Context) (formals : List Formal) (value : Literal) (v : ResolvedOperand) → IsCoded value → seen c (operand.Constant value) ≡ Resolved v → Both listed formals (operand.Constant value) v
-unfolding seen
+both_constant : (c listed : Context) (formals : List Formal) (value : Literal) (v : ResolvedOperand) → IsConstantCoded value → resolution_of c (operand.Constant value) ≡ Resolved v → Both listed formals (operand.Constant value) v
+unfolding resolution_of
 both_constant c listed formals value v h e =
     let is : view.Constant ≡ v = view_is view.Constant v e in
     (subst (StandsAgain listed formals) is tt, (sym is, h))
 
-both_pointer : (c listed : Context) (formals : List Formal) (a : Option Letters) (byte bit : ℕ) (v : ResolvedOperand) → IsPointer (area_left a) byte bit → seen c (operand.Pointer a byte bit) ≡ Resolved v
+both_pointer : (c listed : Context) (formals : List Formal) (a : Option Letters) (byte bit : ℕ) (v : ResolvedOperand) → IsPointer (area_left a) byte bit → resolution_of c (operand.Pointer a byte bit) ≡ Resolved v
     → Both listed formals (operand.Pointer a byte bit) v
-unfolding seen
+unfolding resolution_of
 both_pointer c listed formals a byte bit v h e = subst (Both listed formals (operand.Pointer a byte bit)) (view_is (view.Pointer (area_left a) byte bit) v e) (h, tt)
 
-pub stands : (c listed : Context) (formals : List Formal) (o : Operand) (v : ResolvedOperand) → HasAgain c listed formals → IsRightOperand c.symbols o → seen c o ≡ Resolved v → Both listed formals o v
+pub stands : (c listed : Context) (formals : List Formal) (o : Operand) (v : ResolvedOperand) → HasAgain c listed formals → IsRightOperand c.symbols o → resolution_of c o ≡ Resolved v → Both listed formals o v
 stands c listed formals (operand.Constant value) v has h e = both_constant c listed formals value v h.coded e
 stands c listed formals (operand.Pointer a byte bit) v has h e =
     both_pointer c listed formals a byte bit v (record { no_peripherals = h.coded; low_byte = h.written.0; low_bit = h.written.1 }) e

@@ -6,31 +6,31 @@ use Rattle.std.proofs.lemmas.Bool.Decides.{nat_tests}
 use Rattle.std.proofs.lemmas.List.{length-map}
 use Rattle.std.proofs.lemmas.List.Sums.{count_by-le-length, sum_by-append}
 use Rattle.flat_code.specs.Programs.{CodeBlock}
-use Rattle.stl_ast.specs.Statements.{is_empty}
+use Rattle.stl_ast.specs.Statements.{is_empty_statement}
 use Rattle.stl_ast.specs.declared.statements.Statement.{Statement}
 use Rattle.block_layout.specs.Rule55.{has_too_many_statements}
-use Rattle.stl_codegen.specs.Compiled.{StatedBlock, compiled}
+use Rattle.stl_codegen.specs.Compiled.{StatedBlock, compiled_block}
 use Rattle.stl_list.specs.CodeBlocks.{listed_block}
-use Rattle.stl_list.specs.Lines.{line_at, lines_from}
+use Rattle.stl_list.specs.Lines.{line_of_statement, lines_from}
 use Rattle.stl_list.specs.Runs.{Run, runs}
 use Rattle.stl_list.specs.Signatures.{Signature}
-use Rattle.stl_list.specs.Statements.{Surroundings, body_of, label_at, label_of_end, statement, statement_at, statements_from, surroundings}
-use Rattle.listing_laws.specs.Statements.{offset_in, run_of}
+use Rattle.stl_list.specs.Statements.{Surroundings, body_of, label_at, label_of_end, listed_statement, statement_at, statements_from, surroundings}
+use Rattle.listing_laws.specs.Statements.{statement_offset, run_of}
 use Rattle.listing_laws.proofs.RunLemmas.{runs_found}
 
 -- how many statements aren't empty
 abbrev written : List Statement → ℕ
-written ss = count_by (λ s. not (is_empty s.code)) ss
+written ss = count_by (λ s. not (is_empty_statement s.code)) ss
 
 written_cons : (ss rest : List Statement) → written (ss ++ rest) ≡ written ss + written rest
-written_cons ss rest = sum_by-append (λ (s : Statement). cond (not (is_empty s.code)) 1 0) ss rest
+written_cons ss rest = sum_by-append (λ (s : Statement). cond (not (is_empty_statement s.code)) 1 0) ss rest
 
 end_unwritten : (line : ℕ) (label : Option (List ℕ)) → written (label_of_end line label) ≡ 0
 end_unwritten line None = refl
 end_unwritten line (Some label) = refl
 
 one_written : (s : Statement) → written (s ∷ []) ≤ 1
-one_written s = count_by-le-length (λ (s : Statement). not (is_empty s.code)) (s ∷ [])
+one_written s = count_by-le-length (λ (s : Statement). not (is_empty_statement s.code)) (s ∷ [])
 
 -- the last one is the END clause
 few_from : (s : Surroundings) (n : ℕ) (rs : List Run) → n + length rs ≡ length s.lines → written (statements_from s n rs) ≤ length rs - 1
@@ -55,14 +55,14 @@ few_from s n (r ∷ rs) e = by (suc n == length s.lines) refl (few_from s (suc n
     not_same m k is e = grind (arith, nat_tests)
 
     by : (t : Bool) → (suc n == length s.lines) ≡ t → written rest ≤ length rs - 1
-        → written ((if t then label_of_end (line_at s.lines n) (label_at s.targets n) else statement s n r ∷ []) ++ rest) ≤ length (r ∷ rs) - 1
+        → written ((if t then label_of_end (line_of_statement s.lines n) (label_at s.targets n) else listed_statement s n r ∷ []) ++ rest) ≤ length (r ∷ rs) - 1
     by true is more =
-        let all = written_cons (label_of_end (line_at s.lines n) (label_at s.targets n)) rest in
-        let none = end_unwritten (line_at s.lines n) (label_at s.targets n) in
+        let all = written_cons (label_of_end (line_of_statement s.lines n) (label_at s.targets n)) rest in
+        let none = end_unwritten (line_of_statement s.lines n) (label_at s.targets n) in
         omega (arith, all, none, more)
     by false is more =
-        let all = written_cons (statement s n r ∷ []) rest in
-        let one = one_written (statement s n r) in
+        let all = written_cons (listed_statement s n r ∷ []) rest in
+        let one = one_written (listed_statement s n r) in
         let behind = some (not_same (suc n) (length s.lines) is) in
         omega (arith, all, one, more, behind)
 
@@ -80,13 +80,13 @@ body_few ss lines b same few =
     omega (arith, most, same, few)
 
 -- as many statements as lines
-runs_long : (x : StatedBlock) → length (runs (compiled x).code) ≡ length (compiled x).lines
+runs_long : (x : StatedBlock) → length (runs (compiled_block x).code) ≡ length (compiled_block x).lines
 runs_long x =
-    ap length (runs_found x.statements) ∙ length-map x.statements (λ s. run_of (offset_in x.statements) s.instr) ∙ sym (length-map x.statements (λ s. s.line))
+    ap length (runs_found x.statements) ∙ length-map x.statements (λ s. run_of (statement_offset x.statements) s.instr) ∙ sym (length-map x.statements (λ s. s.line))
 
-pub few_statements : (ss : List Signature) (reached : ℕ) (x : StatedBlock) → length (compiled x).lines < 65536 → has_too_many_statements (listed_block ss reached (compiled x)) ≡ false
+pub few_statements : (ss : List Signature) (reached : ℕ) (x : StatedBlock) → length (compiled_block x).lines < 65536 → has_too_many_statements (listed_block ss reached (compiled_block x)) ≡ false
 few_statements ss reached x few =
-    let lines = lines_from reached (compiled x).lines in
-    let long = lines_long reached (compiled x).lines in
-    let body = body_few ss lines (compiled x) (runs_long x ∙ sym long) (omega (arith, long, few)) in
-    not_above (count_by (λ (s : Statement). not (is_empty s.code)) (listed_block ss reached (compiled x)).body) body
+    let lines = lines_from reached (compiled_block x).lines in
+    let long = lines_long reached (compiled_block x).lines in
+    let body = body_few ss lines (compiled_block x) (runs_long x ∙ sym long) (omega (arith, long, few)) in
+    not_above (count_by (λ (s : Statement). not (is_empty_statement s.code)) (listed_block ss reached (compiled_block x)).body) body

@@ -19,16 +19,16 @@ use Rattle.stl_symbols.specs.Symbol.{Symbol}
 use Rattle.block_layout.specs.Cells.{components_of}
 use Rattle.block_layout.specs.InitialBytes.{initial_bytes, length_at, setting_writes, settings_at, structure_writes}
 use Rattle.block_layout.specs.Layouts.{block_layout, layouts_by, layouts_from, layouts_of}
-use Rattle.block_layout.specs.Lengths.{block_bits, is_structured, length_of, shape_bits, shape_of}
-use Rattle.block_layout.specs.Measures.{types_of}
+use Rattle.block_layout.specs.Lengths.{block_bits, is_structured, length_of_block, shape_bits, shape_of}
+use Rattle.block_layout.specs.Measures.{types_of_source}
 use Rattle.block_layout.specs.Paths.{structure_of}
 use Rattle.block_layout.specs.Sizes.{structure_bits}
 use Rattle.block_layout.specs.Types.{Types}
 use Rattle.block_layout.specs.declared.blocks.BlockLayout.{BlockLayout}
 use Rattle.block_layout.specs.declared.blocks.Shape.{Shape}
 use Rattle.block_layout.specs.declared.blocks.Shape.TheVariants as shape
-use Rattle.stl_codegen.specs.Compiled.{StatedBlock, compiled}
-use Rattle.stl_codegen.specs.Generated.{code_block, code_block_of, code_blocks_of, data_block, each_block, function_block_number, instance_in, instance_len}
+use Rattle.stl_codegen.specs.Compiled.{StatedBlock, compiled_block}
+use Rattle.stl_codegen.specs.Generated.{code_block, code_block_of, code_blocks_of, generated_data_block, each_block, function_block_number, instance_in, instance_len}
 use Rattle.stl_codegen.specs.Order.{is_code_before}
 use Rattle.stl_codegen.proofs.ProgramLemmas.{all_before}
 use Rattle.stl_list.specs.CodeBlocks.{in_lines}
@@ -78,15 +78,15 @@ each_has P symbols t c k j (suc i) (x ∷ xs) (m ∷ ms) b l e block layout is h
 
 -- it stands among those of the program, by their lines
 code_there : (symbols : List Symbol) (t : Tree) (c : StatedBlock) (k : ℕ) (b : Block) (l : BlockLayout) → slice_get t.blocks k ≡ Some b → slice_get (layouts_of t symbols) k ≡ Some l
-    → code_block_of (context_at symbols t k) b l l.id ≡ c ∷ [] → IsThere (compiled c) (in_lines (program_in symbols t).code_blocks)
+    → code_block_of (context_at symbols t k) b l l.id ≡ c ∷ [] → IsThere (compiled_block c) (in_lines (program_in symbols t).code_blocks)
 unfolding code_blocks_of in_lines
 code_there symbols t c k b l block layout is =
     let each = each_block (λ c b l. code_block_of c b l l.id) (context_at symbols t 0) t.blocks (layouts_of t symbols) in
-    let blocks = map compiled (code_blocks_of t symbols (layouts_of t symbols)) in
+    let blocks = map compiled_block (code_blocks_of t symbols (layouts_of t symbols)) in
     let P : CodeBlock → Type 0 = λ x. IsThere x (in_lines blocks) in
     let in_program = all_before P stands_before blocks (all_there (in_lines blocks)) in
-    let in_source = all_before (λ x. P (compiled x)) is_code_before each (all_behind P compiled (code_blocks_of t symbols (layouts_of t symbols)) in_program) in
-    each_has (λ x. P (compiled x)) symbols t c k 0 k t.blocks (layouts_of t symbols) b l (omega arith) block layout is in_source
+    let in_source = all_before (λ x. P (compiled_block x)) is_code_before each (all_behind P compiled_block (code_blocks_of t symbols (layouts_of t symbols)) in_program) in
+    each_has (λ x. P (compiled_block x)) symbols t c k 0 k t.blocks (layouts_of t symbols) b l (omega arith) block layout is in_source
 
 -- ---- the block at the place of a layout
 
@@ -101,7 +101,7 @@ laid_block y blocks before (b ∷ bs) (suc k) l e = let more = laid_block y bloc
 
 block_there : (symbols : List Symbol) (t : Tree) (k : ℕ) (l : BlockLayout) → slice_get (layouts_of t symbols) k ≡ Some l → HasBlock t.blocks k
 unfolding layouts_of layouts_by
-block_there symbols t k l e = laid_block (types_of symbols t.blocks) t.blocks [] t.blocks k l e
+block_there symbols t k l e = laid_block (types_of_source symbols t.blocks) t.blocks [] t.blocks k l e
 
 -- ---- the length of an instance
 
@@ -124,10 +124,10 @@ initial_long l blocks k =
     ∙ length-replicate (length_at (slice_get l k)) 0
 
 pub bytes_long : (symbols : List Symbol) (t : Tree) (k : ℕ) (b : Block) (l : BlockLayout) (id : BlockId) → IsSound symbols t k b l
-    → length (data_block (context_at symbols t k) l id).bytes ≡ length_of (types_of symbols t.blocks) t.blocks b
+    → length (generated_data_block (context_at symbols t k) l id).bytes ≡ length_of_block (types_of_source symbols t.blocks) t.blocks b
 bytes_long symbols t k b l id h = initial_long (layouts_of t symbols) t.blocks k ∙ ap length_at h.layout_there ∙ length_there symbols t k b l h
 
-shape_there : (symbols : List Symbol) (t : Tree) (k : ℕ) (b : Block) (l : BlockLayout) → IsSound symbols t k b l → l.shape ≡ shape_of (types_of symbols t.blocks) b
+shape_there : (symbols : List Symbol) (t : Tree) (k : ℕ) (b : Block) (l : BlockLayout) → IsSound symbols t k b l → l.shape ≡ shape_of (types_of_source symbols t.blocks) b
 unfolding block_layout
 shape_there symbols t k b l h = ap (λ (x : BlockLayout). x.shape) h.layout
 
@@ -139,13 +139,13 @@ function_kind : (k : BlockKind) → is_function_block k ≡ true → k ≡ kinds
 function_kind kinds.Fb e = refl
 function_kind _ e = absurd cc
 
-pub data_long : (y : Types) (blocks : List Block) (b : Block) (s : Shape) → b.kind ≡ kinds.Db → shape_of y b ≡ s → length_of y blocks b ≡ shape_bits y blocks b s / 8
-unfolding length_of
+pub data_long : (y : Types) (blocks : List Block) (b : Block) (s : Shape) → b.kind ≡ kinds.Db → shape_of y b ≡ s → length_of_block y blocks b ≡ shape_bits y blocks b s / 8
+unfolding length_of_block
 data_long y blocks b s kind is =
     ap (λ (k : BlockKind). if is_structured k then shape_bits y blocks b (shape_of y b) / 8 else 0) kind ∙ ap (λ z. shape_bits y blocks b z / 8) is
 
-pub structure_long : (y : Types) (blocks : List Block) (b : Block) → b.kind ≡ kinds.Fb → b.shape ≡ None → b.instance_of ≡ None → length_of y blocks b ≡ structure_bits (components_of y b) / 8
-unfolding length_of
+pub structure_long : (y : Types) (blocks : List Block) (b : Block) → b.kind ≡ kinds.Fb → b.shape ≡ None → b.instance_of ≡ None → length_of_block y blocks b ≡ structure_bits (components_of y b) / 8
+unfolding length_of_block
 structure_long y blocks b kind shape instance = rw kind (rw shape (rw instance refl))
 
 no_shape : (b : Block) → b.kind ≡ kinds.Fb → IsShapeOf b.kind b.shape b.instance_of b.components → (b.shape ≡ None) × (b.instance_of ≡ None)
@@ -160,10 +160,10 @@ is_code_of _ e = absurd cc
 
 -- the function block of an instance, by its place in the source
 from_block : (symbols : List Symbol) (t : Tree) (size place : ℕ) (b : Block) (l : BlockLayout) (id : BlockId) (number : ℕ) → IsSound symbols t place b l → l.id ≡ Some id
-    → is_function_block id.kind ≡ true → id.number ≡ number → block_bits (types_of symbols t.blocks) (slice_get t.blocks place) / 8 ≡ size
+    → is_function_block id.kind ≡ true → id.number ≡ number → block_bits (types_of_source symbols t.blocks) (slice_get t.blocks place) / 8 ≡ size
     → HasFunctionBlock (in_lines (program_in symbols t).code_blocks) number size
 from_block symbols t size place b l id number h named fb e long =
-    let y = types_of symbols t.blocks in
+    let y = types_of_source symbols t.blocks in
     let c = code_block (context_at symbols t place) b l id in
     let kind : b.kind ≡ id.kind = kind_there y.symbols b id (sym (id_there symbols t place b l h) ∙ named) in
     let own : b.kind ≡ kinds.Fb = kind ∙ function_kind id.kind fb in
@@ -174,7 +174,7 @@ from_block symbols t size place b l id number h named fb e long =
     let has_length : instance_len b l ≡ l.length = ap (λ (s : Bool). if s then l.length else 0) (ap is_function_block kind ∙ fb) in
     record {
       place = there.place;
-      block = compiled c;
+      block = compiled_block c;
       there = there.there;
       id = same_id id number fb e;
       size = has_length ∙ length_there symbols t place b l h ∙ structure_long y t.blocks b own none.0 none.1
@@ -182,7 +182,7 @@ from_block symbols t size place b l id number h named fb e long =
     }
 
 found_block_of : (symbols : List Symbol) (t : Tree) → IsSoundTree symbols t → (size number : ℕ) (s : Shape) → instance_in (layouts_of t symbols) s ≡ Some number
-    → ((place : ℕ) → s ≡ shape.Of place → block_bits (types_of symbols t.blocks) (slice_get t.blocks place) / 8 ≡ size)
+    → ((place : ℕ) → s ≡ shape.Of place → block_bits (types_of_source symbols t.blocks) (slice_get t.blocks place) / 8 ≡ size)
     → HasFunctionBlock (in_lines (program_in symbols t).code_blocks) number size
 found_block_of symbols t tree size number shape.Own e long = absurd cc
 found_block_of symbols t tree size number shape.Unknown e long = absurd cc
@@ -206,15 +206,15 @@ found_block_of symbols t tree size number (shape.Of place) e long = by (slice_ge
                 from_block symbols t size place b.block l id number (sound_at symbols t tree place b.block l b.there laid) named fb same (long place refl)
 
 stored : (symbols : List Symbol) (t : Tree) → IsSoundTree symbols t → (k : ℕ) (b : Block) (l : BlockLayout) (id : BlockId) → IsSound symbols t k b l → l.id ≡ Some id → is_data_block id.kind ≡ true
-    → IsStored (in_lines (program_in symbols t).code_blocks) (data_block (context_at symbols t k) l id)
+    → IsStored (in_lines (program_in symbols t).code_blocks) (generated_data_block (context_at symbols t k) l id)
 stored symbols t tree k b l id h named db =
-    let y = types_of symbols t.blocks in
+    let y = types_of_source symbols t.blocks in
     let long = bytes_long symbols t k b l id h in
-    let most : length_of y t.blocks b ≤ 16384 = ltb-false 16384 (length_of y t.blocks b) h.head.by_51 in
+    let most : length_of_block y t.blocks b ≤ 16384 = ltb-false 16384 (length_of_block y t.blocks b) h.head.by_51 in
     let kind : b.kind ≡ kinds.Db = kind_there y.symbols b id (sym (id_there symbols t k b l h) ∙ named) ∙ data_kind id.kind db in
     record {
       short = omega (arith, long, most);
-      instance = λ number is. found_block_of symbols t tree (length (data_block (context_at symbols t k) l id).bytes) number l.shape is
+      instance = λ number is. found_block_of symbols t tree (length (generated_data_block (context_at symbols t k) l id).bytes) number l.shape is
           (λ place of_. sym (data_long y t.blocks b (shape.Of place) kind (sym (shape_there symbols t k b l h) ∙ of_)) ∙ sym long);
     }
 

@@ -16,8 +16,8 @@ use Rattle.stl_ast.specs.declared.blocks.Tree.{Tree}
 use Rattle.stl_symbols.specs.Symbol.{Symbol}
 use Rattle.block_layout.specs.Blocks.{id_of, known_block}
 use Rattle.block_layout.specs.Layouts.{block_layout, layouts_by, layouts_from, layouts_of}
-use Rattle.block_layout.specs.Lengths.{block_bits, length_of, shape_at, shape_of}
-use Rattle.block_layout.specs.Measures.{types_of}
+use Rattle.block_layout.specs.Lengths.{block_bits, length_of_block, shape_at, shape_of}
+use Rattle.block_layout.specs.Measures.{types_of_source}
 use Rattle.block_layout.specs.Rule22.{is_block_twice, rule_22}
 use Rattle.block_layout.specs.Rule23.{has_unknown_head, is_unknown_shape}
 use Rattle.block_layout.specs.Rule43.{contains_itself}
@@ -26,19 +26,19 @@ use Rattle.block_layout.specs.Rule50.{has_too_much_local}
 use Rattle.block_layout.specs.Rule51.{is_too_long}
 use Rattle.block_layout.specs.Rule52.{has_too_many_parameters}
 use Rattle.block_layout.specs.Rule53.{data_blocks, is_one_too_many}
-use Rattle.block_layout.specs.Rule54.{data_length, exceeds_total, total}
+use Rattle.block_layout.specs.Rule54.{data_length, exceeds_total, total_data_length}
 use Rattle.block_layout.specs.Rule55.{has_too_many_statements}
 use Rattle.block_layout.specs.Types.{Types}
 use Rattle.block_layout.specs.declared.blocks.BlockLayout.{BlockLayout}
 use Rattle.block_layout.specs.declared.blocks.Shape.TheVariants as shape
-use Rattle.stl_codegen.specs.Compiled.{StatedBlock, compiled}
+use Rattle.stl_codegen.specs.Compiled.{StatedBlock, compiled_block}
 use Rattle.stl_codegen.specs.Generated.{code_blocks_of}
 use Rattle.stl_list.specs.CodeBlocks.{in_lines, line_reached, listed_block, listed_blocks}
 use Rattle.stl_list.specs.DataBlocks.{function_block, listed_data, listed_data_blocks}
 use Rattle.stl_list.specs.Joined.{chains_of}
-use Rattle.stl_list.specs.Lines.{line_behind, stands_before}
+use Rattle.stl_list.specs.Lines.{line_behind_statements, stands_before}
 use Rattle.stl_list.specs.Listing.{listed_tree}
-use Rattle.stl_list.specs.Signatures.{Signature, formals_of, signatures}
+use Rattle.stl_list.specs.Signatures.{Signature, formals_of_block, signatures}
 use Rattle.sem_kept.specs.Accepted.{IsAccepted, program_in}
 use Rattle.sem_kept.specs.Sizes.{IsSmall, IsSmallBlock}
 use Rattle.sem_kept.proofs.accepted.Accepted.{AllHeads, IsSoundHead, IsSoundTree, all_mapped, heads_none, right_tree, sound_code_blocks}
@@ -121,7 +121,7 @@ code_known y ss reached b = ap (λ (t : Bool). is_none (if t then Some b.id else
 abbrev IsFineCode : (y : Types) (blocks : List Block) (ss : List Signature) → CodeBlock → Type 0
 IsFineCode y blocks ss b = (line : ℕ) → IsFine y blocks (listed_block ss line b)
 
-codes_fine : (y : Types) (blocks : List Block) (ss : List Signature) → ((id : BlockId) → length (formals_of ss id) ≤ 60) → (bs : List CodeBlock)
+codes_fine : (y : Types) (blocks : List Block) (ss : List Signature) → ((id : BlockId) → length (formals_of_block ss id) ≤ 60) → (bs : List CodeBlock)
     → AllByRecursion (λ b. (line : ℕ) → IsHeadRight y (listed_block ss line b)) bs → AllByRecursion (λ b. (line : ℕ) → is_too_long y blocks (listed_block ss line b) ≡ false) bs
     → AllByRecursion (λ b. (line : ℕ) → has_too_many_statements (listed_block ss line b) ≡ false) bs → AllByRecursion (λ b. (line : ℕ) → AreDeclarationsRight y (listed_block ss line b)) bs
     → AllByRecursion (IsFineCode y blocks ss) bs
@@ -140,22 +140,22 @@ codes_fine y blocks ss few (b ∷ bs) heads short bodies declared = (
   codes_fine y blocks ss few bs heads.1 short.1 bodies.1 declared.1,
 )
 
-bodies_fine : (ss : List Signature) (xs : List StatedBlock) → AllByRecursion IsSmallBlock (map compiled xs)
-    → AllByRecursion (λ b. (line : ℕ) → has_too_many_statements (listed_block ss line b) ≡ false) (map compiled xs)
+bodies_fine : (ss : List Signature) (xs : List StatedBlock) → AllByRecursion IsSmallBlock (map compiled_block xs)
+    → AllByRecursion (λ b. (line : ℕ) → has_too_many_statements (listed_block ss line b) ≡ false) (map compiled_block xs)
 bodies_fine ss [] h = tt
 bodies_fine ss (x ∷ xs) h = (λ line. few_statements ss line x h.0.lines, bodies_fine ss xs h.1)
 
 listed_fine : (y : Types) (blocks : List Block) (ss : List Signature) (reached : ℕ) (bs : List CodeBlock) → AllByRecursion (IsFineCode y blocks ss) bs
     → AllByRecursion (IsFine y blocks) (listed_blocks ss reached bs)
 listed_fine y blocks ss reached [] h = tt
-listed_fine y blocks ss reached (b ∷ bs) h = (h.0 reached, listed_fine y blocks ss (line_behind reached b.lines) bs h.1)
+listed_fine y blocks ss reached (b ∷ bs) h = (h.0 reached, listed_fine y blocks ss (line_behind_statements reached b.lines) bs h.1)
 
 -- ---- a listed data block
 
 -- the shape and the length that it has
 record IsLaidAgain (y : Types) (blocks : List Block) (p : Program) (line : ℕ) (d : DataBlock) : Type 0 where
   shape : HasShapeAgain p d d.instance_of (shape_of y (listed_data (signatures_in p) line d.number d.bytes d.instance_of))
-  size : length_of y blocks (listed_data (signatures_in p) line d.number d.bytes d.instance_of) ≡ length d.bytes
+  size : length_of_block y blocks (listed_data (signatures_in p) line d.number d.bytes d.instance_of) ≡ length d.bytes
 
 -- a code block at its place in the listing
 record IsListedAt (ss : List Signature) (b : CodeBlock) (blocks : List Block) (k : ℕ) : Type 0 where
@@ -167,13 +167,13 @@ listed_there : (ss : List Signature) (reached : ℕ) (bs : List CodeBlock) (rest
 listed_there ss reached [] rest k b e = absurd cc
 listed_there ss reached (x ∷ bs) rest zero b e = let same : x ≡ b = cc in record { reached = reached; there = ap (λ (z : CodeBlock). Some (listed_block ss reached z)) same }
 listed_there ss reached (x ∷ bs) rest (suc k) b e =
-    let more = listed_there ss (line_behind reached x.lines) bs rest k b e in record { reached = more.reached; there = more.there }
+    let more = listed_there ss (line_behind_statements reached x.lines) bs rest k b e in record { reached = more.reached; there = more.there }
 
 -- where the function block of an instance is found
 instance_laid : (y : Types) (blocks : List Block) (p : Program) (line : ℕ) (d : DataBlock) (number : ℕ) (f : HasFunctionBlock (in_lines p.code_blocks) number (length d.bytes))
     → known_block (function_block number) y.ids ≡ Some f.place → IsListedAt (signatures_in p) f.block blocks f.place → IsDeclaredAgain (signatures_in p) f.block
     → HasShapeAgain p d (Some number) (shape_of y (listed_data (signatures_in p) line d.number d.bytes (Some number)))
-    × (length_of y blocks (listed_data (signatures_in p) line d.number d.bytes (Some number)) ≡ length d.bytes)
+    × (length_of_block y blocks (listed_data (signatures_in p) line d.number d.bytes (Some number)) ≡ length d.bytes)
 instance_laid y blocks p line d number f known listed again =
     let ss = signatures_in p in
     let b = listed_data ss line d.number d.bytes (Some number) in
@@ -196,7 +196,7 @@ data_laid : (y : Types) (blocks : List Block) (p : Program) (line : ℕ) (d : Da
 data_laid y blocks p line d ready stored own = let both = by d.instance_of refl in record { shape = both.0; size = both.1 }
   where
     by : (o : Option ℕ) → d.instance_of ≡ o
-        → HasShapeAgain p d o (shape_of y (listed_data (signatures_in p) line d.number d.bytes o)) × (length_of y blocks (listed_data (signatures_in p) line d.number d.bytes o) ≡ length d.bytes)
+        → HasShapeAgain p d o (shape_of y (listed_data (signatures_in p) line d.number d.bytes o)) × (length_of_block y blocks (listed_data (signatures_in p) line d.number d.bytes o) ≡ length d.bytes)
     by None is = (refl, (own is).length y blocks line)
     by (Some number) is =
         let f = stored.instance number is in
@@ -287,7 +287,7 @@ no_data _ h = absurd cc
 
 codes_no_data : (ss : List Signature) (reached : ℕ) (bs : List CodeBlock) → AllByRecursion (λ b. is_code b.id.kind ≡ true) bs → AllByRecursion (λ b. is_data_block b.kind ≡ false) (listed_blocks ss reached bs)
 codes_no_data ss reached [] h = tt
-codes_no_data ss reached (b ∷ bs) h = (no_data b.id.kind h.0, codes_no_data ss (line_behind reached b.lines) bs h.1)
+codes_no_data ss reached (b ∷ bs) h = (no_data b.id.kind h.0, codes_no_data ss (line_behind_statements reached b.lines) bs h.1)
 
 data_counted : (ss : List Signature) (line : ℕ) (ds : List DataBlock) → AllByRecursion (λ d. counted (listed_data ss line d.number d.bytes d.instance_of) ≡ 1) ds
 data_counted ss line [] = tt
@@ -302,7 +302,7 @@ data_measured : (y : Types) (blocks : List Block) (p : Program) (line : ℕ) (ds
 data_measured y blocks p line [] h = tt
 data_measured y blocks p line (d ∷ ds) h = (by d.instance_of h.0.size, data_measured y blocks p line ds h.1)
   where
-    by : (o : Option ℕ) → length_of y blocks (listed_data (signatures_in p) line d.number d.bytes o) ≡ length d.bytes → data_length y blocks (listed_data (signatures_in p) line d.number d.bytes o) ≡ length d.bytes
+    by : (o : Option ℕ) → length_of_block y blocks (listed_data (signatures_in p) line d.number d.bytes o) ≡ length d.bytes → data_length y blocks (listed_data (signatures_in p) line d.number d.bytes o) ≡ length d.bytes
     by None e = e
     by (Some of) e = e
 
@@ -310,16 +310,16 @@ data_measured y blocks p line (d ∷ ds) h = (by d.instance_of h.0.size, data_me
 
 -- what stands of it
 record IsRightListing (symbols : List Symbol) (t : Tree) (others : List Symbol) : Type 0 where
-  heads : AllHeads (IsSoundHead (types_of others (listed_again symbols t).blocks) (listed_again symbols t).blocks) [] (listed_again symbols t).blocks
-  declared : AllByRecursion (AreDeclarationsRight (types_of others (listed_again symbols t).blocks)) (listed_again symbols t).blocks
-  laid : AllByRecursion (IsLaidAgain (types_of others (listed_again symbols t).blocks) (listed_again symbols t).blocks (program_in symbols t) (line_reached 1 (in_lines (program_in symbols t).code_blocks)))
+  heads : AllHeads (IsSoundHead (types_of_source others (listed_again symbols t).blocks) (listed_again symbols t).blocks) [] (listed_again symbols t).blocks
+  declared : AllByRecursion (AreDeclarationsRight (types_of_source others (listed_again symbols t).blocks)) (listed_again symbols t).blocks
+  laid : AllByRecursion (IsLaidAgain (types_of_source others (listed_again symbols t).blocks) (listed_again symbols t).blocks (program_in symbols t) (line_reached 1 (in_lines (program_in symbols t).code_blocks)))
       (program_in symbols t).data_blocks
 
 lines_all : (P : CodeBlock → Type 0) (bs : List CodeBlock) → AllByRecursion P bs → AllByRecursion P (in_lines bs)
 unfolding in_lines
 lines_all P bs h = all_sorted P stands_before bs h
 
-formals_short : (p : Program) → AllByRecursion (λ b. length b.params ≤ 60) p.code_blocks → (id : BlockId) → length (formals_of (signatures_in p) id) ≤ 60
+formals_short : (p : Program) → AllByRecursion (λ b. length b.params ≤ 60) p.code_blocks → (id : BlockId) → length (formals_of_block (signatures_in p) id) ≤ 60
 unfolding signatures
 formals_short p h id = few_formals (chains_of p.code_blocks) 0 p.code_blocks h id
 
@@ -350,10 +350,10 @@ tree_counted p h =
     ∙ summed_ones p.data_blocks
 
 tree_measured : (y : Types) (blocks : List Block) (p : Program) → AllByRecursion (λ b. is_code b.id.kind ≡ true) (in_lines p.code_blocks)
-    → AllByRecursion (IsLaidAgain y blocks p (data_line p)) p.data_blocks → total y blocks (listed_tree p).blocks ≡ sum_by data_size p.data_blocks
+    → AllByRecursion (IsLaidAgain y blocks p (data_line p)) p.data_blocks → total_data_length y blocks (listed_tree p).blocks ≡ sum_by data_size p.data_blocks
 unfolding listed_tree
 tree_measured y blocks p h k =
-    both_summed (data_length y blocks) (λ b e. ap (λ (t : Bool). if t then length_of y blocks b else 0) e) data_size (listed_in p)
+    both_summed (data_length y blocks) (λ b e. ap (λ (t : Bool). if t then length_of_block y blocks b else 0) e) data_size (listed_in p)
     (listed_blocks (signatures_in p) 1 (in_lines p.code_blocks)) p.data_blocks (codes_no_data (signatures_in p) 1 (in_lines p.code_blocks) h)
     (data_measured y blocks p (data_line p) p.data_blocks k)
 
@@ -382,18 +382,18 @@ right_listing source file symbols t accepted bytes file_bytes others = record {
     blocks = (listed_again symbols t).blocks
 
     y : Types
-    y = types_of others blocks
+    y = types_of_source others blocks
 
     small : IsSmall p
     small = accepted_is_small source file symbols t accepted
 
     from : AllByRecursion IsSourced p.code_blocks
-    from = all_into IsSourced compiled (code_blocks_of t symbols (layouts_of t symbols)) (sound_code_blocks symbols t (λ x. IsSourced (compiled x)) tree (sourced symbols t))
+    from = all_into IsSourced compiled_block (code_blocks_of t symbols (layouts_of t symbols)) (sound_code_blocks symbols t (λ x. IsSourced (compiled_block x)) tree (sourced symbols t))
 
     codes : AllByRecursion (λ b. is_code b.id.kind ≡ true) (in_lines p.code_blocks)
     codes = lines_all (λ b. is_code b.id.kind ≡ true) p.code_blocks (all_mapped IsSourced (λ b. is_code b.id.kind ≡ true) (λ b s. s.code) p.code_blocks from)
 
-    few : (id : BlockId) → length (formals_of ss id) ≤ 60
+    few : (id : BlockId) → length (formals_of_block ss id) ≤ 60
     few = formals_short p (all_mapped IsSourced (λ b. length b.params ≤ 60) (λ b s. s.few) p.code_blocks from)
 
     fine_codes : AllByRecursion (IsFineCode y blocks ss) p.code_blocks
@@ -432,7 +432,7 @@ right_listing source file symbols t accepted bytes file_bytes others = record {
     most : length p.data_blocks ≤ 256
     most = few_counted (length p.code_blocks) (length p.data_blocks) (length p.names) small.counts
 
-    measured : total y blocks blocks ≡ sum_by data_size p.data_blocks
+    measured : total_data_length y blocks blocks ≡ sum_by data_size p.data_blocks
     measured = tree_measured y blocks p codes laid
 
     long : sum_by data_size p.data_blocks ≤ 2097152
@@ -442,7 +442,7 @@ pub are_whole : AreWholeAgain
 unfolding layouts_of layouts_by
 are_whole source file symbols t accepted bytes file_bytes others =
     let blocks = (listed_again symbols t).blocks in
-    heads_whole (types_of others blocks) blocks [] blocks (right_listing source file symbols t accepted bytes file_bytes others).heads
+    heads_whole (types_of_source others blocks) blocks [] blocks (right_listing source file symbols t accepted bytes file_bytes others).heads
 
 pub are_right : AreBlocksRightAgain
 are_right source file symbols t accepted bytes file_bytes others =
@@ -460,13 +460,13 @@ laid_there y blocks before [] k b e = absurd cc
 laid_there y blocks before (x ∷ xs) zero b e = let same : x ≡ b = cc in record { before = before; there = ap (λ (z : Block). Some (block_layout y blocks before z)) same }
 laid_there y blocks before (x ∷ xs) (suc k) b e = let more = laid_there y blocks (x ∷ before) xs k b e in record { before = more.before; there = more.there }
 
-layout_there : (symbols : List Symbol) (t : Tree) (k : ℕ) (b : Block) → slice_get t.blocks k ≡ Some b → HasLayout (types_of symbols t.blocks) t.blocks (layouts_of t symbols) k b
+layout_there : (symbols : List Symbol) (t : Tree) (k : ℕ) (b : Block) → slice_get t.blocks k ≡ Some b → HasLayout (types_of_source symbols t.blocks) t.blocks (layouts_of t symbols) k b
 unfolding layouts_of layouts_by
-layout_there symbols t k b e = laid_there (types_of symbols t.blocks) t.blocks [] t.blocks k b e
+layout_there symbols t k b e = laid_there (types_of_source symbols t.blocks) t.blocks [] t.blocks k b e
 
 listed_long : (ss : List Signature) (reached : ℕ) (bs : List CodeBlock) → length (listed_blocks ss reached bs) ≡ length bs
 listed_long ss reached [] = refl
-listed_long ss reached (b ∷ bs) = ap suc (listed_long ss (line_behind reached b.lines) bs)
+listed_long ss reached (b ∷ bs) = ap suc (listed_long ss (line_behind_statements reached b.lines) bs)
 
 lines_long : (bs : List CodeBlock) → length (in_lines bs) ≡ length bs
 unfolding in_lines
@@ -495,7 +495,7 @@ pub data_laid_again : AreDataLaid
 data_laid_again source file symbols t accepted bytes file_bytes others k d e =
     let p = program_in symbols t in
     let tree = listed_again symbols t in
-    let y = types_of others tree.blocks in
+    let y = types_of_source others tree.blocks in
     let place = length p.code_blocks + k in
     let right = right_listing source file symbols t accepted bytes file_bytes others in
     let there = data_there p k d e in

@@ -14,14 +14,14 @@ use Rattle.stl_ast.specs.declared.blocks.Part.{Part}
 use Rattle.stl_ast.specs.declared.blocks.PartKind.{PartKind}
 use Rattle.stl_ast.specs.declared.blocks.PartKind.TheVariants as part
 use Rattle.stl_ast.specs.declared.declarations.Declaration.{Declaration}
-use Rattle.block_layout.specs.Rule52.{declared_in as counted_in, has_too_many_parameters, parameter_count, returned}
+use Rattle.block_layout.specs.Rule52.{parameters_in_section as counted_in, has_too_many_parameters, parameter_count, return_value_count}
 use Rattle.stl_types.specs.declared.parameters.Formal.{Formal}
 use Rattle.stl_list.specs.CodeBlocks.{listed_block, result_of}
 use Rattle.stl_list.specs.Joined.{Chains}
-use Rattle.stl_list.specs.Lines.{first_line}
+use Rattle.stl_list.specs.Lines.{first_statement_line}
 use Rattle.stl_list.specs.Parameters.{is_return}
-use Rattle.stl_list.specs.Sections.{bytes_here, declared_here, declared_in, plain_declaration, section, sections, static_bytes, static_name, temporary_name}
-use Rattle.stl_list.specs.Signatures.{Signature, formals_from, formals_of, is_behind, signature, signatures_from}
+use Rattle.stl_list.specs.Sections.{bytes_here, declared_here, declarations_of_section, plain_declaration, section_part, section_parts, static_bytes, static_name, temporary_name}
+use Rattle.stl_list.specs.Signatures.{Signature, formals_from, formals_of_block, is_behind, signature, signatures_from}
 
 -- ---- the formal parameters are those of the code block
 
@@ -29,12 +29,12 @@ formals_long : (c : Chains) (returns behind : Bool) (index first : ℕ) (ps : Li
 formals_long c returns behind index first [] = refl
 formals_long c returns behind index first (p ∷ ps) = ap suc (formals_long c returns (is_behind returns behind p) (suc index) (suc first) ps)
 
-pub few_formals : (c : Chains) (first : ℕ) (bs : List CodeBlock) → AllByRecursion (λ b. length b.params ≤ 60) bs → (id : BlockId) → length (formals_of (signatures_from c first bs) id) ≤ 60
+pub few_formals : (c : Chains) (first : ℕ) (bs : List CodeBlock) → AllByRecursion (λ b. length b.params ≤ 60) bs → (id : BlockId) → length (formals_of_block (signatures_from c first bs) id) ≤ 60
 few_formals c first [] h id = omega arith
 few_formals c first (b ∷ bs) h id = by (is_same_block b.id id) (few_formals c (first + length b.params) bs h.1 id)
   where
-    by : (t : Bool) → length (formals_of (signatures_from c (first + length b.params) bs) id) ≤ 60
-        → length (if t then (signature c first b).formals else formals_of (signatures_from c (first + length b.params) bs) id) ≤ 60
+    by : (t : Bool) → length (formals_of_block (signatures_from c (first + length b.params) bs) id) ≤ 60
+        → length (if t then (signature c first b).formals else formals_of_block (signatures_from c (first + length b.params) bs) id) ≤ 60
     by true more = let same = formals_long c (is_function b.id.kind) false 0 first b.params in let few = h.0 in omega (arith, same, few)
     by false more = more
 
@@ -63,20 +63,20 @@ once part.Static false = omega arith
 once part.Temp true = omega arith
 once part.Temp false = omega arith
 
-return_here : (f : Formal) (fs : List Formal) → returned (result_of (f ∷ fs)) ≤ bit (is_return f) + returned (result_of fs)
+return_here : (f : Formal) (fs : List Formal) → return_value_count (result_of (f ∷ fs)) ≤ bit (is_return f) + return_value_count (result_of fs)
 return_here f fs = by (is_return f)
   where
-    by : (t : Bool) → returned (option_map (λ (g : Formal). g.kind) (if t then Some f else find is_return fs)) ≤ cond t 1 0 + returned (result_of fs)
+    by : (t : Bool) → return_value_count (option_map (λ (g : Formal). g.kind) (if t then Some f else find is_return fs)) ≤ cond t 1 0 + return_value_count (result_of fs)
     by true = omega arith
     by false = omega arith
 
 all_declared : (line : ℕ) (fs : List Formal)
-    → length (declared_in line fs part.Input) + length (declared_in line fs part.Output) + length (declared_in line fs part.InOut) + returned (result_of fs) ≤ length fs
+    → length (declarations_of_section line fs part.Input) + length (declarations_of_section line fs part.Output) + length (declarations_of_section line fs part.InOut) + return_value_count (result_of fs) ≤ length fs
 all_declared line [] = omega arith
 all_declared line (f ∷ fs) =
-    let i = length-append (declared_here line part.Input f) (declared_in line fs part.Input) in
-    let q = length-append (declared_here line part.Output f) (declared_in line fs part.Output) in
-    let b = length-append (declared_here line part.InOut f) (declared_in line fs part.InOut) in
+    let i = length-append (declared_here line part.Input f) (declarations_of_section line fs part.Input) in
+    let q = length-append (declared_here line part.Output f) (declarations_of_section line fs part.Output) in
+    let b = length-append (declared_here line part.InOut f) (declarations_of_section line fs part.InOut) in
     let one_i = here_long line part.Input f in
     let one_q = here_long line part.Output f in
     let one_b = here_long line part.InOut f in
@@ -86,7 +86,7 @@ all_declared line (f ∷ fs) =
 
 -- ---- and counted once
 
-section_counted : (line : ℕ) (kind : PartKind) (items : List Declaration) → sum_by counted_in (section line kind items) ≤ (if is_parameter kind then length items else 0)
+section_counted : (line : ℕ) (kind : PartKind) (items : List Declaration) → sum_by counted_in (section_part line kind items) ≤ (if is_parameter kind then length items else 0)
 section_counted line kind items = by (length items == 0)
   where
     one : (t : Bool) → (if t then count_by (λ (d : Declaration). nat_eq d.level 0) items else 0) ≤ (if t then length items else 0)
@@ -107,27 +107,27 @@ five_counted a b c d e =
     let three = sum_by-append counted_in (a ++ b ++ c) d in
     let four = sum_by-append counted_in (a ++ b ++ c ++ d) e in omega (arith, one, two, three, four)
 
-sections_counted : (line : ℕ) (fs : List Formal) (b : CodeBlock) → sum_by counted_in (sections line fs b) + returned (result_of fs) ≤ length fs
-unfolding sections
+sections_counted : (line : ℕ) (fs : List Formal) (b : CodeBlock) → sum_by counted_in (section_parts line fs b) + return_value_count (result_of fs) ≤ length fs
+unfolding section_parts
 sections_counted line fs b =
-    let i = declared_in line fs part.Input in
-    let q = declared_in line fs part.Output in
-    let both = declared_in line fs part.InOut in
+    let i = declarations_of_section line fs part.Input in
+    let q = declarations_of_section line fs part.Output in
+    let both = declarations_of_section line fs part.InOut in
     let s = bytes_here line static_name (static_bytes b) [] in
     let t = bytes_here line temporary_name b.local_len [] in
-    let all = five_counted (section line part.Input i) (section line part.Output q) (section line part.InOut both) (section line part.Static s) (section line part.Temp t) in
-    let one : sum_by counted_in (section line part.Input i) ≤ length i = section_counted line part.Input i in
-    let two : sum_by counted_in (section line part.Output q) ≤ length q = section_counted line part.Output q in
-    let three : sum_by counted_in (section line part.InOut both) ≤ length both = section_counted line part.InOut both in
-    let four : sum_by counted_in (section line part.Static s) ≤ 0 = section_counted line part.Static s in
-    let five : sum_by counted_in (section line part.Temp t) ≤ 0 = section_counted line part.Temp t in
+    let all = five_counted (section_part line part.Input i) (section_part line part.Output q) (section_part line part.InOut both) (section_part line part.Static s) (section_part line part.Temp t) in
+    let one : sum_by counted_in (section_part line part.Input i) ≤ length i = section_counted line part.Input i in
+    let two : sum_by counted_in (section_part line part.Output q) ≤ length q = section_counted line part.Output q in
+    let three : sum_by counted_in (section_part line part.InOut both) ≤ length both = section_counted line part.InOut both in
+    let four : sum_by counted_in (section_part line part.Static s) ≤ 0 = section_counted line part.Static s in
+    let five : sum_by counted_in (section_part line part.Temp t) ≤ 0 = section_counted line part.Temp t in
     let few = all_declared line fs in omega (arith, all, one, two, three, four, five, few)
 
 not_above : (n : ℕ) → n ≤ 60 → nat_lt 60 n ≡ false
 not_above n h = grind (arith, nat_tests)
 
-pub few_parameters : (ss : List Signature) (reached : ℕ) (b : CodeBlock) → length (formals_of ss b.id) ≤ 60 → has_too_many_parameters (listed_block ss reached b) ≡ false
+pub few_parameters : (ss : List Signature) (reached : ℕ) (b : CodeBlock) → length (formals_of_block ss b.id) ≤ 60 → has_too_many_parameters (listed_block ss reached b) ≡ false
 few_parameters ss reached b few =
-    let line = max reached (first_line b) in
-    let all = sections_counted line (formals_of ss b.id) b in
+    let line = max reached (first_statement_line b) in
+    let all = sections_counted line (formals_of_block ss b.id) b in
     not_above (parameter_count (listed_block ss reached b)) (omega (arith, all, few))

@@ -11,14 +11,14 @@ use Rattle.stl_ast.specs.declared.blocks.Block.{Block}
 use Rattle.stl_ast.specs.declared.blocks.Tree.{Tree}
 use Rattle.stl_symbols.specs.Symbol.{Symbol}
 use Rattle.block_layout.specs.Layouts.{layouts_of}
-use Rattle.block_layout.specs.Lengths.{length_of}
-use Rattle.block_layout.specs.Measures.{types_of}
+use Rattle.block_layout.specs.Lengths.{length_of_block}
+use Rattle.block_layout.specs.Measures.{types_of_source}
 use Rattle.block_layout.specs.Rule53.{data_blocks, is_one_too_many}
-use Rattle.block_layout.specs.Rule54.{data_length, exceeds_total, rule_54, total}
+use Rattle.block_layout.specs.Rule54.{data_length, exceeds_total, rule_54, total_data_length}
 use Rattle.block_layout.specs.Types.{Types}
 use Rattle.block_layout.specs.declared.blocks.BlockLayout.{BlockLayout}
 use Rattle.stl_types.specs.Context.{Context}
-use Rattle.stl_codegen.specs.Generated.{data_block, data_block_of, data_blocks_of, each_block}
+use Rattle.stl_codegen.specs.Generated.{generated_data_block, data_block_of, data_blocks_of, each_block}
 use Rattle.stl_codegen.specs.Order.{is_data_before}
 use Rattle.sem_kept.proofs.accepted.Accepted.{AllHeads, IsSound, IsSoundTree, context_at, heads_none}
 use Rattle.sem_kept.proofs.accepted.RecordData.{id_there}
@@ -50,12 +50,12 @@ not_more : (is : Bool) (n size m : ℕ) → n + (cond is size 0 + m) ≤ 2097152
 not_more true n size m h = grind (arith, nat_tests)
 not_more false n size m h = refl
 
-pub short_data : (y : Types) (blocks before bs : List Block) → total y blocks before + total y blocks bs ≤ 2097152 → AllHeads (λ before b. exceeds_total y blocks before b ≡ false) before bs
+pub short_data : (y : Types) (blocks before bs : List Block) → total_data_length y blocks before + total_data_length y blocks bs ≤ 2097152 → AllHeads (λ before b. exceeds_total y blocks before b ≡ false) before bs
 short_data y blocks before [] h = tt
 short_data y blocks before (b ∷ bs) h =
     let here = sum_by-cons (data_length y blocks) b bs in
     let front = sum_by-cons (data_length y blocks) b before in (
-      not_more (is_data_block b.kind) (total y blocks before) (length_of y blocks b) (total y blocks bs) (omega (arith, h, here)),
+      not_more (is_data_block b.kind) (total_data_length y blocks before) (length_of_block y blocks b) (total_data_length y blocks bs) (omega (arith, h, here)),
       short_data y blocks (b ∷ before) bs (omega (arith, h, here, front)),
     )
 
@@ -90,29 +90,29 @@ abbrev pub data_size : DataBlock → ℕ
 data_size d = length d.bytes
 
 one_size : (symbols : List Symbol) (t : Tree) (k : ℕ) (b : Block) (l : BlockLayout) → IsSound symbols t k b l
-    → sum_by data_size (data_block_of (context_at symbols t k) l l.id) ≤ data_length (types_of symbols t.blocks) t.blocks b
+    → sum_by data_size (data_block_of (context_at symbols t k) l l.id) ≤ data_length (types_of_source symbols t.blocks) t.blocks b
 one_size symbols t k b l h = by l.id refl
   where
     y : Types
-    y = types_of symbols t.blocks
+    y = types_of_source symbols t.blocks
 
     by : (found : Option BlockId) → l.id ≡ found → sum_by data_size (data_block_of (context_at symbols t k) l found) ≤ data_length y t.blocks b
     by None named = omega arith
     by (Some id) named = test (is_data_block id.kind) refl
       where
-        test : (is : Bool) → is_data_block id.kind ≡ is → sum_by data_size (if is then data_block (context_at symbols t k) l id ∷ [] else []) ≤ data_length y t.blocks b
+        test : (is : Bool) → is_data_block id.kind ≡ is → sum_by data_size (if is then generated_data_block (context_at symbols t k) l id ∷ [] else []) ≤ data_length y t.blocks b
         test true is =
             let kind : is_data_block b.kind ≡ true = ap is_data_block (kind_there y.symbols b id (sym (id_there symbols t k b l h) ∙ named)) ∙ is in
-            let whole : data_length y t.blocks b ≡ length_of y t.blocks b = ap (λ (s : Bool). if s then length_of y t.blocks b else 0) kind in
+            let whole : data_length y t.blocks b ≡ length_of_block y t.blocks b = ap (λ (s : Bool). if s then length_of_block y t.blocks b else 0) kind in
             let long = bytes_long symbols t k b l id h in
-            let all = sum_by-cons data_size (data_block (context_at symbols t k) l id) [] in
+            let all = sum_by-cons data_size (generated_data_block (context_at symbols t k) l id) [] in
             omega (arith, whole, long, all)
         test false is = omega arith
 
 pub source_bytes : (symbols : List Symbol) (t : Tree) → IsSoundTree symbols t → sum_by data_size (data_blocks_of t symbols (layouts_of t symbols)) ≤ 2097152
 unfolding data_blocks_of rule_54
 source_bytes symbols t tree =
-    let y = types_of symbols t.blocks in
+    let y = types_of_source symbols t.blocks in
     let of_ : Context → Block → BlockLayout → List DataBlock = λ c b l. data_block_of c l l.id in
     let each = each_block of_ (context_at symbols t 0) t.blocks (layouts_of t symbols) in
     let fits = laid_mapped (IsSound symbols t) (λ k b l. sum_by data_size (of_ (context_at symbols t k) b l) ≤ data_length y t.blocks b) (one_size symbols t) 0 t.blocks (layouts_of t symbols) tree.blocks in

@@ -12,8 +12,8 @@ use Rattle.stl_lexer.specs.declared.kinds.TokenKind.{TokenKind}
 use Rattle.stl_lexer.specs.declared.kinds.TokenKind.TheVariants.{Word, Number, Quoted, Local, Characters, Based, NumberLiteral, TimeLiteral, Mark, SignWord, Attribute, Title}
 use Rattle.stl_lexer.specs.Bytes.{is_line_byte, is_word_byte, is_word_start}
 use Rattle.stl_lexer.specs.Forms as forms
-use Rattle.stl_lexer.specs.Forms.{begins_with, behind_sign, goes_on, has_form, is_word, based_prefixes, long_prefixes, count_prefixes, time_prefixes, s5time_prefixes, sign_words, title_words}
-use Rattle.stl_lexer.specs.Longest.{HasNone, IsFormAt}
+use Rattle.stl_lexer.specs.Forms.{begins_with, behind_sign, continues_word, has_form, is_word, based_prefixes, long_prefixes, count_prefixes, time_prefixes, s5time_prefixes, sign_words, title_words}
+use Rattle.stl_lexer.specs.Longest.{HasNoneOfForm, IsFormAt}
 use Rattle.stl_lexer.specs.Marks.{marks}
 use Rattle.stl_lexer.proofs.RunLemmas.{run_longest}
 
@@ -111,10 +111,10 @@ pub data Tail : Type 0 where
 -- the lexer's word for it
 unfoldable pub is_tail : Tail → List ℕ → List ℕ → Bool
 is_tail Nothing s after = length s == 0
-is_tail Apart s after = length s == 0 && not (goes_on after)
+is_tail Apart s after = length s == 0 && not (continues_word after)
 is_tail Run s after = list_all is_word_byte s
 is_tail SignedRun s after = list_all is_word_byte (behind_sign s)
-is_tail Line s after = list_all is_line_byte s && not (goes_on (s ++ after))
+is_tail Line s after = list_all is_line_byte s && not (continues_word (s ++ after))
 
 -- an entry with its tail
 unfoldable pub is_entry : Tail → List ℕ → List ℕ → List ℕ → Bool
@@ -213,7 +213,7 @@ rows_within Title test text m n t all h at = listed_within Line test title_words
 
 -- they list nothing where the text begins with no entry that passes
 pub rows_none : (k : TokenKind) (test : List ℕ → Bool) (text : List ℕ) → is_table k ≡ true → all_rows k test ≡ true
-    → ((entry : List ℕ) → test entry ≡ true → fronts entry text ≡ true → ⊥) → HasNone (has_form k) text
+    → ((entry : List ℕ) → test entry ≡ true → fronts entry text ≡ true → ⊥) → HasNoneOfForm (has_form k) text
 rows_none k test text t all h m at = absurd (omega (arith, at.some, rows_within k test text m 0 t all (λ tail has entry e f ends. absurd (h entry e f)) at))
 
 -- no bytes belong to an entry without tail

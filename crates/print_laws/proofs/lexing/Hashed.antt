@@ -14,9 +14,9 @@ use Rattle.stl_lexer.specs.declared.kinds.TokenKind.TheVariants.{Word, Number, Q
 use Rattle.stl_lexer.specs.Bytes.{hash, double_quote, single_quote, open_brace, close_brace, is_sign, is_word_byte, is_word_start}
 use Rattle.stl_lexer.specs.Forms as forms
 use Rattle.stl_lexer.specs.Forms.{has_form, begins_with, is_word, is_local, behind_sign, based_prefixes, long_prefixes, count_prefixes, time_prefixes, s5time_prefixes, sign_words, title_words}
-use Rattle.stl_lexer.specs.Longest.{IsFormAt, IsLongest, IsLongestOf, rank_of}
+use Rattle.stl_lexer.specs.Longest.{IsFormAt, IsLongestToken, IsLongestOfForm, rank_of_kind}
 use Rattle.stl_lexer.specs.Marks.{marks, mark_text}
-use Rattle.stl_lexer.specs.Pieces.{stops}
+use Rattle.stl_lexer.specs.Pieces.{stops_token}
 use Rattle.stl_lexer.proofs.FrontLemmas.{local_alone}
 use Rattle.stl_lexer.proofs.QuoteLemmas.{not_opened, not_quoted}
 use Rattle.stl_lexer.proofs.RankLemmas.{same_rank}
@@ -27,7 +27,7 @@ use Rattle.print_laws.proofs.lexing.Numerals.{passes_to}
 
 -- the tables of another kind have no entry that a text begins with which begins with known bytes
 abbrev is_apart : TokenKind → List ℕ → TokenKind → Bool
-is_apart k known j = (rank_of j == rank_of k) || all_rows j (never any_byte known)
+is_apart k known j = (rank_of_kind j == rank_of_kind k) || all_rows j (never any_byte known)
 
 -- this is so of all kinds but the token's own
 abbrev pub is_alone : TokenKind → List ℕ → Bool
@@ -60,7 +60,7 @@ start_no_digit b e = grind (arith, nat_tests)
 pub hash_longest : (k : TokenKind) (b : ℕ) (known rest : List ℕ) (n : ℕ) → is_word_start b ≡ true → suc (prefix_len is_word_byte (known ++ rest)) < n
     → is_alone k (b ∷ known) ≡ true → IsFormAt (has_form k) (b ∷ (known ++ rest)) n
     → ((m : ℕ) → IsFormAt (has_form k) (b ∷ (known ++ rest)) m → m ≤ n)
-    → IsLongest (b ∷ (known ++ rest)) k n
+    → IsLongestToken (b ∷ (known ++ rest)) k n
 unfolding has_form is_word_start
 hash_longest k b known rest n start short alone fits own = record { fits = fits; longest = longest } where
   text : List ℕ
@@ -72,15 +72,15 @@ hash_longest k b known rest n start short alone fits own = record { fits = fits;
   other : (c : ℕ) → is_word_start c ≡ false → b ≡ c → ⊥
   other c e is = false≢true (sym e ∙ ap is_word_start (sym is) ∙ start)
 
-  table : (j : TokenKind) → is_table j ≡ true → is_apart k (b ∷ known) j ≡ true → (m : ℕ) → IsFormAt (has_form j) (b ∷ (known ++ rest)) m → (m < n) ⊎ ((m ≡ n) × (rank_of j ≤ rank_of k))
-  table j t apart m at = elim (or_cases (rank_of j == rank_of k) (all_rows j (never any_byte (b ∷ known))) apart) [
+  table : (j : TokenKind) → is_table j ≡ true → is_apart k (b ∷ known) j ≡ true → (m : ℕ) → IsFormAt (has_form j) (b ∷ (known ++ rest)) m → (m < n) ⊎ ((m ≡ n) × (rank_of_kind j ≤ rank_of_kind k))
+  table j t apart m at = elim (or_cases (rank_of_kind j == rank_of_kind k) (all_rows j (never any_byte (b ∷ known))) apart) [
     | inl same ↦
-        let rank = eqb-true (rank_of j) (rank_of k) same in
-        at_most m n (rank_of j) (rank_of k) (own m (subst (λ (i : TokenKind). IsFormAt (has_form i) (b ∷ (known ++ rest)) m) (same_rank j k rank) at)) (omega (arith, rank))
+        let rank = eqb-true (rank_of_kind j) (rank_of_kind k) same in
+        at_most m n (rank_of_kind j) (rank_of_kind k) (own m (subst (λ (i : TokenKind). IsFormAt (has_form i) (b ∷ (known ++ rest)) m) (same_rank j k rank) at)) (omega (arith, rank))
     | inr none ↦ absurd (rows_none j (never any_byte (b ∷ known)) (b ∷ (known ++ rest)) t none (λ entry e f. entry_never any_byte (b ∷ known) entry rest e (all_allowed rest) f) m at)
   ]
 
-  longest : (j : TokenKind) (m : ℕ) → IsFormAt (has_form j) (b ∷ (known ++ rest)) m → (m < n) ⊎ ((m ≡ n) × (rank_of j ≤ rank_of k))
+  longest : (j : TokenKind) (m : ℕ) → IsFormAt (has_form j) (b ∷ (known ++ rest)) m → (m < n) ⊎ ((m ≡ n) × (rank_of_kind j ≤ rank_of_kind k))
   longest Word m at = inl (omega (arith, word_within b (known ++ rest) m at, short))
   longest Number m at = absurd (run_none is_ascii_digit is_ascii_digit (b ∷ (known ++ rest)) (λ _. start_no_digit b start) m at)
   longest Quoted m at = absurd (not_quoted (b ∷ (known ++ rest)) (not_opened double_quote double_quote true (b ∷ (known ++ rest)) (λ _. other double_quote refl)) m at)
@@ -97,7 +97,7 @@ hash_longest k b known rest n start short alone fits own = record { fits = fits;
 
 -- ---- the run behind a prefix
 
-pub stops_run : (after : List ℕ) → stops after ≡ true → prefix_len is_word_byte after ≡ 0
+pub stops_run : (after : List ℕ) → stops_token after ≡ true → prefix_len is_word_byte after ≡ 0
 stops_run [] e = refl
 stops_run (b ∷ s) e = rw (not-true (is_word_byte b) (and_parts (not (is_word_byte b)) (not (b == hash)) e).0) refl
 
@@ -110,7 +110,7 @@ behind_taken known rest m h =
     ∙ ap (take (m - length known)) (drop-append_seam known rest)
 
 -- word bytes behind a prefix end where a run of them does
-run_within : (known text after : List ℕ) (m : ℕ) → m ≤ length (known ++ (text ++ after)) → list_all is_word_byte text ≡ true → stops after ≡ true
+run_within : (known text after : List ℕ) (m : ℕ) → m ≤ length (known ++ (text ++ after)) → list_all is_word_byte text ≡ true → stops_token after ≡ true
     → list_all is_word_byte (drop (length known) (take m (known ++ (text ++ after)))) ≡ true → m ≤ length known + length text
 run_within known text after m within all stop e = elim (cases_lt (length known) m) [
   | inl more ↦
@@ -121,7 +121,7 @@ run_within known text after m within all stop e = elim (cases_lt (length known) 
 ]
 
 -- the same behind a sign
-signed_run : (text after : List ℕ) (j : ℕ) → 0 < length text → j ≤ length (text ++ after) → list_all is_word_byte (behind_sign text) ≡ true → stops after ≡ true
+signed_run : (text after : List ℕ) (j : ℕ) → 0 < length text → j ≤ length (text ++ after) → list_all is_word_byte (behind_sign text) ≡ true → stops_token after ≡ true
     → list_all is_word_byte (behind_sign (take j (text ++ after))) ≡ true → j ≤ length text
 unfolding behind_sign
 signed_run [] after j some within all stop e = absurd (omega (arith, some))
@@ -135,7 +135,7 @@ signed_run (b ∷ s) after (suc j) some within all stop e = elim (cases_Bool (is
       omega (arith, run, passes_to is_word_byte (b ∷ s) after (rw no_ at all) (stops_run after stop))
 ]
 
-signed_within : (known text after : List ℕ) (m : ℕ) → 0 < length text → m ≤ length (known ++ (text ++ after)) → list_all is_word_byte (behind_sign text) ≡ true → stops after ≡ true
+signed_within : (known text after : List ℕ) (m : ℕ) → 0 < length text → m ≤ length (known ++ (text ++ after)) → list_all is_word_byte (behind_sign text) ≡ true → stops_token after ≡ true
     → list_all is_word_byte (behind_sign (drop (length known) (take m (known ++ (text ++ after))))) ≡ true → m ≤ length known + length text
 signed_within known text after m some within all stop e = elim (cases_lt (length known) m) [
   | inl more ↦
@@ -156,7 +156,7 @@ only known entry rest e f = elim (or_cases (bytes_eq entry known) (never any_byt
 
 -- ---- binary and hexadecimal constants
 
-based_within : (known text after : List ℕ) → list_all (is_only known) based_prefixes ≡ true → list_all is_word_byte text ≡ true → stops after ≡ true
+based_within : (known text after : List ℕ) → list_all (is_only known) based_prefixes ≡ true → list_all is_word_byte text ≡ true → stops_token after ≡ true
     → (m : ℕ) → IsFormAt (has_form Based) (known ++ (text ++ after)) m → m ≤ length known + length text
 unfolding is_tail
 based_within known text after all words stop m at = rows_within Based (is_only known) (known ++ (text ++ after)) m (length known + length text) refl all bound at where
@@ -168,23 +168,23 @@ based_within known text after all words stop m at = rows_within Based (is_only k
   bound Line has entry e f t = absurd (false≢true has)
 
 based_stands : (b : ℕ) (known text after : List ℕ) → is_word_start b ≡ true → suc (prefix_len is_word_byte (known ++ (text ++ after))) < length (b ∷ known) → is_alone Based (b ∷ known) ≡ true
-    → list_all (is_only (b ∷ known)) based_prefixes ≡ true → has_form Based ((b ∷ known) ++ text) after ≡ true → list_all is_word_byte text ≡ true → stops after ≡ true
-    → IsLongest (b ∷ (known ++ (text ++ after))) Based (length ((b ∷ known) ++ text))
+    → list_all (is_only (b ∷ known)) based_prefixes ≡ true → has_form Based ((b ∷ known) ++ text) after ≡ true → list_all is_word_byte text ≡ true → stops_token after ≡ true
+    → IsLongestToken (b ∷ (known ++ (text ++ after))) Based (length ((b ∷ known) ++ text))
 based_stands b known text after start short alone all form words stop =
     let size = length-append (b ∷ known) text in
     hash_longest Based b known (text ++ after) (length ((b ∷ known) ++ text)) start (omega (arith, short, size)) alone
     (subst (λ (s : List ℕ). IsFormAt (has_form Based) s (length ((b ∷ known) ++ text))) (append_assoc (b ∷ known) text after) (form_here Based ((b ∷ known) ++ text) after (omega (arith, size)) form))
     (λ m at. omega (arith, size, based_within (b ∷ known) text after all words stop m at))
 
-pub byte_stands : (text after : List ℕ) → list_all is_word_byte text ≡ true → stops after ≡ true → IsLongest (codes "B#16#" ++ (text ++ after)) Based (length (codes "B#16#" ++ text))
+pub byte_stands : (text after : List ℕ) → list_all is_word_byte text ≡ true → stops_token after ≡ true → IsLongestToken (codes "B#16#" ++ (text ++ after)) Based (length (codes "B#16#" ++ text))
 unfolding has_form forms.is_listed forms.is_entry forms.is_tail begins_with is_word_start is_word_byte based_prefixes long_prefixes count_prefixes time_prefixes s5time_prefixes sign_words title_words marks mark_text
 byte_stands text after words stop = based_stands 66 (codes "#16#") text after refl (omega arith) refl refl (rw words refl) words stop
 
-pub word_stands : (text after : List ℕ) → list_all is_word_byte text ≡ true → stops after ≡ true → IsLongest (codes "W#16#" ++ (text ++ after)) Based (length (codes "W#16#" ++ text))
+pub word_stands : (text after : List ℕ) → list_all is_word_byte text ≡ true → stops_token after ≡ true → IsLongestToken (codes "W#16#" ++ (text ++ after)) Based (length (codes "W#16#" ++ text))
 unfolding has_form forms.is_listed forms.is_entry forms.is_tail begins_with is_word_start is_word_byte based_prefixes long_prefixes count_prefixes time_prefixes s5time_prefixes sign_words title_words marks mark_text
 word_stands text after words stop = based_stands 87 (codes "#16#") text after refl (omega arith) refl refl (rw words refl) words stop
 
-pub dword_stands : (text after : List ℕ) → list_all is_word_byte text ≡ true → stops after ≡ true → IsLongest (codes "DW#16#" ++ (text ++ after)) Based (length (codes "DW#16#" ++ text))
+pub dword_stands : (text after : List ℕ) → list_all is_word_byte text ≡ true → stops_token after ≡ true → IsLongestToken (codes "DW#16#" ++ (text ++ after)) Based (length (codes "DW#16#" ++ text))
 unfolding has_form forms.is_listed forms.is_entry forms.is_tail begins_with is_word_start is_word_byte based_prefixes long_prefixes count_prefixes time_prefixes s5time_prefixes sign_words title_words marks mark_text
 dword_stands text after words stop = based_stands 68 (codes "W#16#") text after refl (omega arith) refl refl (rw words refl) words stop
 
@@ -200,14 +200,14 @@ behind_words (b ∷ s) e = elim (cases_Bool (is_sign b)) as (λ _. list_all is_w
 ]
 
 -- what a table with signs, and one without, list behind a prefix
-signed_bound : (known text after : List ℕ) (m : ℕ) → 0 < length text → m ≤ length (known ++ (text ++ after)) → list_all is_word_byte (behind_sign text) ≡ true → stops after ≡ true
+signed_bound : (known text after : List ℕ) (m : ℕ) → 0 < length text → m ≤ length (known ++ (text ++ after)) → list_all is_word_byte (behind_sign text) ≡ true → stops_token after ≡ true
     → (entry : List ℕ) → is_only known entry ≡ true → fronts entry (known ++ (text ++ after)) ≡ true
     → list_all is_word_byte (behind_sign (drop (length entry) (take m (known ++ (text ++ after))))) ≡ true → m ≤ length known + length text
 signed_bound known text after m some within words stop entry e f t =
     signed_within known text after m some within words stop
     (ap (λ (p : List ℕ). list_all is_word_byte (behind_sign (drop (length p) (take m (known ++ (text ++ after)))))) (sym (only known entry (text ++ after) e f)) ∙ t)
 
-long_within : (known text after : List ℕ) → all_rows NumberLiteral (is_only known) ≡ true → 0 < length text → list_all is_word_byte (behind_sign text) ≡ true → stops after ≡ true
+long_within : (known text after : List ℕ) → all_rows NumberLiteral (is_only known) ≡ true → 0 < length text → list_all is_word_byte (behind_sign text) ≡ true → stops_token after ≡ true
     → (m : ℕ) → IsFormAt (has_form NumberLiteral) (known ++ (text ++ after)) m → m ≤ length known + length text
 unfolding is_tail
 long_within known text after all some words stop m at = rows_within NumberLiteral (is_only known) (known ++ (text ++ after)) m (length known + length text) refl all bound at where
@@ -218,7 +218,7 @@ long_within known text after all some words stop m at = rows_within NumberLitera
   bound SignedRun has entry e f t = signed_bound known text after m some at.within words stop entry e f t
   bound Line has entry e f t = absurd (false≢true has)
 
-time_within : (known text after : List ℕ) → all_rows TimeLiteral (is_only known) ≡ true → 0 < length text → list_all is_word_byte (behind_sign text) ≡ true → stops after ≡ true
+time_within : (known text after : List ℕ) → all_rows TimeLiteral (is_only known) ≡ true → 0 < length text → list_all is_word_byte (behind_sign text) ≡ true → stops_token after ≡ true
     → (m : ℕ) → IsFormAt (has_form TimeLiteral) (known ++ (text ++ after)) m → m ≤ length known + length text
 unfolding is_tail
 time_within known text after all some words stop m at = rows_within TimeLiteral (is_only known) (known ++ (text ++ after)) m (length known + length text) refl all bound at where
@@ -230,7 +230,7 @@ time_within known text after all some words stop m at = rows_within TimeLiteral 
   bound Line has entry e f t = absurd (false≢true has)
 
 -- a number of 32 bits: digits, with a sign or none
-pub long_stands : (text after : List ℕ) → 0 < length text → list_all is_word_byte (behind_sign text) ≡ true → stops after ≡ true → IsLongest (codes "L#" ++ (text ++ after)) NumberLiteral (length (codes "L#" ++ text))
+pub long_stands : (text after : List ℕ) → 0 < length text → list_all is_word_byte (behind_sign text) ≡ true → stops_token after ≡ true → IsLongestToken (codes "L#" ++ (text ++ after)) NumberLiteral (length (codes "L#" ++ text))
 unfolding has_form forms.is_listed forms.is_entry forms.is_tail begins_with is_word_start is_word_byte based_prefixes long_prefixes count_prefixes time_prefixes s5time_prefixes sign_words title_words marks mark_text
 long_stands text after some words stop =
     hash_longest NumberLiteral 76 (codes "#") (text ++ after) (length (codes "L#" ++ text)) refl (omega (arith, some)) refl
@@ -238,7 +238,7 @@ long_stands text after some words stop =
     (λ m at. omega (arith, long_within (codes "L#") text after refl some words stop m at))
 
 -- a time
-pub time_stands : (text after : List ℕ) → 0 < length text → list_all is_word_byte (behind_sign text) ≡ true → stops after ≡ true → IsLongest (codes "T#" ++ (text ++ after)) TimeLiteral (length (codes "T#" ++ text))
+pub time_stands : (text after : List ℕ) → 0 < length text → list_all is_word_byte (behind_sign text) ≡ true → stops_token after ≡ true → IsLongestToken (codes "T#" ++ (text ++ after)) TimeLiteral (length (codes "T#" ++ text))
 unfolding has_form forms.is_listed forms.is_entry forms.is_tail begins_with is_word_start is_word_byte based_prefixes long_prefixes count_prefixes time_prefixes s5time_prefixes sign_words title_words marks mark_text
 time_stands text after some words stop =
     hash_longest TimeLiteral 84 (codes "#") (text ++ after) (length (codes "T#" ++ text)) refl (omega (arith, some)) refl
@@ -247,7 +247,7 @@ time_stands text after some words stop =
 
 -- ---- the mark of a pointer
 
-pub pointer_stands : (after : List ℕ) → IsLongest (codes "P#" ++ after) Mark 2
+pub pointer_stands : (after : List ℕ) → IsLongestToken (codes "P#" ++ after) Mark 2
 unfolding begins_with is_word_start is_word_byte based_prefixes long_prefixes count_prefixes time_prefixes s5time_prefixes sign_words title_words marks mark_text
 pointer_stands after =
     hash_longest Mark 80 (codes "#") after 2 refl (omega arith) refl
@@ -256,7 +256,7 @@ pointer_stands after =
 
 -- ---- local names
 
-word_run : (word after : List ℕ) → is_word word ≡ true → stops after ≡ true → (n : ℕ) → IsFormAt (λ s rest. is_local s) (hash ∷ (word ++ after)) n → n ≤ suc (length word)
+word_run : (word after : List ℕ) → is_word word ≡ true → stops_token after ≡ true → (n : ℕ) → IsFormAt (λ s rest. is_local s) (hash ∷ (word ++ after)) n → n ≤ suc (length word)
 word_run [] after e stop n at = absurd (false≢true e)
 word_run (b ∷ word) after e stop zero at = omega arith
 word_run (b ∷ word) after e stop (suc zero) at = omega arith
@@ -266,7 +266,7 @@ word_run (b ∷ word) after e stop (suc (suc n)) at =
     let run = run_longest is_word_byte (word ++ after) n (omega (arith, at.within)) (and_parts (is_word_start b) (list_all is_word_byte (take n (word ++ after))) inner).1 in
     omega (arith, run, passes_to is_word_byte word after all (stops_run after stop))
 
-local_found : (word after : List ℕ) → is_word word ≡ true → stops after ≡ true → IsLongestOf (λ s rest. is_local s) (hash ∷ (word ++ after)) (suc (length word))
+local_found : (word after : List ℕ) → is_word word ≡ true → stops_token after ≡ true → IsLongestOfForm (λ s rest. is_local s) (hash ∷ (word ++ after)) (suc (length word))
 local_found word after e stop = record {
   fits = record {
     some = omega arith;
@@ -276,7 +276,7 @@ local_found word after e stop = record {
   longest = word_run word after e stop;
 }
 
-pub local_stands : (word after : List ℕ) → is_word word ≡ true → stops after ≡ true → IsLongest (hash ∷ (word ++ after)) Local (suc (length word))
+pub local_stands : (word after : List ℕ) → is_word word ≡ true → stops_token after ≡ true → IsLongestToken (hash ∷ (word ++ after)) Local (suc (length word))
 unfolding is_word_start
 local_stands word after e stop =
     local_alone (hash ∷ (word ++ after)) (Some (suc (length word)))

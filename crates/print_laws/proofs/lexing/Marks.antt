@@ -13,10 +13,10 @@ use Rattle.stl_lexer.specs.declared.kinds.TokenKind.{TokenKind}
 use Rattle.stl_lexer.specs.declared.kinds.TokenKind.TheVariants.{Word, Number, Quoted, Local, Characters, Based, NumberLiteral, TimeLiteral, Mark, SignWord, Attribute, Title}
 use Rattle.stl_lexer.specs.Bytes.{hash, double_quote, single_quote, open_brace, close_brace, is_word_byte, is_word_start}
 use Rattle.stl_lexer.specs.Forms as forms
-use Rattle.stl_lexer.specs.Forms.{has_form, is_word, is_number, is_local, goes_on, based_prefixes, long_prefixes, count_prefixes, time_prefixes, s5time_prefixes, sign_words, title_words}
-use Rattle.stl_lexer.specs.Longest.{HasNone, IsFormAt, IsLongest, rank_of}
+use Rattle.stl_lexer.specs.Forms.{has_form, is_word, is_number, is_local, continues_word, based_prefixes, long_prefixes, count_prefixes, time_prefixes, s5time_prefixes, sign_words, title_words}
+use Rattle.stl_lexer.specs.Longest.{HasNoneOfForm, IsFormAt, IsLongestToken, rank_of_kind}
 use Rattle.stl_lexer.specs.Marks.{marks, mark_text}
-use Rattle.stl_lexer.specs.Pieces.{stops}
+use Rattle.stl_lexer.specs.Pieces.{stops_token}
 use Rattle.stl_lexer.proofs.QuoteLemmas.{not_opened, not_quoted}
 use Rattle.stl_lexer.proofs.RunLemmas.{run_none}
 use Rattle.print_laws.proofs.lexing.Fronts.{Tail, IsBound, Nothing, Apart, Run, SignedRun, Line, all_allowed, all_rows, allows, any_byte, begins_word, ends_in, entry_ends, entry_never, fronts, has_tail, is_entry, is_listed, is_table, is_tail, listed_self, never, no_tail, other_front, rows_none, rows_within}
@@ -63,20 +63,20 @@ unfolding is_word_byte is_word_start
 no_digit b e = grind (arith, nat_tests)
 
 -- a table whose entries begin with letters or digits lists nothing there
-none_words : (k : TokenKind) (b : ℕ) (s : List ℕ) → is_word_byte b ≡ false → is_table k ≡ true → all_rows k begins_word ≡ true → HasNone (has_form k) (b ∷ s)
+none_words : (k : TokenKind) (b : ℕ) (s : List ℕ) → is_word_byte b ≡ false → is_table k ≡ true → all_rows k begins_word ≡ true → HasNoneOfForm (has_form k) (b ∷ s)
 none_words k b s no_ t all m at = rows_none k begins_word (b ∷ s) t all (λ entry e f. other_front entry b s no_ e f) m at
 
 -- only marks and sign words begin with such a byte
 pub sign_longest : (k : TokenKind) (b : ℕ) (s : List ℕ) (n : ℕ) → opens_sign b ≡ true → IsFormAt (has_form k) (b ∷ s) n
-    → ((m : ℕ) → IsFormAt (has_form Mark) (b ∷ s) m → (m < n) ⊎ ((m ≡ n) × (8 ≤ rank_of k)))
-    → ((m : ℕ) → IsFormAt (has_form SignWord) (b ∷ s) m → (m < n) ⊎ ((m ≡ n) × (9 ≤ rank_of k)))
-    → IsLongest (b ∷ s) k n
+    → ((m : ℕ) → IsFormAt (has_form Mark) (b ∷ s) m → (m < n) ⊎ ((m ≡ n) × (8 ≤ rank_of_kind k)))
+    → ((m : ℕ) → IsFormAt (has_form SignWord) (b ∷ s) m → (m < n) ⊎ ((m ≡ n) × (9 ≤ rank_of_kind k)))
+    → IsLongestToken (b ∷ s) k n
 unfolding has_form is_word_byte is_word_start based_prefixes long_prefixes count_prefixes time_prefixes s5time_prefixes title_words
 sign_longest k b s n e fits mark sign = record { fits = fits; longest = longest } where
   o : OpensSign b
   o = opens b e
 
-  longest : (other : TokenKind) (m : ℕ) → IsFormAt (has_form other) (b ∷ s) m → (m < n) ⊎ ((m ≡ n) × (rank_of other ≤ rank_of k))
+  longest : (other : TokenKind) (m : ℕ) → IsFormAt (has_form other) (b ∷ s) m → (m < n) ⊎ ((m ≡ n) × (rank_of_kind other ≤ rank_of_kind k))
   longest Word m at = absurd (run_none is_word_start is_word_byte (b ∷ s) (λ _. no_start b o.word) m at)
   longest Number m at = absurd (run_none is_ascii_digit is_ascii_digit (b ∷ s) (λ _. no_digit b o.word) m at)
   longest Quoted m at = absurd (not_quoted (b ∷ s) (not_opened double_quote double_quote true (b ∷ s) (λ _. o.quoted)) m at)
@@ -132,7 +132,7 @@ unfolding is_tail
 signs_within test text n all h m at = rows_within SignWord test text m n refl all bound at where
   bound : (tail : Tail) → has_tail SignWord tail ≡ true → IsBound tail test text m n
   bound Nothing has entry e f t = absurd (false≢true has)
-  bound Apart has entry e f t = omega (arith, h entry e f, no_tail entry text m at.within (and_parts (length (drop (length entry) (take m text)) == 0) (not (goes_on (drop m text))) t).0)
+  bound Apart has entry e f t = omega (arith, h entry e f, no_tail entry text m at.within (and_parts (length (drop (length entry) (take m text)) == 0) (not (continues_word (drop m text))) t).0)
   bound Run has entry e f t = absurd (false≢true has)
   bound SignedRun has entry e f t = absurd (false≢true has)
   bound Line has entry e f t = absurd (false≢true has)
@@ -140,7 +140,7 @@ signs_within test text n all h m at = rows_within SignWord test text m n refl al
 -- a mark before bytes with which no longer one goes on
 pub mark_stands : (p : ℕ → Bool) (b : ℕ) (known after : List ℕ) → opens_sign b ≡ true → list_any (bytes_eq (b ∷ known)) marks ≡ true
     → list_all (ends_in p (b ∷ known)) marks ≡ true → list_all (never p (b ∷ known)) sign_words ≡ true → allows p after ≡ true
-    → IsLongest (b ∷ (known ++ after)) Mark (length (b ∷ known))
+    → IsLongestToken (b ∷ (known ++ after)) Mark (length (b ∷ known))
 mark_stands p b known after first own no_longer none a =
     sign_longest Mark b (known ++ after) (length (b ∷ known)) first
     (form_here Mark (b ∷ known) after (omega arith) (mark_form (b ∷ known) after own))
@@ -178,18 +178,18 @@ word_lower : (b : ℕ) → is_word_byte b ≡ is_word_byte (to_ascii_lowercase b
 unfolding is_word_byte is_word_start
 word_lower b = grind (arith, nat_tests)
 
-pub stops_word : (after : List ℕ) → stops after ≡ true → (allows no_word after ≡ true) × (not (goes_on after) ≡ true)
-unfolding goes_on
+pub stops_word : (after : List ℕ) → stops_token after ≡ true → (allows no_word after ≡ true) × (not (continues_word after) ≡ true)
+unfolding continues_word
 stops_word [] e = (refl, refl)
 stops_word (b ∷ s) e =
     let first = (and_parts (not (is_word_byte b)) (not (b == hash)) e).0 in
     (ap not (sym (word_lower b)) ∙ first, first)
 
-sign_form : (known after : List ℕ) → not (goes_on after) ≡ true → list_any (bytes_eq known) sign_words ≡ true → has_form SignWord known after ≡ true
+sign_form : (known after : List ℕ) → not (continues_word after) ≡ true → list_any (bytes_eq known) sign_words ≡ true → has_form SignWord known after ≡ true
 unfolding has_form forms.is_listed forms.is_entry forms.is_tail is_listed is_entry is_tail
-sign_form known after next own = listed_self Apart known after sign_words (and_from (length (drop (length known) known) == 0) (not (goes_on after)) (no_rest known) next) own
+sign_form known after next own = listed_self Apart known after sign_words (and_from (length (drop (length known) known) == 0) (not (continues_word after)) (no_rest known) next) own
 
-sign_here : (known after : List ℕ) → is_sign known ≡ true → list_any (bytes_eq known) sign_words ≡ true → stops after ≡ true → IsLongest (known ++ after) SignWord (length known)
+sign_here : (known after : List ℕ) → is_sign known ≡ true → list_any (bytes_eq known) sign_words ≡ true → stops_token after ≡ true → IsLongestToken (known ++ after) SignWord (length known)
 sign_here [] after e own stop = absurd (false≢true e)
 sign_here (b ∷ known) after e own stop =
     let parts = and_parts (opens_sign b) (list_all (is_shorter (b ∷ known)) marks && list_all (ends_in no_word (b ∷ known)) sign_words) e in
@@ -208,5 +208,5 @@ sign_here (b ∷ known) after e own stop =
     ]
 
 -- a sign word before what stops
-pub sign_word_stands : (known after : List ℕ) → list_any (bytes_eq known) sign_words ≡ true → stops after ≡ true → IsLongest (known ++ after) SignWord (length known)
+pub sign_word_stands : (known after : List ℕ) → list_any (bytes_eq known) sign_words ≡ true → stops_token after ≡ true → IsLongestToken (known ++ after) SignWord (length known)
 sign_word_stands known after own stop = sign_here known after (among is_sign known sign_words signs own) own stop

@@ -15,11 +15,11 @@ use Rattle.std.proofs.Math.Seq.{drop-append_seam, take-append_seam}
 use native.Mathlib.Nat.{mul-one}
 use Rattle.plc_base.specs.Decimal.{decimal_value}
 use Rattle.stl_ast.specs.Literals.{IsLong}
-use Rattle.stl_lexer.specs.Bytes.{hash, minus_sign, plus, underscore, is_sign, is_word_byte, is_word_start}
+use Rattle.stl_lexer.specs.Bytes.{hash, minus_sign, plus_sign, underscore, is_sign, is_word_byte, is_word_start}
 use Rattle.stl_lexer.specs.Forms.{behind_sign, first_letter, is_number}
 use Rattle.stl_lexer.specs.Limits.{greatest_long, greatest_number}
-use Rattle.stl_lexer.specs.Rules.{are_digits, are_grouped, base_of, based_rule, behind_prefix, decimal as decimal_of, digit_count, most_digits, decimal_rule, is_negative, number_rule, time_rule, value_rule}
-use Rattle.stl_lexer.specs.TimeLiteral.{behind_digits, behind_part, is_part, length_of, letters_of, milliseconds, part_digits, part_letters, units}
+use Rattle.stl_lexer.specs.Rules.{are_digits, are_grouped_digits, base_of, based_rule, behind_prefix, value_of_digits as decimal_of, digit_count, most_digits, decimal_rule, is_negative, number_rule, time_rule, value_rule}
+use Rattle.stl_lexer.specs.TimeLiteral.{behind_digits, behind_part, is_part, milliseconds_of_unit, letters_of_unit, milliseconds, part_digits, part_letters, time_units}
 
 pub both_pass : (p : ℕ → Bool) (a b : List ℕ) → list_all p a ≡ true → list_all p b ≡ true → list_all p (a ++ b) ≡ true
 both_pass p a b x y = list_all-append p a b ∙ and_from (list_all p a) (list_all p b) x y
@@ -128,7 +128,7 @@ front_plain (b ∷ s) more e some =
     let first = no_sign b (and_parts (is_ascii_digit b) (list_all is_ascii_digit s) e).0 in
     (first.0, rw (first.1) refl)
   where
-    no_sign : (b : ℕ) → is_ascii_digit b ≡ true → ((b == minus_sign) ≡ false) × ((b == plus || b == minus_sign) ≡ false)
+    no_sign : (b : ℕ) → is_ascii_digit b ≡ true → ((b == minus_sign) ≡ false) × ((b == plus_sign || b == minus_sign) ≡ false)
     no_sign b e = (grind (arith, nat_tests), grind (arith, nat_tests))
 
 pub digits_plain : (text : List ℕ) → list_all is_ascii_digit text ≡ true → 0 < length text → (is_negative text ≡ false) × (behind_sign text ≡ text)
@@ -165,12 +165,12 @@ passes_to p (b ∷ text) after e h =
     let parts = and_parts (p b) (list_all p text) e in
     rw (parts.0) (omega (arith, passes_to p text after parts.1 h))
 
-part_is : (text digits : List ℕ) (n : ℕ) → part_digits text ≡ digits → part_letters text ≡ codes "MS" → behind_part text ≡ [] → 0 < length digits → decimal_value digits ≡ n → milliseconds units text ≡ Some n
-unfolding units milliseconds is_part letters_of length_of
+part_is : (text digits : List ℕ) (n : ℕ) → part_digits text ≡ digits → part_letters text ≡ codes "MS" → behind_part text ≡ [] → 0 < length digits → decimal_value digits ≡ n → milliseconds time_units text ≡ Some n
+unfolding time_units milliseconds is_part letters_of_unit milliseconds_of_unit
 part_is text digits n first unit rest some value =
     rw (first, unit, rest, lt-ltb 0 (length digits) some, value) (ap (λ (k : ℕ). Some k) (mul-one n))
 
-time_of : (n : ℕ) → n < 2 ^ 64 → milliseconds units (decimal n ++ codes "MS") ≡ Some n
+time_of : (n : ℕ) → n < 2 ^ 64 → milliseconds time_units (decimal n ++ codes "MS") ≡ Some n
 time_of n small =
     let d = numeral n small in
     let size : prefix_len is_ascii_digit (decimal n ++ codes "MS") ≡ length (decimal n) = passes_to is_ascii_digit (decimal n) (codes "MS") d.digits refl in
@@ -178,7 +178,7 @@ time_of n small =
     let rest : behind_digits (decimal n ++ codes "MS") ≡ codes "MS" = ap (λ k. drop k (decimal n ++ codes "MS")) size ∙ drop-append_seam (decimal n) (codes "MS") in
     part_is (decimal n ++ codes "MS") (decimal n) n first (ap (λ (s : List ℕ). take (prefix_len is_ascii_alphabetic s) s) rest) (ap (λ (s : List ℕ). drop (prefix_len is_ascii_alphabetic s) s) rest) d.some d.value
 
-time_value : (n : ℕ) (negative : Bool) → n ≤ greatest_long negative → n < 2 ^ 64 → value_rule (greatest_long negative) (milliseconds units (decimal n ++ codes "MS")) ≡ None
+time_value : (n : ℕ) (negative : Bool) → n ≤ greatest_long negative → n < 2 ^ 64 → value_rule (greatest_long negative) (milliseconds time_units (decimal n ++ codes "MS")) ≡ None
 time_value n negative h small = rw (time_of n small) (value_right (greatest_long negative) n h)
 
 unit_words : list_all no_hash (codes "MS") ≡ true
@@ -218,8 +218,8 @@ hex_plain b e = (and_parts (is_word_byte b) (not (b == underscore)) (and_parts (
 hex_value : (b : ℕ) → is_hex b ≡ true → is_digit b 16 ≡ true
 hex_value b e = (and_parts (is_digit b 16) (is_word_byte b && not (b == underscore)) e).0
 
-grouped : (text : List ℕ) → list_all is_hex text ≡ true → 0 < length text → are_grouped 16 text ≡ true
-unfolding are_grouped are_digits
+grouped : (text : List ℕ) → list_all is_hex text ≡ true → 0 < length text → are_grouped_digits 16 text ≡ true
+unfolding are_grouped_digits are_digits
 grouped text e some =
     let whole : slice_split (λ b. b == underscore) text ≡ text ∷ [] =
     slice_split_none (λ b. b == underscore) text (λ i d h. not-true (get_or text i d == underscore) (AllPass-from_list_all (λ b. not (b == underscore)) text (all_weaker is_hex (λ b. not (b == underscore)) hex_plain text e) i d h)) in

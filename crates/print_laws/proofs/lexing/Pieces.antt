@@ -13,23 +13,23 @@ use Rattle.stl_lexer.specs.declared.kinds.TokenKind.{TokenKind}
 use Rattle.stl_lexer.specs.declared.kinds.TokenKind.TheVariants as kind
 use Rattle.stl_lexer.specs.declared.marks.Mark.{Mark}
 use Rattle.stl_lexer.specs.declared.marks.Mark.TheVariants as mark_of
-use Rattle.stl_lexer.specs.Bytes.{blank, hash, in_source, is_separator, is_sign, is_word_byte, is_word_start, minus_sign, newline, opens_comment, slash}
+use Rattle.stl_lexer.specs.Bytes.{blank, hash, is_source_byte, is_separator, is_sign, is_word_byte, is_word_start, minus_sign, newline, opens_comment, slash}
 use Rattle.stl_lexer.specs.Forms.{behind_sign, first_letter, has_form, is_word, sign_words}
 use Rattle.stl_lexer.specs.Gap.{after_gap, is_comment_byte}
 use Rattle.stl_lexer.specs.Limits.{greatest_number}
-use Rattle.stl_lexer.specs.Longest.{IsLongest}
+use Rattle.stl_lexer.specs.Longest.{IsLongestToken}
 use Rattle.stl_lexer.specs.Marks.{mark_text, marks}
-use Rattle.stl_lexer.specs.Pieces.{AreStanding, Piece, Stands, spelled, stops}
-use Rattle.stl_lexer.specs.Rules.{base_of, fault_of, most_digits, rule_of}
+use Rattle.stl_lexer.specs.Pieces.{ArePiecesStanding, Piece, StandsBefore, text_of_pieces, stops_token}
+use Rattle.stl_lexer.specs.Rules.{base_of, fault_of, most_digits, rule_broken_by_token}
 use Rattle.stl_lexer.specs.Tokens.{is_minus}
 use Rattle.stl_lexer.proofs.PlainLemmas.{none_foreign, plain_mark, plain_number, plain_word}
 use Rattle.stl_lexer.proofs.StandLemmas.{number_stands}
-use Rattle.stl_print.specs.Digits.{digit, digits}
+use Rattle.stl_print.specs.Digits.{digit_character, digits_in_base}
 use Rattle.stl_print.specs.Gaps.{gap_text}
-use Rattle.stl_print.specs.Pieces.{local, mark, number, signed_number, token, word}
+use Rattle.stl_print.specs.Pieces.{local_piece, mark_piece, number_piece, signed_number_pieces, token_piece, word_piece}
 use Rattle.stl_print.specs.declared.gaps.Gap.{Gap}
 use Rattle.stl_print.specs.declared.gaps.Gap.TheVariants as gap
-use Rattle.print_laws.specs.Standing.{IsName}
+use Rattle.print_laws.specs.Standing.{IsNonTitleName}
 use Rattle.print_laws.proofs.lexing.Fronts.{allows, any_byte}
 use Rattle.print_laws.proofs.lexing.Hashed as hashed
 use Rattle.print_laws.proofs.lexing.Marks.{among, mark_form, mark_stands, no_word, sign_word_stands, stops_word}
@@ -43,7 +43,7 @@ abbrev pub soft : List ℕ → Bool
 soft [] = true
 soft (b ∷ s) = (not (is_word_byte b) && not (b == hash)) && not (b == 61)
 
-soft_stops : (after : List ℕ) → soft after ≡ true → stops after ≡ true
+soft_stops : (after : List ℕ) → soft after ≡ true → stops_token after ≡ true
 soft_stops [] e = refl
 soft_stops (b ∷ s) e = (and_parts (not (is_word_byte b) && not (b == hash)) (not (b == 61)) e).0
 
@@ -119,25 +119,25 @@ opening b (c ∷ s) e =
 
 -- pieces that stand, and where a truth value says so, they begin softly
 pub record Rest (softly : Bool) (ps : List Piece) (end : List ℕ) : Type 0 where
-  pub stands : AreStanding false ps end
-  pub soft : softly ≡ true → soft (spelled ps end) ≡ true
+  pub stands : ArePiecesStanding false ps end
+  pub soft : softly ≡ true → soft (text_of_pieces ps end) ≡ true
 
 pub hard : (s : Bool) (ps : List Piece) (end : List ℕ) → Rest s ps end → Rest false ps end
 hard s ps end r = record { stands = r.stands; soft = λ e. absurd (false≢true e) }
 
 -- a token in front of pieces
-front : (g : Gap) (k : TokenKind) (text : List ℕ) (minus : Bool) (after : List ℕ) → is_ahead (text ++ after) ≡ true → IsLongest (text ++ after) k (length text) → fault_of k text minus ≡ None → Stands (token g k text) minus after
+front : (g : Gap) (k : TokenKind) (text : List ℕ) (minus : Bool) (after : List ℕ) → is_ahead (text ++ after) ≡ true → IsLongestToken (text ++ after) k (length text) → fault_of k text minus ≡ None → StandsBefore (token_piece g k text) minus after
 front g k text minus after a l right = record { gap = gap_over after_gap _ (record { separator = λ b s e. rw e refl; other = λ b s e f. rw (e, f) refl }) g (text ++ after) a; longest = l; right = right }
 
 -- one whose kind is no mark
-before : (g : Gap) (k : TokenKind) (text : List ℕ) (ps : List Piece) (end : List ℕ) → is_minus k text ≡ false → is_ahead (text ++ spelled ps end) ≡ true → IsLongest (text ++ spelled ps end) k (length text)
-    → fault_of k text false ≡ None → Rest false ps end → Rest (opens g) (token g k text ∷ ps) end
+before : (g : Gap) (k : TokenKind) (text : List ℕ) (ps : List Piece) (end : List ℕ) → is_minus k text ≡ false → is_ahead (text ++ text_of_pieces ps end) ≡ true → IsLongestToken (text ++ text_of_pieces ps end) k (length text)
+    → fault_of k text false ≡ None → Rest false ps end → Rest (opens g) (token_piece g k text ∷ ps) end
 before g k text ps end minus a l right r = record {
-  stands = (front g k text false (spelled ps end) a l right, rw minus (r.stands));
-  soft = λ e. gap_soft g (text ++ spelled ps end) e;
+  stands = (front g k text false (text_of_pieces ps end) a l right, rw minus (r.stands));
+  soft = λ e. gap_soft g (text ++ text_of_pieces ps end) e;
 }
 
-no_fault : (k : TokenKind) (text : List ℕ) (minus : Bool) → rule_of k text minus ≡ None → list_all is_comment_byte text ≡ true → fault_of k text minus ≡ None
+no_fault : (k : TokenKind) (text : List ℕ) (minus : Bool) → rule_broken_by_token k text minus ≡ None → list_all is_comment_byte text ≡ true → fault_of k text minus ≡ None
 unfolding fault_of
 no_fault k text minus rule plain = rw (rule, none_foreign text plain) refl
 
@@ -151,17 +151,17 @@ word_ahead : (w after : List ℕ) → is_word w ≡ true → is_ahead (w ++ afte
 word_ahead [] after e = absurd (false≢true e)
 word_ahead (b ∷ w) after e = opening b (w ++ after) (start_opening b (and_parts (is_word_start b) (list_all is_word_byte w) e).0)
 
-pub word_rest : (g : Gap) (w : List ℕ) (ps : List Piece) (end : List ℕ) → IsName w → Rest true ps end → Rest (opens g) (word g w ∷ ps) end
-unfolding has_form rule_of is_minus
+pub word_rest : (g : Gap) (w : List ℕ) (ps : List Piece) (end : List ℕ) → IsNonTitleName w → Rest true ps end → Rest (opens g) (word_piece g w ∷ ps) end
+unfolding has_form rule_broken_by_token is_minus
 word_rest g w ps end (is, title) r =
-    let stop = soft_stops (spelled ps end) (r.soft refl) in
-    before g kind.Word w ps end refl (word_ahead w (spelled ps end) is) (word_longest w (spelled ps end) (is, title) stop)
+    let stop = soft_stops (text_of_pieces ps end) (r.soft refl) in
+    before g kind.Word w ps end refl (word_ahead w (text_of_pieces ps end) is) (word_longest w (text_of_pieces ps end) (is, title) stop)
     (no_fault kind.Word w false refl (plain_word w [] is)) (hard true ps end r)
 
-pub local_rest : (g : Gap) (w : List ℕ) (ps : List Piece) (end : List ℕ) → is_word w ≡ true → Rest true ps end → Rest (opens g) (local g w ∷ ps) end
-unfolding has_form rule_of is_minus is_separator is_comment_byte in_source
+pub local_rest : (g : Gap) (w : List ℕ) (ps : List Piece) (end : List ℕ) → is_word w ≡ true → Rest true ps end → Rest (opens g) (local_piece g w ∷ ps) end
+unfolding has_form rule_broken_by_token is_minus is_separator is_comment_byte is_source_byte
 local_rest g w ps end is r =
-    before g kind.Local (hash ∷ w) ps end refl (opening hash (w ++ spelled ps end) refl) (hashed.local_stands w (spelled ps end) is (soft_stops (spelled ps end) (r.soft refl)))
+    before g kind.Local (hash ∷ w) ps end refl (opening hash (w ++ text_of_pieces ps end) refl) (hashed.local_stands w (text_of_pieces ps end) is (soft_stops (text_of_pieces ps end) (r.soft refl)))
     (no_fault kind.Local (hash ∷ w) false refl (and_from (is_comment_byte hash) (list_all is_comment_byte w) refl (plain_word w [] is))) (hard true ps end r)
 
 -- ---- numbers
@@ -178,8 +178,8 @@ small_number : (n : ℕ) (minus : Bool) → n ≤ greatest_number minus → n < 
 small_number n true h = omega (arith, h)
 small_number n false h = omega (arith, h)
 
-number_front : (g : Gap) (n : ℕ) (minus : Bool) (after : List ℕ) → n ≤ greatest_number minus → soft after ≡ true → Stands (number g n) minus after
-unfolding has_form rule_of
+number_front : (g : Gap) (n : ℕ) (minus : Bool) (after : List ℕ) → n ≤ greatest_number minus → soft after ≡ true → StandsBefore (number_piece g n) minus after
+unfolding has_form rule_broken_by_token
 number_front g n minus after h s =
     let small = small_number n minus h in
     let d = numeral n small in
@@ -187,11 +187,11 @@ number_front g n minus after h s =
     front g kind.Number (decimal n) minus after (digits_ahead (decimal n) after d.digits d.some) (number_stands (decimal n) after is (soft_stops after s))
     (no_fault kind.Number (decimal n) minus (number_right n minus h small) (plain_number (decimal n) [] is))
 
-pub number_rest : (g : Gap) (n : ℕ) (ps : List Piece) (end : List ℕ) → n ≤ 65535 → Rest true ps end → Rest (opens g) (number g n ∷ ps) end
+pub number_rest : (g : Gap) (n : ℕ) (ps : List Piece) (end : List ℕ) → n ≤ 65535 → Rest true ps end → Rest (opens g) (number_piece g n ∷ ps) end
 unfolding is_minus
 number_rest g n ps end h r = record {
-  stands = (number_front g n false (spelled ps end) h (r.soft refl), r.stands);
-  soft = λ e. gap_soft g (decimal n ++ spelled ps end) e;
+  stands = (number_front g n false (text_of_pieces ps end) h (r.soft refl), r.stands);
+  soft = λ e. gap_soft g (decimal n ++ text_of_pieces ps end) e;
 }
 
 -- ---- marks
@@ -218,7 +218,7 @@ is_soft_mark mark_of.Pointer = false
 is_soft_mark mark_of.Bytes = false
 is_soft_mark _ = true
 
-mark_longest : (m : Mark) (after : List ℕ) → is_plain_mark m ≡ true → allows (mark_follows m) after ≡ true → IsLongest (mark_text m ++ after) kind.Mark (length (mark_text m))
+mark_longest : (m : Mark) (after : List ℕ) → is_plain_mark m ≡ true → allows (mark_follows m) after ≡ true → IsLongestToken (mark_text m ++ after) kind.Mark (length (mark_text m))
 unfolding marks mark_text sign_words is_word_byte is_word_start
 mark_longest mark_of.Assign after p a = mark_stands any_byte 58 (codes "=") after refl refl refl refl a
 mark_longest mark_of.Colon after p a = mark_stands no_equals 58 [] after refl refl refl refl a
@@ -268,7 +268,7 @@ mark_listed mark_of.Assign = refl
 mark_listed _ = refl
 
 mark_right : (m : Mark) (minus : Bool) → fault_of kind.Mark (mark_text m) minus ≡ None
-unfolding rule_of
+unfolding rule_broken_by_token
 mark_right m minus = no_fault kind.Mark (mark_text m) minus refl (plain_mark (mark_text m) [] (mark_form (mark_text m) [] (mark_listed m)))
 
 no_minus : (m : Mark) → is_plain_mark m ≡ true → is_minus kind.Mark (mark_text m) ≡ false
@@ -283,10 +283,10 @@ soft_front gap.Blank m s e = gap_soft gap.Blank (mark_text m ++ s) refl
 soft_front (gap.LineEnds zero) m s e = mark_soft m s e
 soft_front (gap.LineEnds (suc n)) m s e = gap_soft (gap.LineEnds (suc n)) (mark_text m ++ s) refl
 
-pub mark_rest : (g : Gap) (m : Mark) (ps : List Piece) (end : List ℕ) → is_plain_mark m ≡ true → allows (mark_follows m) (spelled ps end) ≡ true → Rest false ps end → Rest (opens g || is_soft_mark m) (mark g m ∷ ps) end
+pub mark_rest : (g : Gap) (m : Mark) (ps : List Piece) (end : List ℕ) → is_plain_mark m ≡ true → allows (mark_follows m) (text_of_pieces ps end) ≡ true → Rest false ps end → Rest (opens g || is_soft_mark m) (mark_piece g m ∷ ps) end
 mark_rest g m ps end p a r = record {
-  stands = (front g kind.Mark (mark_text m) false (spelled ps end) (mark_opens m (spelled ps end)) (mark_longest m (spelled ps end) p a) (mark_right m false), rw (no_minus m p) (r.stands));
-  soft = λ e. soft_front g m (spelled ps end) e;
+  stands = (front g kind.Mark (mark_text m) false (text_of_pieces ps end) (mark_opens m (text_of_pieces ps end)) (mark_longest m (text_of_pieces ps end) p a) (mark_right m false), rw (no_minus m p) (r.stands));
+  soft = λ e. soft_front g m (text_of_pieces ps end) e;
 }
 
 -- ---- numbers with a sign
@@ -299,7 +299,7 @@ digits_no_start : (d s : List ℕ) → list_all is_ascii_digit d ≡ true → 0 
 digits_no_start [] s e some = absurd (omega (arith, some))
 digits_no_start (b ∷ d) s e some = digit_no_start b (and_parts (is_ascii_digit b) (list_all is_ascii_digit d) e).0
 
-minus_longest : (after : List ℕ) → allows (λ b. not (is_word_start b)) after ≡ true → IsLongest (mark_text mark_of.Minus ++ after) kind.Mark (length (mark_text mark_of.Minus))
+minus_longest : (after : List ℕ) → allows (λ b. not (is_word_start b)) after ≡ true → IsLongestToken (mark_text mark_of.Minus ++ after) kind.Mark (length (mark_text mark_of.Minus))
 unfolding marks mark_text sign_words is_word_byte is_word_start
 minus_longest after a = mark_stands (λ b. not (is_word_start b)) 45 [] after refl refl refl refl a
 
@@ -307,19 +307,19 @@ is_minus_mark : is_minus kind.Mark (mark_text mark_of.Minus) ≡ true
 unfolding is_minus mark_text
 is_minus_mark = refl
 
-pub signed_rest : (g : Gap) (v : ℤ) (ps : List Piece) (end : List ℕ) → IsDecimal v → Rest true ps end → Rest (opens g) (signed_number g v ++ ps) end
+pub signed_rest : (g : Gap) (v : ℤ) (ps : List Piece) (end : List ℕ) → IsDecimal v → Rest true ps end → Rest (opens g) (signed_number_pieces g v ++ ps) end
 unfolding is_minus
 signed_rest g (pos n) ps end h r = number_rest g n ps end h r
 signed_rest g (negsuc n) ps end h r =
     let d = numeral (suc n) (omega (arith, h)) in
-    let follows = digits_no_start (decimal (suc n)) (spelled ps end) d.digits d.some in
-    let rest : AreStanding true (number gap.Nothing (suc n) ∷ ps) end = (number_front gap.Nothing (suc n) true (spelled ps end) (omega (arith, h)) (r.soft refl), r.stands) in
+    let follows = digits_no_start (decimal (suc n)) (text_of_pieces ps end) d.digits d.some in
+    let rest : ArePiecesStanding true (number_piece gap.Nothing (suc n) ∷ ps) end = (number_front gap.Nothing (suc n) true (text_of_pieces ps end) (omega (arith, h)) (r.soft refl), r.stands) in
     record {
       stands = (
-        front g kind.Mark (mark_text mark_of.Minus) false (decimal (suc n) ++ spelled ps end) (mark_opens mark_of.Minus (decimal (suc n) ++ spelled ps end)) (minus_longest (decimal (suc n) ++ spelled ps end) follows) (mark_right mark_of.Minus false),
+        front g kind.Mark (mark_text mark_of.Minus) false (decimal (suc n) ++ text_of_pieces ps end) (mark_opens mark_of.Minus (decimal (suc n) ++ text_of_pieces ps end)) (minus_longest (decimal (suc n) ++ text_of_pieces ps end) follows) (mark_right mark_of.Minus false),
         rw is_minus_mark rest,
       );
-      soft = λ e. gap_soft g (mark_text mark_of.Minus ++ (decimal (suc n) ++ spelled ps end)) e;
+      soft = λ e. gap_soft g (mark_text mark_of.Minus ++ (decimal (suc n) ++ text_of_pieces ps end)) e;
     }
 
 -- ---- `.` before a number or a word
@@ -339,14 +339,14 @@ word_no_dot : (w s : List ℕ) → is_word w ≡ true → allows (λ b. not (b =
 word_no_dot [] s e = absurd (false≢true e)
 word_no_dot (b ∷ w) s e = start_no_dot b (and_parts (is_word_start b) (list_all is_word_byte w) e).0
 
-pub dot_number : (n : ℕ) (ps : List Piece) (end : List ℕ) → n ≤ 65535 → Rest true ps end → Rest true (mark gap.Nothing mark_of.Dot ∷ number gap.Nothing n ∷ ps) end
+pub dot_number : (n : ℕ) (ps : List Piece) (end : List ℕ) → n ≤ 65535 → Rest true ps end → Rest true (mark_piece gap.Nothing mark_of.Dot ∷ number_piece gap.Nothing n ∷ ps) end
 dot_number n ps end h r =
     let d = numeral n (omega (arith, h)) in
-    mark_rest gap.Nothing mark_of.Dot (number gap.Nothing n ∷ ps) end refl (digits_no_dot (decimal n) (spelled ps end) d.digits d.some) (number_rest gap.Nothing n ps end h r)
+    mark_rest gap.Nothing mark_of.Dot (number_piece gap.Nothing n ∷ ps) end refl (digits_no_dot (decimal n) (text_of_pieces ps end) d.digits d.some) (number_rest gap.Nothing n ps end h r)
 
-pub dot_word : (w : List ℕ) (ps : List Piece) (end : List ℕ) → IsName w → Rest true ps end → Rest true (mark gap.Nothing mark_of.Dot ∷ word gap.Nothing w ∷ ps) end
+pub dot_word : (w : List ℕ) (ps : List Piece) (end : List ℕ) → IsNonTitleName w → Rest true ps end → Rest true (mark_piece gap.Nothing mark_of.Dot ∷ word_piece gap.Nothing w ∷ ps) end
 dot_word w ps end is r =
-    mark_rest gap.Nothing mark_of.Dot (word gap.Nothing w ∷ ps) end refl (word_no_dot w (spelled ps end) is.0) (word_rest gap.Nothing w ps end is r)
+    mark_rest gap.Nothing mark_of.Dot (word_piece gap.Nothing w ∷ ps) end refl (word_no_dot w (text_of_pieces ps end) is.0) (word_rest gap.Nothing w ps end is r)
 
 -- ---- sign words
 
@@ -366,60 +366,60 @@ unfolding sign_words is_separator opens_comment
 sign_opens = refl
 
 signs_plain : list_all (list_all is_comment_byte) sign_words ≡ true
-unfolding sign_words is_comment_byte in_source is_separator
+unfolding sign_words is_comment_byte is_source_byte is_separator
 signs_plain = refl
 
-pub sign_rest : (g : Gap) (text : List ℕ) (ps : List Piece) (end : List ℕ) → list_any (bytes_eq text) sign_words ≡ true → Rest true ps end → Rest (opens g) (token g kind.SignWord text ∷ ps) end
-unfolding rule_of is_minus
+pub sign_rest : (g : Gap) (text : List ℕ) (ps : List Piece) (end : List ℕ) → list_any (bytes_eq text) sign_words ≡ true → Rest true ps end → Rest (opens g) (token_piece g kind.SignWord text ∷ ps) end
+unfolding rule_broken_by_token is_minus
 sign_rest g text ps end own r =
-    before g kind.SignWord text ps end refl (two_ahead text (spelled ps end) (among opens_two text sign_words sign_opens own))
-    (sign_word_stands text (spelled ps end) own (soft_stops (spelled ps end) (r.soft refl)))
+    before g kind.SignWord text ps end refl (two_ahead text (text_of_pieces ps end) (among opens_two text sign_words sign_opens own))
+    (sign_word_stands text (text_of_pieces ps end) own (soft_stops (text_of_pieces ps end) (r.soft refl)))
     (no_fault kind.SignWord text false refl (among (list_all is_comment_byte) text sign_words signs_plain own)) (hard true ps end r)
 
 -- ---- constants
 
 word_plain : (b : ℕ) → is_word_byte b ≡ true → is_comment_byte b ≡ true
-unfolding is_word_byte is_word_start is_comment_byte in_source is_separator
+unfolding is_word_byte is_word_start is_comment_byte is_source_byte is_separator
 word_plain b e = grind (arith, nat_tests)
 
-hex_digits : (count n : ℕ) → (list_all is_hex (digits 16 count n) ≡ true) × (length (digits 16 count n) ≡ count)
-unfolding digits
+hex_digits : (count n : ℕ) → (list_all is_hex (digits_in_base 16 count n) ≡ true) × (length (digits_in_base 16 count n) ≡ count)
+unfolding digits_in_base
 hex_digits zero n = (refl, refl)
 hex_digits (suc count) n =
     let more = hex_digits count (n / 16) in (
-      both_pass is_hex (digits 16 count (n / 16)) (digit (n % 16) ∷ []) more.0 (and_from (is_hex (digit (n % 16))) true (hex_digit (n % 16) (omega arith)) refl),
-      omega (arith, more.1, length-append (digits 16 count (n / 16)) (digit (n % 16) ∷ [])),
+      both_pass is_hex (digits_in_base 16 count (n / 16)) (digit_character (n % 16) ∷ []) more.0 (and_from (is_hex (digit_character (n % 16))) true (hex_digit (n % 16) (omega arith)) refl),
+      omega (arith, more.1, length-append (digits_in_base 16 count (n / 16)) (digit_character (n % 16) ∷ [])),
     )
 
-hex_words : (count n : ℕ) → list_all is_word_byte (digits 16 count n) ≡ true
-hex_words count n = all_weaker is_hex is_word_byte hex_word (digits 16 count n) (hex_digits count n).0
+hex_words : (count n : ℕ) → list_all is_word_byte (digits_in_base 16 count n) ≡ true
+hex_words count n = all_weaker is_hex is_word_byte hex_word (digits_in_base 16 count n) (hex_digits count n).0
 
-hex_plain : (count n : ℕ) → list_all is_comment_byte (digits 16 count n) ≡ true
-hex_plain count n = all_weaker is_word_byte is_comment_byte word_plain (digits 16 count n) (hex_words count n)
+hex_plain : (count n : ℕ) → list_all is_comment_byte (digits_in_base 16 count n) ≡ true
+hex_plain count n = all_weaker is_word_byte is_comment_byte word_plain (digits_in_base 16 count n) (hex_words count n)
 
-pub byte_rest : (g : Gap) (n : ℕ) (ps : List Piece) (end : List ℕ) → Rest true ps end → Rest (opens g) (token g kind.Based (codes "B#16#" ++ digits 16 2 n) ∷ ps) end
-unfolding rule_of is_minus base_of most_digits first_letter is_separator is_comment_byte in_source
+pub byte_rest : (g : Gap) (n : ℕ) (ps : List Piece) (end : List ℕ) → Rest true ps end → Rest (opens g) (token_piece g kind.Based (codes "B#16#" ++ digits_in_base 16 2 n) ∷ ps) end
+unfolding rule_broken_by_token is_minus base_of most_digits first_letter is_separator is_comment_byte is_source_byte
 byte_rest g n ps end r =
     let hex = hex_digits 2 n in
-    before g kind.Based (codes "B#16#" ++ digits 16 2 n) ps end refl (opening 66 _ refl) (hashed.byte_stands (digits 16 2 n) (spelled ps end) (hex_words 2 n) (soft_stops (spelled ps end) (r.soft refl)))
-    (no_fault kind.Based (codes "B#16#" ++ digits 16 2 n) false (based_right (codes "B#16#") (digits 16 2 n) 2 hex.0 (omega (arith, hex.1)) (omega (arith, hex.1)) (omega arith) refl refl refl)
-    (both_pass is_comment_byte (codes "B#16#") (digits 16 2 n) refl (hex_plain 2 n))) (hard true ps end r)
+    before g kind.Based (codes "B#16#" ++ digits_in_base 16 2 n) ps end refl (opening 66 _ refl) (hashed.byte_stands (digits_in_base 16 2 n) (text_of_pieces ps end) (hex_words 2 n) (soft_stops (text_of_pieces ps end) (r.soft refl)))
+    (no_fault kind.Based (codes "B#16#" ++ digits_in_base 16 2 n) false (based_right (codes "B#16#") (digits_in_base 16 2 n) 2 hex.0 (omega (arith, hex.1)) (omega (arith, hex.1)) (omega arith) refl refl refl)
+    (both_pass is_comment_byte (codes "B#16#") (digits_in_base 16 2 n) refl (hex_plain 2 n))) (hard true ps end r)
 
-pub word_constant_rest : (g : Gap) (n : ℕ) (ps : List Piece) (end : List ℕ) → Rest true ps end → Rest (opens g) (token g kind.Based (codes "W#16#" ++ digits 16 4 n) ∷ ps) end
-unfolding rule_of is_minus base_of most_digits first_letter is_separator is_comment_byte in_source
+pub word_constant_rest : (g : Gap) (n : ℕ) (ps : List Piece) (end : List ℕ) → Rest true ps end → Rest (opens g) (token_piece g kind.Based (codes "W#16#" ++ digits_in_base 16 4 n) ∷ ps) end
+unfolding rule_broken_by_token is_minus base_of most_digits first_letter is_separator is_comment_byte is_source_byte
 word_constant_rest g n ps end r =
     let hex = hex_digits 4 n in
-    before g kind.Based (codes "W#16#" ++ digits 16 4 n) ps end refl (opening 87 _ refl) (hashed.word_stands (digits 16 4 n) (spelled ps end) (hex_words 4 n) (soft_stops (spelled ps end) (r.soft refl)))
-    (no_fault kind.Based (codes "W#16#" ++ digits 16 4 n) false (based_right (codes "W#16#") (digits 16 4 n) 4 hex.0 (omega (arith, hex.1)) (omega (arith, hex.1)) (omega arith) refl refl refl)
-    (both_pass is_comment_byte (codes "W#16#") (digits 16 4 n) refl (hex_plain 4 n))) (hard true ps end r)
+    before g kind.Based (codes "W#16#" ++ digits_in_base 16 4 n) ps end refl (opening 87 _ refl) (hashed.word_stands (digits_in_base 16 4 n) (text_of_pieces ps end) (hex_words 4 n) (soft_stops (text_of_pieces ps end) (r.soft refl)))
+    (no_fault kind.Based (codes "W#16#" ++ digits_in_base 16 4 n) false (based_right (codes "W#16#") (digits_in_base 16 4 n) 4 hex.0 (omega (arith, hex.1)) (omega (arith, hex.1)) (omega arith) refl refl refl)
+    (both_pass is_comment_byte (codes "W#16#") (digits_in_base 16 4 n) refl (hex_plain 4 n))) (hard true ps end r)
 
-pub dword_rest : (g : Gap) (n : ℕ) (ps : List Piece) (end : List ℕ) → Rest true ps end → Rest (opens g) (token g kind.Based (codes "DW#16#" ++ digits 16 8 n) ∷ ps) end
-unfolding rule_of is_minus base_of most_digits first_letter is_separator is_comment_byte in_source
+pub dword_rest : (g : Gap) (n : ℕ) (ps : List Piece) (end : List ℕ) → Rest true ps end → Rest (opens g) (token_piece g kind.Based (codes "DW#16#" ++ digits_in_base 16 8 n) ∷ ps) end
+unfolding rule_broken_by_token is_minus base_of most_digits first_letter is_separator is_comment_byte is_source_byte
 dword_rest g n ps end r =
     let hex = hex_digits 8 n in
-    before g kind.Based (codes "DW#16#" ++ digits 16 8 n) ps end refl (opening 68 _ refl) (hashed.dword_stands (digits 16 8 n) (spelled ps end) (hex_words 8 n) (soft_stops (spelled ps end) (r.soft refl)))
-    (no_fault kind.Based (codes "DW#16#" ++ digits 16 8 n) false (based_right (codes "DW#16#") (digits 16 8 n) 8 hex.0 (omega (arith, hex.1)) (omega (arith, hex.1)) (omega arith) refl refl refl)
-    (both_pass is_comment_byte (codes "DW#16#") (digits 16 8 n) refl (hex_plain 8 n))) (hard true ps end r)
+    before g kind.Based (codes "DW#16#" ++ digits_in_base 16 8 n) ps end refl (opening 68 _ refl) (hashed.dword_stands (digits_in_base 16 8 n) (text_of_pieces ps end) (hex_words 8 n) (soft_stops (text_of_pieces ps end) (r.soft refl)))
+    (no_fault kind.Based (codes "DW#16#" ++ digits_in_base 16 8 n) false (based_right (codes "DW#16#") (digits_in_base 16 8 n) 8 hex.0 (omega (arith, hex.1)) (omega (arith, hex.1)) (omega arith) refl refl refl)
+    (both_pass is_comment_byte (codes "DW#16#") (digits_in_base 16 8 n) refl (hex_plain 8 n))) (hard true ps end r)
 
 -- digits with a sign or none
 record Signed (text : List ℕ) : Type 0 where
@@ -428,7 +428,7 @@ record Signed (text : List ℕ) : Type 0 where
   plain : list_all is_comment_byte text ≡ true
 
 signed_digits : (v : ℤ) (unit : List ℕ) → IsLong v → list_all is_word_byte unit ≡ true → Signed (signed_decimal v ++ unit)
-unfolding behind_sign is_sign is_comment_byte in_source is_separator
+unfolding behind_sign is_sign is_comment_byte is_source_byte is_separator
 signed_digits (pos n) unit h e =
     let d = numeral n (omega (arith, h)) in
     let words = both_pass is_word_byte (decimal n) unit (digits_words (decimal n) d.digits) e in
@@ -449,16 +449,16 @@ signed_digits (negsuc n) unit h e =
 signed_alone : (v : ℤ) → IsLong v → Signed (signed_decimal v)
 signed_alone v h = subst Signed (append-nil (signed_decimal v)) (signed_digits v [] h refl)
 
-pub long_rest : (g : Gap) (v : ℤ) (ps : List Piece) (end : List ℕ) → IsLong v → Rest true ps end → Rest (opens g) (token g kind.NumberLiteral (codes "L#" ++ signed_decimal v) ∷ ps) end
-unfolding rule_of is_minus is_separator is_comment_byte in_source
+pub long_rest : (g : Gap) (v : ℤ) (ps : List Piece) (end : List ℕ) → IsLong v → Rest true ps end → Rest (opens g) (token_piece g kind.NumberLiteral (codes "L#" ++ signed_decimal v) ∷ ps) end
+unfolding rule_broken_by_token is_minus is_separator is_comment_byte is_source_byte
 long_rest g v ps end h r =
     let text = signed_alone v h in
-    before g kind.NumberLiteral (codes "L#" ++ signed_decimal v) ps end refl (opening 76 _ refl) (hashed.long_stands (signed_decimal v) (spelled ps end) text.some text.words (soft_stops (spelled ps end) (r.soft refl)))
+    before g kind.NumberLiteral (codes "L#" ++ signed_decimal v) ps end refl (opening 76 _ refl) (hashed.long_stands (signed_decimal v) (text_of_pieces ps end) text.some text.words (soft_stops (text_of_pieces ps end) (r.soft refl)))
     (no_fault kind.NumberLiteral (codes "L#" ++ signed_decimal v) false (long_right v h) (both_pass is_comment_byte (codes "L#") (signed_decimal v) refl text.plain)) (hard true ps end r)
 
-pub time_rest : (g : Gap) (v : ℤ) (ps : List Piece) (end : List ℕ) → IsLong v → Rest true ps end → Rest (opens g) (token g kind.TimeLiteral (codes "T#" ++ (signed_decimal v ++ codes "MS")) ∷ ps) end
-unfolding rule_of is_minus is_separator is_comment_byte in_source is_word_byte is_word_start
+pub time_rest : (g : Gap) (v : ℤ) (ps : List Piece) (end : List ℕ) → IsLong v → Rest true ps end → Rest (opens g) (token_piece g kind.TimeLiteral (codes "T#" ++ (signed_decimal v ++ codes "MS")) ∷ ps) end
+unfolding rule_broken_by_token is_minus is_separator is_comment_byte is_source_byte is_word_byte is_word_start
 time_rest g v ps end h r =
     let text = signed_digits v (codes "MS") h refl in
-    before g kind.TimeLiteral (codes "T#" ++ (signed_decimal v ++ codes "MS")) ps end refl (opening 84 _ refl) (hashed.time_stands (signed_decimal v ++ codes "MS") (spelled ps end) text.some text.words (soft_stops (spelled ps end) (r.soft refl)))
+    before g kind.TimeLiteral (codes "T#" ++ (signed_decimal v ++ codes "MS")) ps end refl (opening 84 _ refl) (hashed.time_stands (signed_decimal v ++ codes "MS") (text_of_pieces ps end) text.some text.words (soft_stops (text_of_pieces ps end) (r.soft refl)))
     (no_fault kind.TimeLiteral (codes "T#" ++ (signed_decimal v ++ codes "MS")) false (time_right v h) (both_pass is_comment_byte (codes "T#") (signed_decimal v ++ codes "MS") refl text.plain)) (hard true ps end r)

@@ -26,13 +26,13 @@ use Rattle.stl_parser.specs.declared.clauses.Clause.{Clause}
 use Rattle.stl_parser.specs.declared.clauses.Clause.TheVariants as clause
 use Rattle.stl_print.specs.Clauses.{clause_pieces, line_of, pieces_from, result_pieces}
 use Rattle.stl_print.specs.Gaps.{clause_gap, line_behind}
-use Rattle.stl_print.specs.Names.{block_name}
-use Rattle.stl_print.specs.Pieces.{mark, word}
-use Rattle.stl_print.specs.Trees.{begin_clauses, block_clauses, declared_from, end_of, instance_clauses, part_clauses, pieces, printed, shape_clauses, structure_ends, type_clauses}
+use Rattle.stl_print.specs.Names.{block_name_pieces}
+use Rattle.stl_print.specs.Pieces.{mark_piece, word_piece}
+use Rattle.stl_print.specs.Trees.{begin_clauses, block_clauses, declaration_clauses_from, end_of_text, instance_clauses, part_clauses, pieces_of_tree, printed_text, shape_clauses, structure_ends, type_clauses}
 use Rattle.stl_print.specs.Words.{end_word, head_word, result_word, section_word}
 use Rattle.stl_print.specs.declared.gaps.Gap.{Gap}
 use Rattle.stl_print.specs.declared.gaps.Gap.TheVariants as gap
-use Rattle.print_laws.specs.Standing.{ArePrintedTokens, DoTokensStand, IsName, IsNumberedBlock, IsNumberedOrNone, IsPrintableBlock, IsPrintableDeclaration, IsPrintableElement, IsPrintablePart, IsPrintableSetting, IsPrintableShape, IsPrintableStatement}
+use Rattle.print_laws.specs.Standing.{ArePrintedTokens, DoTokensStand, IsNonTitleName, IsNumberedBlock, IsNumberedOrNone, IsPrintableBlock, IsPrintableDeclaration, IsPrintableElement, IsPrintablePart, IsPrintableSetting, IsPrintableShape, IsPrintableStatement}
 use Rattle.print_laws.proofs.lexing.Declarations.{declaration_rest, setting_rest, type_name}
 use Rattle.print_laws.proofs.lexing.Operands.{as_soft, block_rest, closing_rest, colon_rest, joined, soft_as}
 use Rattle.print_laws.proofs.lexing.Pieces.{Rest, opens, word_rest}
@@ -49,22 +49,22 @@ IsPrintableClause (clause.Sets s) = IsPrintableSetting s
 IsPrintableClause (clause.Runs s) = IsPrintableStatement s
 IsPrintableClause _ = Unit {0}
 
-head_name : (k : BlockKind) → IsName (head_word k)
+head_name : (k : BlockKind) → IsNonTitleName (head_word k)
 unfolding head_word is_word_byte is_word_start
 head_name kinds.Ob = (refl, refl)
 head_name _ = (refl, refl)
 
-end_name : (k : BlockKind) → IsName (end_word k)
+end_name : (k : BlockKind) → IsNonTitleName (end_word k)
 unfolding end_word is_word_byte is_word_start
 end_name kinds.Ob = (refl, refl)
 end_name _ = (refl, refl)
 
-section_name : (p : PartKind) → IsName (section_word p)
+section_name : (p : PartKind) → IsNonTitleName (section_word p)
 unfolding section_word is_word_byte is_word_start
 section_name parts.Input = (refl, refl)
 section_name _ = (refl, refl)
 
-result_name : (r : Option Simple) → IsName (result_word r)
+result_name : (r : Option Simple) → IsNonTitleName (result_word r)
 unfolding is_word_byte is_word_start
 result_name None = (refl, refl)
 result_name (Some k) = type_name k
@@ -72,7 +72,7 @@ result_name (Some k) = type_name k
 result_rest : (k : BlockKind) (result : Option Simple) (ps : List Piece) (end : List ℕ) → Rest true ps end → Rest true (result_pieces k result ++ ps) end
 unfolding result_pieces
 result_rest kinds.Fc result ps end r =
-    colon_rest gap.Blank (word gap.Blank (result_word result) ∷ ps) end (word_rest gap.Blank (result_word result) ps end (result_name result) r)
+    colon_rest gap.Blank (word_piece gap.Blank (result_word result) ∷ ps) end (word_rest gap.Blank (result_word result) ps end (result_name result) r)
 result_rest kinds.Ob result ps end r = r
 result_rest kinds.Fb result ps end r = r
 result_rest kinds.Db result ps end r = r
@@ -82,8 +82,8 @@ result_rest kinds.Udt result ps end r = r
 clause_rest : (g : Gap) (c : Clause) (ps : List Piece) (end : List ℕ) → IsPrintableClause c → Rest true ps end → Rest (opens g) (clause_pieces g c ++ ps) end
 unfolding clause_pieces is_word_byte is_word_start
 clause_rest g (clause.Head line k name result) ps end h r =
-    word_rest g (head_word k) ((block_name gap.Blank name ++ result_pieces k result) ++ ps) end (head_name k)
-    (joined true (block_name gap.Blank name) (result_pieces k result) ps end (block_rest gap.Blank name (result_pieces k result ++ ps) end h (result_rest k result ps end r)))
+    word_rest g (head_word k) ((block_name_pieces gap.Blank name ++ result_pieces k result) ++ ps) end (head_name k)
+    (joined true (block_name_pieces gap.Blank name) (result_pieces k result) ps end (block_rest gap.Blank name (result_pieces k result ++ ps) end h (result_rest k result ps end r)))
 clause_rest g (clause.Ends line k) ps end h r = word_rest g (end_word k) ps end (end_name k) r
 clause_rest g (clause.Section line p) ps end h r = word_rest g (section_word p) ps end (section_name p) r
 clause_rest g clause.EndSection ps end h r = word_rest g (codes "END_VAR") ps end (refl, refl) r
@@ -91,7 +91,7 @@ clause_rest g clause.Begins ps end h r = word_rest g (codes "BEGIN") ps end (ref
 clause_rest g clause.Network ps end h r = word_rest g (codes "NETWORK") ps end (refl, refl) r
 clause_rest g clause.Structure ps end h r = word_rest g (codes "STRUCT") ps end (refl, refl) r
 clause_rest g clause.EndStructure ps end h r =
-    word_rest g (codes "END_STRUCT") (mark gap.Nothing mark_of.Semicolon ∷ ps) end (refl, refl) (closing_rest true gap.Nothing mark_of.Semicolon ps end refl refl r)
+    word_rest g (codes "END_STRUCT") (mark_piece gap.Nothing mark_of.Semicolon ∷ ps) end (refl, refl) (closing_rest true gap.Nothing mark_of.Semicolon ps end refl refl r)
 clause_rest g (clause.Based name) ps end h r = block_rest g name ps end h r
 clause_rest g clause.Note ps end h r = soft_as (opens g) ps end r
 clause_rest g clause.Title ps end h r = soft_as (opens g) ps end r
@@ -143,20 +143,20 @@ ends_printable : (count : ℕ) → AllByRecursion IsPrintableClause (structure_e
 ends_printable zero = tt
 ends_printable (suc count) = (tt, ends_printable count)
 
-declared_printable : (level : ℕ) (ds : List Declaration) → AllByRecursion IsPrintableDeclaration ds → AllByRecursion IsPrintableClause (declared_from level ds)
+declared_printable : (level : ℕ) (ds : List Declaration) → AllByRecursion IsPrintableDeclaration ds → AllByRecursion IsPrintableClause (declaration_clauses_from level ds)
 declared_printable level [] h = ends_printable level
 declared_printable level (d ∷ ds) (one, more) =
-    all_append IsPrintableClause (structure_ends (level - d.level)) (clause.Declares d ∷ declared_from (level_behind d.level d.of.of) ds)
+    all_append IsPrintableClause (structure_ends (level - d.level)) (clause.Declares d ∷ declaration_clauses_from (level_behind d.level d.of.of) ds)
     (ends_printable (level - d.level)) (one, declared_printable (level_behind d.level d.of.of) ds more)
 
 part_printable : (p : Part) → IsPrintablePart p → AllByRecursion IsPrintableClause (part_clauses p)
 unfolding part_clauses
-part_printable p h = (tt, all_append IsPrintableClause (declared_from 0 p.items) (clause.EndSection ∷ []) (declared_printable 0 p.items h) (tt, tt))
+part_printable p h = (tt, all_append IsPrintableClause (declaration_clauses_from 0 p.items) (clause.EndSection ∷ []) (declared_printable 0 p.items h) (tt, tt))
 
 type_printable : (e : ElementType) (components : List Declaration) → IsPrintableElement e → AllByRecursion IsPrintableDeclaration components → AllByRecursion IsPrintableClause (type_clauses e components)
 unfolding type_clauses
 type_printable (element.Plain k) components h all = tt
-type_printable element.Structure components h all = (tt, all_append IsPrintableClause (declared_from 0 components) (clause.EndStructure ∷ []) (declared_printable 0 components all) (tt, tt))
+type_printable element.Structure components h all = (tt, all_append IsPrintableClause (declaration_clauses_from 0 components) (clause.EndStructure ∷ []) (declared_printable 0 components all) (tt, tt))
 type_printable (element.Udt name) components h all = (h, tt)
 type_printable element.DateAndTime components h all = tt
 
@@ -190,17 +190,17 @@ block_printable b h =
 
 -- ---- trees
 
-end_rest : (blocks : List Block) → Rest true [] (end_of blocks)
+end_rest : (blocks : List Block) → Rest true [] (end_of_text blocks)
 unfolding is_separator is_word_byte is_word_start
 end_rest [] = record { stands = refl; soft = λ e. refl }
 end_rest (b ∷ bs) = record { stands = refl; soft = λ e. refl }
 
 pub tokens_stand : DoTokensStand
-unfolding pieces
+unfolding pieces_of_tree
 tokens_stand t h =
-    let r = clauses_rest 0 (flat_map block_clauses t.blocks) (end_of t.blocks) (all_joined IsPrintableBlock block_clauses t.blocks block_printable h) (end_rest t.blocks) in
+    let r = clauses_rest 0 (flat_map block_clauses t.blocks) (end_of_text t.blocks) (all_joined IsPrintableBlock block_clauses t.blocks block_printable h) (end_rest t.blocks) in
     r.stands
 
 pub printed_tokens : ArePrintedTokens
-unfolding printed
-printed_tokens t h = pieces_read (pieces t) (end_of t.blocks) (tokens_stand t h)
+unfolding printed_text
+printed_tokens t h = pieces_read (pieces_of_tree t) (end_of_text t.blocks) (tokens_stand t h)

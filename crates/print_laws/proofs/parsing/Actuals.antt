@@ -18,13 +18,13 @@ use Rattle.stl_parser.specs.Operands.{operand_of}
 use Rattle.stl_parser.specs.Statements.{value_ends, value_length, value_of}
 use Rattle.stl_parser.specs.Terminals.{has_kind, is_mark}
 use Rattle.stl_print.specs.Literals.{literal_pieces}
-use Rattle.stl_print.specs.Names.{block_name}
-use Rattle.stl_print.specs.Operands.{bit_pieces, direct, operand_pieces, path_head}
-use Rattle.print_laws.specs.Reading.{IsPassed, IsPrintedOperand}
+use Rattle.stl_print.specs.Names.{block_name_pieces}
+use Rattle.stl_print.specs.Operands.{bit_pieces, direct_pieces, operand_pieces, path_head_pieces}
+use Rattle.print_laws.specs.Reading.{IsPassedOperand, IsPrintedOperand}
 use Rattle.print_laws.proofs.parsing.Shown.{lacks, without}
 
 -- what is passed is an operand
-pub passed_printed : (o : Operand) → IsPassed o → IsPrintedOperand o
+pub passed_printed : (o : Operand) → IsPassedOperand o → IsPrintedOperand o
 passed_printed (operand.Direct name area w byte bit) h = h
 passed_printed (operand.Named (head.Local name) []) h = h
 passed_printed (operand.Named (head.Local name) (s ∷ steps)) h = absurd h
@@ -45,9 +45,9 @@ passed_printed (operand.OpenBlock di name) h = absurd h
 passed_printed (operand.Called name instance) h = absurd h
 
 -- it has no comma
-direct_lacks : (g : _) (name : _) (area : _) (w : Width) (byte bit : ℕ) → IsPassed (operand.Direct name area w byte bit)
-    → lacks mark.Comma (direct g name area w byte bit) ≡ true
-unfolding direct bit_pieces block_name mark_text
+direct_lacks : (g : _) (name : _) (area : _) (w : Width) (byte bit : ℕ) → IsPassedOperand (operand.Direct name area w byte bit)
+    → lacks mark.Comma (direct_pieces g name area w byte bit) ≡ true
+unfolding direct_pieces bit_pieces block_name_pieces mark_text
 direct_lacks g None area width.Bit byte bit h = refl
 direct_lacks g None area width.Byte byte bit h = refl
 direct_lacks g None area width.Word byte bit h = refl
@@ -58,8 +58,8 @@ direct_lacks g (Some (block.Number id)) area width.Word byte bit h = refl
 direct_lacks g (Some (block.Number id)) area width.Dword byte bit h = refl
 direct_lacks g (Some (block.Quoted n)) area w byte bit h = absurd h.0.0
 
-pub passed_lacks : (g : _) (o : Operand) → IsPassed o → lacks mark.Comma (operand_pieces g o) ≡ true
-unfolding operand_pieces path_head literal_pieces mark_text
+pub passed_lacks : (g : _) (o : Operand) → IsPassedOperand o → lacks mark.Comma (operand_pieces g o) ≡ true
+unfolding operand_pieces path_head_pieces literal_pieces mark_text
 passed_lacks g (operand.Direct name area w byte bit) h = direct_lacks g name area w byte bit h
 passed_lacks g (operand.Named (head.Local name) []) h = refl
 passed_lacks g (operand.Named (head.Local name) (s ∷ steps)) h = absurd h
@@ -117,7 +117,7 @@ value_counted source (v ∷ vs) fs all some ends =
     rw (no_end source v (vs ++ fs) parts.0 (some_joined vs fs some)) (omega (arith, value_counted source vs fs parts.1 some ends))
 
 -- a value isn't empty
-pub value_is : (source : List ℕ) (g : _) (from line : ℕ) (o : Operand) → IsPassed o → operand_of source (tokens_of from line (operand_pieces g o)) ≡ Some o
+pub value_is : (source : List ℕ) (g : _) (from line : ℕ) (o : Operand) → IsPassedOperand o → operand_of source (tokens_of from line (operand_pieces g o)) ≡ Some o
     → value_of source (tokens_of from line (operand_pieces g o)) ≡ Some o
 unfolding value_of operand_of
 value_is source g from line o h e = by (tokens_of from line (operand_pieces g o)) e
@@ -125,7 +125,7 @@ value_is source g from line o h e = by (tokens_of from line (operand_pieces g o)
     by : (ts : List Token) → operand_of source ts ≡ Some o → value_of source ts ≡ Some o
     by [] is = absurd (empty o h is)
       where
-        empty : (o : Operand) → IsPassed o → operand_of source [] ≡ Some o → ⊥
+        empty : (o : Operand) → IsPassedOperand o → operand_of source [] ≡ Some o → ⊥
         empty operand.Nothing h is = absurd h
         empty _ h is = absurd cc
     by (t ∷ ts) is = is

@@ -11,24 +11,24 @@ use Rattle.stl_lexer.specs.Tokens.{text_of}
 use Rattle.stl_lexer.specs.declared.kinds.Token.{Token}
 use Rattle.stl_lexer.specs.declared.kinds.TokenKind.TheVariants as kind
 use Rattle.stl_lexer.specs.declared.marks.Mark.TheVariants as mark
-use Rattle.stl_ast.specs.Statements.{is_empty}
+use Rattle.stl_ast.specs.Statements.{is_empty_statement}
 use Rattle.stl_ast.specs.declared.mnemonics.Mnemonic.{Mnemonic}
 use Rattle.stl_ast.specs.declared.mnemonics.Mnemonic.TheVariants as mnemonic
 use Rattle.stl_ast.specs.declared.statements.Statement.{Statement}
 use Rattle.stl_parser.specs.Clauses.{clause_at}
-use Rattle.stl_parser.specs.Statements.{is_long, statement}
+use Rattle.stl_parser.specs.Statements.{is_long_label, statement_with_label}
 use Rattle.stl_parser.specs.Terminals.{has_kind, is_mark}
 use Rattle.stl_parser.specs.declared.clauses.Clause.TheVariants as clause
 use Rattle.stl_parser.specs.declared.places.ClausePlace.TheVariants as place
 use Rattle.stl_parser.specs.declared.statements.BareStatement.{BareStatement}
 use Rattle.stl_print.specs.Gaps.{gap_text}
-use Rattle.stl_print.specs.Mnemonics.{spelling, spelling_pieces}
+use Rattle.stl_print.specs.Mnemonics.{mnemonic_spelling, spelling_pieces}
 use Rattle.stl_print.specs.Operands.{operand_pieces}
-use Rattle.stl_print.specs.Pieces.{mark as mark_piece, word}
+use Rattle.stl_print.specs.Pieces.{mark_piece, word_piece}
 use Rattle.stl_print.specs.Statements.{actuals_pieces, instruction_pieces, labelled_pieces, pieces_by_label, statement_pieces, unlabelled_pieces}
 use Rattle.stl_print.specs.declared.gaps.Gap.{Gap}
 use Rattle.stl_print.specs.declared.gaps.Gap.TheVariants as gap
-use Rattle.print_laws.specs.Reading.{FitsSyntax, IsLabelOf, IsPrintedStatement, empty, syntax_of}
+use Rattle.print_laws.specs.Reading.{FitsSyntax, IsPrintedLabelOf, IsPrintedStatement, empty, syntax_of}
 use Rattle.print_laws.proofs.parsing.Lines.{flat_line, head_line, past_joined, semicolon, semicolon_behind, semicolon_calm, semicolon_is, semicolon_joined, tame_flat, word_head, word_lacks, word_line, word_quiet}
 use Rattle.print_laws.proofs.parsing.Operands.{Texts}
 use Rattle.print_laws.proofs.parsing.Runs.{runs_alone, runs_labelled}
@@ -38,13 +38,13 @@ use Rattle.print_laws.proofs.parsing.Tame.{flat_ends, flat_word, tame_lacks}
 
 -- an instruction without its semicolon
 inside : Gap → Statement → List Piece
-inside g s = spelling_pieces g (spelling s.code) ++ (operand_pieces gap.Blank s.operand ++ actuals_pieces s.actuals)
+inside g s = spelling_pieces g (mnemonic_spelling s.code) ++ (operand_pieces gap.Blank s.operand ++ actuals_pieces s.actuals)
 
 grouped : (g : Gap) (s : Statement) → instruction_pieces g s ≡ inside g s ++ semicolon ∷ []
 unfolding instruction_pieces inside
 grouped g s =
-    ap (λ (ps : List Piece). spelling_pieces g (spelling s.code) ++ ps) (sym (append_assoc (operand_pieces gap.Blank s.operand) (actuals_pieces s.actuals) (semicolon ∷ [])))
-    ∙ sym (append_assoc (spelling_pieces g (spelling s.code)) (operand_pieces gap.Blank s.operand ++ actuals_pieces s.actuals) (semicolon ∷ []))
+    ap (λ (ps : List Piece). spelling_pieces g (mnemonic_spelling s.code) ++ ps) (sym (append_assoc (operand_pieces gap.Blank s.operand) (actuals_pieces s.actuals) (semicolon ∷ [])))
+    ∙ sym (append_assoc (spelling_pieces g (mnemonic_spelling s.code)) (operand_pieces gap.Blank s.operand ++ actuals_pieces s.actuals) (semicolon ∷ []))
 
 abbrev bare_of : Statement → BareStatement
 bare_of s = record { code = s.code; operand = s.operand; actuals = s.actuals; long = false }
@@ -70,16 +70,16 @@ whole_inside source from line g s rest fits here t =
     let front : Texts source from line (inside g s) = shown_front source from line (inside g s) (semicolon ∷ []) t in
     let fine = word_quiet s.code (no_empty s.line (syntax_of s.code) s.operand s.actuals fits) in
     let i : IsInstruction source (bare_of s) (tokens_of from line (inside g s)) =
-    instruction_read source from line s.line g gap.Blank s.code s.operand s.actuals refl fits (word_line (spelling s.code) g line fine ∙ here) front
+    instruction_read source from line s.line g gap.Blank s.code s.operand s.actuals refl fits (word_line (mnemonic_spelling s.code) g line fine ∙ here) front
     in
     record {
       ts = tokens_of from line (inside g s);
       semi = semicolon_behind from line (inside g s);
       instruction = i;
-      line_is = sym (ap head_line i.is) ∙ word_head (spelling s.code) g from line (operand_pieces gap.Blank s.operand ++ actuals_pieces s.actuals) ∙ here;
+      line_is = sym (ap head_line i.is) ∙ word_head (mnemonic_spelling s.code) g from line (operand_pieces gap.Blank s.operand ++ actuals_pieces s.actuals) ∙ here;
       lack = lack_shown source from line mark.Semicolon (inside g s) front
-          (lacks_joined mark.Semicolon (spelling_pieces g (spelling s.code)) (operand_pieces gap.Blank s.operand ++ actuals_pieces s.actuals)
-          (word_lacks (spelling s.code) g fine) (tame_lacks (operand_pieces gap.Blank s.operand ++ actuals_pieces s.actuals) (behind_tame gap.Blank s.line (syntax_of s.code) s.operand s.actuals refl fits)));
+          (lacks_joined mark.Semicolon (spelling_pieces g (mnemonic_spelling s.code)) (operand_pieces gap.Blank s.operand ++ actuals_pieces s.actuals)
+          (word_lacks (mnemonic_spelling s.code) g fine) (tame_lacks (operand_pieces gap.Blank s.operand ++ actuals_pieces s.actuals) (behind_tame gap.Blank s.line (syntax_of s.code) s.operand s.actuals refl fits)));
       semi_is = semicolon_is source from line (inside g s) t;
       calm = semicolon_calm source from line (inside g s) t;
       joined = semicolon_joined from line (inside g s) rest;
@@ -91,7 +91,7 @@ whole source from line g s rest fits here =
     subst (λ (ps : List Piece). Texts source from line ps → IsWhole source s (tokens_of from line ps) rest) (sym (grouped g s))
     (whole_inside source from line g s rest fits here)
 
-not_empty : (m : Mnemonic) → (syntax_of m ≡ empty → ⊥) → is_empty m ≡ false
+not_empty : (m : Mnemonic) → (syntax_of m ≡ empty → ⊥) → is_empty_statement m ≡ false
 not_empty mnemonic.Empty h = absurd (h refl)
 not_empty mnemonic.Nop h = refl
 not_empty mnemonic.Bld h = refl
@@ -220,7 +220,7 @@ not_empty mnemonic.Beu h = refl
 not_empty mnemonic.Opn h = refl
 not_empty mnemonic.Cdb h = refl
 
-filled : (s : Statement) → Fits s → is_empty s.code ≡ false
+filled : (s : Statement) → Fits s → is_empty_statement s.code ≡ false
 filled s fits = not_empty s.code (no_empty s.line (syntax_of s.code) s.operand s.actuals fits)
 
 plain_pieces : (g : Gap) (s : Statement) → Fits s → unlabelled_pieces g s ≡ instruction_pieces g s
@@ -241,16 +241,16 @@ alone_read source from line g k s rest fits here t =
     let w : IsWhole source s (tokens_of from line (instruction_pieces g s)) rest = whole source from line g s rest fits here t in
     ap (clause_at source (place.Body k)) w.joined
     ∙ runs_alone source k (bare_of s) w.ts rest w.semi w.instruction w.lack w.semi_is w.calm
-    ∙ ap (λ (n : ℕ). Some (clause.Runs (statement n None (bare_of s)), rest, false)) w.line_is
+    ∙ ap (λ (n : ℕ). Some (clause.Runs (statement_with_label n None (bare_of s)), rest, false)) w.line_is
 
-short : (source : List ℕ) (t : Token) (name : List ℕ) → text_of source t ≡ name → length name ≤ 4 → is_long source t ≡ false
-unfolding is_long
+short : (source : List ℕ) (t : Token) (name : List ℕ) → text_of source t ≡ name → length name ≤ 4 → is_long_label source t ≡ false
+unfolding is_long_label
 short source t name is h = rw is (grind (arith, nat_tests, h))
 
 behind_label : (source : List ℕ) (from line : ℕ) (g : Gap) (k : BlockKind) (s : Statement) (name : List ℕ) (rest : List Token) (ps : List Piece) → Fits s
-    → IsLabelOf (Some name) → line + sum_by newlines_of (gap_text g) ≡ s.line → ps ≡ instruction_pieces gap.Blank s
-    → Texts source from line (word g name ∷ mark_piece gap.Nothing mark.Colon ∷ ps)
-    → clause_at source (place.Body k) (tokens_of from line (word g name ∷ mark_piece gap.Nothing mark.Colon ∷ ps) ++ rest)
+    → IsPrintedLabelOf (Some name) → line + sum_by newlines_of (gap_text g) ≡ s.line → ps ≡ instruction_pieces gap.Blank s
+    → Texts source from line (word_piece g name ∷ mark_piece gap.Nothing mark.Colon ∷ ps)
+    → clause_at source (place.Body k) (tokens_of from line (word_piece g name ∷ mark_piece gap.Nothing mark.Colon ∷ ps) ++ rest)
     ≡ Some (clause.Runs (labelled_as s (Some name)), rest, false)
 unfolding is_mark has_kind mark_text
 behind_label source from line g k s name rest ps fits label here e t =
@@ -258,7 +258,7 @@ behind_label source from line g k s name rest ps fits label here e t =
     (ap (λ (qs : List Piece). tokens_of at here_line qs ++ rest) e ∙ w.joined)
     ∙ runs_labelled source k (bare_of s) label_token colon_token name w.ts rest w.semi w.instruction refl t.1 label.is_name.free
     (short source label_token name t.1 label.short) refl (rw t.2.1 refl) refl (and_from _ _ refl (and_from _ _ (rw t.2.1 refl) w.lack)) w.semi_is
-    ∙ ap (λ (n : ℕ). Some (clause.Runs (statement n (Some name) (bare_of s)), rest, false)) here
+    ∙ ap (λ (n : ℕ). Some (clause.Runs (statement_with_label n (Some name) (bare_of s)), rest, false)) here
   where
     at : ℕ
     at = from + length (gap_text g) + length name + 0 + 1
@@ -288,7 +288,7 @@ behind_label source from line g k s name rest ps fits label here e t =
     w : IsWhole source s (tokens_of at here_line (instruction_pieces gap.Blank s)) rest
     w = whole source at here_line gap.Blank s rest fits on_line (subst (λ (qs : List Piece). Texts source at here_line qs) e t.2.2)
 
-by_label : (source : List ℕ) (from line : ℕ) (g : Gap) (k : BlockKind) (s : Statement) (l : Option (List ℕ)) (rest : List Token) → Fits s → IsLabelOf l
+by_label : (source : List ℕ) (from line : ℕ) (g : Gap) (k : BlockKind) (s : Statement) (l : Option (List ℕ)) (rest : List Token) → Fits s → IsPrintedLabelOf l
     → line + sum_by newlines_of (gap_text g) ≡ s.line → Texts source from line (pieces_by_label g l s)
     → clause_at source (place.Body k) (tokens_of from line (pieces_by_label g l s) ++ rest) ≡ Some (clause.Runs (labelled_as s l), rest, false)
 unfolding labelled_pieces unlabelled_pieces
@@ -315,12 +315,12 @@ inside_line g s line fits =
     ap (line_past line) (grouped g s)
     ∙ past_joined (inside g s) (semicolon ∷ []) line
     ∙ flat_line (semicolon ∷ []) (line_past line (inside g s)) refl
-    ∙ past_joined (spelling_pieces g (spelling s.code)) (operand_pieces gap.Blank s.operand ++ actuals_pieces s.actuals) line
-    ∙ flat_line (operand_pieces gap.Blank s.operand ++ actuals_pieces s.actuals) (line_past line (spelling_pieces g (spelling s.code)))
+    ∙ past_joined (spelling_pieces g (mnemonic_spelling s.code)) (operand_pieces gap.Blank s.operand ++ actuals_pieces s.actuals) line
+    ∙ flat_line (operand_pieces gap.Blank s.operand ++ actuals_pieces s.actuals) (line_past line (spelling_pieces g (mnemonic_spelling s.code)))
     (tame_flat (operand_pieces gap.Blank s.operand ++ actuals_pieces s.actuals) (behind_tame gap.Blank s.line (syntax_of s.code) s.operand s.actuals refl fits))
-    ∙ word_line (spelling s.code) g line fine
+    ∙ word_line (mnemonic_spelling s.code) g line fine
 
-label_line : (g : Gap) (s : Statement) (l : Option (List ℕ)) (line : ℕ) → Fits s → IsLabelOf l
+label_line : (g : Gap) (s : Statement) (l : Option (List ℕ)) (line : ℕ) → Fits s → IsPrintedLabelOf l
     → line_past line (pieces_by_label g l s) ≡ line + sum_by newlines_of (gap_text g)
 unfolding mark_text
 label_line g s None line fits label = ap (line_past line) (plain_pieces g s fits) ∙ inside_line g s line fits

@@ -10,15 +10,15 @@ use Rattle.std.proofs.lemmas.Bool.{and_parts, and_from}
 use Rattle.std.proofs.lemmas.Bool.Decides.{nat_tests}
 use Rattle.std.proofs.lemmas.List.Sums.{suffix_len_is}
 use Rattle.plc_base.specs.Decimal.{decimal_value, decimal_up_to}
-use Rattle.stl_lexer.specs.Bytes.{hash, minus_sign, plus, underscore}
+use Rattle.stl_lexer.specs.Bytes.{hash, minus_sign, plus_sign, underscore}
 use Rattle.stl_lexer.specs.Forms.{first_letter}
 use Rattle.stl_lexer.specs.Limits.{greatest_long}
-use Rattle.stl_lexer.specs.Rules.{behind_prefix, within}
-use Rattle.stl_lexer.specs.TimeLiteral.{is_part, length_of, letters_of, milliseconds, units}
+use Rattle.stl_lexer.specs.Rules.{behind_prefix, value_up_to}
+use Rattle.stl_lexer.specs.TimeLiteral.{is_part, milliseconds_of_unit, letters_of_unit, milliseconds, time_units}
 use Rattle.stl_ast.specs.Literals.{IsLong}
 use Rattle.stl_ast.specs.declared.literals.Literal.TheVariants as literal
-use Rattle.stl_parser.specs.Values.{based_literal, based_value, duration, long_or_count, long_value, time_value, value_from}
-use Rattle.stl_print.specs.Digits.{digit, digits}
+use Rattle.stl_parser.specs.Values.{based_literal, based_value, duration_literal, long_or_count, long_value, time_value, value_from}
+use Rattle.stl_print.specs.Digits.{digit_character, digits_in_base}
 use Rattle.print_laws.proofs.parsing.Numbers.{IsNumeral, minus, number_read, numeral}
 
 -- ---- behind a prefix
@@ -105,31 +105,31 @@ value_joined greatest base n (b ∷ s) t =
     by false true same on = on
     by false false same on = refl
 
-digit_is : (d : ℕ) → d < 16 → digit_value (digit d) ≡ d
+digit_is : (d : ℕ) → d < 16 → digit_value (digit_character d) ≡ d
 digit_is d small = grind (arith, nat_tests)
 
-no_underscore : (d : ℕ) → d < 16 → (digit d == underscore) ≡ false
+no_underscore : (d : ℕ) → d < 16 → (digit_character d == underscore) ≡ false
 no_underscore d small = grind (arith, nat_tests)
 
-digit_no_hash : (d : ℕ) → d < 16 → no_hash (digit d) ≡ true
+digit_no_hash : (d : ℕ) → d < 16 → no_hash (digit_character d) ≡ true
 digit_no_hash d small = grind (arith, nat_tests)
 
-one_digit : (greatest n d : ℕ) → d < 16 → 16 * n + d ≤ greatest → value_from greatest 16 n (digit d ∷ []) ≡ Some (16 * n + d)
+one_digit : (greatest n d : ℕ) → d < 16 → 16 * n + d ≤ greatest → value_from greatest 16 n (digit_character d ∷ []) ≡ Some (16 * n + d)
 unfolding value_from
 one_digit greatest n d small fits =
     let a : nat_lt d 16 ≡ true = grind (arith, nat_tests) in
     let b : nat_le (16 * n + d) greatest ≡ true = grind (arith, nat_tests) in
     rw (no_underscore d small, digit_is d small, a, b) refl
 
-pub hex_value : (greatest count n : ℕ) → n < 16 ^ count → n ≤ greatest → value_from greatest 16 0 (digits 16 count n) ≡ Some n
-unfolding digits value_from
+pub hex_value : (greatest count n : ℕ) → n < 16 ^ count → n ≤ greatest → value_from greatest 16 0 (digits_in_base 16 count n) ≡ Some n
+unfolding digits_in_base value_from
 hex_value greatest zero n small fits = zeroed
   where
     zeroed : value_from greatest 16 0 [] ≡ Some n
     zeroed = ap Some (omega (arith, small))
 hex_value greatest (suc count) n small fits =
-    value_joined greatest 16 0 (digits 16 count (n / 16)) (digit (n % 16) ∷ [])
-    ∙ ap (λ o. option_and_then (λ m. value_from greatest 16 m (digit (n % 16) ∷ [])) o)
+    value_joined greatest 16 0 (digits_in_base 16 count (n / 16)) (digit_character (n % 16) ∷ [])
+    ∙ ap (λ o. option_and_then (λ m. value_from greatest 16 m (digit_character (n % 16) ∷ [])) o)
     (hex_value greatest count (n / 16) (omega (arith, pow-succ' 16 count, small)) (omega arith))
     ∙ one_digit greatest (n / 16) (n % 16) (omega arith) (omega arith)
     ∙ ap Some (omega arith)
@@ -140,26 +140,26 @@ joined_all p (c ∷ s) b all is =
     let parts : (p c ≡ true) × (list_all p s ≡ true) = and_parts (p c) (list_all p s) all in
     and_from (p c) (list_all p (s ++ b ∷ [])) parts.0 (joined_all p s b parts.1 is)
 
-pub hex_no_hash : (count n : ℕ) → list_all no_hash (digits 16 count n) ≡ true
-unfolding digits
+pub hex_no_hash : (count n : ℕ) → list_all no_hash (digits_in_base 16 count n) ≡ true
+unfolding digits_in_base
 hex_no_hash zero n = refl
-hex_no_hash (suc count) n = joined_all no_hash (digits 16 count (n / 16)) (digit (n % 16)) (hex_no_hash count (n / 16)) (digit_no_hash (n % 16) (omega arith))
+hex_no_hash (suc count) n = joined_all no_hash (digits_in_base 16 count (n / 16)) (digit_character (n % 16)) (hex_no_hash count (n / 16)) (digit_no_hash (n % 16) (omega arith))
 
-pub byte_value : (n : ℕ) → n ≤ 255 → based_value (codes "B#16#" ++ digits 16 2 n) ≡ Some (literal.Byte n)
+pub byte_value : (n : ℕ) → n ≤ 255 → based_value (codes "B#16#" ++ digits_in_base 16 2 n) ≡ Some (literal.Byte n)
 unfolding based_value based_literal first_letter
-byte_value n fits = rw (behind_hash (codes "B#16") (digits 16 2 n) (hex_no_hash 2 n), hex_value 255 2 n (omega arith) fits) refl
+byte_value n fits = rw (behind_hash (codes "B#16") (digits_in_base 16 2 n) (hex_no_hash 2 n), hex_value 255 2 n (omega arith) fits) refl
 
-pub word_value : (n : ℕ) → n ≤ 65535 → based_value (codes "W#16#" ++ digits 16 4 n) ≡ Some (literal.Word n)
+pub word_value : (n : ℕ) → n ≤ 65535 → based_value (codes "W#16#" ++ digits_in_base 16 4 n) ≡ Some (literal.Word n)
 unfolding based_value based_literal first_letter
-word_value n fits = rw (behind_hash (codes "W#16") (digits 16 4 n) (hex_no_hash 4 n), hex_value 65535 4 n (omega arith) fits) refl
+word_value n fits = rw (behind_hash (codes "W#16") (digits_in_base 16 4 n) (hex_no_hash 4 n), hex_value 65535 4 n (omega arith) fits) refl
 
-pub dword_value : (n : ℕ) → n < 2 ^ 32 → based_value (codes "DW#16#" ++ digits 16 8 n) ≡ Some (literal.Dword n)
+pub dword_value : (n : ℕ) → n < 2 ^ 32 → based_value (codes "DW#16#" ++ digits_in_base 16 8 n) ≡ Some (literal.Dword n)
 unfolding based_value based_literal first_letter
-dword_value n fits = rw (behind_hash (codes "DW#16") (digits 16 8 n) (hex_no_hash 8 n), hex_value (2 ^ 32 - 1) 8 n (omega arith) (omega arith)) refl
+dword_value n fits = rw (behind_hash (codes "DW#16") (digits_in_base 16 8 n) (hex_no_hash 8 n), hex_value (2 ^ 32 - 1) 8 n (omega arith) (omega arith)) refl
 
 -- ---- decimal constants
 
-digit_no_sign : (b : ℕ) → is_ascii_digit b ≡ true → ((b == minus_sign) ≡ false) × ((b == plus) ≡ false) × (no_hash b ≡ true)
+digit_no_sign : (b : ℕ) → is_ascii_digit b ≡ true → ((b == minus_sign) ≡ false) × ((b == plus_sign) ≡ false) × (no_hash b ≡ true)
 digit_no_sign b is = (grind (arith, nat_tests, is), grind (arith, nat_tests, is), grind (arith, nat_tests, is))
 
 digits_no_hash : (s : List ℕ) → list_all is_ascii_digit s ≡ true → list_all no_hash s ≡ true
@@ -212,20 +212,20 @@ take_front : (s t : List ℕ) → take (length s) (s ++ t) ≡ s
 take_front [] t = refl
 take_front (b ∷ s) t = ap (λ l. b ∷ l) (take_front s t)
 
-one_part : (s : List ℕ) → 0 < length s → list_all is_ascii_digit s ≡ true → milliseconds units (s ++ codes "MS") ≡ Some (decimal_value s * 1)
-unfolding milliseconds units is_part letters_of length_of
+one_part : (s : List ℕ) → 0 < length s → list_all is_ascii_digit s ≡ true → milliseconds time_units (s ++ codes "MS") ≡ Some (decimal_value s * 1)
+unfolding milliseconds time_units is_part letters_of_unit milliseconds_of_unit
 one_part s some all =
     let a : nat_lt 0 (length s) ≡ true = grind (arith, nat_tests) in
     rw (digits_before s all, take_front s (codes "MS"), drop_front s (codes "MS"), a) refl
 
-time_of : (n : ℕ) → n < 2 ^ 64 → milliseconds units (decimal n ++ codes "MS") ≡ Some n
+time_of : (n : ℕ) → n < 2 ^ 64 → milliseconds time_units (decimal n ++ codes "MS") ≡ Some n
 time_of n small =
     let d : IsNumeral n (decimal n) = numeral n small in
     one_part (decimal n) d.some d.digits ∙ ap Some (omega (arith, d.value))
 
-time_plain : (s : List ℕ) (n : ℕ) → 0 < length s → list_all is_ascii_digit s ≡ true → milliseconds units (s ++ codes "MS") ≡ Some n → n ≤ 2147483647
+time_plain : (s : List ℕ) (n : ℕ) → 0 < length s → list_all is_ascii_digit s ≡ true → milliseconds time_units (s ++ codes "MS") ≡ Some n → n ≤ 2147483647
     → time_value (s ++ codes "MS") ≡ Some (pos n)
-unfolding time_value within greatest_long
+unfolding time_value value_up_to greatest_long
 time_plain [] n some all value fits = absurd (omega arith)
 time_plain (b ∷ s) n some all value fits =
     let no = digit_no_sign b (and_parts (is_ascii_digit b) (list_all is_ascii_digit s) all).0 in
@@ -233,15 +233,15 @@ time_plain (b ∷ s) n some all value fits =
     rw (no.0, value, a) refl
 
 time_read : (z : ℤ) → IsLong z → time_value (signed_decimal z ++ codes "MS") ≡ Some z
-unfolding time_value within greatest_long
+unfolding time_value value_up_to greatest_long
 time_read (pos n) h =
     let d : IsNumeral n (decimal n) = numeral n (omega arith) in
     time_plain (decimal n) n d.some d.digits (time_of n (omega arith)) h
 time_read (negsuc n) h = negated (time_of (suc n) (omega arith)) (grind (arith, nat_tests))
   where
-    negated : milliseconds units (decimal (suc n) ++ codes "MS") ≡ Some (suc n) → nat_le (suc n) 2147483648 ≡ true → time_value (45 ∷ (decimal (suc n) ++ codes "MS")) ≡ Some (negsuc n)
+    negated : milliseconds time_units (decimal (suc n) ++ codes "MS") ≡ Some (suc n) → nat_le (suc n) 2147483648 ≡ true → time_value (45 ∷ (decimal (suc n) ++ codes "MS")) ≡ Some (negsuc n)
     negated e a = rw (e, a) (ap Some (minus n))
 
-pub time_constant : (z : ℤ) → IsLong z → duration (codes "T#" ++ (signed_decimal z ++ codes "MS")) ≡ Some (literal.Time z)
-unfolding duration first_letter
+pub time_constant : (z : ℤ) → IsLong z → duration_literal (codes "T#" ++ (signed_decimal z ++ codes "MS")) ≡ Some (literal.Time z)
+unfolding duration_literal first_letter
 time_constant z h = rw (behind_hash (codes "T") (signed_decimal z ++ codes "MS") (all_joined no_hash (signed_decimal z) (codes "MS") (signed_no_hash z h) refl), time_read z h) refl

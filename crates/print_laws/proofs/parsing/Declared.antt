@@ -22,7 +22,7 @@ use Rattle.stl_ast.specs.declared.declarations.Simple.{Simple}
 use Rattle.stl_ast.specs.declared.literals.Literal.{Literal}
 use Rattle.stl_ast.specs.declared.literals.Literal.TheVariants as literal
 use Rattle.stl_parser.specs.Clauses.{clause_at, clause_by_kind, declaration_clause, in_data_head, inside_clause, is_outer, level_at, other_clause, plain_clause, semicolon_clause, structure_clause, takes_parameters, until_semicolon}
-use Rattle.stl_parser.specs.Declarations.{after_struct, declaration_of, declared, declared_at, init_behind, structure_at}
+use Rattle.stl_parser.specs.Declarations.{after_struct, declaration_of, declaration_from_parts, declared_name_at, init_behind, structure_at}
 use Rattle.stl_parser.specs.Tables.{keywords, look_up}
 use Rattle.stl_parser.specs.Terminals.{has_kind, is_mark, key_text}
 use Rattle.stl_parser.specs.Types.{array_at, arrays_at, element_at, init_of, simple_at}
@@ -32,11 +32,11 @@ use Rattle.stl_parser.specs.declared.places.ClausePlace.{ClausePlace}
 use Rattle.stl_print.specs.Declarations.{array_pieces, behind_type, declaration_pieces, element_pieces, further_inits, init_pieces, inits_pieces, value_pieces}
 use Rattle.stl_print.specs.Gaps.{gap_text}
 use Rattle.stl_print.specs.Literals.{literal_pieces}
-use Rattle.stl_print.specs.Pieces.{mark as mark_piece, word}
+use Rattle.stl_print.specs.Pieces.{mark_piece, word_piece}
 use Rattle.stl_print.specs.Words.{type_word}
 use Rattle.stl_print.specs.declared.gaps.Gap.{Gap}
 use Rattle.stl_print.specs.declared.gaps.Gap.TheVariants as gap
-use Rattle.print_laws.specs.Reading.{IsByte, IsCountOf, IsName, IsPrintedDeclaration, IsPrintedInit, IsPrintedType}
+use Rattle.print_laws.specs.Reading.{IsByteLiteral, IsCountOf, IsNonKeywordName, IsPrintedDeclaration, IsPrintedInit, IsPrintedType}
 use Rattle.print_laws.proofs.parsing.Lines.{first_line, flat_all_joined, semicolon, semicolon_behind, semicolon_is, semicolon_joined, tame_flat}
 use Rattle.print_laws.proofs.parsing.Operands.{Texts}
 use Rattle.print_laws.proofs.parsing.Runs.{begun, either_none, named, no_array_at, no_arrays, no_key}
@@ -68,16 +68,16 @@ declared_clause source p d w us rest semi name word text free inner head structu
     ∙ outer source p d w.line (w ∷ us) rest semi head structure is allowed (until_read source (w ∷ us) rest semi all semi_is)
 
 pub typed_read : (source : List ℕ) (level : ℕ) (w colon t : Token) (us ts : List Token) (arrays : List Bounds) (k : Simple) (init : List Init)
-    → declared_at source (w ∷ colon ∷ us) ≡ Some (w, us) → arrays_at source us ≡ Some (arrays, t ∷ ts) → has_kind t kind.Word ≡ true
+    → declared_name_at source (w ∷ colon ∷ us) ≡ Some (w, us) → arrays_at source us ≡ Some (arrays, t ∷ ts) → has_kind t kind.Word ≡ true
     → text_of source t ≡ type_word k → init_behind source arrays (element.Plain k) ts ≡ Some init
-    → declaration_of source level (w ∷ colon ∷ us) ≡ Some (declared source level w arrays (element.Plain k) init)
+    → declaration_of source level (w ∷ colon ∷ us) ≡ Some (declaration_from_parts source level w arrays (element.Plain k) init)
 unfolding declaration_of element_at simple_at key_text
 typed_read source level w colon t us ts arrays k init name found word text values =
     let f : IsTypeWord k = type_found k in
     rw (name, found, word, no_key source t (type_word k) key.DateAndTime text f.no_date, text, f.found, values) refl
 
 pub typed_structure : (source : List ℕ) (level : ℕ) (w colon t : Token) (us ts : List Token) (arrays : List Bounds) (k : Simple)
-    → declared_at source (w ∷ colon ∷ us) ≡ Some (w, us) → arrays_at source us ≡ Some (arrays, t ∷ ts) → text_of source t ≡ type_word k
+    → declared_name_at source (w ∷ colon ∷ us) ≡ Some (w, us) → arrays_at source us ≡ Some (arrays, t ∷ ts) → text_of source t ≡ type_word k
     → structure_at source level (w ∷ colon ∷ us) ≡ None
 unfolding structure_at after_struct key_text
 typed_structure source level w colon t us ts arrays k name found text =
@@ -92,7 +92,7 @@ array_tame (negsuc m) (pos n) l h = rw (flat_number (suc m) (omega (arith, l)), 
 array_tame (pos m) (negsuc n) l h = rw (flat_number m l, flat_number (suc n) (omega (arith, h))) refl
 array_tame (negsuc m) (negsuc n) l h = rw (flat_number (suc m) (omega (arith, l)), flat_number (suc n) (omega (arith, h))) refl
 
-value_tame : (g : Gap) (count : Option ℕ) (value : Literal) → flat (gap_text g) ≡ true → IsCountOf count → IsByte value → all_tame (value_pieces g count value) ≡ true
+value_tame : (g : Gap) (count : Option ℕ) (value : Literal) → flat (gap_text g) ≡ true → IsCountOf count → IsByteLiteral value → all_tame (value_pieces g count value) ≡ true
 unfolding mark_text
 value_tame g None (literal.Byte v) h c is = literal_tame g (literal.Byte v) h is
 value_tame g (Some n) (literal.Byte v) h c is = rw (h, flat_number n c) (tame_joined (literal_pieces gap.Nothing (literal.Byte v)) _ (literal_tame gap.Nothing (literal.Byte v) refl is) refl)
@@ -131,15 +131,15 @@ inits_behind source from line b k (i ∷ is) all (_, x1, t) = rw x1 (inits_read 
 -- a declaration without its semicolon
 pub inside : Gap → List ℕ → List Bounds → Simple → List Init → List Piece
 inside g name arrays k init =
-    word g name ∷ mark_piece gap.Blank mark.Colon ∷ (flat_map array_pieces arrays ++ (word gap.Blank (type_word k) ∷ inits_pieces init))
+    word_piece g name ∷ mark_piece gap.Blank mark.Colon ∷ (flat_map array_pieces arrays ++ (word_piece gap.Blank (type_word k) ∷ inits_pieces init))
 
 pub grouped : (g : Gap) (name : List ℕ) (arrays : List Bounds) (k : Simple) (init : List Init)
-    → word g name ∷ mark_piece gap.Blank mark.Colon ∷ (flat_map array_pieces arrays ++ (element_pieces gap.Blank (element.Plain k) ++ behind_type (element.Plain k) init))
+    → word_piece g name ∷ mark_piece gap.Blank mark.Colon ∷ (flat_map array_pieces arrays ++ (element_pieces gap.Blank (element.Plain k) ++ behind_type (element.Plain k) init))
     ≡ inside g name arrays k init ++ semicolon ∷ []
 unfolding inside element_pieces behind_type
 grouped g name arrays k init =
-    ap (λ (ps : List Piece). word g name ∷ mark_piece gap.Blank mark.Colon ∷ ps)
-    (sym (append_assoc (flat_map array_pieces arrays) (word gap.Blank (type_word k) ∷ inits_pieces init) (semicolon ∷ [])))
+    ap (λ (ps : List Piece). word_piece g name ∷ mark_piece gap.Blank mark.Colon ∷ ps)
+    (sym (append_assoc (flat_map array_pieces arrays) (word_piece gap.Blank (type_word k) ∷ inits_pieces init) (semicolon ∷ [])))
 
 -- the tokens behind the colon: arrays, the word of the type, and its initial values
 pub record IsTyped (source : List ℕ) (arrays : List Bounds) (k : Simple) (init : List Init) (tokens : List Token) : Type 0 where
@@ -150,8 +150,8 @@ pub record IsTyped (source : List ℕ) (arrays : List Bounds) (k : Simple) (init
   pub found : (rest : List Token) → arrays_at source (tokens ++ rest) ≡ Some (arrays, t ∷ (ts ++ rest))
   pub values : init_behind source arrays (element.Plain k) ts ≡ Some init
 
-typed_alone : (source : List ℕ) (from line : ℕ) (k : Simple) → Texts source from line (word gap.Blank (type_word k) ∷ inits_pieces [])
-    → IsTyped source [] k [] (tokens_of from line (word gap.Blank (type_word k) ∷ inits_pieces []))
+typed_alone : (source : List ℕ) (from line : ℕ) (k : Simple) → Texts source from line (word_piece gap.Blank (type_word k) ∷ inits_pieces [])
+    → IsTyped source [] k [] (tokens_of from line (word_piece gap.Blank (type_word k) ∷ inits_pieces []))
 unfolding init_behind has_kind key_text
 typed_alone source from line k (_, x1, _) =
     record {
@@ -170,8 +170,8 @@ some_array source [] t ts b one none = absurd cc
 some_array source (u ∷ us) t ts b one none = array_found source u t us ts b one none
 
 typed_array : (source : List ℕ) (from line : ℕ) (b : Bounds) (k : Simple) (init : List Init) → IsDecimal b.low → IsDecimal b.high → AllByRecursion IsPrintedInit init
-    → Texts source from line (array_pieces b ++ (word gap.Blank (type_word k) ∷ inits_pieces init))
-    → IsTyped source (b ∷ []) k init (tokens_of from line (array_pieces b) ++ tokens_of (behind from (array_pieces b)) (line_past line (array_pieces b)) (word gap.Blank (type_word k) ∷ inits_pieces init))
+    → Texts source from line (array_pieces b ++ (word_piece gap.Blank (type_word k) ∷ inits_pieces init))
+    → IsTyped source (b ∷ []) k init (tokens_of from line (array_pieces b) ++ tokens_of (behind from (array_pieces b)) (line_past line (array_pieces b)) (word_piece gap.Blank (type_word k) ∷ inits_pieces init))
 unfolding has_kind key_text
 typed_array source from line b k init low high all t =
     record {
@@ -182,13 +182,13 @@ typed_array source from line b k init low high all t =
       found = λ rest.
           ap (arrays_at source) (append_assoc (tokens_of from line (array_pieces b)) (word_token ∷ values_behind) rest)
           ∙ some_array source _ word_token (values_behind ++ rest) b
-          (array_read source from line b (word_token ∷ (values_behind ++ rest)) low high (shown_front source from line (array_pieces b) (word gap.Blank (type_word k) ∷ inits_pieces init) t))
+          (array_read source from line b (word_token ∷ (values_behind ++ rest)) low high (shown_front source from line (array_pieces b) (word_piece gap.Blank (type_word k) ∷ inits_pieces init) t))
           (no_array_at source word_token (values_behind ++ rest) (no_key source word_token (type_word k) key.Array back.1 (type_found k).no_array));
       values = inits_behind source _ _ b k init all back.2;
     }
   where
-    back : Texts source (behind from (array_pieces b)) (line_past line (array_pieces b)) (word gap.Blank (type_word k) ∷ inits_pieces init)
-    back = shown_behind source from line (array_pieces b) (word gap.Blank (type_word k) ∷ inits_pieces init) t
+    back : Texts source (behind from (array_pieces b)) (line_past line (array_pieces b)) (word_piece gap.Blank (type_word k) ∷ inits_pieces init)
+    back = shown_behind source from line (array_pieces b) (word_piece gap.Blank (type_word k) ∷ inits_pieces init) t
 
     word_token : Token
     word_token = record {
@@ -203,31 +203,31 @@ typed_array source from line b k init low high all t =
         tokens_of (behind from (array_pieces b) + 1 + length (type_word k)) (line_past line (array_pieces b) + 0 + sum_by newlines_of (type_word k)) (inits_pieces init)
 
 pub typed_shown : (source : List ℕ) (from line : ℕ) (arrays : List Bounds) (k : Simple) (init : List Init) → IsPrintedType arrays (element.Plain k) init
-    → Texts source from line (flat_map array_pieces arrays ++ (word gap.Blank (type_word k) ∷ inits_pieces init))
-    → IsTyped source arrays k init (tokens_of from line (flat_map array_pieces arrays ++ (word gap.Blank (type_word k) ∷ inits_pieces init)))
+    → Texts source from line (flat_map array_pieces arrays ++ (word_piece gap.Blank (type_word k) ∷ inits_pieces init))
+    → IsTyped source arrays k init (tokens_of from line (flat_map array_pieces arrays ++ (word_piece gap.Blank (type_word k) ∷ inits_pieces init)))
 typed_shown source from line [] k init h t =
-    subst (λ (is : List Init). Texts source from line (word gap.Blank (type_word k) ∷ inits_pieces is)
-    → IsTyped source [] k is (tokens_of from line (word gap.Blank (type_word k) ∷ inits_pieces is))) (sym h) (typed_alone source from line k) t
+    subst (λ (is : List Init). Texts source from line (word_piece gap.Blank (type_word k) ∷ inits_pieces is)
+    → IsTyped source [] k is (tokens_of from line (word_piece gap.Blank (type_word k) ∷ inits_pieces is))) (sym h) (typed_alone source from line k) t
 typed_shown source from line (b ∷ []) k init h t =
-    subst (λ (ps : List Piece). Texts source from line (ps ++ (word gap.Blank (type_word k) ∷ inits_pieces init))
-    → IsTyped source (b ∷ []) k init (tokens_of from line (ps ++ (word gap.Blank (type_word k) ∷ inits_pieces init)))) (sym (append-nil (array_pieces b)))
+    subst (λ (ps : List Piece). Texts source from line (ps ++ (word_piece gap.Blank (type_word k) ∷ inits_pieces init))
+    → IsTyped source (b ∷ []) k init (tokens_of from line (ps ++ (word_piece gap.Blank (type_word k) ∷ inits_pieces init)))) (sym (append-nil (array_pieces b)))
     (λ u. subst (λ (ts : List Token). IsTyped source (b ∷ []) k init ts)
-    (sym (tokens_joined from line (array_pieces b) (word gap.Blank (type_word k) ∷ inits_pieces init)))
+    (sym (tokens_joined from line (array_pieces b) (word_piece gap.Blank (type_word k) ∷ inits_pieces init)))
     (typed_array source from line b k init h.0 h.1 h.2 u)) t
 typed_shown source from line (b ∷ c ∷ bs) k init h t = absurd h
 
 -- ---- a declaration by its pieces
 
 pub type_tame : (arrays : List Bounds) (k : Simple) (init : List Init) → IsPrintedType arrays (element.Plain k) init
-    → all_tame (flat_map array_pieces arrays ++ (word gap.Blank (type_word k) ∷ inits_pieces init)) ≡ true
-type_tame [] k init h = subst (λ (is : List Init). all_tame (word gap.Blank (type_word k) ∷ inits_pieces is) ≡ true) (sym h) (rw (type_found k).flat_text refl)
+    → all_tame (flat_map array_pieces arrays ++ (word_piece gap.Blank (type_word k) ∷ inits_pieces init)) ≡ true
+type_tame [] k init h = subst (λ (is : List Init). all_tame (word_piece gap.Blank (type_word k) ∷ inits_pieces is) ≡ true) (sym h) (rw (type_found k).flat_text refl)
 type_tame (b ∷ []) k init h =
-    tame_joined (array_pieces b ++ []) (word gap.Blank (type_word k) ∷ inits_pieces init)
+    tame_joined (array_pieces b ++ []) (word_piece gap.Blank (type_word k) ∷ inits_pieces init)
     (tame_joined (array_pieces b) [] (array_tame b.low b.high h.0 h.1) refl) (rw ((type_found k).flat_text, inits_tame init h.2) refl)
 type_tame (b ∷ c ∷ bs) k init h = absurd h
 
 pub plain_read : (source : List ℕ) (from line : ℕ) (g : Gap) (p : ClausePlace) (name : List ℕ) (arrays : List Bounds) (k : Simple) (init : List Init) (at : ℕ)
-    (rest : List Token) → line + sum_by newlines_of (gap_text g) ≡ at → IsName name → IsPrintedType arrays (element.Plain k) init → is_outer p ≡ false
+    (rest : List Token) → line + sum_by newlines_of (gap_text g) ≡ at → IsNonKeywordName name → IsPrintedType arrays (element.Plain k) init → is_outer p ≡ false
     → in_data_head p ≡ false
     → (takes_parameters p && not (is_elementary (record { line = at; name = name; level = level_at p; of = record { arrays = arrays; of = element.Plain k }; init = init }))) ≡ false
     → Texts source from line (inside g name arrays k init ++ semicolon ∷ [])
@@ -242,7 +242,7 @@ plain_read source from line g p name arrays k init at rest here is type inner he
     (named source name_token colon_token (us ++ semi ∷ rest) refl colon_is refl) (ty.found (semi ∷ rest)) ty.text)
     declared_is allowed
     (lack_shown source from line mark.Semicolon (inside g name arrays k init) front
-    (and_from _ _ refl (and_from _ _ refl (tame_lacks (flat_map array_pieces arrays ++ (word gap.Blank (type_word k) ∷ inits_pieces init)) (type_tame arrays k init type)))))
+    (and_from _ _ refl (and_from _ _ refl (tame_lacks (flat_map array_pieces arrays ++ (word_piece gap.Blank (type_word k) ∷ inits_pieces init)) (type_tame arrays k init type)))))
     (semicolon_is source from line (inside g name arrays k init) t)
   where
     made : Declaration
@@ -272,7 +272,7 @@ plain_read source from line g p name arrays k init at rest here is type inner he
 
     us : List Token
     us = tokens_of (from + length (gap_text g) + length name + 1 + 1) (line + sum_by newlines_of (gap_text g) + sum_by newlines_of name + 0 + 0)
-        (flat_map array_pieces arrays ++ (word gap.Blank (type_word k) ∷ inits_pieces init))
+        (flat_map array_pieces arrays ++ (word_piece gap.Blank (type_word k) ∷ inits_pieces init))
 
     ty : IsTyped source arrays k init us
     ty = typed_shown source _ _ arrays k init type front.2.2
@@ -291,11 +291,11 @@ plain_read source from line g p name arrays k init at rest here is type inner he
         ∙ ap (λ (n : ℕ). Some (record { line = n; name = name; level = level_at p; of = record { arrays = arrays; of = element.Plain k }; init = init })) here
 
 fields_read : (source : List ℕ) (from line : ℕ) (g : Gap) (p : ClausePlace) (name : List ℕ) (arrays : List Bounds) (e : ElementType) (init : List Init) (at : ℕ)
-    (rest : List Token) → line + sum_by newlines_of (gap_text g) ≡ at → IsName name → IsPrintedType arrays e init → is_outer p ≡ false
+    (rest : List Token) → line + sum_by newlines_of (gap_text g) ≡ at → IsNonKeywordName name → IsPrintedType arrays e init → is_outer p ≡ false
     → in_data_head p ≡ false
     → (takes_parameters p && not (is_elementary (record { line = at; name = name; level = level_at p; of = record { arrays = arrays; of = e }; init = init }))) ≡ false
-    → Texts source from line (word g name ∷ mark_piece gap.Blank mark.Colon ∷ (flat_map array_pieces arrays ++ (element_pieces gap.Blank e ++ behind_type e init)))
-    → clause_at source p (tokens_of from line (word g name ∷ mark_piece gap.Blank mark.Colon ∷ (flat_map array_pieces arrays ++ (element_pieces gap.Blank e ++ behind_type e init))) ++ rest)
+    → Texts source from line (word_piece g name ∷ mark_piece gap.Blank mark.Colon ∷ (flat_map array_pieces arrays ++ (element_pieces gap.Blank e ++ behind_type e init)))
+    → clause_at source p (tokens_of from line (word_piece g name ∷ mark_piece gap.Blank mark.Colon ∷ (flat_map array_pieces arrays ++ (element_pieces gap.Blank e ++ behind_type e init))) ++ rest)
     ≡ Some (clause.Declares (record { line = at; name = name; level = level_at p; of = record { arrays = arrays; of = e }; init = init }), rest, false)
 fields_read source from line g p name arrays (element.Plain k) init at rest here is type inner head allowed t =
     subst (λ (ps : List Piece). Texts source from line ps
@@ -324,16 +324,16 @@ declares_read source from line g p d rest h here inner head level allowed t =
 
 -- ---- lines
 
-fields_line : (g : Gap) (name : List ℕ) (arrays : List Bounds) (e : ElementType) (init : List Init) (line : ℕ) → IsName name → IsPrintedType arrays e init
-    → line_past line (word g name ∷ mark_piece gap.Blank mark.Colon ∷ (flat_map array_pieces arrays ++ (element_pieces gap.Blank e ++ behind_type e init)))
+fields_line : (g : Gap) (name : List ℕ) (arrays : List Bounds) (e : ElementType) (init : List Init) (line : ℕ) → IsNonKeywordName name → IsPrintedType arrays e init
+    → line_past line (word_piece g name ∷ mark_piece gap.Blank mark.Colon ∷ (flat_map array_pieces arrays ++ (element_pieces gap.Blank e ++ behind_type e init)))
     ≡ line + sum_by newlines_of (gap_text g)
 unfolding inside mark_text
 fields_line g name arrays (element.Plain k) init line is type =
     ap (line_past line) (grouped g name arrays k init)
-    ∙ first_line (word g name) (mark_piece gap.Blank mark.Colon ∷ ((flat_map array_pieces arrays ++ (word gap.Blank (type_word k) ∷ inits_pieces init)) ++ semicolon ∷ [])) line
+    ∙ first_line (word_piece g name) (mark_piece gap.Blank mark.Colon ∷ ((flat_map array_pieces arrays ++ (word_piece gap.Blank (type_word k) ∷ inits_pieces init)) ++ semicolon ∷ [])) line
     (flat_word name is.word)
-    (flat_all_joined (flat_map array_pieces arrays ++ (word gap.Blank (type_word k) ∷ inits_pieces init)) (semicolon ∷ [])
-    (tame_flat (flat_map array_pieces arrays ++ (word gap.Blank (type_word k) ∷ inits_pieces init)) (type_tame arrays k init type)) refl)
+    (flat_all_joined (flat_map array_pieces arrays ++ (word_piece gap.Blank (type_word k) ∷ inits_pieces init)) (semicolon ∷ [])
+    (tame_flat (flat_map array_pieces arrays ++ (word_piece gap.Blank (type_word k) ∷ inits_pieces init)) (type_tame arrays k init type)) refl)
 fields_line g name [] element.Structure init line is type = absurd type
 fields_line g name (b ∷ []) element.Structure init line is type = absurd type
 fields_line g name (b ∷ c ∷ bs) element.Structure init line is type = absurd type

@@ -15,7 +15,7 @@ use Rattle.stl_ast.specs.declared.declarations.Simple.{Simple}
 use Rattle.stl_ast.specs.declared.declarations.Simple.TheVariants as simple
 use Rattle.stl_ast.specs.declared.names.BlockName.{BlockName}
 use Rattle.stl_ast.specs.declared.names.BlockName.TheVariants as block
-use Rattle.stl_parser.specs.Clauses.{based_at, clause_at, clause_by_kind, free_word_clause, keyword_clause, other_clause, result_at, result_type, skip_semicolon, structure_end, word_clause}
+use Rattle.stl_parser.specs.Clauses.{base_block_at, clause_at, clause_by_kind, free_word_clause, keyword_clause, other_clause, result_at, result_type, skip_semicolon, structure_end, word_clause}
 use Rattle.stl_parser.specs.Declarations.{after_colon}
 use Rattle.stl_parser.specs.Tables.{head_words, keywords, look_up}
 use Rattle.stl_parser.specs.Terminals.{has_kind, is_key, is_mark, key_text}
@@ -24,7 +24,7 @@ use Rattle.stl_parser.specs.declared.places.ClausePlace.{ClausePlace}
 use Rattle.stl_parser.specs.declared.places.ClausePlace.TheVariants as place
 use Rattle.stl_print.specs.Clauses.{clause_pieces, result_pieces}
 use Rattle.stl_print.specs.Gaps.{gap_text}
-use Rattle.stl_print.specs.Names.{block_name}
+use Rattle.stl_print.specs.Names.{block_name_pieces}
 use Rattle.stl_print.specs.Words.{block_letters, end_word, section_word, type_word}
 use Rattle.stl_print.specs.declared.gaps.Gap.{Gap}
 use Rattle.print_laws.specs.Reading.{IsFunctionBlock, IsResultOf}
@@ -79,15 +79,15 @@ structure_end_read source from line g k rest (_, x1, (_, x2, _)) = rw (x1, x2) r
 -- ---- the function block of an instance
 
 based_on : (source : List ℕ) (from line : ℕ) (g : Gap) (id : BlockId) (rest : List Token) → id.kind ≡ kinds.Fb → id.number ≤ 65535
-    → Texts source from line (block_name g (block.Number id)) → based_at source (tokens_of from line (block_name g (block.Number id)) ++ rest) ≡ Some (clause.Based (block.Number id), rest, false)
-unfolding based_at
+    → Texts source from line (block_name_pieces g (block.Number id)) → base_block_at source (tokens_of from line (block_name_pieces g (block.Number id)) ++ rest) ≡ Some (clause.Based (block.Number id), rest, false)
+unfolding base_block_at
 based_on source from line g id rest is h t = rw (block_read source from line g id rest h t, is) refl
 
 based_by : (source : List ℕ) (from line : ℕ) (g : Gap) (n : ℕ) (rest : List Token) → n ≤ 65535
-    → Texts source from line (block_name g (block.Number (record { kind = kinds.Fb; number = n })))
-    → clause_at source (place.Head kinds.Db) (tokens_of from line (block_name g (block.Number (record { kind = kinds.Fb; number = n }))) ++ rest)
+    → Texts source from line (block_name_pieces g (block.Number (record { kind = kinds.Fb; number = n })))
+    → clause_at source (place.Head kinds.Db) (tokens_of from line (block_name_pieces g (block.Number (record { kind = kinds.Fb; number = n }))) ++ rest)
     ≡ Some (clause.Based (block.Number (record { kind = kinds.Fb; number = n })), rest, false)
-unfolding block_name clause_at clause_by_kind word_clause free_word_clause other_clause look_up keywords head_words block_letters
+unfolding block_name_pieces clause_at clause_by_kind word_clause free_word_clause other_clause look_up keywords head_words block_letters
 based_by source from line g n rest h t =
     rw (t.1, t.1, based_on source from line g (record { kind = kinds.Fb; number = n }) rest refl h t) refl
 
@@ -96,8 +96,8 @@ pub based_read : (source : List ℕ) (from line : ℕ) (g : Gap) (name : BlockNa
     → clause_at source (place.Head kinds.Db) (tokens_of from line (clause_pieces g (clause.Based name)) ++ rest) ≡ Some (clause.Based name, rest, false)
 unfolding clause_pieces
 based_read source from line g (block.Number id) rest h t =
-    of_kind (λ i. Texts source from line (block_name g (block.Number i))
-    → clause_at source (place.Head kinds.Db) (tokens_of from line (block_name g (block.Number i)) ++ rest) ≡ Some (clause.Based (block.Number i), rest, false))
+    of_kind (λ i. Texts source from line (block_name_pieces g (block.Number i))
+    → clause_at source (place.Head kinds.Db) (tokens_of from line (block_name_pieces g (block.Number i)) ++ rest) ≡ Some (clause.Based (block.Number i), rest, false))
     kinds.Fb id h.0 (λ u. based_by source from line g id.number rest h.1 u) t
 based_read source from line g (block.Quoted name) rest h t = absurd h
 

@@ -18,23 +18,23 @@ use Rattle.stl_ast.specs.declared.names.BlockName.TheVariants as block
 use Rattle.stl_ast.specs.declared.operands.Operand.{Operand}
 use Rattle.stl_ast.specs.declared.operands.Operand.TheVariants as operand
 use Rattle.stl_ast.specs.declared.statements.Actual.{Actual}
-use Rattle.stl_parser.specs.Addresses.{address_at, block_at, glued_at, numbered_at, separate_at}
+use Rattle.stl_parser.specs.Addresses.{address_at, block_at, glued_letters_and_number, letters_and_number_at, separate_letters_and_number}
 use Rattle.stl_parser.specs.Literals.{literal_at, literal_of, literal_token, long_literal, truth_of}
-use Rattle.stl_parser.specs.Numbers.{number_of, number_up_to, signed_at}
-use Rattle.stl_parser.specs.Operands.{alone_of, data_block, direct_of, operand_by_kind, operand_of, with_number, word_operand}
-use Rattle.stl_parser.specs.Statements.{actuals_of, behind_word, block_call_of, call_of, data_block_at, instance_at, is_long, jump_of, may_be, open_of, plain as bare, with_operand}
+use Rattle.stl_parser.specs.Numbers.{number_of, number_up_to, signed_number_at}
+use Rattle.stl_parser.specs.Operands.{lone_word_operand, data_block_operand, direct_address_operand, operand_by_kind, operand_of, operand_with_number, word_operand}
+use Rattle.stl_parser.specs.Statements.{actuals_of, behind_word, block_call_of, call_of, data_block_at, instance_at, is_long_label, jump_of, may_be_of_kind, open_of, statement_without_actuals as bare, statement_with_operand}
 use Rattle.stl_parser.specs.Tables.{addresses, look_up}
 use Rattle.stl_parser.specs.Terminals.{has_kind, is_key, is_mark, key_text}
 use Rattle.stl_parser.specs.declared.tables.OperandSyntax.{OperandSyntax}
 use Rattle.stl_parser.specs.declared.tables.OperandSyntax.TheVariants as form
 use Rattle.stl_print.specs.Gaps.{gap_text}
-use Rattle.stl_print.specs.Names.{block_name}
-use Rattle.stl_print.specs.Operands.{instance_pieces, operand_pieces, opened}
+use Rattle.stl_print.specs.Names.{block_name_pieces}
+use Rattle.stl_print.specs.Operands.{instance_pieces, operand_pieces, opened_block_pieces}
 use Rattle.stl_print.specs.Statements.{actuals_pieces}
 use Rattle.stl_print.specs.Words.{block_letters}
 use Rattle.stl_print.specs.declared.gaps.Gap.{Gap}
 use Rattle.stl_print.specs.declared.gaps.Gap.TheVariants as gap
-use Rattle.print_laws.specs.Reading.{FitsSyntax, IsCalled, IsCalledAlone, IsDataBlock, IsFunctionBlock, IsOpened, IsPrintedActual, IsPrintedOperand, IsTarget, Syntax, block_call, bracket, call, empty, jump, opens, plain}
+use Rattle.print_laws.specs.Reading.{FitsSyntax, IsCallOperand, IsBlockCallOperand, IsDataBlock, IsFunctionBlock, IsOpenOperand, IsPrintedActual, IsPrintedOperand, IsJumpOperand, PrintedSyntax, block_call, bracket, call, empty, jump, opens, plain}
 use Rattle.print_laws.proofs.parsing.Blocks.{block_read}
 use Rattle.print_laws.proofs.parsing.Operands.{Texts, number_by_read, of_kind, operand_read, read_number}
 use Rattle.print_laws.proofs.parsing.Passed.{actuals_read}
@@ -57,15 +57,15 @@ nothing_behind source from line g f code o actuals none reads =
 
 pub plain_read : (source : List ℕ) (from line : ℕ) (g : _) (code : Mnemonic) (o : Operand) → IsPrintedOperand o → Texts source from line (operand_pieces g o)
     → behind_word source form.Operand code (tokens_of from line (operand_pieces g o)) ≡ Some (bare code o)
-unfolding behind_word with_operand
+unfolding behind_word statement_with_operand
 plain_read source from line g code o h t = rw (operand_read source from line g o h t) refl
 
 short : (text : List ℕ) → length text ≤ 4 → nat_lt 4 (length text) ≡ false
 short text h = grind (arith, nat_tests)
 
-pub jump_read : (source : List ℕ) (from line : ℕ) (g : _) (code : Mnemonic) (o : Operand) → IsTarget o → Texts source from line (operand_pieces g o)
+pub jump_read : (source : List ℕ) (from line : ℕ) (g : _) (code : Mnemonic) (o : Operand) → IsJumpOperand o → Texts source from line (operand_pieces g o)
     → behind_word source form.Jump code (tokens_of from line (operand_pieces g o)) ≡ Some (bare code o)
-unfolding behind_word jump_of is_long operand_pieces has_kind
+unfolding behind_word jump_of is_long_label operand_pieces has_kind
 jump_read source from line g code (operand.Label name) h (_, x1, _) = rw (x1, short name h.1) refl
 jump_read source from line g code operand.Nothing h t = absurd h
 jump_read source from line g code (operand.Direct name area w byte bit) h t = absurd h
@@ -83,41 +83,41 @@ jump_read source from line g code (operand.OpenBlock di name) h t = absurd h
 jump_read source from line g code (operand.Called name instance) h t = absurd h
 
 data_read : (source : List ℕ) (from line : ℕ) (g : _) (n : ℕ) → n ≤ 65535
-    → Texts source from line (block_name g (block.Number (record { kind = kinds.Db; number = n })))
-    → operand_of source (tokens_of from line (block_name g (block.Number (record { kind = kinds.Db; number = n }))))
+    → Texts source from line (block_name_pieces g (block.Number (record { kind = kinds.Db; number = n })))
+    → operand_of source (tokens_of from line (block_name_pieces g (block.Number (record { kind = kinds.Db; number = n }))))
     ≡ Some (operand.OpenBlock false (block.Number (record { kind = kinds.Db; number = n })))
-unfolding operand_of literal_of literal_at literal_token truth_of long_literal signed_at is_mark is_key has_kind key_text operand_by_kind word_operand alone_of with_number address_at numbered_at separate_at number_of number_up_to glued_at look_up addresses decimal_up_to block_name block_letters direct_of data_block
+unfolding operand_of literal_of literal_at literal_token truth_of long_literal signed_number_at is_mark is_key has_kind key_text operand_by_kind word_operand lone_word_operand operand_with_number address_at letters_and_number_at separate_letters_and_number number_of number_up_to glued_letters_and_number look_up addresses decimal_up_to block_name_pieces block_letters direct_address_operand data_block_operand
 data_read source from line g n h (_, x1, (_, x2, _)) = rw (x1, x2, read_number n h) refl
 
 instance_read : (source : List ℕ) (from line : ℕ) (g : _) (n : ℕ) → n ≤ 65535
-    → Texts source from line (opened g true (block.Number (record { kind = kinds.Db; number = n })))
-    → operand_of source (tokens_of from line (opened g true (block.Number (record { kind = kinds.Db; number = n }))))
+    → Texts source from line (opened_block_pieces g true (block.Number (record { kind = kinds.Db; number = n })))
+    → operand_of source (tokens_of from line (opened_block_pieces g true (block.Number (record { kind = kinds.Db; number = n }))))
     ≡ Some (operand.OpenBlock true (block.Number (record { kind = kinds.Db; number = n })))
-unfolding operand_of literal_of literal_at literal_token truth_of long_literal signed_at is_mark is_key has_kind key_text operand_by_kind word_operand alone_of with_number address_at numbered_at separate_at number_of number_up_to glued_at look_up addresses decimal_up_to opened direct_of
+unfolding operand_of literal_of literal_at literal_token truth_of long_literal signed_number_at is_mark is_key has_kind key_text operand_by_kind word_operand lone_word_operand operand_with_number address_at letters_and_number_at separate_letters_and_number number_of number_up_to glued_letters_and_number look_up addresses decimal_up_to opened_block_pieces direct_address_operand
 instance_read source from line g n h (_, x1, (_, x2, _)) = rw (x1, x2, read_number n h) refl
 
 opened_read : (source : List ℕ) (from line : ℕ) (g : _) (di : Bool) (name : BlockName) → IsDataBlock name
-    → Texts source from line (opened g di name) → operand_of source (tokens_of from line (opened g di name)) ≡ Some (operand.OpenBlock di name)
-unfolding opened
+    → Texts source from line (opened_block_pieces g di name) → operand_of source (tokens_of from line (opened_block_pieces g di name)) ≡ Some (operand.OpenBlock di name)
+unfolding opened_block_pieces
 opened_read source from line g true (block.Number id) h t =
-    of_kind (λ i. Texts source from line (opened g true (block.Number i))
-    → operand_of source (tokens_of from line (opened g true (block.Number i))) ≡ Some (operand.OpenBlock true (block.Number i)))
+    of_kind (λ i. Texts source from line (opened_block_pieces g true (block.Number i))
+    → operand_of source (tokens_of from line (opened_block_pieces g true (block.Number i))) ≡ Some (operand.OpenBlock true (block.Number i)))
     kinds.Db id h.0 (λ u. instance_read source from line g id.number h.1 u) t
 opened_read source from line g false (block.Number id) h t =
-    of_kind (λ i. Texts source from line (block_name g (block.Number i))
-    → operand_of source (tokens_of from line (block_name g (block.Number i))) ≡ Some (operand.OpenBlock false (block.Number i)))
+    of_kind (λ i. Texts source from line (block_name_pieces g (block.Number i))
+    → operand_of source (tokens_of from line (block_name_pieces g (block.Number i))) ≡ Some (operand.OpenBlock false (block.Number i)))
     kinds.Db id h.0 (λ u. data_read source from line g id.number h.1 u) t
 opened_read source from line g di (block.Quoted name) h t = absurd h
 
 -- an operand of more tokens than one stands behind OPN as behind any other word
 more_tokens : (source : List ℕ) (code : Mnemonic) (t u : Token) (rest : List Token) (o : Operand) → operand_of source (t ∷ u ∷ rest) ≡ Some o
     → behind_word source form.Open code (t ∷ u ∷ rest) ≡ Some (bare code o)
-unfolding behind_word open_of with_operand
+unfolding behind_word open_of statement_with_operand
 more_tokens source code t u rest o e = rw e refl
 
-pub open_read : (source : List ℕ) (from line : ℕ) (g : _) (code : Mnemonic) (o : Operand) → IsOpened o → Texts source from line (operand_pieces g o)
+pub open_read : (source : List ℕ) (from line : ℕ) (g : _) (code : Mnemonic) (o : Operand) → IsOpenOperand o → Texts source from line (operand_pieces g o)
     → behind_word source form.Open code (tokens_of from line (operand_pieces g o)) ≡ Some (bare code o)
-unfolding operand_pieces opened block_name
+unfolding operand_pieces opened_block_pieces block_name_pieces
 open_read source from line g code (operand.OpenBlock true (block.Number id)) h t =
     more_tokens source code _ _ _ (operand.OpenBlock true (block.Number id)) (opened_read source from line g true (block.Number id) h t)
 open_read source from line g code (operand.OpenBlock false (block.Number id)) h t =
@@ -141,17 +141,17 @@ open_read source from line g code (operand.Called name instance) h t = absurd h
 
 -- ---- calls
 
-block_whole : (source : List ℕ) (from line : ℕ) (g : _) (id : BlockId) → id.number ≤ 65535 → Texts source from line (block_name g (block.Number id))
-    → block_at source (tokens_of from line (block_name g (block.Number id))) ≡ Some (block.Number id, [])
+block_whole : (source : List ℕ) (from line : ℕ) (g : _) (id : BlockId) → id.number ≤ 65535 → Texts source from line (block_name_pieces g (block.Number id))
+    → block_at source (tokens_of from line (block_name_pieces g (block.Number id))) ≡ Some (block.Number id, [])
 block_whole source from line g id h t =
-    ap (block_at source) (sym (append-nil (tokens_of from line (block_name g (block.Number id))))) ∙ block_read source from line g id [] h t
+    ap (block_at source) (sym (append-nil (tokens_of from line (block_name_pieces g (block.Number id))))) ∙ block_read source from line g id [] h t
 
-pub block_call_read : (source : List ℕ) (from line : ℕ) (g : _) (code : Mnemonic) (o : Operand) → IsCalledAlone o → Texts source from line (operand_pieces g o)
+pub block_call_read : (source : List ℕ) (from line : ℕ) (g : _) (code : Mnemonic) (o : Operand) → IsBlockCallOperand o → Texts source from line (operand_pieces g o)
     → behind_word source form.BlockCall code (tokens_of from line (operand_pieces g o)) ≡ Some (bare code o)
 unfolding behind_word block_call_of operand_pieces instance_pieces
 block_call_read source from line g code (operand.Called (block.Number id) None) h t =
     subst (λ (ps : List Piece). Texts source from line ps → behind_word source form.BlockCall code (tokens_of from line ps)
-    ≡ Some (bare code (operand.Called (block.Number id) None))) (sym (append-nil (block_name g (block.Number id))))
+    ≡ Some (bare code (operand.Called (block.Number id) None))) (sym (append-nil (block_name_pieces g (block.Number id))))
     (λ u. rw (block_whole source from line g id h u) refl) t
 block_call_read source from line g code (operand.Called (block.Quoted name) None) h t = absurd h
 block_call_read source from line g code (operand.Called name (Some instance)) h t = absurd h
@@ -191,36 +191,36 @@ actuals_apart source from line [] t = refl
 actuals_apart source from line (a ∷ more) (_, x1, t) = rw x1 refl
 
 pub alone_call : (source : List ℕ) (from line at : ℕ) (g : _) (code : Mnemonic) (id : BlockId) (actuals : List Actual) → line ≡ at
-    → id.number ≤ 65535 → AllByRecursion (IsPrintedActual at) actuals → all_tame (block_name g (block.Number id)) ≡ true
-    → Texts source from line (block_name g (block.Number id) ++ actuals_pieces actuals)
-    → behind_word source form.Call code (tokens_of from line (block_name g (block.Number id) ++ actuals_pieces actuals))
+    → id.number ≤ 65535 → AllByRecursion (IsPrintedActual at) actuals → all_tame (block_name_pieces g (block.Number id)) ≡ true
+    → Texts source from line (block_name_pieces g (block.Number id) ++ actuals_pieces actuals)
+    → behind_word source form.Call code (tokens_of from line (block_name_pieces g (block.Number id) ++ actuals_pieces actuals))
     ≡ Some (record { code = code; operand = operand.Called (block.Number id) None; actuals = actuals; long = false })
 unfolding behind_word call_of
 alone_call source from line at g code id actuals here h all one t =
-    let rest : Texts source (behind from (block_name g (block.Number id))) (line_past line (block_name g (block.Number id))) (actuals_pieces actuals) =
-    shown_behind source from line (block_name g (block.Number id)) (actuals_pieces actuals) t in
+    let rest : Texts source (behind from (block_name_pieces g (block.Number id))) (line_past line (block_name_pieces g (block.Number id))) (actuals_pieces actuals) =
+    shown_behind source from line (block_name_pieces g (block.Number id)) (actuals_pieces actuals) t in
     rw (
-      tokens_joined from line (block_name g (block.Number id)) (actuals_pieces actuals),
-      block_read source from line g id (tokens_of (behind from (block_name g (block.Number id))) (line_past line (block_name g (block.Number id))) (actuals_pieces actuals)) h
-          (shown_front source from line (block_name g (block.Number id)) (actuals_pieces actuals) t),
+      tokens_joined from line (block_name_pieces g (block.Number id)) (actuals_pieces actuals),
+      block_read source from line g id (tokens_of (behind from (block_name_pieces g (block.Number id))) (line_past line (block_name_pieces g (block.Number id))) (actuals_pieces actuals)) h
+          (shown_front source from line (block_name_pieces g (block.Number id)) (actuals_pieces actuals) t),
       no_instance source (block.Number id) _ (actuals_apart source _ _ actuals rest),
-      actuals_read source _ _ at actuals (tame_line line (block_name g (block.Number id)) one ∙ here) all rest,
+      actuals_read source _ _ at actuals (tame_line line (block_name_pieces g (block.Number id)) one ∙ here) all rest,
     ) refl
 
-data_behind : (source : List ℕ) (from line : ℕ) (g : _) (name : BlockName) (rest : List Token) → IsDataBlock name → Texts source from line (block_name g name)
-    → data_block_at source (tokens_of from line (block_name g name) ++ rest) ≡ Some (name, rest)
+data_behind : (source : List ℕ) (from line : ℕ) (g : _) (name : BlockName) (rest : List Token) → IsDataBlock name → Texts source from line (block_name_pieces g name)
+    → data_block_at source (tokens_of from line (block_name_pieces g name) ++ rest) ≡ Some (name, rest)
 unfolding data_block_at
 data_behind source from line g (block.Number id) rest h t = rw (block_read source from line g id rest h.1 t, h.0) refl
 data_behind source from line g (block.Quoted name) rest h t = absurd h
 
 -- an instance stands behind a comma
 some_instance : (source : List ℕ) (name instance : BlockName) (comma : Token) (ts rest : List Token) → is_mark source comma mark.Comma ≡ true
-    → may_be name is_function_block ≡ true → data_block_at source ts ≡ Some (instance, rest)
+    → may_be_of_kind name is_function_block ≡ true → data_block_at source ts ≡ Some (instance, rest)
     → instance_at source name (comma ∷ ts) ≡ Some (Some instance, rest)
 unfolding instance_at
 some_instance source name instance comma ts rest is may found = rw (is, may, found) refl
 
-is_function : (name : BlockName) → IsFunctionBlock name → may_be name is_function_block ≡ true
+is_function : (name : BlockName) → IsFunctionBlock name → may_be_of_kind name is_function_block ≡ true
 is_function (block.Number id) h = rw h.0 refl
 is_function (block.Quoted name) h = absurd h
 
@@ -233,9 +233,9 @@ call_is source code name instance actuals ts us vs a b c = rw (a, b, c) refl
 
 instance_call : (source : List ℕ) (from line at : ℕ) (g : Gap) (code : Mnemonic) (name instance : BlockName) (actuals : List Actual) → line ≡ at
     → IsFunctionBlock name → IsDataBlock instance → AllByRecursion (IsPrintedActual at) actuals
-    → all_tame (block_name g name ++ instance_pieces (Some instance)) ≡ true
-    → Texts source from line ((block_name g name ++ instance_pieces (Some instance)) ++ actuals_pieces actuals)
-    → behind_word source form.Call code (tokens_of from line ((block_name g name ++ instance_pieces (Some instance)) ++ actuals_pieces actuals))
+    → all_tame (block_name_pieces g name ++ instance_pieces (Some instance)) ≡ true
+    → Texts source from line ((block_name_pieces g name ++ instance_pieces (Some instance)) ++ actuals_pieces actuals)
+    → behind_word source form.Call code (tokens_of from line ((block_name_pieces g name ++ instance_pieces (Some instance)) ++ actuals_pieces actuals))
     ≡ Some (record { code = code; operand = operand.Called name (Some instance); actuals = actuals; long = false })
 unfolding instance_pieces is_mark has_kind mark_text
 instance_call source from line at g code (block.Quoted n) instance actuals here is db all one t = absurd is
@@ -248,7 +248,7 @@ instance_call source from line at g code (block.Number id) instance actuals here
     (shown_behind source from line (first ++ second) (actuals_pieces actuals) t))
   where
     first : List Piece
-    first = block_name g (block.Number id)
+    first = block_name_pieces g (block.Number id)
 
     second : List Piece
     second = instance_pieces (Some instance)
@@ -277,7 +277,7 @@ instance_call source from line at g code (block.Number id) instance actuals here
 -- ---- what stands behind an instruction word that is one token
 
 called : (source : List ℕ) (from line at : ℕ) (g : Gap) (code : Mnemonic) (o : Operand) (actuals : List Actual) → line ≡ at
-    → flat (gap_text g) ≡ true → IsCalled o → AllByRecursion (IsPrintedActual at) actuals → Texts source from line (operand_pieces g o ++ actuals_pieces actuals)
+    → flat (gap_text g) ≡ true → IsCallOperand o → AllByRecursion (IsPrintedActual at) actuals → Texts source from line (operand_pieces g o ++ actuals_pieces actuals)
     → behind_word source form.Call code (tokens_of from line (operand_pieces g o ++ actuals_pieces actuals))
     ≡ Some (record { code = code; operand = o; actuals = actuals; long = false })
 unfolding operand_pieces instance_pieces
@@ -285,7 +285,7 @@ called source from line at g code (operand.Called (block.Number id) None) actual
     subst (λ (ps : List Piece). Texts source from line (ps ++ actuals_pieces actuals)
     → behind_word source form.Call code (tokens_of from line (ps ++ actuals_pieces actuals))
     ≡ Some (record { code = code; operand = operand.Called (block.Number id) None; actuals = actuals; long = false }))
-    (sym (append-nil (block_name g (block.Number id))))
+    (sym (append-nil (block_name_pieces g (block.Number id))))
     (λ u. alone_call source from line at g code id actuals here h all (numbered_tame g (block.Number id) one h) u) t
 called source from line at g code (operand.Called (block.Quoted n) None) actuals here one h all t = absurd h
 called source from line at g code (operand.Called name (Some instance)) actuals here one h all t =
@@ -305,7 +305,7 @@ called source from line at g code (operand.OfStatus f) actuals here one h all t 
 called source from line at g code (operand.Other name) actuals here one h all t = absurd h
 called source from line at g code (operand.OpenBlock di name) actuals here one h all t = absurd h
 
-pub behind_read : (source : List ℕ) (from line at : ℕ) (g : Gap) (s : Syntax) (code : Mnemonic) (o : Operand) (actuals : List Actual) → line ≡ at
+pub behind_read : (source : List ℕ) (from line at : ℕ) (g : Gap) (s : PrintedSyntax) (code : Mnemonic) (o : Operand) (actuals : List Actual) → line ≡ at
     → flat (gap_text g) ≡ true → (s ≡ bracket → ⊥) → FitsSyntax at s o actuals → Texts source from line (operand_pieces g o ++ actuals_pieces actuals)
     → behind_word source (form_of s) code (tokens_of from line (operand_pieces g o ++ actuals_pieces actuals))
     ≡ Some (record { code = code; operand = o; actuals = actuals; long = false })

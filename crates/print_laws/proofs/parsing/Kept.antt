@@ -15,36 +15,36 @@ use Rattle.stl_ast.specs.declared.declarations.TypeTree.{TypeTree}
 use Rattle.stl_ast.specs.declared.names.BlockName.{BlockName}
 use Rattle.stl_ast.specs.declared.names.BlockName.TheVariants as block
 use Rattle.stl_ast.specs.declared.statements.Statement.{Statement}
-use Rattle.stl_parser.specs.Frame.{follow, follow_shaped}
-use Rattle.stl_parser.specs.Spelling.{is_kept, is_udt, nowhere, spelled_block, spelled_part, spelled_shape}
+use Rattle.stl_parser.specs.Frame.{next_place, next_place_behind_shape}
+use Rattle.stl_parser.specs.Spelling.{is_kept_by_tree, is_udt, unspelled_clauses, spelled_block, spelled_part, spelled_shape}
 use Rattle.stl_parser.specs.declared.clauses.Clause.{Clause}
 use Rattle.stl_parser.specs.declared.clauses.Clause.TheVariants as clause
 use Rattle.stl_parser.specs.declared.places.ClausePlace.TheVariants as place
-use Rattle.stl_print.specs.Trees.{begin_clauses, block_clauses, instance_clauses, part_clauses, pieces, shape_clauses, type_clauses}
-use Rattle.print_laws.specs.Reading.{ArePrintedTreesRead, IsCodeBlock, IsDataShape, IsFunctionBlock, IsNameOf, IsPrintedBlock, IsPrintedData, IsPrintedDeclaration, IsPrintedPart, IsPrintedSetting}
+use Rattle.stl_print.specs.Trees.{begin_clauses, block_clauses, instance_clauses, part_clauses, pieces_of_tree, shape_clauses, type_clauses}
+use Rattle.print_laws.specs.Reading.{ArePrintedTreesRead, IsCodeBlock, IsPrintedDataShape, IsFunctionBlock, IsNumberedBlockOf, IsPrintedBlock, IsPrintedData, IsPrintedDeclaration, IsPrintedPart, IsPrintedSetting}
 use Rattle.print_laws.proofs.parsing.Trees.{all_components, all_printed, all_set, based_step, begin_step, code_clauses, code_is, code_walk, data_ends, flat_declared, head_step, no_function, structure_end_step, structure_step}
 use Rattle.print_laws.proofs.parsing.Walks.{Walk, walk_joined, walk_read}
 
 -- ---- clauses that are kept
 
-kept_joined : (cs ds : List Clause) → filter is_kept (cs ++ ds) ≡ filter is_kept cs ++ filter is_kept ds
+kept_joined : (cs ds : List Clause) → filter is_kept_by_tree (cs ++ ds) ≡ filter is_kept_by_tree cs ++ filter is_kept_by_tree ds
 kept_joined [] ds = refl
-kept_joined (c ∷ cs) ds = by (is_kept c) (kept_joined cs ds)
+kept_joined (c ∷ cs) ds = by (is_kept_by_tree c) (kept_joined cs ds)
   where
-    by : (b : Bool) → filter is_kept (cs ++ ds) ≡ filter is_kept cs ++ filter is_kept ds
-        → (if b then c ∷ filter is_kept (cs ++ ds) else filter is_kept (cs ++ ds)) ≡ (if b then c ∷ filter is_kept cs else filter is_kept cs) ++ filter is_kept ds
+    by : (b : Bool) → filter is_kept_by_tree (cs ++ ds) ≡ filter is_kept_by_tree cs ++ filter is_kept_by_tree ds
+        → (if b then c ∷ filter is_kept_by_tree (cs ++ ds) else filter is_kept_by_tree (cs ++ ds)) ≡ (if b then c ∷ filter is_kept_by_tree cs else filter is_kept_by_tree cs) ++ filter is_kept_by_tree ds
     by true e = ap (λ (l : List Clause). c ∷ l) e
     by false e = e
 
-kept_runs : (ss : List Statement) → filter is_kept (map clause.Runs ss) ≡ map clause.Runs ss
+kept_runs : (ss : List Statement) → filter is_kept_by_tree (map clause.Runs ss) ≡ map clause.Runs ss
 kept_runs [] = refl
 kept_runs (s ∷ ss) = ap (λ (l : List Clause). clause.Runs s ∷ l) (kept_runs ss)
 
-kept_sets : (ss : List Setting) → filter is_kept (map clause.Sets ss) ≡ map clause.Sets ss
+kept_sets : (ss : List Setting) → filter is_kept_by_tree (map clause.Sets ss) ≡ map clause.Sets ss
 kept_sets [] = refl
 kept_sets (s ∷ ss) = ap (λ (l : List Clause). clause.Sets s ∷ l) (kept_sets ss)
 
-kept_declares : (ds : List Declaration) (cs : List Clause) → filter is_kept (map clause.Declares ds ++ cs) ≡ map clause.Declares ds ++ filter is_kept cs
+kept_declares : (ds : List Declaration) (cs : List Clause) → filter is_kept_by_tree (map clause.Declares ds ++ cs) ≡ map clause.Declares ds ++ filter is_kept_by_tree cs
 kept_declares [] cs = refl
 kept_declares (d ∷ ds) cs = ap (λ (l : List Clause). clause.Declares d ∷ l) (kept_declares ds cs)
 
@@ -52,23 +52,23 @@ all_kept : (cs : List Clause) → cs ++ [] ≡ cs
 all_kept [] = refl
 all_kept (c ∷ cs) = ap (λ (l : List Clause). c ∷ l) (all_kept cs)
 
-kept_part : (k : BlockKind) (p : Part) → IsPrintedPart k p → filter is_kept (part_clauses p) ≡ spelled_part p
+kept_part : (k : BlockKind) (p : Part) → IsPrintedPart k p → filter is_kept_by_tree (part_clauses p) ≡ spelled_part p
 unfolding part_clauses
 kept_part k p h =
-    ap (λ (cs : List Clause). clause.Section p.line p.kind ∷ filter is_kept (cs ++ clause.EndSection ∷ [])) (flat_declared p.items (all_printed k p.kind p.items h.items))
+    ap (λ (cs : List Clause). clause.Section p.line p.kind ∷ filter is_kept_by_tree (cs ++ clause.EndSection ∷ [])) (flat_declared p.items (all_printed k p.kind p.items h.items))
     ∙ ap (λ (l : List Clause). clause.Section p.line p.kind ∷ l) (kept_declares p.items (clause.EndSection ∷ []) ∙ all_kept (map clause.Declares p.items))
 
-kept_parts : (k : BlockKind) (ps : List Part) → AllByRecursion (IsPrintedPart k) ps → filter is_kept (flat_map part_clauses ps) ≡ flat_map spelled_part ps
+kept_parts : (k : BlockKind) (ps : List Part) → AllByRecursion (IsPrintedPart k) ps → filter is_kept_by_tree (flat_map part_clauses ps) ≡ flat_map spelled_part ps
 kept_parts k [] h = refl
 kept_parts k (p ∷ ps) h =
     kept_joined (part_clauses p) (flat_map part_clauses ps)
-    ∙ ap (λ (l : List Clause). l ++ filter is_kept (flat_map part_clauses ps)) (kept_part k p h.0)
+    ∙ ap (λ (l : List Clause). l ++ filter is_kept_by_tree (flat_map part_clauses ps)) (kept_part k p h.0)
     ∙ ap (λ (l : List Clause). spelled_part p ++ l) (kept_parts k ps h.1)
 
-kept_begin : (k : BlockKind) → filter is_kept (begin_clauses k) ≡ []
+kept_begin : (k : BlockKind) → filter is_kept_by_tree (begin_clauses k) ≡ []
 kept_begin k = by (is_data_type k)
   where
-    by : (b : Bool) → filter is_kept (if b then [] else clause.Begins ∷ []) ≡ []
+    by : (b : Bool) → filter is_kept_by_tree (if b then [] else clause.Begins ∷ []) ≡ []
     by true = refl
     by false = refl
 
@@ -80,14 +80,14 @@ kept_code b =
     clause.Head b.line b.kind b.name b.result
     ∷ (flat_map spelled_part b.parts ++ (map clause.Runs b.body ++ clause.Ends b.end_line b.kind ∷ []))
 
-code_kept : (b : Block) → IsCodeBlock b → filter is_kept (code_clauses b) ≡ kept_code b
+code_kept : (b : Block) → IsCodeBlock b → filter is_kept_by_tree (code_clauses b) ≡ kept_code b
 code_kept b h =
     ap (λ (l : List Clause). clause.Head b.line b.kind b.name b.result ∷ l)
     (kept_joined (flat_map part_clauses b.parts) (begin_clauses b.kind ++ (map clause.Runs b.body ++ clause.Ends b.end_line b.kind ∷ []))
-    ∙ ap (λ (l : List Clause). l ++ filter is_kept (begin_clauses b.kind ++ (map clause.Runs b.body ++ clause.Ends b.end_line b.kind ∷ []))) (kept_parts b.kind b.parts h.parts)
+    ∙ ap (λ (l : List Clause). l ++ filter is_kept_by_tree (begin_clauses b.kind ++ (map clause.Runs b.body ++ clause.Ends b.end_line b.kind ∷ []))) (kept_parts b.kind b.parts h.parts)
     ∙ ap (λ (l : List Clause). flat_map spelled_part b.parts ++ l)
     (kept_joined (begin_clauses b.kind) (map clause.Runs b.body ++ clause.Ends b.end_line b.kind ∷ [])
-    ∙ ap (λ (l : List Clause). l ++ filter is_kept (map clause.Runs b.body ++ clause.Ends b.end_line b.kind ∷ [])) (kept_begin b.kind)
+    ∙ ap (λ (l : List Clause). l ++ filter is_kept_by_tree (map clause.Runs b.body ++ clause.Ends b.end_line b.kind ∷ [])) (kept_begin b.kind)
     ∙ kept_joined (map clause.Runs b.body) (clause.Ends b.end_line b.kind ∷ [])
     ∙ ap (λ (l : List Clause). l ++ clause.Ends b.end_line b.kind ∷ []) (kept_runs b.body)))
 
@@ -111,13 +111,13 @@ code_spelled b h =
 -- a block whose clauses lead from outside to outside, and spell it
 pub record IsRead (b : Block) : Type 0 where
   pub walk : Walk place.Outside (block_clauses b) place.Outside
-  pub spelled : spelled_block b ≡ filter is_kept (block_clauses b)
+  pub spelled : spelled_block b ≡ filter is_kept_by_tree (block_clauses b)
 
-pub code_read : (b : Block) → IsNameOf b.kind b.name → IsCodeBlock b → IsRead b
+pub code_read : (b : Block) → IsNumberedBlockOf b.kind b.name → IsCodeBlock b → IsRead b
 code_read b named h =
     record {
       walk = subst (λ (cs : List Clause). Walk place.Outside cs place.Outside) (sym (code_is b h)) (code_walk b named h);
-      spelled = code_spelled b h ∙ sym (code_kept b h) ∙ ap (filter is_kept) (sym (code_is b h));
+      spelled = code_spelled b h ∙ sym (code_kept b h) ∙ ap (filter is_kept_by_tree) (sym (code_is b h));
     }
 
 -- ---- data blocks
@@ -134,7 +134,7 @@ data_spelled line end_line name shape components instance settings =
 
 begins_settings : (settings : List Setting) (end_line : ℕ) → AllByRecursion IsPrintedSetting settings
     → Walk (place.Shaped kinds.Db) (clause.Begins ∷ (map clause.Sets settings ++ clause.Ends end_line kinds.Db ∷ [])) place.Outside
-unfolding follow follow_shaped
+unfolding next_place next_place_behind_shape
 begins_settings settings end_line h = (
   place.Settings,
   begin_step (place.Shaped kinds.Db) place.Settings refl,
@@ -145,7 +145,7 @@ begins_settings settings end_line h = (
 abbrev structure : TypeTree
 structure = record { arrays = []; of = element.Structure }
 
-structure_walk : (line end_line : ℕ) (name : BlockName) (components : List Declaration) → IsNameOf kinds.Db name → AllByRecursion IsPrintedDeclaration components
+structure_walk : (line end_line : ℕ) (name : BlockName) (components : List Declaration) → IsNumberedBlockOf kinds.Db name → AllByRecursion IsPrintedDeclaration components
     → Walk place.Outside (data_clauses line end_line name (Some structure) components None []) place.Outside
 unfolding type_clauses
 structure_walk line end_line name components named h = (
@@ -165,15 +165,15 @@ structure_walk line end_line name components named h = (
 )
 
 structure_kept : (line end_line : ℕ) (name : BlockName) (components : List Declaration) → AllByRecursion IsPrintedDeclaration components
-    → data_spelled line end_line name (Some structure) components None [] ≡ filter is_kept (data_clauses line end_line name (Some structure) components None [])
+    → data_spelled line end_line name (Some structure) components None [] ≡ filter is_kept_by_tree (data_clauses line end_line name (Some structure) components None [])
 unfolding type_clauses
 structure_kept line end_line name components h =
     ap (λ (l : List Clause). clause.Head line kinds.Db name None ∷ clause.Structure ∷ l)
-    (sym (ap (λ (cs : List Clause). filter is_kept ((cs ++ clause.EndStructure ∷ []) ++ (clause.Begins ∷ (clause.Ends end_line kinds.Db ∷ [])))) (flat_declared components h)
-    ∙ ap (filter is_kept) (append_assoc (map clause.Declares components) (clause.EndStructure ∷ []) (clause.Begins ∷ (clause.Ends end_line kinds.Db ∷ [])))
+    (sym (ap (λ (cs : List Clause). filter is_kept_by_tree ((cs ++ clause.EndStructure ∷ []) ++ (clause.Begins ∷ (clause.Ends end_line kinds.Db ∷ [])))) (flat_declared components h)
+    ∙ ap (filter is_kept_by_tree) (append_assoc (map clause.Declares components) (clause.EndStructure ∷ []) (clause.Begins ∷ (clause.Ends end_line kinds.Db ∷ [])))
     ∙ kept_declares components (clause.EndStructure ∷ clause.Begins ∷ clause.Ends end_line kinds.Db ∷ [])))
 
-instance_walk : (line end_line : ℕ) (name of_ : BlockName) (components : List Declaration) (settings : List Setting) → IsNameOf kinds.Db name → IsFunctionBlock of_
+instance_walk : (line end_line : ℕ) (name of_ : BlockName) (components : List Declaration) (settings : List Setting) → IsNumberedBlockOf kinds.Db name → IsFunctionBlock of_
     → AllByRecursion IsPrintedSetting settings → Walk place.Outside (data_clauses line end_line name None components (Some of_) settings) place.Outside
 instance_walk line end_line name of_ components settings named is h =
     (place.Head kinds.Db, head_step line kinds.Db name None no_function named refl, (place.Shaped kinds.Db, based_step of_ is, begins_settings settings end_line h))
@@ -183,18 +183,18 @@ no_udt (block.Number id) h = ap is_data_type h.0
 no_udt (block.Quoted name) h = absurd h
 
 instance_kept : (line end_line : ℕ) (name of_ : BlockName) (settings : List Setting) → IsFunctionBlock of_
-    → data_spelled line end_line name None [] (Some of_) settings ≡ filter is_kept (data_clauses line end_line name None [] (Some of_) settings)
+    → data_spelled line end_line name None [] (Some of_) settings ≡ filter is_kept_by_tree (data_clauses line end_line name None [] (Some of_) settings)
 instance_kept line end_line name of_ settings is =
-    ap (λ (b : Bool). clause.Head line kinds.Db name None ∷ ((if b then nowhere else clause.Based of_ ∷ []) ++ (map clause.Sets settings ++ clause.Ends end_line kinds.Db ∷ []))) (no_udt of_ is)
+    ap (λ (b : Bool). clause.Head line kinds.Db name None ∷ ((if b then unspelled_clauses else clause.Based of_ ∷ []) ++ (map clause.Sets settings ++ clause.Ends end_line kinds.Db ∷ []))) (no_udt of_ is)
     ∙ ap (λ (l : List Clause). clause.Head line kinds.Db name None ∷ clause.Based of_ ∷ l)
     (sym (kept_joined (map clause.Sets settings) (clause.Ends end_line kinds.Db ∷ []) ∙ ap (λ (l : List Clause). l ++ clause.Ends end_line kinds.Db ∷ []) (kept_sets settings)))
 
 pub record DataRead (line end_line : ℕ) (name : BlockName) (shape : Option TypeTree) (components : List Declaration) (instance : Option BlockName) (settings : List Setting) : Type 0 where
   pub walk : Walk place.Outside (data_clauses line end_line name shape components instance settings) place.Outside
-  pub kept : data_spelled line end_line name shape components instance settings ≡ filter is_kept (data_clauses line end_line name shape components instance settings)
+  pub kept : data_spelled line end_line name shape components instance settings ≡ filter is_kept_by_tree (data_clauses line end_line name shape components instance settings)
 
 pub shape_read : (line end_line : ℕ) (name : BlockName) (shape : Option TypeTree) (components : List Declaration) (instance : Option BlockName) (settings : List Setting)
-    → IsNameOf kinds.Db name → IsDataShape shape components instance settings → DataRead line end_line name shape components instance settings
+    → IsNumberedBlockOf kinds.Db name → IsPrintedDataShape shape components instance settings → DataRead line end_line name shape components instance settings
 shape_read line end_line name (Some of_) components None settings named h =
     subst (λ (t : TypeTree). DataRead line end_line name (Some t) components None settings) (sym h.0)
     (subst (λ (ss : List Setting). DataRead line end_line name (Some structure) components None ss) (sym h.2)
@@ -261,15 +261,15 @@ data_spelled_is b h =
         clause.Head b.line k b.name b.result
         ∷ (flat_map spelled_part b.parts ++ (spelled_shape b.shape b.instance_of b.components ++ (map clause.Sets b.settings ++ (map clause.Runs b.body ++ clause.Ends b.end_line k ∷ []))))
 
-data_read : (b : Block) → IsNameOf b.kind b.name → IsPrintedData b → IsRead b
+data_read : (b : Block) → IsNumberedBlockOf b.kind b.name → IsPrintedData b → IsRead b
 data_read b named h =
     let r : DataRead b.line b.end_line b.name b.shape b.components b.instance_of b.settings =
     shape_read b.line b.end_line b.name b.shape b.components b.instance_of b.settings
-    (subst (λ (k : BlockKind). IsNameOf k b.name) h.kind named) h.shape
+    (subst (λ (k : BlockKind). IsNumberedBlockOf k b.name) h.kind named) h.shape
     in
     record {
       walk = subst (λ (cs : List Clause). Walk place.Outside cs place.Outside) (sym (data_is b h)) r.walk;
-      spelled = data_spelled_is b h ∙ r.kept ∙ ap (filter is_kept) (sym (data_is b h));
+      spelled = data_spelled_is b h ∙ r.kept ∙ ap (filter is_kept_by_tree) (sym (data_is b h));
     }
 
 -- ---- trees
@@ -283,15 +283,15 @@ blocks_walk [] h = refl
 blocks_walk (b ∷ bs) h =
     walk_joined (block_clauses b) (flat_map block_clauses bs) place.Outside place.Outside place.Outside (block_read b h.0).walk (blocks_walk bs h.1)
 
-blocks_spelled : (bs : List Block) → AllByRecursion IsPrintedBlock bs → flat_map spelled_block bs ≡ filter is_kept (flat_map block_clauses bs)
+blocks_spelled : (bs : List Block) → AllByRecursion IsPrintedBlock bs → flat_map spelled_block bs ≡ filter is_kept_by_tree (flat_map block_clauses bs)
 blocks_spelled [] h = refl
 blocks_spelled (b ∷ bs) h =
     ap (λ (l : List Clause). l ++ flat_map spelled_block bs) (block_read b h.0).spelled
-    ∙ ap (λ (l : List Clause). filter is_kept (block_clauses b) ++ l) (blocks_spelled bs h.1)
+    ∙ ap (λ (l : List Clause). filter is_kept_by_tree (block_clauses b) ++ l) (blocks_spelled bs h.1)
     ∙ sym (kept_joined (block_clauses b) (flat_map block_clauses bs))
 
 pub trees_read : ArePrintedTreesRead
-unfolding pieces
+unfolding pieces_of_tree
 trees_read source t h shown =
     record {
       clauses = flat_map block_clauses t.blocks;

@@ -13,8 +13,8 @@ use Rattle.stl_ast.specs.declared.mnemonics.Mnemonic.{Mnemonic}
 use Rattle.stl_ast.specs.declared.mnemonics.Mnemonic.TheVariants as mnemonic
 use Rattle.stl_parser.specs.Terminals.{has_kind, is_mark}
 use Rattle.stl_print.specs.Gaps.{gap_text}
-use Rattle.stl_print.specs.Mnemonics.{Spelling, one, spelling, spelling_pieces, two}
-use Rattle.stl_print.specs.Pieces.{mark as mark_piece}
+use Rattle.stl_print.specs.Mnemonics.{Spelling, one, mnemonic_spelling, spelling_pieces, two}
+use Rattle.stl_print.specs.Pieces.{mark_piece}
 use Rattle.stl_print.specs.declared.gaps.Gap.{Gap}
 use Rattle.stl_print.specs.declared.gaps.Gap.TheVariants as gap
 use Rattle.print_laws.specs.Reading.{empty, syntax_of}
@@ -63,8 +63,8 @@ abbrev pub quiet : Spelling → Bool
 quiet (one k text) = flat text && not (mark_is k text mark.Semicolon)
 quiet (two k text j after) = flat text && flat after && not (mark_is k text mark.Semicolon) && not (mark_is j after mark.Semicolon)
 
-pub word_quiet : (m : Mnemonic) → (syntax_of m ≡ empty → ⊥) → quiet (spelling m) ≡ true
-unfolding spelling mark_text
+pub word_quiet : (m : Mnemonic) → (syntax_of m ≡ empty → ⊥) → quiet (mnemonic_spelling m) ≡ true
+unfolding mnemonic_spelling mark_text
 word_quiet mnemonic.Empty h = absurd (h refl)
 word_quiet mnemonic.Nop h = refl
 word_quiet mnemonic.Bld h = refl

@@ -13,7 +13,7 @@ use Rattle.plc_base.specs.declared.flags.Flag.TheVariants as flag
 use Rattle.plc_base.specs.declared.places.Width.{Width}
 use Rattle.plc_base.specs.declared.places.Width.TheVariants as width
 use Rattle.stl_lexer.specs.Marks.{mark_text}
-use Rattle.stl_lexer.specs.Pieces.{Piece, Show, tokens_of}
+use Rattle.stl_lexer.specs.Pieces.{Piece, ShowPieces, tokens_of}
 use Rattle.stl_ast.specs.Operands.{IsBitOf}
 use Rattle.stl_lexer.specs.declared.kinds.Token.{Token}
 use Rattle.plc_base.specs.declared.blocks.BlockKind.{BlockKind}
@@ -32,22 +32,22 @@ use Rattle.stl_parser.specs.declared.tables.Address.{Address}
 use Rattle.stl_parser.specs.declared.tables.Address.TheVariants as address
 use Rattle.stl_parser.specs.Terminals.{has_kind, is_mark, is_key, key_text}
 use Rattle.stl_parser.specs.Tables.{look_up, addresses, flags}
-use Rattle.stl_parser.specs.Numbers.{number_of, number_up_to, signed_at}
+use Rattle.stl_parser.specs.Numbers.{number_of, number_up_to, signed_number_at}
 use Rattle.stl_parser.specs.Parts.{parts_from}
 use Rattle.stl_parser.specs.Literals.{literal_of, literal_at, literal_token, truth_of, long_literal}
-use Rattle.stl_parser.specs.Addresses.{address_at, bit_of, numbered_at, glued_at, separate_at, letter_count}
-use Rattle.stl_parser.specs.Operands.{operand_of, operand_by_kind, word_operand, alone_of, with_number, direct_of, area_of, place_bit, data_block, behind_block, in_block, block_place, place_of, with_pointer, indirect_of, area_by, memory_pointer, pointer_end, pointer_close, holds_pointer, by_register, register_pointer, register_of, offset_of, number_by, mark_operand, sized_by_register, pointer_of, plain_pointer, area_pointer, local_path, path_of, steps_from, path_end, condition_of, other_of, sign_operand}
+use Rattle.stl_parser.specs.Addresses.{address_at, bit_of, letters_and_number_at, glued_letters_and_number, separate_letters_and_number, letter_count}
+use Rattle.stl_parser.specs.Operands.{operand_of, operand_by_kind, word_operand, lone_word_operand, operand_with_number, direct_address_operand, area_operand, place_bit, data_block_operand, operand_behind_block, operand_in_block, block_place, place_of_data_address, operand_with_pointer, indirect_operand, operand_by_pointer, memory_pointer, pointer_end, pointer_close, holds_pointer, operand_by_register, register_pointer, register_of, offset_of, operand_by_memory_number, mark_operand, sized_by_register, pointer_constant_operand, plain_pointer, area_pointer, local_path, path_of, steps_from, path_end, condition_of, register_name_operand, sign_operand}
 use Rattle.stl_print.specs.Literals.{literal_pieces}
-use Rattle.stl_print.specs.Names.{block_name}
-use Rattle.stl_print.specs.Operands.{numbered, address as address_pieces, bit_pieces, direct, by_register as register_pieces, operand_pieces, path_head, pointer, pointer_byte}
-use Rattle.stl_print.specs.Words.{address_letters, area_letters, size_letter, bit_letter, width_letter, block_letters, numbered_letters, flag_text, flag_kind, truth_word}
+use Rattle.stl_print.specs.Names.{block_name_pieces}
+use Rattle.stl_print.specs.Operands.{numbered_pieces, address_pieces, bit_pieces, direct_pieces, register_operand_pieces as register_pieces, operand_pieces, path_head_pieces, pointer_pieces, pointer_byte_pieces}
+use Rattle.stl_print.specs.Words.{letters_of_address, area_letters, size_letter, bit_letter, width_letter, block_letters, numbered_letters, flag_text, flag_kind, truth_word}
 use Rattle.print_laws.specs.Reading.{IsArea, IsAreaOf, IsPrintedLiteral, IsPrintedOperand, IsRegister}
 use Rattle.print_laws.proofs.parsing.Constants.{byte_value, word_value, dword_value, long_constant, time_constant}
 use Rattle.print_laws.proofs.parsing.Numbers.{minus, number_read}
 
 -- a source has these pieces from a place on
 abbrev pub Texts : (source : List ℕ) (from line : ℕ) → List Piece → Type 0
-Texts source from line ps = Show source ps (tokens_of from line ps)
+Texts source from line ps = ShowPieces source ps (tokens_of from line ps)
 
 -- letters of an address, which are no constant and have no digits
 pub record AreLetters (text : List ℕ) (x : Address) : Type 0 where
@@ -56,7 +56,7 @@ pub record AreLetters (text : List ℕ) (x : Address) : Type 0 where
   pub no_true : str_eq_ignore_ascii_case text (codes "TRUE") ≡ false
   pub no_false : str_eq_ignore_ascii_case text (codes "FALSE") ≡ false
 
-pub letters_found : (area : Letters) (w : Width) → IsArea area w → AreLetters (address_letters area w) (address.Area area w)
+pub letters_found : (area : Letters) (w : Width) → IsArea area w → AreLetters (letters_of_address area w) (address.Area area w)
 unfolding look_up addresses area_letters size_letter bit_letter width_letter
 letters_found letters.I width.Bit h = record { table = refl; whole = refl; no_true = refl; no_false = refl }
 letters_found letters.I width.Byte h = record { table = refl; whole = refl; no_true = refl; no_false = refl }
@@ -100,8 +100,8 @@ none_chained None = refl
 none_chained (Some x) = refl
 
 -- letters alone are no word of letters and number
-pub no_glue : {text : List ℕ} {x : Address} → AreLetters text x → (rest : List Token) → glued_at addresses text rest ≡ None
-unfolding glued_at
+pub no_glue : {text : List ℕ} {x : Address} → AreLetters text x → (rest : List Token) → glued_letters_and_number addresses text rest ≡ None
+unfolding glued_letters_and_number
 no_glue {text} l rest = rw (l.whole, no_decimal) (none_chained (look_up addresses (take (letter_count text) text)))
 
 pub at_most : (m n : ℕ) → m ≤ n → nat_le m n ≡ true
@@ -114,7 +114,7 @@ read_number n h = number_read 65535 n h (omega arith)
 
 pub literal_read : (source : List ℕ) (from line : ℕ) (g : _) (l : Literal) → IsPrintedLiteral l → Texts source from line (literal_pieces g l)
     → literal_of source (tokens_of from line (literal_pieces g l)) ≡ Some l
-unfolding literal_pieces truth_word literal_of literal_at literal_token truth_of long_literal signed_at is_mark is_key has_kind key_text mark_text number_of number_up_to
+unfolding literal_pieces truth_word literal_of literal_at literal_token truth_of long_literal signed_number_at is_mark is_key has_kind key_text mark_text number_of number_up_to
 literal_read source from line g (literal.Truth true) h (_, x1, _) = rw x1 refl
 literal_read source from line g (literal.Truth false) h (_, x1, _) = rw x1 refl
 literal_read source from line g (literal.Number (pos n)) h (_, x1, _) = rw (x1, read_number n h) refl
@@ -152,19 +152,19 @@ constant_read source from line g (literal.Bytes v) h t = absurd h
 -- ---- addresses
 
 wide_read : (source : List ℕ) (from line : ℕ) (g : _) (area : Letters) (w : Width) (byte : ℕ) → IsArea area w → byte ≤ 65535
-    → place_bit source w [] ≡ Some 0 → Texts source from line (numbered g (address_letters area w) byte)
-    → operand_of source (tokens_of from line (numbered g (address_letters area w) byte)) ≡ Some (operand.Direct None area w byte 0)
-unfolding operand_of literal_of literal_at literal_token truth_of long_literal signed_at is_mark is_key has_kind key_text mark_text operand_by_kind word_operand alone_of with_number address_at numbered_at separate_at number_of number_up_to direct_of area_of
+    → place_bit source w [] ≡ Some 0 → Texts source from line (numbered_pieces g (letters_of_address area w) byte)
+    → operand_of source (tokens_of from line (numbered_pieces g (letters_of_address area w) byte)) ≡ Some (operand.Direct None area w byte 0)
+unfolding operand_of literal_of literal_at literal_token truth_of long_literal signed_number_at is_mark is_key has_kind key_text mark_text operand_by_kind word_operand lone_word_operand operand_with_number address_at letters_and_number_at separate_letters_and_number number_of number_up_to direct_address_operand area_operand
 wide_read source from line g area w byte is h place (_, x1, (_, x2, _)) =
-    let l : AreLetters (address_letters area w) (address.Area area w) = letters_found area w is in
+    let l : AreLetters (letters_of_address area w) (address.Area area w) = letters_found area w is in
     rw (x1, x2, l.no_true, l.no_false, no_glue l, l.table, read_number byte h, place) refl
 
 bit_read : (source : List ℕ) (from line : ℕ) (g : _) (area : Letters) (byte bit : ℕ) → IsArea area width.Bit → byte ≤ 65535 → bit ≤ 7
     → Texts source from line (address_pieces g area width.Bit byte bit)
     → operand_of source (tokens_of from line (address_pieces g area width.Bit byte bit)) ≡ Some (operand.Direct None area width.Bit byte bit)
-unfolding operand_of literal_of literal_at literal_token truth_of long_literal signed_at is_mark is_key has_kind key_text mark_text operand_by_kind word_operand alone_of with_number address_at numbered_at separate_at number_of number_up_to direct_of area_of place_bit bit_of bit_pieces
+unfolding operand_of literal_of literal_at literal_token truth_of long_literal signed_number_at is_mark is_key has_kind key_text mark_text operand_by_kind word_operand lone_word_operand operand_with_number address_at letters_and_number_at separate_letters_and_number number_of number_up_to direct_address_operand area_operand place_bit bit_of bit_pieces
 bit_read source from line g area byte bit is h small (_, x1, (_, x2, (_, x3, (_, x4, _)))) =
-    let l : AreLetters (address_letters area width.Bit) (address.Area area width.Bit) = letters_found area width.Bit is in
+    let l : AreLetters (letters_of_address area width.Bit) (address.Area area width.Bit) = letters_found area width.Bit is in
     rw (x1, x2, l.no_true, l.no_false, no_glue l, l.table, read_number byte h, x3, x4, read_number bit (omega arith), at_most bit 7 small) refl
 
 -- a fact on a block of a kind
@@ -175,9 +175,9 @@ abbrev db : ℕ → BlockName
 db n = block.Number (record { kind = kinds.Db; number = n })
 
 in_block_read : (source : List ℕ) (from line : ℕ) (g : _) (n : ℕ) (w : Width) (byte bit : ℕ) → n ≤ 65535 → byte ≤ 65535 → IsBitOf w bit
-    → Texts source from line (direct g (Some (db n)) letters.Db w byte bit)
-    → operand_of source (tokens_of from line (direct g (Some (db n)) letters.Db w byte bit)) ≡ Some (operand.Direct (Some (db n)) letters.Db w byte bit)
-unfolding operand_of literal_of literal_at literal_token truth_of long_literal signed_at is_mark is_key has_kind key_text mark_text operand_by_kind word_operand alone_of with_number address_at numbered_at separate_at number_of number_up_to glued_at look_up addresses decimal_up_to area_letters size_letter bit_letter width_letter block_letters direct_of data_block behind_block in_block block_place place_of place_bit bit_of direct block_name bit_pieces
+    → Texts source from line (direct_pieces g (Some (db n)) letters.Db w byte bit)
+    → operand_of source (tokens_of from line (direct_pieces g (Some (db n)) letters.Db w byte bit)) ≡ Some (operand.Direct (Some (db n)) letters.Db w byte bit)
+unfolding operand_of literal_of literal_at literal_token truth_of long_literal signed_number_at is_mark is_key has_kind key_text mark_text operand_by_kind word_operand lone_word_operand operand_with_number address_at letters_and_number_at separate_letters_and_number number_of number_up_to glued_letters_and_number look_up addresses decimal_up_to area_letters size_letter bit_letter width_letter block_letters direct_address_operand data_block_operand operand_behind_block operand_in_block block_place place_of_data_address place_bit bit_of direct_pieces block_name_pieces bit_pieces
 in_block_read source from line g n width.Bit byte bit h k small (_, x1, (_, x2, (_, x3, (_, x4, (_, x5, (_, x6, (_, x7, _))))))) =
     rw (x1, x2, read_number n h, x3, x4, x5, read_number byte k, x6, x7, read_number bit (omega arith), at_most bit 7 small) refl
 in_block_read source from line g n width.Byte byte bit h k zeroed (_, x1, (_, x2, (_, x3, (_, x4, (_, x5, _))))) =
@@ -188,9 +188,9 @@ in_block_read source from line g n width.Dword byte bit h k zeroed (_, x1, (_, x
     rw (x1, x2, read_number n h, x3, x4, x5, read_number byte k, zeroed) refl
 
 pub direct_read : (source : List ℕ) (from line : ℕ) (g : _) (name : Option BlockName) (area : Letters) (w : Width) (byte bit : ℕ)
-    → IsPrintedOperand (operand.Direct name area w byte bit) → Texts source from line (direct g name area w byte bit)
-    → operand_of source (tokens_of from line (direct g name area w byte bit)) ≡ Some (operand.Direct name area w byte bit)
-unfolding direct bit_pieces place_bit
+    → IsPrintedOperand (operand.Direct name area w byte bit) → Texts source from line (direct_pieces g name area w byte bit)
+    → operand_of source (tokens_of from line (direct_pieces g name area w byte bit)) ≡ Some (operand.Direct name area w byte bit)
+unfolding direct_pieces bit_pieces place_bit
 direct_read source from line g None area width.Bit byte bit h t = bit_read source from line g area byte bit h.1 h.2 h.3 t
 direct_read source from line g None area width.Byte byte bit h t =
     wide_read source from line g area width.Byte byte h.1 h.2 refl t ∙ ap (λ z. Some (operand.Direct None area width.Byte byte z)) (sym h.3)
@@ -199,30 +199,30 @@ direct_read source from line g None area width.Word byte bit h t =
 direct_read source from line g None area width.Dword byte bit h t =
     wide_read source from line g area width.Dword byte h.1 h.2 refl t ∙ ap (λ z. Some (operand.Direct None area width.Dword byte z)) (sym h.3)
 direct_read source from line g (Some (block.Number id)) area w byte bit h t =
-    subst (λ (a : Letters). Texts source from line (direct g (Some (block.Number id)) a w byte bit)
-    → operand_of source (tokens_of from line (direct g (Some (block.Number id)) a w byte bit)) ≡ Some (operand.Direct (Some (block.Number id)) a w byte bit))
+    subst (λ (a : Letters). Texts source from line (direct_pieces g (Some (block.Number id)) a w byte bit)
+    → operand_of source (tokens_of from line (direct_pieces g (Some (block.Number id)) a w byte bit)) ≡ Some (operand.Direct (Some (block.Number id)) a w byte bit))
     (sym h.0.1)
     (of_kind
-    (λ i. Texts source from line (direct g (Some (block.Number i)) letters.Db w byte bit)
-    → operand_of source (tokens_of from line (direct g (Some (block.Number i)) letters.Db w byte bit)) ≡ Some (operand.Direct (Some (block.Number i)) letters.Db w byte bit))
+    (λ i. Texts source from line (direct_pieces g (Some (block.Number i)) letters.Db w byte bit)
+    → operand_of source (tokens_of from line (direct_pieces g (Some (block.Number i)) letters.Db w byte bit)) ≡ Some (operand.Direct (Some (block.Number i)) letters.Db w byte bit))
     kinds.Db id h.0.0.0
     (λ u. in_block_read source from line g id.number w byte bit h.0.0.1 h.2 h.3 u))
     t
 direct_read source from line g (Some (block.Quoted name)) area w byte bit h t = absurd h.0.0
 
-pub timer_read : (source : List ℕ) (from line : ℕ) (g : _) (n : ℕ) → n ≤ 65535 → Texts source from line (numbered g (codes "T") n)
-    → operand_of source (tokens_of from line (numbered g (codes "T") n)) ≡ Some (operand.Timer n)
-unfolding operand_of literal_of literal_at literal_token truth_of long_literal signed_at is_mark is_key has_kind key_text mark_text operand_by_kind word_operand alone_of with_number address_at numbered_at separate_at number_of number_up_to glued_at look_up addresses decimal_up_to area_letters size_letter bit_letter width_letter block_letters direct_of
+pub timer_read : (source : List ℕ) (from line : ℕ) (g : _) (n : ℕ) → n ≤ 65535 → Texts source from line (numbered_pieces g (codes "T") n)
+    → operand_of source (tokens_of from line (numbered_pieces g (codes "T") n)) ≡ Some (operand.Timer n)
+unfolding operand_of literal_of literal_at literal_token truth_of long_literal signed_number_at is_mark is_key has_kind key_text mark_text operand_by_kind word_operand lone_word_operand operand_with_number address_at letters_and_number_at separate_letters_and_number number_of number_up_to glued_letters_and_number look_up addresses decimal_up_to area_letters size_letter bit_letter width_letter block_letters direct_address_operand
 timer_read source from line g n h (_, x1, (_, x2, _)) = rw (x1, x2, read_number n h) refl
 
-pub counter_read : (source : List ℕ) (from line : ℕ) (g : _) (n : ℕ) → n ≤ 65535 → Texts source from line (numbered g (codes "C") n)
-    → operand_of source (tokens_of from line (numbered g (codes "C") n)) ≡ Some (operand.Counter n)
-unfolding operand_of literal_of literal_at literal_token truth_of long_literal signed_at is_mark is_key has_kind key_text mark_text operand_by_kind word_operand alone_of with_number address_at numbered_at separate_at number_of number_up_to glued_at look_up addresses decimal_up_to area_letters size_letter bit_letter width_letter block_letters direct_of
+pub counter_read : (source : List ℕ) (from line : ℕ) (g : _) (n : ℕ) → n ≤ 65535 → Texts source from line (numbered_pieces g (codes "C") n)
+    → operand_of source (tokens_of from line (numbered_pieces g (codes "C") n)) ≡ Some (operand.Counter n)
+unfolding operand_of literal_of literal_at literal_token truth_of long_literal signed_number_at is_mark is_key has_kind key_text mark_text operand_by_kind word_operand lone_word_operand operand_with_number address_at letters_and_number_at separate_letters_and_number number_of number_up_to glued_letters_and_number look_up addresses decimal_up_to area_letters size_letter bit_letter width_letter block_letters direct_address_operand
 counter_read source from line g n h (_, x1, (_, x2, _)) = rw (x1, x2, read_number n h) refl
 
 pub local_read : (source : List ℕ) (from line : ℕ) (g : _) (name : List ℕ) → Texts source from line (operand_pieces g (operand.Named (head.Local name) []))
     → operand_of source (tokens_of from line (operand_pieces g (operand.Named (head.Local name) []))) ≡ Some (operand.Named (head.Local name) [])
-unfolding operand_of literal_of literal_at literal_token truth_of long_literal signed_at is_mark is_key has_kind key_text mark_text operand_by_kind word_operand alone_of with_number address_at numbered_at separate_at number_of number_up_to operand_pieces path_head local_path path_of steps_from parts_from path_end
+unfolding operand_of literal_of literal_at literal_token truth_of long_literal signed_number_at is_mark is_key has_kind key_text mark_text operand_by_kind word_operand lone_word_operand operand_with_number address_at letters_and_number_at separate_letters_and_number number_of number_up_to operand_pieces path_head_pieces local_path path_of steps_from parts_from path_end
 local_read source from line g name (_, x1, _) = rw x1 refl
 
 -- ---- pointers
@@ -251,10 +251,10 @@ pub memory_read : (source : List ℕ) (from line : ℕ) (g : _) (area : Letters)
     → IsArea area w → holds_pointer place ≡ true → byte ≤ 65535
     → Texts source from line (operand_pieces g (operand.ByMemory area w place byte))
     → operand_of source (tokens_of from line (operand_pieces g (operand.ByMemory area w place byte))) ≡ Some (operand.ByMemory area w place byte)
-unfolding operand_of literal_of literal_at literal_token truth_of long_literal signed_at is_mark is_key has_kind key_text mark_text operand_by_kind word_operand alone_of with_number address_at numbered_at separate_at number_of number_up_to operand_pieces with_pointer indirect_of area_by memory_pointer pointer_end pointer_close
+unfolding operand_of literal_of literal_at literal_token truth_of long_literal signed_number_at is_mark is_key has_kind key_text mark_text operand_by_kind word_operand lone_word_operand operand_with_number address_at letters_and_number_at separate_letters_and_number number_of number_up_to operand_pieces operand_with_pointer indirect_operand operand_by_pointer memory_pointer pointer_end pointer_close
 memory_read source from line g area w place byte is holds h (_, x1, (_, x2, (_, x3, (_, x4, (_, x5, _))))) =
-    let l : AreLetters (address_letters area w) (address.Area area w) = letters_found area w is in
-    let k : AreLetters (address_letters place width.Dword) (address.Area place width.Dword) = letters_found place width.Dword (wide_area place) in
+    let l : AreLetters (letters_of_address area w) (address.Area area w) = letters_found area w is in
+    let k : AreLetters (letters_of_address place width.Dword) (address.Area place width.Dword) = letters_found place width.Dword (wide_area place) in
     rw (x1, l.no_true, l.no_false, no_glue l, l.table, x2, x3, no_glue k, k.table, x4, read_number byte h, holds, x5) refl
 
 -- the letters before a number in memory
@@ -274,22 +274,22 @@ counted_found numbered_kind.Di = record { table = refl; whole = refl; no_true = 
 pub number_by_read : (source : List ℕ) (from line : ℕ) (g : _) (what : Numbered) (place : Letters) (byte : ℕ) → holds_pointer place ≡ true → byte ≤ 65535
     → Texts source from line (operand_pieces g (operand.NumberBy what place byte))
     → operand_of source (tokens_of from line (operand_pieces g (operand.NumberBy what place byte))) ≡ Some (operand.NumberBy what place byte)
-unfolding operand_of literal_of literal_at literal_token truth_of long_literal signed_at is_mark is_key has_kind key_text mark_text operand_by_kind word_operand alone_of with_number address_at numbered_at separate_at number_of number_up_to address_by operand_pieces with_pointer indirect_of area_by memory_pointer pointer_end pointer_close number_by by_register register_pointer register_of offset_of bit_of
+unfolding operand_of literal_of literal_at literal_token truth_of long_literal signed_number_at is_mark is_key has_kind key_text mark_text operand_by_kind word_operand lone_word_operand operand_with_number address_at letters_and_number_at separate_letters_and_number number_of number_up_to address_by operand_pieces operand_with_pointer indirect_operand operand_by_pointer memory_pointer pointer_end pointer_close operand_by_memory_number operand_by_register register_pointer register_of offset_of bit_of
 number_by_read source from line g numbered_kind.Timer place byte holds h (_, x1, (_, x2, (_, x3, (_, x4, (_, x5, _))))) =
     let l : AreLetters (numbered_letters numbered_kind.Timer) (address_by numbered_kind.Timer) = counted_found numbered_kind.Timer in
-    let k : AreLetters (address_letters place width.Word) (address.Area place width.Word) = letters_found place width.Word (word_area place) in
+    let k : AreLetters (letters_of_address place width.Word) (address.Area place width.Word) = letters_found place width.Word (word_area place) in
     rw (x1, l.no_true, l.no_false, no_glue l, l.table, x2, x3, no_glue k, k.table, x4, read_number byte h, holds, x5) refl
 number_by_read source from line g numbered_kind.Counter place byte holds h (_, x1, (_, x2, (_, x3, (_, x4, (_, x5, _))))) =
     let l : AreLetters (numbered_letters numbered_kind.Counter) (address_by numbered_kind.Counter) = counted_found numbered_kind.Counter in
-    let k : AreLetters (address_letters place width.Word) (address.Area place width.Word) = letters_found place width.Word (word_area place) in
+    let k : AreLetters (letters_of_address place width.Word) (address.Area place width.Word) = letters_found place width.Word (word_area place) in
     rw (x1, l.no_true, l.no_false, no_glue l, l.table, x2, x3, no_glue k, k.table, x4, read_number byte h, holds, x5) refl
 number_by_read source from line g numbered_kind.Db place byte holds h (_, x1, (_, x2, (_, x3, (_, x4, (_, x5, _))))) =
     let l : AreLetters (numbered_letters numbered_kind.Db) (address_by numbered_kind.Db) = counted_found numbered_kind.Db in
-    let k : AreLetters (address_letters place width.Word) (address.Area place width.Word) = letters_found place width.Word (word_area place) in
+    let k : AreLetters (letters_of_address place width.Word) (address.Area place width.Word) = letters_found place width.Word (word_area place) in
     rw (x1, l.no_true, l.no_false, no_glue l, l.table, x2, x3, no_glue k, k.table, x4, read_number byte h, holds, x5) refl
 number_by_read source from line g numbered_kind.Di place byte holds h (_, x1, (_, x2, (_, x3, (_, x4, (_, x5, _))))) =
     let l : AreLetters (numbered_letters numbered_kind.Di) (address_by numbered_kind.Di) = counted_found numbered_kind.Di in
-    let k : AreLetters (address_letters place width.Word) (address.Area place width.Word) = letters_found place width.Word (word_area place) in
+    let k : AreLetters (letters_of_address place width.Word) (address.Area place width.Word) = letters_found place width.Word (word_area place) in
     rw (x1, l.no_true, l.no_false, no_glue l, l.table, x2, x3, no_glue k, k.table, x4, read_number byte h, holds, x5) refl
 
 eighths : (bits : ℕ) → 8 * (bits / 8) + bits % 8 ≡ bits
@@ -305,12 +305,12 @@ second_text : codes "AR" ++ decimal 2 ≡ codes "AR2"
 second_text = ap (λ (l : List ℕ). codes "AR" ++ l) (small_decimal 2 (omega arith))
 
 -- an address register is no address
-no_register : (rest : List Token) → glued_at addresses (codes "AR1") rest ≡ None
-unfolding glued_at look_up addresses
+no_register : (rest : List Token) → glued_letters_and_number addresses (codes "AR1") rest ≡ None
+unfolding glued_letters_and_number look_up addresses
 no_register rest = refl
 
-no_second : (rest : List Token) → glued_at addresses (codes "AR2") rest ≡ None
-unfolding glued_at look_up addresses
+no_second : (rest : List Token) → glued_letters_and_number addresses (codes "AR2") rest ≡ None
+unfolding glued_letters_and_number look_up addresses
 no_second rest = refl
 
 no_word : look_up addresses (codes "AR1") ≡ None
@@ -322,8 +322,8 @@ unfolding look_up addresses
 no_second_word = refl
 
 -- nor is the letter of a width alone
-no_letter : (w : Width) (rest : List Token) → glued_at addresses (width_letter w) rest ≡ None
-unfolding glued_at look_up addresses width_letter
+no_letter : (w : Width) (rest : List Token) → glued_letters_and_number addresses (width_letter w) rest ≡ None
+unfolding glued_letters_and_number look_up addresses width_letter
 no_letter width.Bit rest = refl
 no_letter width.Byte rest = refl
 no_letter width.Word rest = refl
@@ -339,9 +339,9 @@ letter_unknown width.Dword = refl
 first_register_read : (source : List ℕ) (from line : ℕ) (g : _) (area : Option Letters) (w : Width) (bits : ℕ)
     → IsAreaOf area w → bits < 8 * 65536 → Texts source from line (register_pieces g area w 1 bits)
     → operand_of source (tokens_of from line (register_pieces g area w 1 bits)) ≡ Some (operand.ByRegister area w 1 bits)
-unfolding operand_of literal_of literal_at literal_token truth_of long_literal signed_at is_mark is_key has_kind key_text mark_text operand_by_kind word_operand alone_of with_number address_at numbered_at separate_at number_of number_up_to register_pieces width_letter with_pointer indirect_of area_by memory_pointer pointer_end pointer_close number_by by_register register_pointer register_of offset_of bit_of mark_operand sized_by_register
+unfolding operand_of literal_of literal_at literal_token truth_of long_literal signed_number_at is_mark is_key has_kind key_text mark_text operand_by_kind word_operand lone_word_operand operand_with_number address_at letters_and_number_at separate_letters_and_number number_of number_up_to register_pieces width_letter operand_with_pointer indirect_operand operand_by_pointer memory_pointer pointer_end pointer_close operand_by_memory_number operand_by_register register_pointer register_of offset_of bit_of mark_operand sized_by_register
 first_register_read source from line g (Some area) w bits is h (_, x1, (_, x2, (_, x3, (_, x4, (_, x5, (_, x6, (_, x7, (_, x8, (_, x9, _))))))))) =
-    let l : AreLetters (address_letters area w) (address.Area area w) = letters_found area w is in
+    let l : AreLetters (letters_of_address area w) (address.Area area w) = letters_found area w is in
     rw (x1, l.no_true, l.no_false, no_glue l, l.table, x2, x3 ∙ first_text, no_register, no_word, x4, x9, x5, x6, read_number (bits / 8) (omega (arith, h)), x7, x8, read_number (bits % 8) (omega arith), at_most (bits % 8) 7 (omega arith), eighths bits) refl
 first_register_read source from line g None width.Bit bits is h (_, x1, (_, x2, (_, x3, (_, x4, (_, x5, (_, x6, (_, x7, (_, x8, _)))))))) =
     rw (x1, x3, x8, x2 ∙ first_text, x4, x5, read_number (bits / 8) (omega (arith, h)), x6, x7, read_number (bits % 8) (omega arith), at_most (bits % 8) 7 (omega arith), eighths bits) refl
@@ -355,9 +355,9 @@ first_register_read source from line g None width.Dword bits is h (_, x1, (_, x2
 second_register_read : (source : List ℕ) (from line : ℕ) (g : _) (area : Option Letters) (w : Width) (bits : ℕ)
     → IsAreaOf area w → bits < 8 * 65536 → Texts source from line (register_pieces g area w 2 bits)
     → operand_of source (tokens_of from line (register_pieces g area w 2 bits)) ≡ Some (operand.ByRegister area w 2 bits)
-unfolding operand_of literal_of literal_at literal_token truth_of long_literal signed_at is_mark is_key has_kind key_text mark_text operand_by_kind word_operand alone_of with_number address_at numbered_at separate_at number_of number_up_to register_pieces width_letter with_pointer indirect_of area_by memory_pointer pointer_end pointer_close number_by by_register register_pointer register_of offset_of bit_of mark_operand sized_by_register
+unfolding operand_of literal_of literal_at literal_token truth_of long_literal signed_number_at is_mark is_key has_kind key_text mark_text operand_by_kind word_operand lone_word_operand operand_with_number address_at letters_and_number_at separate_letters_and_number number_of number_up_to register_pieces width_letter operand_with_pointer indirect_operand operand_by_pointer memory_pointer pointer_end pointer_close operand_by_memory_number operand_by_register register_pointer register_of offset_of bit_of mark_operand sized_by_register
 second_register_read source from line g (Some area) w bits is h (_, x1, (_, x2, (_, x3, (_, x4, (_, x5, (_, x6, (_, x7, (_, x8, (_, x9, _))))))))) =
-    let l : AreLetters (address_letters area w) (address.Area area w) = letters_found area w is in
+    let l : AreLetters (letters_of_address area w) (address.Area area w) = letters_found area w is in
     rw (x1, l.no_true, l.no_false, no_glue l, l.table, x2, x3 ∙ second_text, no_second, no_second_word, x4, x9, x5, x6, read_number (bits / 8) (omega (arith, h)), x7, x8, read_number (bits % 8) (omega arith), at_most (bits % 8) 7 (omega arith), eighths bits) refl
 second_register_read source from line g None width.Bit bits is h (_, x1, (_, x2, (_, x3, (_, x4, (_, x5, (_, x6, (_, x7, (_, x8, _)))))))) =
     rw (x1, x3, x8, x2 ∙ second_text, x4, x5, read_number (bits / 8) (omega (arith, h)), x6, x7, read_number (bits % 8) (omega arith), at_most (bits % 8) 7 (omega arith), eighths bits) refl
@@ -382,20 +382,20 @@ register_read source from line g area w register bits is (inr e) h t =
     (λ u. second_register_read source from line g area w bits is h u) t
 
 pub pointer_read : (source : List ℕ) (from line : ℕ) (g : _) (area : Option Letters) (byte bit : ℕ) → IsAreaOf area width.Bit → byte ≤ 65535 → bit ≤ 7
-    → Texts source from line (pointer g area byte bit)
-    → operand_of source (tokens_of from line (pointer g area byte bit)) ≡ Some (operand.Pointer area byte bit)
-unfolding operand_of literal_of literal_at literal_token truth_of long_literal signed_at is_mark is_key has_kind key_text mark_text operand_by_kind word_operand alone_of with_number address_at numbered_at separate_at number_of number_up_to pointer_byte mark_operand pointer_of plain_pointer area_pointer bit_of
+    → Texts source from line (pointer_pieces g area byte bit)
+    → operand_of source (tokens_of from line (pointer_pieces g area byte bit)) ≡ Some (operand.Pointer area byte bit)
+unfolding operand_of literal_of literal_at literal_token truth_of long_literal signed_number_at is_mark is_key has_kind key_text mark_text operand_by_kind word_operand lone_word_operand operand_with_number address_at letters_and_number_at separate_letters_and_number number_of number_up_to pointer_byte_pieces mark_operand pointer_constant_operand plain_pointer area_pointer bit_of
 pointer_read source from line g None byte bit is h small (_, x1, (_, x2, (_, x3, (_, x4, _)))) =
     rw (x1, x2, read_number byte h, x3, x4, read_number bit (omega arith), at_most bit 7 small) refl
 pointer_read source from line g (Some area) byte bit is h small (_, x1, (_, x2, (_, x3, (_, x4, (_, x5, _))))) =
-    let l : AreLetters (address_letters area width.Bit) (address.Area area width.Bit) = letters_found area width.Bit is in
+    let l : AreLetters (letters_of_address area width.Bit) (address.Area area width.Bit) = letters_found area width.Bit is in
     rw (x1, x2, no_glue l, l.table, x3, read_number byte h, x4, x5, read_number bit (omega arith), at_most bit 7 small) refl
 
 -- ---- conditions and registers
 
 pub status_read : (source : List ℕ) (from line : ℕ) (g : _) (f : Flag) → Texts source from line (operand_pieces g (operand.OfStatus f))
     → operand_of source (tokens_of from line (operand_pieces g (operand.OfStatus f))) ≡ Some (operand.OfStatus f)
-unfolding operand_of literal_of literal_at literal_token truth_of long_literal signed_at is_mark is_key has_kind key_text mark_text operand_by_kind word_operand alone_of with_number address_at numbered_at separate_at number_of number_up_to operand_pieces flag_kind flag_text look_up flags sign_operand condition_of
+unfolding operand_of literal_of literal_at literal_token truth_of long_literal signed_number_at is_mark is_key has_kind key_text mark_text operand_by_kind word_operand lone_word_operand operand_with_number address_at letters_and_number_at separate_letters_and_number number_of number_up_to operand_pieces flag_kind flag_text look_up flags sign_operand condition_of
 status_read source from line g flag.Br (_, x1, _) = rw x1 refl
 status_read source from line g flag.Ov (_, x1, _) = rw x1 refl
 status_read source from line g flag.Os (_, x1, _) = rw x1 refl
@@ -409,7 +409,7 @@ status_read source from line g flag.Uo (_, x1, _) = rw x1 refl
 
 pub other_read : (source : List ℕ) (from line : ℕ) (g : _) (name : List ℕ) → IsRegister name → Texts source from line (operand_pieces g (operand.Other name))
     → operand_of source (tokens_of from line (operand_pieces g (operand.Other name))) ≡ Some (operand.Other name)
-unfolding operand_of literal_of literal_at literal_token truth_of long_literal signed_at is_mark is_key has_kind key_text mark_text operand_by_kind word_operand alone_of with_number address_at numbered_at separate_at number_of number_up_to operand_pieces condition_of other_of
+unfolding operand_of literal_of literal_at literal_token truth_of long_literal signed_number_at is_mark is_key has_kind key_text mark_text operand_by_kind word_operand lone_word_operand operand_with_number address_at letters_and_number_at separate_letters_and_number number_of number_up_to operand_pieces condition_of register_name_operand
 other_read source from line g name h (_, x1, _) = rw (x1, h.no_true, h.no_false, h.no_flag, h.found) refl
 
 -- ---- all of them

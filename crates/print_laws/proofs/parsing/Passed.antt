@@ -12,12 +12,12 @@ use Rattle.stl_lexer.specs.declared.kinds.TokenKind.TheVariants as kind
 use Rattle.stl_lexer.specs.declared.marks.Mark.TheVariants as mark
 use Rattle.stl_ast.specs.declared.operands.Operand.{Operand}
 use Rattle.stl_ast.specs.declared.statements.Actual.{Actual}
-use Rattle.stl_parser.specs.Parts.{parts_from, whole}
+use Rattle.stl_parser.specs.Parts.{parts_from, complete_reading}
 use Rattle.stl_parser.specs.Statements.{actual_at, actuals_behind, actuals_end, actuals_of, next_actual, value_ends, value_of}
 use Rattle.stl_parser.specs.Terminals.{has_kind, is_mark}
 use Rattle.stl_print.specs.Gaps.{gap_text}
 use Rattle.stl_print.specs.Operands.{operand_pieces}
-use Rattle.stl_print.specs.Pieces.{mark as mark_piece}
+use Rattle.stl_print.specs.Pieces.{mark_piece}
 use Rattle.stl_print.specs.declared.gaps.Gap.TheVariants as gap
 use Rattle.stl_print.specs.Statements.{actual_pieces, actuals_pieces, further_actuals}
 use Rattle.print_laws.specs.Reading.{IsPrintedActual}
@@ -111,6 +111,6 @@ actuals_read source from line at [] here all t = refl
 actuals_read source from line at (a ∷ more) here all (_, x1, t) =
     let e : line + 0 + 0 ≡ at = omega (arith, here) in
     rw (x1, next_read source _ (line + 0 + 0) at gap.Nothing a more e refl all.0 t)
-    (ap whole (further_read source at more (a ∷ []) _ _ _ (tame_line (line + 0 + 0) (actual_pieces gap.Nothing a) (actual_tame gap.Nothing at a refl all.0) ∙ e) all.1
+    (ap complete_reading (further_read source at more (a ∷ []) _ _ _ (tame_line (line + 0 + 0) (actual_pieces gap.Nothing a) (actual_tame gap.Nothing at a refl all.0) ∙ e) all.1
     (shown_behind source _ (line + 0 + 0) (actual_pieces gap.Nothing a) (further_actuals more) t)
     (enough _ _ more)))

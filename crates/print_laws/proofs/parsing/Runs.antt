@@ -12,11 +12,11 @@ use Rattle.stl_lexer.specs.declared.kinds.TokenKind.TheVariants as kind
 use Rattle.stl_lexer.specs.declared.marks.Mark.TheVariants as mark
 use Rattle.stl_ast.specs.declared.declarations.ElementType.{ElementType}
 use Rattle.stl_ast.specs.declared.statements.Statement.{Statement}
-use Rattle.stl_parser.specs.Addresses.{block_at, block_number_at, glued_at, letter_count, numbered_at, quoted_at, separate_at}
+use Rattle.stl_parser.specs.Addresses.{block_at, block_number_at, glued_letters_and_number, letter_count, letters_and_number_at, quoted_block_at, separate_letters_and_number}
 use Rattle.stl_parser.specs.Clauses.{clause_at, clause_by_kind, declaration_clause, free_word_clause, inside_clause, is_outer, other_clause, plain_clause, semicolon_clause, statement_clause, structure_clause, word_clause}
-use Rattle.stl_parser.specs.Declarations.{after_attribute, after_colon, after_struct, declaration_of, declared_at, structure_at}
+use Rattle.stl_parser.specs.Declarations.{after_attribute, after_colon, after_struct, declaration_of, declared_name_at, structure_at}
 use Rattle.stl_parser.specs.Parts.{parts_from}
-use Rattle.stl_parser.specs.Statements.{instruction_of, is_long, labelled, statement, statement_of, unlabelled}
+use Rattle.stl_parser.specs.Statements.{instruction_of, is_long_label, labelled_statement, statement_with_label, statement_of, unlabelled_statement}
 use Rattle.stl_parser.specs.Tables.{block_kinds, head_words, keywords, look_up}
 use Rattle.stl_parser.specs.Terminals.{has_kind, is_key, is_mark, key_text, kind_rank}
 use Rattle.stl_parser.specs.Types.{array_at, arrays_at, arrays_end, element_at, simple_at, udt_at}
@@ -66,8 +66,8 @@ not_true : (b : Bool) → not b ≡ true → b ≡ false
 not_true false e = refl
 not_true true e = absurd cc
 
-pub no_declared : (source : List ℕ) (w : Token) (ts : List Token) → calm_head source ts ≡ true → declared_at source (w ∷ ts) ≡ None
-unfolding declared_at after_attribute after_colon
+pub no_declared : (source : List ℕ) (w : Token) (ts : List Token) → calm_head source ts ≡ true → declared_name_at source (w ∷ ts) ≡ None
+unfolding declared_name_at after_attribute after_colon
 no_declared source w [] h = either_none (has_kind w kind.Word) _ refl
 no_declared source w (u ∷ us) h =
     let parts = and_parts (not (is_mark source u mark.Colon)) (not (has_kind u kind.Attribute)) h in
@@ -89,21 +89,21 @@ head_joined source (u ∷ ts) rest t a b = a
 -- ---- a statement without a label
 
 pub apart_read : (source : List ℕ) (line : ℕ) (w : Token) (ts : List Token) → calm_head source ts ≡ true
-    → statement_of source line (w ∷ ts) ≡ unlabelled source line (w ∷ ts)
+    → statement_of source line (w ∷ ts) ≡ unlabelled_statement source line (w ∷ ts)
 unfolding statement_of
 apart_read source line w [] h = refl
 apart_read source line w (u ∷ us) h =
     let parts = and_parts (not (is_mark source u mark.Colon)) (not (has_kind u kind.Attribute)) h in
     by (has_kind w kind.Word) (is_mark source u mark.Colon) _ (not_true (is_mark source u mark.Colon) parts.0)
   where
-    by : (a b : Bool) (other : Option (Statement × Bool)) → b ≡ false → (if a && b then other else unlabelled source line (w ∷ u ∷ us)) ≡ unlabelled source line (w ∷ u ∷ us)
+    by : (a b : Bool) (other : Option (Statement × Bool)) → b ≡ false → (if a && b then other else unlabelled_statement source line (w ∷ u ∷ us)) ≡ unlabelled_statement source line (w ∷ u ∷ us)
     by true false other e = refl
     by false b other e = refl
     by true true other e = absurd cc
 
 unlabelled_read : (source : List ℕ) (line : ℕ) (w : Token) (ts : List Token) (b : BareStatement) → calm_head source ts ≡ true
-    → instruction_of source (w ∷ ts) ≡ Some b → statement_of source line (w ∷ ts) ≡ Some (statement line None b, b.long)
-unfolding unlabelled
+    → instruction_of source (w ∷ ts) ≡ Some b → statement_of source line (w ∷ ts) ≡ Some (statement_with_label line None b, b.long)
+unfolding unlabelled_statement
 unlabelled_read source line w ts b h reads = apart_read source line w ts h ∙ rw reads refl
 
 -- a clause of a body that isn't a structure, and before its semicolon no declaration
@@ -117,12 +117,12 @@ body_read source k line inside rest semi s long structure declaration reads all 
 
 pub runs_alone : (source : List ℕ) (k : BlockKind) (b : BareStatement) (ts rest : List Token) (semi : Token) → (i : IsInstruction source b ts)
     → without source mark.Semicolon ts ≡ true → is_mark source semi mark.Semicolon ≡ true → calm_head source (semi ∷ []) ≡ true
-    → clause_at source (place.Body k) (ts ++ semi ∷ rest) ≡ Some (clause.Runs (statement i.first.line None b), rest, b.long)
+    → clause_at source (place.Body k) (ts ++ semi ∷ rest) ≡ Some (clause.Runs (statement_with_label i.first.line None b), rest, b.long)
 unfolding clause_at
 runs_alone source k b ts rest semi i all is calm =
     ap (λ (us : List Token). clause_at source (place.Body k) (us ++ semi ∷ rest)) i.is
     ∙ begun source (place.Body k) i.first (i.rest ++ semi ∷ rest) (i.first ∷ (i.rest ++ semi ∷ rest)) i.first.kind i.text i.first_calm.begin i.first_calm.no_keyword i.text_is refl
-    ∙ body_read source k i.first.line (i.first ∷ i.rest) rest semi (statement i.first.line None b) b.long
+    ∙ body_read source k i.first.line (i.first ∷ i.rest) rest semi (statement_with_label i.first.line None b) b.long
     (no_structure source 0 i.first (i.rest ++ semi ∷ rest) (head_joined source i.rest rest semi i.head calm))
     (no_declaration source 0 i.first i.rest i.head)
     (unlabelled_read source i.first.line i.first i.rest b i.head i.reads)
@@ -169,13 +169,13 @@ kind_apart t h = by t.kind h
 
 no_block_number : (source : List ℕ) (t : Token) (ts : List Token) (text : List ℕ) → text_of source t ≡ text → look_up block_kinds text ≡ None
     → look_up block_kinds (take (letter_count text) text) ≡ None → block_number_at source (t ∷ ts) ≡ None
-unfolding block_number_at numbered_at glued_at separate_at
+unfolding block_number_at letters_and_number_at glued_letters_and_number separate_letters_and_number
 no_block_number source t [] text is alone number = rw (is, number) (either_none (has_kind t kind.Word) _ refl)
 no_block_number source t (u ∷ us) text is alone number = rw (is, number, alone) (either_none (has_kind t kind.Word) _ refl)
 
 pub no_block : (source : List ℕ) (t : Token) (ts : List Token) (text : List ℕ) → text_of source t ≡ text → look_up block_kinds text ≡ None
     → look_up block_kinds (take (letter_count text) text) ≡ None → has_kind t kind.Quoted ≡ false → block_at source (t ∷ ts) ≡ None
-unfolding block_at quoted_at
+unfolding block_at quoted_block_at
 no_block source t ts text is alone number quoted = rw (no_block_number source t ts text is alone number, quoted) refl
 
 no_element : (source : List ℕ) (t : Token) (ts : List Token) (text : List ℕ) → IsCalm t.kind text → text_of source t ≡ text
@@ -195,8 +195,8 @@ no_element source t ts text h is =
 
 -- a name before its colon, and the tokens behind it
 pub named : (source : List ℕ) (w colon : Token) (ts : List Token) → has_kind w kind.Word ≡ true → is_mark source colon mark.Colon ≡ true
-    → has_kind colon kind.Attribute ≡ false → declared_at source (w ∷ colon ∷ ts) ≡ Some (w, ts)
-unfolding declared_at after_attribute after_colon
+    → has_kind colon kind.Attribute ≡ false → declared_name_at source (w ∷ colon ∷ ts) ≡ Some (w, ts)
+unfolding declared_name_at after_attribute after_colon
 named source w colon ts word is apart = rw (word, apart, is) refl
 
 labelled_no_structure : (source : List ℕ) (w colon t : Token) (ts : List Token) (text : List ℕ) → IsCalm t.kind text → text_of source t ≡ text
@@ -223,15 +223,15 @@ labelled_no_declaration source w colon t ts text h is word mark_is apart =
 
 pub runs_labelled : (source : List ℕ) (k : BlockKind) (b : BareStatement) (w colon : Token) (label : List ℕ) (ts rest : List Token) (semi : Token)
     → (i : IsInstruction source b ts) → w.kind ≡ kind.Word → text_of source w ≡ label → look_up keywords label ≡ None
-    → is_long source w ≡ false → b.long ≡ false
+    → is_long_label source w ≡ false → b.long ≡ false
     → is_mark source colon mark.Colon ≡ true → has_kind colon kind.Attribute ≡ false
     → without source mark.Semicolon (w ∷ colon ∷ ts) ≡ true → is_mark source semi mark.Semicolon ≡ true
-    → clause_at source (place.Body k) (w ∷ colon ∷ (ts ++ semi ∷ rest)) ≡ Some (clause.Runs (statement w.line (Some label) b), rest, false)
-unfolding clause_at has_kind statement_of labelled
+    → clause_at source (place.Body k) (w ∷ colon ∷ (ts ++ semi ∷ rest)) ≡ Some (clause.Runs (statement_with_label w.line (Some label) b), rest, false)
+unfolding clause_at has_kind statement_of labelled_statement
 runs_labelled source k b w colon label ts rest semi i word text_is free short b_short is apart all semi_is =
     ap (clause_by_kind source (place.Body k) w (colon ∷ (ts ++ semi ∷ rest)) (w ∷ colon ∷ (ts ++ semi ∷ rest))) word
     ∙ begun source (place.Body k) w (colon ∷ (ts ++ semi ∷ rest)) (w ∷ colon ∷ (ts ++ semi ∷ rest)) kind.Word label refl free text_is refl
-    ∙ body_read source k w.line (w ∷ colon ∷ ts) rest semi (statement w.line (Some label) b) false
+    ∙ body_read source k w.line (w ∷ colon ∷ ts) rest semi (statement_with_label w.line (Some label) b) false
     (ap (λ (us : List Token). structure_at source 0 (w ∷ colon ∷ (us ++ semi ∷ rest))) i.is
     ∙ labelled_no_structure source w colon i.first (i.rest ++ semi ∷ rest) i.text i.first_calm i.text_is is_word is apart)
     (ap (λ (us : List Token). declaration_of source 0 (w ∷ colon ∷ us)) i.is
@@ -241,8 +241,8 @@ runs_labelled source k b w colon label ts rest semi i word text_is free short b_
     is_word : has_kind w kind.Word ≡ true
     is_word = ap (λ (j : TokenKind). nat_eq (kind_rank j) 0) word
 
-    stated : (line : ℕ) → instruction_of source ts ≡ Some b → statement_of source line (w ∷ colon ∷ ts) ≡ Some (statement line (Some label) b, false)
+    stated : (line : ℕ) → instruction_of source ts ≡ Some b → statement_of source line (w ∷ colon ∷ ts) ≡ Some (statement_with_label line (Some label) b, false)
     stated line e = rw (is_word, is, e, text_is, b_short, short) refl
 
-    reads : statement_of source w.line (w ∷ colon ∷ ts) ≡ Some (statement w.line (Some label) b, false)
+    reads : statement_of source w.line (w ∷ colon ∷ ts) ≡ Some (statement_with_label w.line (Some label) b, false)
     reads = stated w.line (ap (instruction_of source) i.is ∙ i.reads)

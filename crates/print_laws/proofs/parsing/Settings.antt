@@ -17,13 +17,13 @@ use Rattle.stl_ast.specs.declared.blocks.Setting.{Setting}
 use Rattle.stl_ast.specs.declared.literals.Literal.{Literal}
 use Rattle.stl_ast.specs.declared.literals.Literal.TheVariants as literal
 use Rattle.stl_ast.specs.declared.mnemonics.Mnemonic.{Mnemonic}
-use Rattle.stl_parser.specs.Addresses.{block_at, block_number_at, numbered_at, quoted_at}
+use Rattle.stl_parser.specs.Addresses.{block_at, block_number_at, letters_and_number_at, quoted_block_at}
 use Rattle.stl_parser.specs.Clauses.{clause_at, clause_by_kind, declaration_clause, first_step, inside_clause, other_clause, plain_clause, semicolon_clause, setting_clause, setting_of, statement_clause, structure_clause, until_semicolon, value_behind}
 use Rattle.stl_parser.specs.Literals.{literal_at, literal_of, literal_token, long_literal}
-use Rattle.stl_parser.specs.Numbers.{int_at, number_of, number_up_to, signed_at}
-use Rattle.stl_parser.specs.Operands.{by_register, index_end, mark_operand, operand_by_kind, operand_of, path_end, register_pointer, step_at, steps_from}
+use Rattle.stl_parser.specs.Numbers.{int_at, number_of, number_up_to, signed_number_at}
+use Rattle.stl_parser.specs.Operands.{operand_by_register, index_end, mark_operand, operand_by_kind, operand_of, path_end, register_pointer, step_at, steps_from}
 use Rattle.stl_parser.specs.Parts.{parts_from}
-use Rattle.stl_parser.specs.Statements.{after_paren, behind_word, block_call_of, call_of, closed_of, instruction_of, jump_of, open_of, opening_of, statement_of, unlabelled, with_operand, zone_end_of}
+use Rattle.stl_parser.specs.Statements.{after_paren, behind_word, block_call_of, call_of, one_token_instruction, instruction_of, jump_of, open_of, opening_instruction, statement_of, unlabelled_statement, statement_with_operand, zone_end_of}
 use Rattle.stl_parser.specs.Tables.{keywords, look_up, mnemonics, opening_mnemonics}
 use Rattle.stl_parser.specs.Terminals.{has_kind, is_mark, kind_rank}
 use Rattle.stl_parser.specs.declared.clauses.Clause.TheVariants as clause
@@ -33,11 +33,11 @@ use Rattle.stl_parser.specs.declared.tables.OperandSyntax.TheVariants as form
 use Rattle.stl_print.specs.Declarations.{setting_pieces}
 use Rattle.stl_print.specs.Gaps.{gap_text}
 use Rattle.stl_print.specs.Literals.{literal_pieces}
-use Rattle.stl_print.specs.Names.{first_step as first_step_pieces, path_pieces, step_pieces}
-use Rattle.stl_print.specs.Pieces.{mark as mark_piece, number, word}
+use Rattle.stl_print.specs.Names.{first_step_pieces, path_pieces, step_pieces}
+use Rattle.stl_print.specs.Pieces.{mark_piece, number_piece, word_piece}
 use Rattle.stl_print.specs.declared.gaps.Gap.{Gap}
 use Rattle.stl_print.specs.declared.gaps.Gap.TheVariants as gap
-use Rattle.print_laws.specs.Reading.{IsName, IsPrintedLiteral, IsPrintedPath, IsPrintedSetting}
+use Rattle.print_laws.specs.Reading.{IsNonKeywordName, IsPrintedLiteral, IsPrintedPath, IsPrintedSetting}
 use Rattle.print_laws.proofs.parsing.Lines.{all_flat, first_line, flat_all_joined, semicolon, semicolon_behind, semicolon_is, semicolon_joined, tame_flat}
 use Rattle.print_laws.proofs.parsing.Numbers.{minus, number_read}
 use Rattle.print_laws.proofs.parsing.Operands.{Texts, literal_read, read_number}
@@ -71,8 +71,8 @@ pub record IsIdle (source : List ℕ) (u : Token) : Type 0 where
   pub no_paren : is_mark source u mark.OpenParen ≡ false
   pub no_colon : is_mark source u mark.Colon ≡ false
 
-no_signed : (source : List ℕ) (u : Token) (us : List Token) → IsIdle source u → signed_at source u us ≡ None
-unfolding signed_at
+no_signed : (source : List ℕ) (u : Token) (us : List Token) → IsIdle source u → signed_number_at source u us ≡ None
+unfolding signed_number_at
 no_signed source u [] h = refl
 no_signed source u (v ∷ us) h = rw (h.no_minus, h.no_plus) refl
 
@@ -90,7 +90,7 @@ unfolding operand_by_kind
 marked_operand source u us tokens k e = rw e refl
 
 no_operand : (source : List ℕ) (u : Token) (us : List Token) → IsIdle source u → length (u ∷ us) ≤ 7 → operand_of source (u ∷ us) ≡ None
-unfolding operand_of mark_operand by_register
+unfolding operand_of mark_operand operand_by_register
 no_operand source u us h few =
     rw (no_literal source u us h, marked_operand source u us (u ∷ us) u.kind h.kind_is, h.no_pointer, few_tokens source (u ∷ us) few) refl
 
@@ -100,12 +100,12 @@ no_word u e =
     (ap (λ (k : TokenKind). nat_eq (kind_rank k) 0) e, ap (λ (k : TokenKind). nat_eq (kind_rank k) 2) e, ap (λ (k : TokenKind). nat_eq (kind_rank k) 10) e)
 
 no_block_at : (source : List ℕ) (u : Token) (us : List Token) → u.kind ≡ kind.Mark → block_at source (u ∷ us) ≡ None
-unfolding block_at block_number_at numbered_at quoted_at
+unfolding block_at block_number_at letters_and_number_at quoted_block_at
 no_block_at source u us e = let no = no_word u e in rw (no.0, no.1) refl
 
 no_behind : (source : List ℕ) (f : OperandSyntax) (m : Mnemonic) (u : Token) (us : List Token) → u.kind ≡ kind.Mark → operand_of source (u ∷ us) ≡ None
     → behind_word source f m (u ∷ us) ≡ None
-unfolding behind_word with_operand jump_of open_of block_call_of call_of
+unfolding behind_word statement_with_operand jump_of open_of block_call_of call_of
 no_behind source form.Operand m u us e none = rw none refl
 no_behind source form.Jump m u [] e none = rw ((no_word u e).0, none) refl
 no_behind source form.Jump m u (v ∷ us) e none = rw none refl
@@ -114,8 +114,8 @@ no_behind source form.Open m u (v ∷ us) e none = rw none refl
 no_behind source form.BlockCall m u us e none = rw (no_block_at source u us e) refl
 no_behind source form.Call m u us e none = rw (no_block_at source u us e) refl
 
-no_closed : (source : List ℕ) (w u : Token) (us : List Token) → u.kind ≡ kind.Mark → operand_of source (u ∷ us) ≡ None → closed_of source w (u ∷ us) ≡ None
-unfolding closed_of
+no_closed : (source : List ℕ) (w u : Token) (us : List Token) → u.kind ≡ kind.Mark → operand_of source (u ∷ us) ≡ None → one_token_instruction source w (u ∷ us) ≡ None
+unfolding one_token_instruction
 no_closed source w u us e none = by (look_up mnemonics (text_of source w))
   where
     by : (o : Option (Mnemonic × OperandSyntax)) → option_and_then (λ m. behind_word source m.1 m.0 (u ∷ us)) o ≡ None
@@ -124,7 +124,7 @@ no_closed source w u us e none = by (look_up mnemonics (text_of source w))
 
 no_instruction : (source : List ℕ) (w u : Token) (us : List Token) → IsIdle source u → is_mark source w mark.CloseParen ≡ false → length (u ∷ us) ≤ 7
     → instruction_of source (w ∷ u ∷ us) ≡ None
-unfolding instruction_of opening_of zone_end_of after_paren
+unfolding instruction_of opening_instruction zone_end_of after_paren
 no_instruction source w u us h apart few =
     rw (h.no_paren, none_chained (look_up opening_mnemonics (text_of source w)), apart, no_closed source w u us h.kind_is (no_operand source u us h few)) refl
 
@@ -133,7 +133,7 @@ idle_calm source u us h = and_from _ _ (ap not h.no_colon) (ap not (no_word u h.
 
 no_statement : (source : List ℕ) (line : ℕ) (w u : Token) (us : List Token) → IsIdle source u → is_mark source w mark.CloseParen ≡ false → length (u ∷ us) ≤ 7
     → statement_of source line (w ∷ u ∷ us) ≡ None
-unfolding unlabelled
+unfolding unlabelled_statement
 no_statement source line w u us h apart few = apart_read source line w (u ∷ us) (idle_calm source u us h) ∙ rw (no_instruction source w u us h apart few) refl
 
 -- ---- a setting by its tokens
@@ -228,26 +228,26 @@ bound_name_read : (value : Literal) → IsPrintedLiteral value → length ([] ++
 bound_name_read value h = one_piece (mark_piece gap.Blank mark.Assign) (literal_pieces gap.Blank value) (short_literal gap.Blank value h)
 
 bound_index_read : (n : ℕ) (value : Literal) → IsPrintedLiteral value
-    → length ((mark_piece gap.Nothing mark.OpenBracket ∷ number gap.Nothing n ∷ mark_piece gap.Nothing mark.CloseBracket ∷ []) ++ (mark_piece gap.Blank mark.Assign ∷ literal_pieces gap.Blank value)) ≤ 7
+    → length ((mark_piece gap.Nothing mark.OpenBracket ∷ number_piece gap.Nothing n ∷ mark_piece gap.Nothing mark.CloseBracket ∷ []) ++ (mark_piece gap.Blank mark.Assign ∷ literal_pieces gap.Blank value)) ≤ 7
 bound_index_read n value h =
-    four_pieces (mark_piece gap.Nothing mark.OpenBracket) (number gap.Nothing n) (mark_piece gap.Nothing mark.CloseBracket) (mark_piece gap.Blank mark.Assign)
+    four_pieces (mark_piece gap.Nothing mark.OpenBracket) (number_piece gap.Nothing n) (mark_piece gap.Nothing mark.CloseBracket) (mark_piece gap.Blank mark.Assign)
     (literal_pieces gap.Blank value) (short_literal gap.Blank value h)
 
 bound_below_read : (n : ℕ) (value : Literal) → IsPrintedLiteral value
-    → length ((mark_piece gap.Nothing mark.OpenBracket ∷ mark_piece gap.Nothing mark.Minus ∷ number gap.Nothing (suc n) ∷ mark_piece gap.Nothing mark.CloseBracket ∷ []) ++ (mark_piece gap.Blank mark.Assign ∷ literal_pieces gap.Blank value)) ≤ 7
+    → length ((mark_piece gap.Nothing mark.OpenBracket ∷ mark_piece gap.Nothing mark.Minus ∷ number_piece gap.Nothing (suc n) ∷ mark_piece gap.Nothing mark.CloseBracket ∷ []) ++ (mark_piece gap.Blank mark.Assign ∷ literal_pieces gap.Blank value)) ≤ 7
 bound_below_read n value h =
-    five_pieces (mark_piece gap.Nothing mark.OpenBracket) (mark_piece gap.Nothing mark.Minus) (number gap.Nothing (suc n)) (mark_piece gap.Nothing mark.CloseBracket)
+    five_pieces (mark_piece gap.Nothing mark.OpenBracket) (mark_piece gap.Nothing mark.Minus) (number_piece gap.Nothing (suc n)) (mark_piece gap.Nothing mark.CloseBracket)
     (mark_piece gap.Blank mark.Assign) (literal_pieces gap.Blank value) (short_literal gap.Blank value h)
 
 -- a setting without its semicolon
 pub inside : Gap → List PathStep → Literal → List Piece
 inside g path value = path_pieces g path ++ (mark_piece gap.Blank mark.Assign ∷ literal_pieces gap.Blank value)
 
-pub name_read : (source : List ℕ) (from line : ℕ) (g : Gap) (name : List ℕ) (value : Literal) (rest : List Token) → IsName name → IsPrintedLiteral value
+pub name_read : (source : List ℕ) (from line : ℕ) (g : Gap) (name : List ℕ) (value : Literal) (rest : List Token) → IsNonKeywordName name → IsPrintedLiteral value
     → Texts source from line (inside g (step.Named name ∷ []) value ++ semicolon ∷ [])
     → clause_at source place.Settings (tokens_of from line (inside g (step.Named name ∷ []) value ++ semicolon ∷ []) ++ rest)
     ≡ Some (clause.Sets (set (line + sum_by newlines_of (gap_text g)) (step.Named name ∷ []) value), rest, false)
-unfolding inside first_step_pieces step_pieces is_mark has_kind mark_text steps_from parts_from path_end step_at index_end int_at signed_at number_of number_up_to
+unfolding inside first_step_pieces step_pieces is_mark has_kind mark_text steps_from parts_from path_end step_at index_end int_at signed_number_at number_of number_up_to
 name_read source from line g name value rest is h t =
     let front = shown_front source from line (inside g (step.Named name ∷ []) value) (semicolon ∷ []) t in
     let F : ℕ = from + length (gap_text g) + length name in
@@ -262,20 +262,20 @@ name_read source from line g name value rest is h t =
     ∙ sets_clause source (set (line + sum_by newlines_of (gap_text g)) (step.Named name ∷ []) value) _ _ _ rest (semicolon_behind from line (inside g (step.Named name ∷ []) value)) name
     refl front.1 is.free (record { kind_is = refl; no_bytes = rw front.2.1 refl; no_minus = rw front.2.1 refl; no_plus = rw front.2.1 refl; no_pointer = rw front.2.1 refl; no_paren = rw front.2.1 refl; no_colon = rw front.2.1 refl }) refl
     few
-    (set_is source _ (token_at from line (word g name)) u us vs name (step.Named name ∷ []) value refl front.1 (steps_end source (step.Named name ∷ []) (length us) u vs is_assign) is_assign (literal_read source _ _ gap.Blank value h front.2.2))
+    (set_is source _ (token_at from line (word_piece g name)) u us vs name (step.Named name ∷ []) value refl front.1 (steps_end source (step.Named name ∷ []) (length us) u vs is_assign) is_assign (literal_read source _ _ gap.Blank value h front.2.2))
     (lack_shown source from line mark.Semicolon (inside g (step.Named name ∷ []) value) front (and_from _ _ refl (and_from _ _ refl (tame_lacks (literal_pieces gap.Blank value) (literal_tame gap.Blank value refl h)))))
     (semicolon_is source from line (inside g (step.Named name ∷ []) value) t)
 
-pub index_read : (source : List ℕ) (from line : ℕ) (g : Gap) (name : List ℕ) (n : ℕ) (value : Literal) (rest : List Token) → IsName name → n ≤ 65535 → IsPrintedLiteral value
+pub index_read : (source : List ℕ) (from line : ℕ) (g : Gap) (name : List ℕ) (n : ℕ) (value : Literal) (rest : List Token) → IsNonKeywordName name → n ≤ 65535 → IsPrintedLiteral value
     → Texts source from line (inside g (step.Named name ∷ step.Index (pos n) ∷ []) value ++ semicolon ∷ [])
     → clause_at source place.Settings (tokens_of from line (inside g (step.Named name ∷ step.Index (pos n) ∷ []) value ++ semicolon ∷ []) ++ rest)
     ≡ Some (clause.Sets (set (line + sum_by newlines_of (gap_text g)) (step.Named name ∷ step.Index (pos n) ∷ []) value), rest, false)
-unfolding inside first_step_pieces step_pieces is_mark has_kind mark_text steps_from parts_from path_end step_at index_end int_at signed_at number_of number_up_to
+unfolding inside first_step_pieces step_pieces is_mark has_kind mark_text steps_from parts_from path_end step_at index_end int_at signed_number_at number_of number_up_to
 index_read source from line g name n value rest is m h t =
     let front = shown_front source from line (inside g (step.Named name ∷ step.Index (pos n) ∷ []) value) (semicolon ∷ []) t in
     let F : ℕ = from + length (gap_text g) + length name in
     let L : ℕ = line + sum_by newlines_of (gap_text g) + sum_by newlines_of name in
-    let at : List Piece = (mark_piece gap.Nothing mark.OpenBracket ∷ number gap.Nothing n ∷ mark_piece gap.Nothing mark.CloseBracket ∷ []) in
+    let at : List Piece = (mark_piece gap.Nothing mark.OpenBracket ∷ number_piece gap.Nothing n ∷ mark_piece gap.Nothing mark.CloseBracket ∷ []) in
     let u : Token = token_at (behind F at) (line_past L at) (mark_piece gap.Blank mark.Assign) in
     let us : List Token = tokens_of F L (at ++ (mark_piece gap.Blank mark.Assign ∷ literal_pieces gap.Blank value)) in
     let vs : List Token = tokens_of (behind F (at ++ mark_piece gap.Blank mark.Assign ∷ [])) (line_past L (at ++ mark_piece gap.Blank mark.Assign ∷ [])) (literal_pieces gap.Blank value) in
@@ -285,20 +285,20 @@ index_read source from line g name n value rest is m h t =
     ∙ sets_clause source (set (line + sum_by newlines_of (gap_text g)) (step.Named name ∷ step.Index (pos n) ∷ []) value) _ _ _ rest (semicolon_behind from line (inside g (step.Named name ∷ step.Index (pos n) ∷ []) value)) name
     refl front.1 is.free (record { kind_is = refl; no_bytes = rw front.2.1 refl; no_minus = rw front.2.1 refl; no_plus = rw front.2.1 refl; no_pointer = rw front.2.1 refl; no_paren = rw front.2.1 refl; no_colon = rw front.2.1 refl }) refl
     few
-    (set_is source _ (token_at from line (word g name)) u us vs name (step.Named name ∷ step.Index (pos n) ∷ []) value refl front.1 (rw (front.2.1, front.2.2.1, read_number n m, front.2.2.2.1) (steps_end source (step.Named name ∷ step.Index (pos n) ∷ []) (length (drop 1 us)) u vs is_assign)) is_assign (literal_read source _ _ gap.Blank value h front.2.2.2.2.2))
+    (set_is source _ (token_at from line (word_piece g name)) u us vs name (step.Named name ∷ step.Index (pos n) ∷ []) value refl front.1 (rw (front.2.1, front.2.2.1, read_number n m, front.2.2.2.1) (steps_end source (step.Named name ∷ step.Index (pos n) ∷ []) (length (drop 1 us)) u vs is_assign)) is_assign (literal_read source _ _ gap.Blank value h front.2.2.2.2.2))
     (lack_shown source from line mark.Semicolon (inside g (step.Named name ∷ step.Index (pos n) ∷ []) value) front (and_from _ _ refl (and_from _ _ refl (and_from _ _ refl (and_from _ _ refl (and_from _ _ refl (tame_lacks (literal_pieces gap.Blank value) (literal_tame gap.Blank value refl h))))))))
     (semicolon_is source from line (inside g (step.Named name ∷ step.Index (pos n) ∷ []) value) t)
 
-pub below_read : (source : List ℕ) (from line : ℕ) (g : Gap) (name : List ℕ) (n : ℕ) (value : Literal) (rest : List Token) → IsName name → n < 32768 → IsPrintedLiteral value
+pub below_read : (source : List ℕ) (from line : ℕ) (g : Gap) (name : List ℕ) (n : ℕ) (value : Literal) (rest : List Token) → IsNonKeywordName name → n < 32768 → IsPrintedLiteral value
     → Texts source from line (inside g (step.Named name ∷ step.Index (negsuc n) ∷ []) value ++ semicolon ∷ [])
     → clause_at source place.Settings (tokens_of from line (inside g (step.Named name ∷ step.Index (negsuc n) ∷ []) value ++ semicolon ∷ []) ++ rest)
     ≡ Some (clause.Sets (set (line + sum_by newlines_of (gap_text g)) (step.Named name ∷ step.Index (negsuc n) ∷ []) value), rest, false)
-unfolding inside first_step_pieces step_pieces is_mark has_kind mark_text steps_from parts_from path_end step_at index_end int_at signed_at number_of number_up_to
+unfolding inside first_step_pieces step_pieces is_mark has_kind mark_text steps_from parts_from path_end step_at index_end int_at signed_number_at number_of number_up_to
 below_read source from line g name n value rest is m h t =
     let front = shown_front source from line (inside g (step.Named name ∷ step.Index (negsuc n) ∷ []) value) (semicolon ∷ []) t in
     let F : ℕ = from + length (gap_text g) + length name in
     let L : ℕ = line + sum_by newlines_of (gap_text g) + sum_by newlines_of name in
-    let at : List Piece = (mark_piece gap.Nothing mark.OpenBracket ∷ mark_piece gap.Nothing mark.Minus ∷ number gap.Nothing (suc n) ∷ mark_piece gap.Nothing mark.CloseBracket ∷ []) in
+    let at : List Piece = (mark_piece gap.Nothing mark.OpenBracket ∷ mark_piece gap.Nothing mark.Minus ∷ number_piece gap.Nothing (suc n) ∷ mark_piece gap.Nothing mark.CloseBracket ∷ []) in
     let u : Token = token_at (behind F at) (line_past L at) (mark_piece gap.Blank mark.Assign) in
     let us : List Token = tokens_of F L (at ++ (mark_piece gap.Blank mark.Assign ∷ literal_pieces gap.Blank value)) in
     let vs : List Token = tokens_of (behind F (at ++ mark_piece gap.Blank mark.Assign ∷ [])) (line_past L (at ++ mark_piece gap.Blank mark.Assign ∷ [])) (literal_pieces gap.Blank value) in
@@ -308,7 +308,7 @@ below_read source from line g name n value rest is m h t =
     ∙ sets_clause source (set (line + sum_by newlines_of (gap_text g)) (step.Named name ∷ step.Index (negsuc n) ∷ []) value) _ _ _ rest (semicolon_behind from line (inside g (step.Named name ∷ step.Index (negsuc n) ∷ []) value)) name
     refl front.1 is.free (record { kind_is = refl; no_bytes = rw front.2.1 refl; no_minus = rw front.2.1 refl; no_plus = rw front.2.1 refl; no_pointer = rw front.2.1 refl; no_paren = rw front.2.1 refl; no_colon = rw front.2.1 refl }) refl
     few
-    (set_is source _ (token_at from line (word g name)) u us vs name (step.Named name ∷ step.Index (negsuc n) ∷ []) value refl front.1 (rw (front.2.1, front.2.2.1, front.2.2.2.1, number_read 32768 (suc n) m (omega arith), minus n, front.2.2.2.2.1) (steps_end source (step.Named name ∷ step.Index (negsuc n) ∷ []) (length (drop 1 us)) u vs is_assign)) is_assign (literal_read source _ _ gap.Blank value h front.2.2.2.2.2.2))
+    (set_is source _ (token_at from line (word_piece g name)) u us vs name (step.Named name ∷ step.Index (negsuc n) ∷ []) value refl front.1 (rw (front.2.1, front.2.2.1, front.2.2.2.1, number_read 32768 (suc n) m (omega arith), minus n, front.2.2.2.2.1) (steps_end source (step.Named name ∷ step.Index (negsuc n) ∷ []) (length (drop 1 us)) u vs is_assign)) is_assign (literal_read source _ _ gap.Blank value h front.2.2.2.2.2.2))
     (lack_shown source from line mark.Semicolon (inside g (step.Named name ∷ step.Index (negsuc n) ∷ []) value) front (and_from _ _ refl (and_from _ _ refl (and_from _ _ refl (and_from _ _ refl (and_from _ _ refl (and_from _ _ refl (tame_lacks (literal_pieces gap.Blank value) (literal_tame gap.Blank value refl h)))))))))
     (semicolon_is source from line (inside g (step.Named name ∷ step.Index (negsuc n) ∷ []) value) t)
 
@@ -348,15 +348,15 @@ path_line : (g : Gap) (path : List PathStep) (value : Literal) (line : ℕ) → 
     → line_past line (inside g path value ++ semicolon ∷ []) ≡ line + sum_by newlines_of (gap_text g)
 unfolding inside first_step_pieces step_pieces mark_text
 path_line g (step.Named name ∷ []) value line is h =
-    first_line (word g name) (mark_piece gap.Blank mark.Assign ∷ (literal_pieces gap.Blank value ++ semicolon ∷ [])) line (flat_word name is.word)
+    first_line (word_piece g name) (mark_piece gap.Blank mark.Assign ∷ (literal_pieces gap.Blank value ++ semicolon ∷ [])) line (flat_word name is.word)
     (values_flat value h)
 path_line g (step.Named name ∷ step.Index (pos n) ∷ []) value line is h =
-    first_line (word g name)
-    (mark_piece gap.Nothing mark.OpenBracket ∷ number gap.Nothing n ∷ mark_piece gap.Nothing mark.CloseBracket ∷ mark_piece gap.Blank mark.Assign ∷ (literal_pieces gap.Blank value ++ semicolon ∷ []))
+    first_line (word_piece g name)
+    (mark_piece gap.Nothing mark.OpenBracket ∷ number_piece gap.Nothing n ∷ mark_piece gap.Nothing mark.CloseBracket ∷ mark_piece gap.Blank mark.Assign ∷ (literal_pieces gap.Blank value ++ semicolon ∷ []))
     line (flat_word name is.0.word) (rw (flat_number n is.1) (values_flat value h))
 path_line g (step.Named name ∷ step.Index (negsuc n) ∷ []) value line is h =
-    first_line (word g name)
-    (mark_piece gap.Nothing mark.OpenBracket ∷ mark_piece gap.Nothing mark.Minus ∷ number gap.Nothing (suc n) ∷ mark_piece gap.Nothing mark.CloseBracket ∷ mark_piece gap.Blank mark.Assign ∷ (literal_pieces gap.Blank value ++ semicolon ∷ []))
+    first_line (word_piece g name)
+    (mark_piece gap.Nothing mark.OpenBracket ∷ mark_piece gap.Nothing mark.Minus ∷ number_piece gap.Nothing (suc n) ∷ mark_piece gap.Nothing mark.CloseBracket ∷ mark_piece gap.Blank mark.Assign ∷ (literal_pieces gap.Blank value ++ semicolon ∷ []))
     line (flat_word name is.0.word) (rw (flat_number (suc n) (omega (arith, is.1))) (values_flat value h))
 path_line g [] value line is h = absurd is
 path_line g (step.Index n ∷ steps) value line is h = absurd is

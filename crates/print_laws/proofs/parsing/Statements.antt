@@ -23,19 +23,19 @@ use Rattle.stl_ast.specs.declared.operands.Operand.TheVariants as operand
 use Rattle.stl_ast.specs.declared.operands.PathHead.TheVariants as head
 use Rattle.stl_ast.specs.declared.statements.Actual.{Actual}
 use Rattle.stl_parser.specs.Operands.{operand_of}
-use Rattle.stl_parser.specs.Statements.{after_paren, behind_word, closed_of, instruction_of, opening_of, plain as bare, with_operand, zone_end_of}
+use Rattle.stl_parser.specs.Statements.{after_paren, behind_word, one_token_instruction, instruction_of, opening_instruction, statement_without_actuals as bare, statement_with_operand, zone_end_of}
 use Rattle.stl_parser.specs.Tables.{look_up, mnemonics, opening_mnemonics}
 use Rattle.stl_parser.specs.Terminals.{has_kind, is_key, is_mark, key_text, kind_rank}
 use Rattle.stl_parser.specs.declared.statements.BareStatement.{BareStatement}
 use Rattle.stl_print.specs.Gaps.{gap_text}
 use Rattle.stl_print.specs.Literals.{literal_pieces}
-use Rattle.stl_print.specs.Mnemonics.{Spelling, one, spelling, spelling_pieces, two}
-use Rattle.stl_print.specs.Names.{block_name}
-use Rattle.stl_print.specs.Operands.{by_register, direct, operand_pieces, opened, path_head}
+use Rattle.stl_print.specs.Mnemonics.{Spelling, one, mnemonic_spelling, spelling_pieces, two}
+use Rattle.stl_print.specs.Names.{block_name_pieces}
+use Rattle.stl_print.specs.Operands.{register_operand_pieces, direct_pieces, operand_pieces, opened_block_pieces, path_head_pieces}
 use Rattle.stl_print.specs.Statements.{actuals_pieces}
 use Rattle.stl_print.specs.Words.{flag_kind, flag_text}
 use Rattle.stl_print.specs.declared.gaps.Gap.{Gap}
-use Rattle.print_laws.specs.Reading.{FitsSyntax, IsCalled, IsCalledAlone, IsOpened, IsPrintedLiteral, IsPrintedOperand, IsTarget, Syntax, block_call, bracket, call, empty, jump, opens, plain, syntax_of}
+use Rattle.print_laws.specs.Reading.{FitsSyntax, IsCallOperand, IsBlockCallOperand, IsOpenOperand, IsPrintedLiteral, IsPrintedOperand, IsJumpOperand, PrintedSyntax, block_call, bracket, call, empty, jump, opens, plain, syntax_of}
 use Rattle.print_laws.proofs.parsing.Instructions.{behind_read}
 use Rattle.print_laws.proofs.parsing.Operands.{Texts}
 use Rattle.print_laws.proofs.parsing.Shown.{line_past, mark_is, mark_shown}
@@ -70,7 +70,7 @@ literal_apart g (literal.Characters v) h = absurd h
 literal_apart g (literal.Bytes v) h = absurd h
 
 operand_apart : (g : Gap) (o : Operand) → IsPrintedOperand o → first_apart (operand_pieces g o) ≡ true
-unfolding operand_pieces path_head direct block_name by_register flag_kind flag_text mark_text
+unfolding operand_pieces path_head_pieces direct_pieces block_name_pieces register_operand_pieces flag_kind flag_text mark_text
 operand_apart g operand.Nothing h = refl
 operand_apart g (operand.Direct None area w byte bit) h = refl
 operand_apart g (operand.Direct (Some (block.Number id)) area w byte bit) h = refl
@@ -105,7 +105,7 @@ operand_apart g (operand.Other name) h = refl
 operand_apart g (operand.OpenBlock di name) h = absurd h
 operand_apart g (operand.Called name instance) h = absurd h
 
-target_apart : (g : Gap) (o : Operand) → IsTarget o → first_apart (operand_pieces g o) ≡ true
+target_apart : (g : Gap) (o : Operand) → IsJumpOperand o → first_apart (operand_pieces g o) ≡ true
 unfolding operand_pieces
 target_apart g (operand.Label name) h = refl
 target_apart g operand.Nothing h = absurd h
@@ -123,8 +123,8 @@ target_apart g (operand.Other name) h = absurd h
 target_apart g (operand.OpenBlock di name) h = absurd h
 target_apart g (operand.Called name instance) h = absurd h
 
-opened_apart : (g : Gap) (o : Operand) → IsOpened o → first_apart (operand_pieces g o) ≡ true
-unfolding operand_pieces opened block_name
+opened_apart : (g : Gap) (o : Operand) → IsOpenOperand o → first_apart (operand_pieces g o) ≡ true
+unfolding operand_pieces opened_block_pieces block_name_pieces
 opened_apart g (operand.OpenBlock true (block.Number id)) h = refl
 opened_apart g (operand.OpenBlock false (block.Number id)) h = refl
 opened_apart g (operand.OpenBlock di (block.Quoted name)) h = absurd h
@@ -143,8 +143,8 @@ opened_apart g (operand.OfStatus f) h = absurd h
 opened_apart g (operand.Other name) h = absurd h
 opened_apart g (operand.Called name instance) h = absurd h
 
-called_apart : (g : Gap) (o : Operand) (qs : List Piece) → IsCalled o → first_apart (operand_pieces g o ++ qs) ≡ true
-unfolding operand_pieces block_name
+called_apart : (g : Gap) (o : Operand) (qs : List Piece) → IsCallOperand o → first_apart (operand_pieces g o ++ qs) ≡ true
+unfolding operand_pieces block_name_pieces
 called_apart g (operand.Called (block.Number id) instance) qs h = refl
 called_apart g (operand.Called (block.Quoted n) None) qs h = absurd h
 called_apart g (operand.Called (block.Quoted n) (Some instance)) qs h = absurd h.0
@@ -163,7 +163,7 @@ called_apart g (operand.OfStatus f) qs h = absurd h
 called_apart g (operand.Other name) qs h = absurd h
 called_apart g (operand.OpenBlock di name) qs h = absurd h
 
-alone_called : (o : Operand) → IsCalledAlone o → IsCalled o
+alone_called : (o : Operand) → IsBlockCallOperand o → IsCallOperand o
 alone_called (operand.Called name None) h = h
 alone_called (operand.Called name (Some instance)) h = absurd h
 alone_called operand.Nothing h = absurd h
@@ -185,7 +185,7 @@ alone_called (operand.OpenBlock di name) h = absurd h
 alone : (g : Gap) (o : Operand) (actuals : List Actual) → actuals ≡ [] → operand_pieces g o ++ actuals_pieces actuals ≡ operand_pieces g o
 alone g o actuals none = ap (λ (l : List Actual). operand_pieces g o ++ actuals_pieces l) none ∙ append-nil (operand_pieces g o)
 
-pub behind_apart : (g : Gap) (at : ℕ) (s : Syntax) (o : Operand) (actuals : List Actual) → FitsSyntax at s o actuals
+pub behind_apart : (g : Gap) (at : ℕ) (s : PrintedSyntax) (o : Operand) (actuals : List Actual) → FitsSyntax at s o actuals
     → first_apart (operand_pieces g o ++ actuals_pieces actuals) ≡ true
 unfolding operand_pieces
 behind_apart g at plain o actuals h = ap first_apart (alone g o actuals h.1) ∙ operand_apart g o h.0
@@ -196,7 +196,7 @@ behind_apart g at block_call o actuals h = called_apart g o (actuals_pieces actu
 behind_apart g at call o actuals h = called_apart g o (actuals_pieces actuals) h.0
 behind_apart g at empty o actuals h = absurd h
 
-pub behind_tame : (g : Gap) (at : ℕ) (s : Syntax) (o : Operand) (actuals : List Actual) → flat (gap_text g) ≡ true → FitsSyntax at s o actuals
+pub behind_tame : (g : Gap) (at : ℕ) (s : PrintedSyntax) (o : Operand) (actuals : List Actual) → flat (gap_text g) ≡ true → FitsSyntax at s o actuals
     → all_tame (operand_pieces g o ++ actuals_pieces actuals) ≡ true
 unfolding operand_pieces
 behind_tame g at plain o actuals f h = ap all_tame (alone g o actuals h.1) ∙ operand_tame g o f h.0
@@ -249,15 +249,15 @@ pub record IsInstruction (source : List ℕ) (b : BareStatement) (ts : List Toke
 pub single_reads : (source : List ℕ) (m : Mnemonic) (f : _) (t : Token) (ts : List Token) (text : List ℕ) (b : BareStatement)
     → text_of source t ≡ text → look_up mnemonics text ≡ Some (m, f) → is_mark source t mark.CloseParen ≡ false
     → after_paren source ts ≡ None → behind_word source f m ts ≡ Some b → instruction_of source (t ∷ ts) ≡ Some b
-unfolding instruction_of opening_of zone_end_of closed_of
+unfolding instruction_of opening_instruction zone_end_of one_token_instruction
 single_reads source m f t [] text b text_is found close paren reads = rw (paren, none_chained, text_is, found) reads
 single_reads source m f t (u ∷ ts) text b text_is found close paren reads = rw (paren, none_chained, close, text_is, found) reads
 
 -- a bracket or a zone, which is its word alone
-bracket_reads : (source : List ℕ) (from line : ℕ) (g : Gap) (m : Mnemonic) → syntax_of m ≡ bracket → Texts source from line (spelling_pieces g (spelling m))
-    → (instruction_of source (tokens_of from line (spelling_pieces g (spelling m))) ≡ Some (bare m operand.Nothing))
-    × (calm_head source (drop 1 (tokens_of from line (spelling_pieces g (spelling m)))) ≡ true)
-unfolding spelling instruction_of opening_of zone_end_of closed_of look_up opening_mnemonics mnemonics mark_text is_mark has_kind is_key key_text after_paren with_operand operand_of behind_word
+bracket_reads : (source : List ℕ) (from line : ℕ) (g : Gap) (m : Mnemonic) → syntax_of m ≡ bracket → Texts source from line (spelling_pieces g (mnemonic_spelling m))
+    → (instruction_of source (tokens_of from line (spelling_pieces g (mnemonic_spelling m))) ≡ Some (bare m operand.Nothing))
+    × (calm_head source (drop 1 (tokens_of from line (spelling_pieces g (mnemonic_spelling m)))) ≡ true)
+unfolding mnemonic_spelling instruction_of opening_instruction zone_end_of one_token_instruction look_up opening_mnemonics mnemonics mark_text is_mark has_kind is_key key_text after_paren statement_with_operand operand_of behind_word
 bracket_reads source from line g mnemonic.Empty e t = absurd cc
 bracket_reads source from line g mnemonic.Nop e t = absurd cc
 bracket_reads source from line g mnemonic.Bld e t = absurd cc
@@ -417,14 +417,14 @@ one_shown source from line at g h m o actuals k text f apart_from fits fine foun
           (behind_read source _ _ at h (syntax_of m) m o actuals here f apart_from fits t.2);
     }
 
-pub no_empty : (at : ℕ) (s : Syntax) (o : Operand) (actuals : List Actual) → FitsSyntax at s o actuals → s ≡ empty → ⊥
-no_empty at s o actuals h e = subst (λ (z : Syntax). FitsSyntax at z o actuals) e h
+pub no_empty : (at : ℕ) (s : PrintedSyntax) (o : Operand) (actuals : List Actual) → FitsSyntax at s o actuals → s ≡ empty → ⊥
+no_empty at s o actuals h e = subst (λ (z : PrintedSyntax). FitsSyntax at z o actuals) e h
 
-is_bracket : Syntax → Bool
+is_bracket : PrintedSyntax → Bool
 is_bracket bracket = true
 is_bracket _ = false
 
-from_bracket : (s : Syntax) → is_bracket s ≡ true → s ≡ bracket
+from_bracket : (s : PrintedSyntax) → is_bracket s ≡ true → s ≡ bracket
 unfolding is_bracket
 from_bracket bracket e = refl
 from_bracket plain e = absurd (false≢true e)
@@ -434,15 +434,15 @@ from_bracket block_call e = absurd (false≢true e)
 from_bracket call e = absurd (false≢true e)
 from_bracket empty e = absurd (false≢true e)
 
-no_bracket : (s : Syntax) → is_bracket s ≡ false → s ≡ bracket → ⊥
+no_bracket : (s : PrintedSyntax) → is_bracket s ≡ false → s ≡ bracket → ⊥
 unfolding is_bracket
 no_bracket s e is = false≢true (sym e ∙ ap is_bracket is)
 
 instruction_by : (source : List ℕ) (from line at : ℕ) (g h : Gap) (m : Mnemonic) (o : Operand) (actuals : List Actual) (b : Bool) → is_bracket (syntax_of m) ≡ b
-    → flat (gap_text h) ≡ true → FitsSyntax at (syntax_of m) o actuals → line_past line (spelling_pieces g (spelling m)) ≡ at
-    → Texts source from line (spelling_pieces g (spelling m) ++ (operand_pieces h o ++ actuals_pieces actuals))
+    → flat (gap_text h) ≡ true → FitsSyntax at (syntax_of m) o actuals → line_past line (spelling_pieces g (mnemonic_spelling m)) ≡ at
+    → Texts source from line (spelling_pieces g (mnemonic_spelling m) ++ (operand_pieces h o ++ actuals_pieces actuals))
     → IsInstruction source (record { code = m; operand = o; actuals = actuals; long = false })
-    (tokens_of from line (spelling_pieces g (spelling m) ++ (operand_pieces h o ++ actuals_pieces actuals)))
+    (tokens_of from line (spelling_pieces g (mnemonic_spelling m) ++ (operand_pieces h o ++ actuals_pieces actuals)))
 unfolding operand_pieces
 instruction_by source from line at g h m o actuals false e f fits here t =
     let w : IsSingle m = single m (no_empty at (syntax_of m) o actuals fits) (no_bracket (syntax_of m) e) in
@@ -455,23 +455,23 @@ instruction_by source from line at g h m o actuals false e f fits here t =
     here t
 instruction_by source from line at g h m o actuals true e f fits here t =
     let is : syntax_of m ≡ bracket = from_bracket (syntax_of m) e in
-    let both : (o ≡ operand.Nothing) × (actuals ≡ []) = subst (λ (z : Syntax). FitsSyntax at z o actuals) is fits in
-    subst (λ (p : Operand). Texts source from line (spelling_pieces g (spelling m) ++ (operand_pieces h p ++ actuals_pieces actuals))
+    let both : (o ≡ operand.Nothing) × (actuals ≡ []) = subst (λ (z : PrintedSyntax). FitsSyntax at z o actuals) is fits in
+    subst (λ (p : Operand). Texts source from line (spelling_pieces g (mnemonic_spelling m) ++ (operand_pieces h p ++ actuals_pieces actuals))
     → IsInstruction source (record { code = m; operand = p; actuals = actuals; long = false })
-    (tokens_of from line (spelling_pieces g (spelling m) ++ (operand_pieces h p ++ actuals_pieces actuals)))) (sym both.0)
-    (subst (λ (l : List Actual). Texts source from line (spelling_pieces g (spelling m) ++ actuals_pieces l)
+    (tokens_of from line (spelling_pieces g (mnemonic_spelling m) ++ (operand_pieces h p ++ actuals_pieces actuals)))) (sym both.0)
+    (subst (λ (l : List Actual). Texts source from line (spelling_pieces g (mnemonic_spelling m) ++ actuals_pieces l)
     → IsInstruction source (record { code = m; operand = operand.Nothing; actuals = l; long = false })
-    (tokens_of from line (spelling_pieces g (spelling m) ++ actuals_pieces l))) (sym both.1)
+    (tokens_of from line (spelling_pieces g (mnemonic_spelling m) ++ actuals_pieces l))) (sym both.1)
     (subst (λ (ps : List Piece). Texts source from line ps → IsInstruction source (bare m operand.Nothing) (tokens_of from line ps))
-    (sym (append-nil (spelling_pieces g (spelling m))))
+    (sym (append-nil (spelling_pieces g (mnemonic_spelling m))))
     (λ u. let r = bracket_reads source from line g m is u in
-    word_shown source from line g (spelling m) (bare m operand.Nothing) (calm m (no_empty at (syntax_of m) o actuals fits)) u r.0 r.1)))
+    word_shown source from line g (mnemonic_spelling m) (bare m operand.Nothing) (calm m (no_empty at (syntax_of m) o actuals fits)) u r.0 r.1)))
     t
 
 pub instruction_read : (source : List ℕ) (from line at : ℕ) (g h : Gap) (m : Mnemonic) (o : Operand) (actuals : List Actual)
-    → flat (gap_text h) ≡ true → FitsSyntax at (syntax_of m) o actuals → line_past line (spelling_pieces g (spelling m)) ≡ at
-    → Texts source from line (spelling_pieces g (spelling m) ++ (operand_pieces h o ++ actuals_pieces actuals))
+    → flat (gap_text h) ≡ true → FitsSyntax at (syntax_of m) o actuals → line_past line (spelling_pieces g (mnemonic_spelling m)) ≡ at
+    → Texts source from line (spelling_pieces g (mnemonic_spelling m) ++ (operand_pieces h o ++ actuals_pieces actuals))
     → IsInstruction source (record { code = m; operand = o; actuals = actuals; long = false })
-    (tokens_of from line (spelling_pieces g (spelling m) ++ (operand_pieces h o ++ actuals_pieces actuals)))
+    (tokens_of from line (spelling_pieces g (mnemonic_spelling m) ++ (operand_pieces h o ++ actuals_pieces actuals)))
 instruction_read source from line at g h m o actuals f fits here t =
     instruction_by source from line at g h m o actuals (is_bracket (syntax_of m)) refl f fits here t

@@ -31,14 +31,14 @@ use Rattle.stl_ast.specs.declared.operands.Operand.{Operand}
 use Rattle.stl_ast.specs.declared.operands.Operand.TheVariants as operand
 use Rattle.stl_ast.specs.declared.operands.PathHead.TheVariants as head
 use Rattle.stl_ast.specs.declared.statements.Actual.{Actual}
-use Rattle.stl_print.specs.Digits.{digit, digits}
+use Rattle.stl_print.specs.Digits.{digit_character, digits_in_base}
 use Rattle.stl_print.specs.Gaps.{gap_text}
 use Rattle.stl_print.specs.Literals.{literal_pieces}
-use Rattle.stl_print.specs.Names.{block_name}
-use Rattle.stl_print.specs.Operands.{bit_pieces, by_register, direct, instance_pieces, operand_pieces, opened, path_head, pointer_byte}
+use Rattle.stl_print.specs.Names.{block_name_pieces}
+use Rattle.stl_print.specs.Operands.{bit_pieces, register_operand_pieces, direct_pieces, instance_pieces, operand_pieces, opened_block_pieces, path_head_pieces, pointer_byte_pieces}
 use Rattle.stl_print.specs.Statements.{actual_pieces, actuals_pieces, further_actuals}
-use Rattle.stl_print.specs.Words.{address_letters, area_letters, bit_letter, block_letters, flag_kind, flag_text, numbered_letters, size_letter, truth_word, width_letter}
-use Rattle.print_laws.specs.Reading.{IsCalled, IsDataBlock, IsFunctionBlock, IsNumbered, IsOpened, IsPrintedActual, IsPrintedLiteral, IsPrintedOperand, IsTarget}
+use Rattle.stl_print.specs.Words.{letters_of_address, area_letters, bit_letter, block_letters, flag_kind, flag_text, numbered_letters, size_letter, truth_word, width_letter}
+use Rattle.print_laws.specs.Reading.{IsCallOperand, IsDataBlock, IsFunctionBlock, IsBlockByNumber, IsOpenOperand, IsPrintedActual, IsPrintedLiteral, IsPrintedOperand, IsJumpOperand}
 use Rattle.print_laws.proofs.parsing.Numbers.{numeral}
 use Rattle.print_laws.proofs.parsing.Actuals.{passed_printed}
 use Rattle.print_laws.proofs.parsing.Shown.{lacks, line_past, mark_is}
@@ -111,12 +111,12 @@ flat_signed : (z : ℤ) → IsLong z → flat (signed_decimal z) ≡ true
 flat_signed (pos n) h = flat_decimal n (omega arith)
 flat_signed (negsuc n) h = flat_decimal (suc n) (omega arith)
 
-flat_digits : (count n : ℕ) → flat (digits 16 count n) ≡ true
-unfolding digits
+flat_digits : (count n : ℕ) → flat (digits_in_base 16 count n) ≡ true
+unfolding digits_in_base
 flat_digits zero n = refl
-flat_digits (suc count) n = flat_joined (digits 16 count (n / 16)) (digit (n % 16) ∷ []) (flat_digits count (n / 16)) one
+flat_digits (suc count) n = flat_joined (digits_in_base 16 count (n / 16)) (digit_character (n % 16) ∷ []) (flat_digits count (n / 16)) one
   where
-    one : flat (digit (n % 16) ∷ []) ≡ true
+    one : flat (digit_character (n % 16) ∷ []) ≡ true
     one = grind (arith, nat_tests)
 
 word_byte_flat : (b : ℕ) → is_word_byte b ≡ true → not (b == newline) ≡ true
@@ -133,7 +133,7 @@ flat_word (b ∷ name) h =
     let parts : (is_word_start b ≡ true) × (list_all is_word_byte name ≡ true) = and_parts (is_word_start b) (list_all is_word_byte name) h in
     and_from (not (b == newline)) (flat name) (word_start_flat b parts.0) (each_flat is_word_byte word_byte_flat name parts.1)
 
-pub flat_letters : (area : Letters) (w : Width) → flat (address_letters area w) ≡ true
+pub flat_letters : (area : Letters) (w : Width) → flat (letters_of_address area w) ≡ true
 unfolding area_letters size_letter bit_letter width_letter
 flat_letters letters.I width.Bit = refl
 flat_letters letters.I width.Byte = refl
@@ -204,8 +204,8 @@ literal_tame g (literal.Characters v) h is = absurd is
 literal_tame g (literal.Bytes v) h is = absurd is
 
 direct_tame : (g : _) (name : Option BlockName) (area : Letters) (w : Width) (byte bit : ℕ) → flat (gap_text g) ≡ true
-    → IsPrintedOperand (operand.Direct name area w byte bit) → all_tame (direct g name area w byte bit) ≡ true
-unfolding direct bit_pieces block_name mark_text
+    → IsPrintedOperand (operand.Direct name area w byte bit) → all_tame (direct_pieces g name area w byte bit) ≡ true
+unfolding direct_pieces bit_pieces block_name_pieces mark_text
 direct_tame g None area width.Bit byte bit h is = rw (h, flat_letters area width.Bit, flat_number byte is.2, flat_number bit (omega (arith, is.3))) refl
 direct_tame g (Some (block.Number id)) area width.Bit byte bit h is =
     rw (h, flat_block id.kind, flat_number id.number is.0.0.1, flat_letters area width.Bit, flat_number byte is.2, flat_number bit (omega (arith, is.3))) refl
@@ -225,8 +225,8 @@ flat_register register (inl e) = flat_number register (omega (arith, e))
 flat_register register (inr e) = flat_number register (omega (arith, e))
 
 register_tame : (g : _) (area : Option Letters) (w : Width) (register bits : ℕ) → flat (gap_text g) ≡ true
-    → IsPrintedOperand (operand.ByRegister area w register bits) → all_tame (by_register g area w register bits) ≡ true
-unfolding by_register width_letter mark_text
+    → IsPrintedOperand (operand.ByRegister area w register bits) → all_tame (register_operand_pieces g area w register bits) ≡ true
+unfolding register_operand_pieces width_letter mark_text
 register_tame g (Some area) w register bits h is =
     rw (h, flat_letters area w, flat_register register is.1, flat_number (bits / 8) (omega (arith, is.2)), flat_number (bits % 8) (omega arith)) refl
 register_tame g None width.Bit register bits h is =
@@ -240,7 +240,7 @@ register_tame g None width.Dword register bits h is =
 
 pointer_tame : (g : _) (area : Option Letters) (byte bit : ℕ) → flat (gap_text g) ≡ true
     → IsPrintedOperand (operand.Pointer area byte bit) → all_tame (operand_pieces g (operand.Pointer area byte bit)) ≡ true
-unfolding operand_pieces pointer_byte mark_text
+unfolding operand_pieces pointer_byte_pieces mark_text
 pointer_tame g None byte bit h is = rw (h, flat_number byte is.1, flat_number bit (omega (arith, is.2))) refl
 pointer_tame g (Some area) byte bit h is = rw (h, flat_letters area width.Bit, flat_number byte is.1, flat_number bit (omega (arith, is.2))) refl
 
@@ -258,7 +258,7 @@ status_tame g flag.LeZero h = rw h refl
 status_tame g flag.Uo h = rw h refl
 
 pub operand_tame : (g : _) (o : Operand) → flat (gap_text g) ≡ true → IsPrintedOperand o → all_tame (operand_pieces g o) ≡ true
-unfolding operand_pieces path_head mark_text
+unfolding operand_pieces path_head_pieces mark_text
 operand_tame g operand.Nothing h is = refl
 operand_tame g (operand.Direct name area w byte bit) h is = direct_tame g name area w byte bit h is
 operand_tame g (operand.Timer n) h is = rw (h, flat_number n is) refl
@@ -278,7 +278,7 @@ operand_tame g (operand.Other name) h is = rw (h, flat_word name is.word) refl
 operand_tame g (operand.OpenBlock di name) h is = absurd is
 operand_tame g (operand.Called name instance) h is = absurd is
 
-pub target_tame : (g : _) (o : Operand) → flat (gap_text g) ≡ true → IsTarget o → all_tame (operand_pieces g o) ≡ true
+pub target_tame : (g : _) (o : Operand) → flat (gap_text g) ≡ true → IsJumpOperand o → all_tame (operand_pieces g o) ≡ true
 unfolding operand_pieces
 target_tame g (operand.Label name) h is = rw (h, flat_word name is.0) refl
 target_tame g operand.Nothing h is = absurd is
@@ -296,8 +296,8 @@ target_tame g (operand.Other name) h is = absurd is
 target_tame g (operand.OpenBlock di name) h is = absurd is
 target_tame g (operand.Called name instance) h is = absurd is
 
-pub opened_tame : (g : _) (o : Operand) → flat (gap_text g) ≡ true → IsOpened o → all_tame (operand_pieces g o) ≡ true
-unfolding operand_pieces opened block_name
+pub opened_tame : (g : _) (o : Operand) → flat (gap_text g) ≡ true → IsOpenOperand o → all_tame (operand_pieces g o) ≡ true
+unfolding operand_pieces opened_block_pieces block_name_pieces
 opened_tame g (operand.OpenBlock true (block.Number id)) h is = rw (h, flat_number id.number is.1) refl
 opened_tame g (operand.OpenBlock true (block.Quoted name)) h is = absurd is
 opened_tame g (operand.OpenBlock false (block.Number id)) h is = rw (h, flat_block id.kind, flat_number id.number is.1) refl
@@ -317,25 +317,25 @@ opened_tame g (operand.OfStatus f) h is = absurd is
 opened_tame g (operand.Other name) h is = absurd is
 opened_tame g (operand.Called name instance) h is = absurd is
 
-pub numbered_tame : (g : _) (name : BlockName) → flat (gap_text g) ≡ true → IsNumbered name → all_tame (block_name g name) ≡ true
-unfolding block_name
+pub numbered_tame : (g : _) (name : BlockName) → flat (gap_text g) ≡ true → IsBlockByNumber name → all_tame (block_name_pieces g name) ≡ true
+unfolding block_name_pieces
 numbered_tame g (block.Number id) h is = rw (h, flat_block id.kind, flat_number id.number is) refl
 numbered_tame g (block.Quoted name) h is = absurd is
 
 -- a block of a kind has a number
-pub of_data : (name : BlockName) → IsDataBlock name → IsNumbered name
+pub of_data : (name : BlockName) → IsDataBlock name → IsBlockByNumber name
 of_data (block.Number id) h = h.1
 of_data (block.Quoted name) h = absurd h
 
-pub of_function : (name : BlockName) → IsFunctionBlock name → IsNumbered name
+pub of_function : (name : BlockName) → IsFunctionBlock name → IsBlockByNumber name
 of_function (block.Number id) h = h.1
 of_function (block.Quoted name) h = absurd h
 
-pub called_tame : (g : _) (o : Operand) → flat (gap_text g) ≡ true → IsCalled o → all_tame (operand_pieces g o) ≡ true
+pub called_tame : (g : _) (o : Operand) → flat (gap_text g) ≡ true → IsCallOperand o → all_tame (operand_pieces g o) ≡ true
 unfolding operand_pieces instance_pieces mark_text
-called_tame g (operand.Called name None) h is = tame_joined (block_name g name) [] (numbered_tame g name h is) refl
+called_tame g (operand.Called name None) h is = tame_joined (block_name_pieces g name) [] (numbered_tame g name h is) refl
 called_tame g (operand.Called name (Some instance)) h is =
-    tame_joined (block_name g name) _ (numbered_tame g name h (of_function name is.0)) (numbered_tame _ instance refl (of_data instance is.1))
+    tame_joined (block_name_pieces g name) _ (numbered_tame g name h (of_function name is.0)) (numbered_tame _ instance refl (of_data instance is.1))
 called_tame g operand.Nothing h is = absurd is
 called_tame g (operand.Direct name area w byte bit) h is = absurd is
 called_tame g (operand.Timer n) h is = absurd is

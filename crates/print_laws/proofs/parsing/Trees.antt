@@ -9,10 +9,10 @@ use Rattle.plc_base.specs.declared.blocks.BlockKind.{BlockKind}
 use Rattle.plc_base.specs.declared.blocks.BlockKind.TheVariants as kinds
 use Rattle.stl_lexer.specs.Marks.{mark_text}
 use Rattle.stl_lexer.specs.declared.marks.Mark.TheVariants as mark
-use Rattle.stl_ast.specs.Blocks.{is_date_and_time, is_parameter, may_have, part_rank}
+use Rattle.stl_ast.specs.Blocks.{is_date_and_time, is_parameter, may_have_section, part_rank}
 use Rattle.stl_ast.specs.Declarations.{is_elementary}
 use Rattle.stl_ast.specs.Outline.{level_behind}
-use Rattle.stl_ast.specs.WellFormed.{AreInOrder}
+use Rattle.stl_ast.specs.WellFormed.{AreSectionsInOrder}
 use Rattle.stl_ast.specs.declared.blocks.Block.{Block}
 use Rattle.stl_ast.specs.declared.blocks.Part.{Part}
 use Rattle.stl_ast.specs.declared.blocks.PartKind.{PartKind}
@@ -28,19 +28,19 @@ use Rattle.stl_ast.specs.declared.declarations.TypeTree.{TypeTree}
 use Rattle.stl_ast.specs.declared.names.BlockName.{BlockName}
 use Rattle.stl_ast.specs.declared.names.BlockName.TheVariants as block
 use Rattle.stl_ast.specs.declared.statements.Statement.{Statement}
-use Rattle.stl_parser.specs.Frame.{follow, follow_between, follow_body, follow_head, follow_outside, follow_section, follow_settings, follow_shape}
+use Rattle.stl_parser.specs.Frame.{next_place, next_place_between, next_place_in_body, next_place_in_head, next_place_outside, next_place_in_section, next_place_in_settings, next_place_in_shape}
 use Rattle.stl_parser.specs.declared.clauses.Clause.{Clause}
 use Rattle.stl_parser.specs.declared.clauses.Clause.TheVariants as clause
 use Rattle.stl_parser.specs.declared.places.ClausePlace.{ClausePlace}
 use Rattle.stl_parser.specs.declared.places.ClausePlace.TheVariants as place
 use Rattle.stl_print.specs.Clauses.{clause_pieces}
-use Rattle.stl_print.specs.Names.{block_name}
-use Rattle.stl_print.specs.Pieces.{mark as mark_piece, number, word}
-use Rattle.stl_print.specs.Trees.{begin_clauses, block_clauses, declared_from, instance_clauses, part_clauses, shape_clauses, structure_ends}
+use Rattle.stl_print.specs.Names.{block_name_pieces}
+use Rattle.stl_print.specs.Pieces.{mark_piece, number_piece, word_piece}
+use Rattle.stl_print.specs.Trees.{begin_clauses, block_clauses, declaration_clauses_from, instance_clauses, part_clauses, shape_clauses, structure_ends}
 use Rattle.stl_print.specs.Words.{block_letters, end_word, section_word}
 use Rattle.stl_print.specs.declared.gaps.Gap.{Gap}
 use Rattle.stl_print.specs.declared.gaps.Gap.TheVariants as gap
-use Rattle.print_laws.specs.Reading.{IsCodeBlock, IsDeclaredIn, IsFunctionBlock, IsNameOf, IsPrintedDeclaration, IsPrintedPart, IsPrintedSetting, IsPrintedStatement, IsPrintedType, IsResultOf}
+use Rattle.print_laws.specs.Reading.{IsCodeBlock, IsPrintedDeclarationIn, IsFunctionBlock, IsNumberedBlockOf, IsPrintedDeclaration, IsPrintedPart, IsPrintedSetting, IsPrintedStatement, IsPrintedType, IsResultOf}
 use Rattle.print_laws.proofs.parsing.Bodies.{runs_line, runs_read}
 use Rattle.print_laws.proofs.parsing.Declared.{declares_line, declares_read}
 use Rattle.print_laws.proofs.parsing.Frames.{based_read, begin_read, end_section_read, ends_read, section_read, structure_end_read, structure_read}
@@ -61,9 +61,9 @@ same_kind kinds.Db = refl
 same_kind kinds.Sfc = refl
 same_kind kinds.Udt = refl
 
-pub head_step : (line : ℕ) (k : BlockKind) (name : BlockName) (result : Option Simple) → (k ≡ kinds.Sfc → ⊥) → IsNameOf k name → IsResultOf k result
+pub head_step : (line : ℕ) (k : BlockKind) (name : BlockName) (result : Option Simple) → (k ≡ kinds.Sfc → ⊥) → IsNumberedBlockOf k name → IsResultOf k result
     → IsStep place.Outside (clause.Head line k name result) (place.Head k)
-unfolding follow follow_outside
+unfolding next_place next_place_outside
 head_step line k name result apart is h =
     record {
       reads = λ source from n g rest here t. head_read source from n g place.Outside line k name result rest apart is h here t;
@@ -82,10 +82,10 @@ end_flat kinds.Udt = refl
 
 ends_line : (line : ℕ) (k : BlockKind) (g : Gap) (n : ℕ) → line_past n (clause_pieces g (clause.Ends line k)) ≡ gap_line n g
 unfolding clause_pieces
-ends_line line k g n = first_line (word g (end_word k)) [] n (end_flat k) refl
+ends_line line k g n = first_line (word_piece g (end_word k)) [] n (end_flat k) refl
 
 body_ends : (line : ℕ) (k : BlockKind) → (k ≡ kinds.Sfc → ⊥) → IsStep (place.Body k) (clause.Ends line k) place.Outside
-unfolding follow follow_body
+unfolding next_place next_place_in_body
 body_ends line k apart =
     record {
       reads = λ source from n g rest here t. ends_read source from n g (place.Body k) line k rest apart here t;
@@ -97,7 +97,7 @@ pub no_function : kinds.Db ≡ kinds.Sfc → ⊥
 no_function e = absurd cc
 
 pub data_ends : (line : ℕ) → IsStep place.Settings (clause.Ends line kinds.Db) place.Outside
-unfolding follow follow_settings
+unfolding next_place next_place_in_settings
 data_ends line =
     record {
       reads = λ source from n g rest here t. ends_read source from n g place.Settings line kinds.Db rest no_function here t;
@@ -115,9 +115,9 @@ section_flat part.Temp = refl
 
 section_line : (line : ℕ) (p : PartKind) (g : Gap) (n : ℕ) → line_past n (clause_pieces g (clause.Section line p)) ≡ gap_line n g
 unfolding clause_pieces
-section_line line p g n = first_line (word g (section_word p)) [] n (section_flat p) refl
+section_line line p g n = first_line (word_piece g (section_word p)) [] n (section_flat p) refl
 
-section_step : (at : ClausePlace) (line : ℕ) (k : BlockKind) (p : PartKind) → follow at (clause.Section line p) ≡ Some (place.Section k p 0)
+section_step : (at : ClausePlace) (line : ℕ) (k : BlockKind) (p : PartKind) → next_place at (clause.Section line p) ≡ Some (place.Section k p 0)
     → IsStep at (clause.Section line p) (place.Section k p 0)
 section_step at line k p goes =
     record {
@@ -128,10 +128,10 @@ section_step at line k p goes =
 
 end_section_line : (g : Gap) (n : ℕ) → line_past n (clause_pieces g clause.EndSection) ≡ gap_line n g
 unfolding clause_pieces
-end_section_line g n = first_line (word g (codes "END_VAR")) [] n refl refl
+end_section_line g n = first_line (word_piece g (codes "END_VAR")) [] n refl refl
 
 end_section_step : (k : BlockKind) (p : PartKind) → IsStep (place.Section k p 0) clause.EndSection (place.Between k p)
-unfolding follow follow_section
+unfolding next_place next_place_in_section
 end_section_step k p =
     record {
       reads = λ source from n g rest here t. end_section_read source from n g (place.Section k p 0) rest t;
@@ -141,9 +141,9 @@ end_section_step k p =
 
 begin_line : (g : Gap) (n : ℕ) → line_past n (clause_pieces g clause.Begins) ≡ gap_line n g
 unfolding clause_pieces
-begin_line g n = first_line (word g (codes "BEGIN")) [] n refl refl
+begin_line g n = first_line (word_piece g (codes "BEGIN")) [] n refl refl
 
-pub begin_step : (at next : ClausePlace) → follow at clause.Begins ≡ Some next → IsStep at clause.Begins next
+pub begin_step : (at next : ClausePlace) → next_place at clause.Begins ≡ Some next → IsStep at clause.Begins next
 begin_step at next goes =
     record {
       reads = λ source from n g rest here t. begin_read source from n g at rest t;
@@ -153,10 +153,10 @@ begin_step at next goes =
 
 structure_line : (g : Gap) (n : ℕ) → line_past n (clause_pieces g clause.Structure) ≡ gap_line n g
 unfolding clause_pieces
-structure_line g n = first_line (word g (codes "STRUCT")) [] n refl refl
+structure_line g n = first_line (word_piece g (codes "STRUCT")) [] n refl refl
 
 pub structure_step : IsStep (place.Head kinds.Db) clause.Structure (place.Shape kinds.Db 0)
-unfolding follow follow_head
+unfolding next_place next_place_in_head
 structure_step =
     record {
       reads = λ source from n g rest here t. structure_read source from n g (place.Head kinds.Db) rest t;
@@ -166,10 +166,10 @@ structure_step =
 
 structure_end_line : (g : Gap) (n : ℕ) → line_past n (clause_pieces g clause.EndStructure) ≡ gap_line n g
 unfolding clause_pieces mark_text
-structure_end_line g n = first_line (word g (codes "END_STRUCT")) (mark_piece gap.Nothing mark.Semicolon ∷ []) n refl refl
+structure_end_line g n = first_line (word_piece g (codes "END_STRUCT")) (mark_piece gap.Nothing mark.Semicolon ∷ []) n refl refl
 
 pub structure_end_step : IsStep (place.Shape kinds.Db 0) clause.EndStructure (place.Shaped kinds.Db)
-unfolding follow follow_shape
+unfolding next_place next_place_in_shape
 structure_end_step =
     record {
       reads = λ source from n g rest here t. structure_end_read source from n g kinds.Db rest t;
@@ -178,12 +178,12 @@ structure_end_step =
     }
 
 based_line : (name : BlockName) → IsFunctionBlock name → (g : Gap) (n : ℕ) → line_past n (clause_pieces g (clause.Based name)) ≡ gap_line n g
-unfolding clause_pieces block_name
-based_line (block.Number id) h g n = first_line (word g (block_letters id.kind)) (number gap.Blank id.number ∷ []) n (flat_block id.kind) (rw (flat_number id.number h.1) refl)
+unfolding clause_pieces block_name_pieces
+based_line (block.Number id) h g n = first_line (word_piece g (block_letters id.kind)) (number_piece gap.Blank id.number ∷ []) n (flat_block id.kind) (rw (flat_number id.number h.1) refl)
 based_line (block.Quoted name) h g n = absurd h
 
 pub based_step : (name : BlockName) → IsFunctionBlock name → IsStep (place.Head kinds.Db) (clause.Based name) (place.Shaped kinds.Db)
-unfolding follow follow_head
+unfolding next_place next_place_in_head
 based_step name h =
     record {
       reads = λ source from n g rest here t. based_read source from n g name rest h t;
@@ -192,7 +192,7 @@ based_step name h =
     }
 
 pub runs_step : (k : BlockKind) (s : Statement) → IsPrintedStatement s → IsStep (place.Body k) (clause.Runs s) (place.Body k)
-unfolding follow follow_body clause_pieces
+unfolding next_place next_place_in_body clause_pieces
 runs_step k s h =
     record {
       reads = λ source from n g rest here t. runs_read source from n g k s rest h here t;
@@ -201,7 +201,7 @@ runs_step k s h =
     }
 
 pub sets_step : (s : Setting) → IsPrintedSetting s → IsStep place.Settings (clause.Sets s) place.Settings
-unfolding follow follow_settings clause_pieces
+unfolding next_place next_place_in_settings clause_pieces
 sets_step s h =
     record {
       reads = λ source from n g rest here t. sets_read source from n g s rest h here t;
@@ -231,8 +231,8 @@ allowed false b h = refl
 allowed true true h = refl
 allowed true false h = absurd (false≢true (h refl))
 
-pub section_declares : (k : BlockKind) (p : PartKind) (d : Declaration) → IsDeclaredIn k p d → IsStep (place.Section k p 0) (clause.Declares d) (place.Section k p 0)
-unfolding follow follow_section clause_pieces
+pub section_declares : (k : BlockKind) (p : PartKind) (d : Declaration) → IsPrintedDeclarationIn k p d → IsStep (place.Section k p 0) (clause.Declares d) (place.Section k p 0)
+unfolding next_place next_place_in_section clause_pieces
 section_declares k p d h =
     record {
       reads = λ source from n g rest here t.
@@ -242,7 +242,7 @@ section_declares k p d h =
     }
 
 pub component_declares : (d : Declaration) → IsPrintedDeclaration d → IsStep (place.Shape kinds.Db 0) (clause.Declares d) (place.Shape kinds.Db 0)
-unfolding follow follow_shape clause_pieces
+unfolding next_place next_place_in_shape clause_pieces
 component_declares d h =
     record {
       reads = λ source from n g rest here t. declares_read source from n g (place.Shape kinds.Db 0) d rest h here refl refl refl refl t;
@@ -260,7 +260,7 @@ pub all_set : (ss : List Setting) → AllByRecursion IsPrintedSetting ss → Wal
 all_set [] h = refl
 all_set (s ∷ ss) h = (place.Settings, sets_step s h.0, all_set ss h.1)
 
-all_declared : (k : BlockKind) (p : PartKind) (ds : List Declaration) → AllByRecursion (IsDeclaredIn k p) ds
+all_declared : (k : BlockKind) (p : PartKind) (ds : List Declaration) → AllByRecursion (IsPrintedDeclarationIn k p) ds
     → Walk (place.Section k p 0) (map clause.Declares ds) (place.Section k p 0)
 all_declared k p [] h = refl
 all_declared k p (d ∷ ds) h = (place.Section k p 0, section_declares k p d h.0, all_declared k p ds h.1)
@@ -270,28 +270,28 @@ pub all_components : (ds : List Declaration) → AllByRecursion IsPrintedDeclara
 all_components [] h = refl
 all_components (d ∷ ds) h = (place.Shape kinds.Db 0, component_declares d h.0, all_components ds h.1)
 
-pub all_printed : (k : BlockKind) (p : PartKind) (ds : List Declaration) → AllByRecursion (IsDeclaredIn k p) ds → AllByRecursion IsPrintedDeclaration ds
+pub all_printed : (k : BlockKind) (p : PartKind) (ds : List Declaration) → AllByRecursion (IsPrintedDeclarationIn k p) ds → AllByRecursion IsPrintedDeclaration ds
 all_printed k p [] h = tt
 all_printed k p (d ∷ ds) h = (h.0.printed, all_printed k p ds h.1)
 
 -- no structure is closed among declarations at the outermost level
-pub flat_declared : (ds : List Declaration) → AllByRecursion IsPrintedDeclaration ds → declared_from 0 ds ≡ map clause.Declares ds
+pub flat_declared : (ds : List Declaration) → AllByRecursion IsPrintedDeclaration ds → declaration_clauses_from 0 ds ≡ map clause.Declares ds
 flat_declared [] h = refl
 flat_declared (d ∷ ds) h =
-    ap (λ (n : ℕ). structure_ends n ++ (clause.Declares d ∷ declared_from (level_behind d.level d.of.of) ds)) none
-    ∙ ap (λ (n : ℕ). clause.Declares d ∷ declared_from n ds) (same_level d.of.arrays d.of.of d.init d.level h.0.type ∙ h.0.level)
+    ap (λ (n : ℕ). structure_ends n ++ (clause.Declares d ∷ declaration_clauses_from (level_behind d.level d.of.of) ds)) none
+    ∙ ap (λ (n : ℕ). clause.Declares d ∷ declaration_clauses_from n ds) (same_level d.of.arrays d.of.of d.init d.level h.0.type ∙ h.0.level)
     ∙ ap (λ (cs : List Clause). clause.Declares d ∷ cs) (flat_declared ds h.1)
   where
     none : 0 - d.level ≡ 0
     none = omega arith
 
-part_walk : (at : ClausePlace) (k : BlockKind) (p : Part) → IsPrintedPart k p → follow at (clause.Section p.line p.kind) ≡ Some (place.Section k p.kind 0)
+part_walk : (at : ClausePlace) (k : BlockKind) (p : Part) → IsPrintedPart k p → next_place at (clause.Section p.line p.kind) ≡ Some (place.Section k p.kind 0)
     → Walk at (part_clauses p) (place.Between k p.kind)
 unfolding part_clauses
 part_walk at k p h goes = (
   place.Section k p.kind 0,
   section_step at p.line k p.kind goes,
-  walk_joined (declared_from 0 p.items) (clause.EndSection ∷ []) (place.Section k p.kind 0) (place.Section k p.kind 0) (place.Between k p.kind)
+  walk_joined (declaration_clauses_from 0 p.items) (clause.EndSection ∷ []) (place.Section k p.kind 0) (place.Section k p.kind 0) (place.Between k p.kind)
       (subst (λ (cs : List Clause). Walk (place.Section k p.kind 0) cs (place.Section k p.kind 0)) (sym (flat_declared p.items (all_printed k p.kind p.items h.items)))
       (all_declared k p.kind p.items h.items))
       (place.Between k p.kind, end_section_step k p.kind, refl),
@@ -306,9 +306,9 @@ abbrev rank_behind : Option PartKind → ℕ
 rank_behind None = 0
 rank_behind (Some last) = part_rank last + 1
 
-section_goes : (k : BlockKind) (last : Option PartKind) (line : ℕ) (p : PartKind) → may_have k p ≡ true → rank_behind last ≤ part_rank p
-    → follow (section_place k last) (clause.Section line p) ≡ Some (place.Section k p 0)
-unfolding follow follow_head follow_between
+section_goes : (k : BlockKind) (last : Option PartKind) (line : ℕ) (p : PartKind) → may_have_section k p ≡ true → rank_behind last ≤ part_rank p
+    → next_place (section_place k last) (clause.Section line p) ≡ Some (place.Section k p 0)
+unfolding next_place next_place_in_head next_place_between
 section_goes k None line p may order = rw may refl
 section_goes k (Some last) line p may order =
     let less : nat_lt (part_rank last) (part_rank p) ≡ true = grind (arith, nat_tests, order) in
@@ -318,7 +318,7 @@ record HasWalk (k : BlockKind) (from_ : Option PartKind) (cs : List Clause) : Ty
   last : Option PartKind
   walk : Walk (section_place k from_) cs (section_place k last)
 
-parts_walk : (k : BlockKind) (ps : List Part) (last : Option PartKind) → AreInOrder (rank_behind last) ps → AllByRecursion (IsPrintedPart k) ps
+parts_walk : (k : BlockKind) (ps : List Part) (last : Option PartKind) → AreSectionsInOrder (rank_behind last) ps → AllByRecursion (IsPrintedPart k) ps
     → HasWalk k last (flat_map part_clauses ps)
 parts_walk k [] last order h = record { last = last; walk = refl }
 parts_walk k (p ∷ ps) last order h =
@@ -331,8 +331,8 @@ parts_walk k (p ∷ ps) last order h =
 
 -- ---- code blocks
 
-code_begins : (k : BlockKind) (last : Option PartKind) → is_code k ≡ true → follow (section_place k last) clause.Begins ≡ Some (place.Body k)
-unfolding follow follow_head follow_between
+code_begins : (k : BlockKind) (last : Option PartKind) → is_code k ≡ true → next_place (section_place k last) clause.Begins ≡ Some (place.Body k)
+unfolding next_place next_place_in_head next_place_between
 code_begins k None is = rw is refl
 code_begins k (Some last) is = refl
 
@@ -380,7 +380,7 @@ code_is b h =
         clause.Head b.line b.kind b.name b.result
         ∷ (flat_map part_clauses b.parts ++ (cs ++ (instance_clauses b.instance_of ++ (begin_clauses b.kind ++ (map clause.Sets b.settings ++ (map clause.Runs b.body ++ clause.Ends b.end_line b.kind ∷ []))))))
 
-pub code_walk : (b : Block) → IsNameOf b.kind b.name → IsCodeBlock b → Walk place.Outside (code_clauses b) place.Outside
+pub code_walk : (b : Block) → IsNumberedBlockOf b.kind b.name → IsCodeBlock b → Walk place.Outside (code_clauses b) place.Outside
 code_walk b named h =
     let parts : HasWalk b.kind None (flat_map part_clauses b.parts) = parts_walk b.kind b.parts None h.order h.parts in (
       place.Head b.kind,

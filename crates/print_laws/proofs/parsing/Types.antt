@@ -16,19 +16,19 @@ use Rattle.stl_ast.specs.declared.declarations.Simple.TheVariants as simple
 use Rattle.stl_ast.specs.declared.literals.Literal.{Literal}
 use Rattle.stl_ast.specs.declared.literals.Literal.TheVariants as literal
 use Rattle.stl_parser.specs.Literals.{literal_at, literal_token}
-use Rattle.stl_parser.specs.Numbers.{int_at, number_of, number_up_to, signed_at}
-use Rattle.stl_parser.specs.Parts.{parts_from, whole}
+use Rattle.stl_parser.specs.Numbers.{int_at, number_of, number_up_to, signed_number_at}
+use Rattle.stl_parser.specs.Parts.{parts_from, complete_reading}
 use Rattle.stl_parser.specs.Statements.{after_paren}
 use Rattle.stl_parser.specs.Tables.{look_up, simple_types}
 use Rattle.stl_parser.specs.Terminals.{has_kind, is_key, is_mark, key_text}
-use Rattle.stl_parser.specs.Types.{array_at, array_end, array_high, arrays_at, arrays_end, at_end, counted_at, counted_end, init_at, init_list, next_init}
+use Rattle.stl_parser.specs.Types.{array_at, array_end, array_high, arrays_at, arrays_end, end_of_tokens, counted_init_at, counted_init_end, init_at, init_list, next_init}
 use Rattle.stl_print.specs.Declarations.{array_pieces, further_inits, init_pieces, value_pieces}
 use Rattle.stl_print.specs.Literals.{literal_pieces}
-use Rattle.stl_print.specs.Pieces.{mark as mark_piece}
+use Rattle.stl_print.specs.Pieces.{mark_piece}
 use Rattle.stl_print.specs.Words.{type_word}
 use Rattle.stl_print.specs.declared.gaps.Gap.{Gap}
 use Rattle.stl_print.specs.declared.gaps.Gap.TheVariants as gap
-use Rattle.print_laws.specs.Reading.{IsByte, IsCountOf, IsPrintedInit}
+use Rattle.print_laws.specs.Reading.{IsByteLiteral, IsCountOf, IsPrintedInit}
 use Rattle.print_laws.proofs.parsing.Constants.{byte_value}
 use Rattle.print_laws.proofs.parsing.Numbers.{minus, number_read}
 use Rattle.print_laws.proofs.parsing.Operands.{Texts, read_number}
@@ -60,7 +60,7 @@ type_found simple.Time = record { found = refl; no_array = refl; no_struct = ref
 bounds_read : (source : List ℕ) (from line : ℕ) (low high : ℤ) (rest : List Token) → IsDecimal low → IsDecimal high
     → Texts source from line (array_pieces (record { low = low; high = high }))
     → array_at source (tokens_of from line (array_pieces (record { low = low; high = high })) ++ rest) ≡ Some (record { low = low; high = high }, rest)
-unfolding array_pieces array_at array_high array_end int_at signed_at number_of number_up_to is_key key_text is_mark has_kind mark_text
+unfolding array_pieces array_at array_high array_end int_at signed_number_at number_of number_up_to is_key key_text is_mark has_kind mark_text
 bounds_read source from line (pos m) (pos n) rest l h (_, x1, (_, x2, (_, x3, (_, x4, (_, x5, (_, x6, (_, x7, _))))))) =
     rw (x1, x2, x3, read_number m l, x4, x5, read_number n h, x6, x7) refl
 bounds_read source from line (pos m) (negsuc n) rest l h (_, x1, (_, x2, (_, x3, (_, x4, (_, x5, (_, x6, (_, x7, (_, x8, _)))))))) =
@@ -93,8 +93,8 @@ byte_at : (source : List ℕ) (from line : ℕ) (g : Gap) (v : ℕ) (rest : List
 unfolding literal_pieces literal_at literal_token
 byte_at source from line g v rest h (_, x1, _) = rw (x1, byte_value v h) refl
 
-uncounted : (source : List ℕ) (t : Token) (rest : List Token) → after_paren source rest ≡ None → counted_at source (t ∷ rest) ≡ None
-unfolding counted_at after_paren
+uncounted : (source : List ℕ) (t : Token) (rest : List Token) → after_paren source rest ≡ None → counted_init_at source (t ∷ rest) ≡ None
+unfolding counted_init_at after_paren
 uncounted source t [] h = refl
 uncounted source t (u ∷ us) h = by (is_mark source u mark.OpenParen) us _ h
   where
@@ -105,10 +105,10 @@ uncounted source t (u ∷ us) h = by (is_mark source u mark.OpenParen) us _ h
 counted : (source : List ℕ) (from line : ℕ) (g : Gap) (n v : ℕ) (rest : List Token) → n ≤ 65535 → v ≤ 255
     → Texts source from line (value_pieces g (Some n) (literal.Byte v))
     → init_at source (tokens_of from line (value_pieces g (Some n) (literal.Byte v)) ++ rest) ≡ Some (record { count = Some n; value = literal.Byte v }, rest)
-unfolding init_at counted_at counted_end number_of number_up_to literal_pieces literal_at literal_token is_mark has_kind mark_text
+unfolding init_at counted_init_at counted_init_end number_of number_up_to literal_pieces literal_at literal_token is_mark has_kind mark_text
 counted source from line g n v rest c h (_, x1, (_, x2, (_, x3, (_, x4, _)))) = rw (x2, x1, read_number n c, x3, byte_value v h, x4) refl
 
-value_read : (source : List ℕ) (from line : ℕ) (g : Gap) (count : Option ℕ) (value : Literal) (rest : List Token) → IsCountOf count → IsByte value
+value_read : (source : List ℕ) (from line : ℕ) (g : Gap) (count : Option ℕ) (value : Literal) (rest : List Token) → IsCountOf count → IsByteLiteral value
     → after_paren source rest ≡ None → Texts source from line (value_pieces g count value)
     → init_at source (tokens_of from line (value_pieces g count value) ++ rest) ≡ Some (record { count = count; value = value }, rest)
 unfolding init_at literal_pieces
@@ -147,8 +147,8 @@ next_read source from line g i is h t =
 
 further_read : (source : List ℕ) (is read : List Init) (n from line : ℕ) → AllByRecursion IsPrintedInit is
     → Texts source from line (further_inits is) → length is ≤ n
-    → parts_from at_end (next_init source) read n (tokens_of from line (further_inits is)) ≡ Some (read ++ is, [])
-unfolding parts_from at_end next_init is_mark has_kind mark_text
+    → parts_from end_of_tokens (next_init source) read n (tokens_of from line (further_inits is)) ≡ Some (read ++ is, [])
+unfolding parts_from end_of_tokens next_init is_mark has_kind mark_text
 further_read source [] read zero from line all t fits = ap (λ (l : List Init). Some (l, [])) (sym (append-nil read))
 further_read source [] read (suc n) from line all t fits = ap (λ (l : List Init). Some (l, [])) (sym (append-nil read))
 further_read source (i ∷ is) read zero from line all t fits = absurd (omega (arith, fits))
@@ -184,4 +184,4 @@ pub inits_read : (source : List ℕ) (from line : ℕ) (i : Init) (is : List Ini
 unfolding init_list
 inits_read source from line i is all t =
     rw (next_read source from line gap.Blank i is all.0 t)
-    (ap whole (further_read source is (i ∷ []) _ _ _ all.1 (shown_behind source from line (init_pieces gap.Blank i) (further_inits is) t) (enough _ _ is)))
+    (ap complete_reading (further_read source is (i ∷ []) _ _ _ all.1 (shown_behind source from line (init_pieces gap.Blank i) (further_inits is) t) (enough _ _ is)))

@@ -7,8 +7,8 @@ use Rattle.stl_lexer.specs.Gap.{newlines_of}
 use Rattle.stl_lexer.specs.Pieces.{tokens_of}
 use Rattle.stl_lexer.specs.declared.kinds.Token.{Token}
 use Rattle.stl_parser.specs.Clauses.{clause_at}
-use Rattle.stl_parser.specs.Frame.{follow}
-use Rattle.stl_parser.specs.Source.{Reads, step_of}
+use Rattle.stl_parser.specs.Frame.{next_place}
+use Rattle.stl_parser.specs.Source.{ReadsClauses, step_of}
 use Rattle.stl_parser.specs.declared.clauses.Clause.{Clause}
 use Rattle.stl_parser.specs.declared.clauses.Clause.TheVariants as clause
 use Rattle.stl_parser.specs.declared.places.ClausePlace.{ClausePlace}
@@ -39,7 +39,7 @@ pub record IsStep (p : ClausePlace) (c : Clause) (next : ClausePlace) : Type 0 w
   pub reads : (source : List ℕ) (from line : ℕ) (g : Gap) (rest : List Token) → IsHere (gap_line line g) c → Texts source from line (clause_pieces g c)
       → clause_at source p (tokens_of from line (clause_pieces g c) ++ rest) ≡ Some (c, rest, false)
   pub lines : (g : Gap) (line : ℕ) → line_past line (clause_pieces g c) ≡ gap_line line g
-  pub goes : follow p c ≡ Some next
+  pub goes : next_place p c ≡ Some next
 
 -- clauses lead from a place to another
 abbrev pub Walk : ClausePlace → List Clause → ClausePlace → Type 0
@@ -51,7 +51,7 @@ walk_joined [] ds p r q a b = subst (λ (z : ClausePlace). Walk z ds q) (sym a) 
 walk_joined (c ∷ cs) ds p r q a b = (a.0, a.1, walk_joined cs ds a.0 r q a.2 b)
 
 step_made : (source : List ℕ) (p next : ClausePlace) (c : Clause) (tokens rest : List Token) → clause_at source p tokens ≡ Some (c, rest, false)
-    → follow p c ≡ Some next → step_of source p tokens ≡ Ok (c, rest, next)
+    → next_place p c ≡ Some next → step_of source p tokens ≡ Ok (c, rest, next)
 unfolding step_of
 step_made source p next c tokens rest reads goes = rw (reads, goes) refl
 
@@ -107,7 +107,7 @@ here_by reached line clause.Title e h = tt
 -- ---- all clauses
 
 pub walk_read : (cs : List Clause) (source : List ℕ) (from line reached : ℕ) (p q : ClausePlace) → Walk p cs q → AreOnLines reached cs → line ≡ max 1 reached
-    → Texts source from line (pieces_from reached cs) → Reads source p (tokens_of from line (pieces_from reached cs)) cs q []
+    → Texts source from line (pieces_from reached cs) → ReadsClauses source p (tokens_of from line (pieces_from reached cs)) cs q []
 walk_read [] source from line reached p q w on is t = (w, refl)
 walk_read (c ∷ cs) source from line reached p q w on is t =
     let g : Gap = clause_gap reached (line_of c) in

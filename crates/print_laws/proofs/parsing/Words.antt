@@ -12,8 +12,8 @@ use Rattle.stl_parser.specs.Addresses.{letter_count}
 use Rattle.stl_parser.specs.Tables.{block_kinds, keywords, look_up, mnemonics, simple_types}
 use Rattle.stl_parser.specs.declared.tables.OperandSyntax.{OperandSyntax}
 use Rattle.stl_parser.specs.declared.tables.OperandSyntax.TheVariants as form
-use Rattle.stl_print.specs.Mnemonics.{Spelling, one, spelling, two}
-use Rattle.print_laws.specs.Reading.{Syntax, block_call, bracket, call, empty, jump, opens, plain, syntax_of}
+use Rattle.stl_print.specs.Mnemonics.{Spelling, one, mnemonic_spelling, two}
+use Rattle.print_laws.specs.Reading.{PrintedSyntax, block_call, bracket, call, empty, jump, opens, plain, syntax_of}
 use Rattle.print_laws.proofs.parsing.Shown.{mark_is}
 
 -- the kinds of tokens that an instruction begins with
@@ -44,8 +44,8 @@ abbrev pub first_text : Spelling → List ℕ
 first_text (one k text) = text
 first_text (two k text j behind) = text
 
-pub calm : (m : Mnemonic) → (syntax_of m ≡ empty → ⊥) → IsCalm (first_kind (spelling m)) (first_text (spelling m))
-unfolding spelling look_up keywords simple_types block_kinds mark_text
+pub calm : (m : Mnemonic) → (syntax_of m ≡ empty → ⊥) → IsCalm (first_kind (mnemonic_spelling m)) (first_text (mnemonic_spelling m))
+unfolding mnemonic_spelling look_up keywords simple_types block_kinds mark_text
 calm mnemonic.Empty h = absurd (h refl)
 calm mnemonic.Nop h = record { begin = refl; no_keyword = refl; no_semicolon = refl; no_array = refl; no_struct = refl; no_date = refl; no_simple = refl; no_block = refl; no_number = refl }
 calm mnemonic.Bld h = record { begin = refl; no_keyword = refl; no_semicolon = refl; no_array = refl; no_struct = refl; no_date = refl; no_simple = refl; no_block = refl; no_number = refl }
@@ -175,7 +175,7 @@ calm mnemonic.Opn h = record { begin = refl; no_keyword = refl; no_semicolon = r
 calm mnemonic.Cdb h = record { begin = refl; no_keyword = refl; no_semicolon = refl; no_array = refl; no_struct = refl; no_date = refl; no_simple = refl; no_block = refl; no_number = refl }
 
 -- what stands behind an instruction word that is one token, as the parser has it
-abbrev pub form_of : Syntax → OperandSyntax
+abbrev pub form_of : PrintedSyntax → OperandSyntax
 form_of plain = form.Operand
 form_of bracket = form.Operand
 form_of jump = form.Jump
@@ -188,12 +188,12 @@ form_of empty = form.Operand
 pub record IsSingle (m : Mnemonic) : Type 0 where
   pub kind : TokenKind
   pub text : List ℕ
-  pub spelled : spelling m ≡ one kind text
+  pub spelled : mnemonic_spelling m ≡ one kind text
   pub found : look_up mnemonics text ≡ Some (m, form_of (syntax_of m))
   pub no_close : mark_is kind text mark.CloseParen ≡ false
 
 pub single : (m : Mnemonic) → (syntax_of m ≡ empty → ⊥) → (syntax_of m ≡ bracket → ⊥) → IsSingle m
-unfolding spelling look_up mnemonics mark_text
+unfolding mnemonic_spelling look_up mnemonics mark_text
 single mnemonic.Empty h k = absurd (h refl)
 single mnemonic.Nop h k = record { kind = kind.Word; text = codes "NOP"; spelled = refl; found = refl; no_close = refl }
 single mnemonic.Bld h k = record { kind = kind.Word; text = codes "BLD"; spelled = refl; found = refl; no_close = refl }

@@ -5,13 +5,13 @@ use Rattle.std.proofs.lemmas.List.{length-replicate, map-append, replicate-appen
 use Rattle.std.proofs.lemmas.List.Elements.{All-head, All-tail}
 use Rattle.plc_base.proofs.ListLemmas.{drop_next}
 use Rattle.plc_io.specs.Moments.{SinkAt}
-use Rattle.plc_io.specs.Taken.{Wrote}
+use Rattle.plc_io.specs.Taken.{WroteText}
 use Rattle.plc_io.specs.declared.faults.IoFault.{IoFault}
 use Rattle.image_file.specs.Loaded.{LoadedProgram}
 use Rattle.machine.specs.Code.{Code}
 use Rattle.machine.specs.Flat.{code_of}
 use Rattle.var_access.specs.Entry.{IsValid}
-use Rattle.var_access.specs.Runs.{AreRuns, IsRun, written_out}
+use Rattle.var_access.specs.Runs.{AreRuns, IsHistoryRun, entries_of_runs}
 use Rattle.var_access.specs.declared.Entry.{Entry}
 use Rattle.var_access.specs.declared.Reply.{Reply}
 use Rattle.var_access.specs.declared.Request.{Request}
@@ -21,14 +21,14 @@ use Rattle.var_access.specs.declared.What.TheVariants.{Ask, Step}
 use Rattle.controller.specs.Asking.{request_reply}
 use Rattle.controller.specs.declared.Observed.{Observed}
 use Rattle.controller.specs.Quiet.{ShowNothing}
-use Rattle.controller.specs.Replay.{ContinuesByMore, happens, replay, reply_to, run_from}
+use Rattle.controller.specs.Replay.{ContinuesByMore, entry_result, replay, reply_to, state_after_entries}
 use Rattle.event_text.specs.Replies.{reply_text}
 use Rattle.controller.specs.Shown.{nothing_shown}
 use Rattle.controller.specs.State.{State}
 use Rattle.controller.specs.Recording.{Recording}
 use Rattle.controller.specs.Replayed.{entry_events, next_happens, final_state}
 use Rattle.s7_cli.specs.run_text.Behind.{closing_of, lines_behind, with_entries}
-use Rattle.s7_cli.specs.run_text.RunText.{closing_text, entry_text, lines_from, replied_text, run_text, shown_text}
+use Rattle.s7_cli.specs.run_text.RunText.{closing_text, entry_text, entry_lines_from, replied_text, run_text, shown_text}
 use Rattle.s7_cli.proofs.run.WritingLemmas.{GoesOn, goes-cut, goes-end, goes-first, goes-next}
 
 -- ---- controllers with further entries
@@ -53,7 +53,7 @@ with-both r front back =
 
 -- the state is that of the further entries
 replayed-on : ContinuesByMore → (r : Recording) (es : List Entry)
-    → final_state (with_entries r es) ≡ run_from (code_of r.program) (final_state r) (entry_events es)
+    → final_state (with_entries r es) ≡ state_after_entries (code_of r.program) (final_state r) (entry_events es)
 replayed-on continues r es =
     ap (λ (ws : List What). replay r.profile (code_of r.program) ws) (map-append (λ (e : Entry). e.what) r.history es)
     ∙ continues r.profile (code_of r.program) (entry_events r.history) (entry_events es)
@@ -61,23 +61,23 @@ replayed-on continues r es =
 -- ---- lines of entries in two parts
 
 lines-split : (code : Code) (n : ℕ) (s : State) (front back : List Entry)
-    → lines_from code n s (front ++ back)
-    ≡ lines_from code n s front ++ lines_from code (n + length front) (run_from code s (entry_events front)) back
-lines-split code n s [] back = ap (λ (m : ℕ). lines_from code m s back) none
+    → entry_lines_from code n s (front ++ back)
+    ≡ entry_lines_from code n s front ++ entry_lines_from code (n + length front) (state_after_entries code s (entry_events front)) back
+lines-split code n s [] back = ap (λ (m : ℕ). entry_lines_from code m s back) none
   where
     none : n ≡ n + length {A = Entry} []
     none = omega arith
 lines-split code n s (e ∷ front) back =
     ap (λ (text : List ℕ). first ++ text) (lines-split code (n + 1) t front back)
-    ∙ ap (λ (m : ℕ). first ++ (lines_from code (n + 1) t front ++ lines_from code m (run_from code t (entry_events front)) back)) count
-    ∙ sym (append_assoc first (lines_from code (n + 1) t front)
-    (lines_from code (n + length (e ∷ front)) (run_from code t (entry_events front)) back))
+    ∙ ap (λ (m : ℕ). first ++ (entry_lines_from code (n + 1) t front ++ entry_lines_from code m (state_after_entries code t (entry_events front)) back)) count
+    ∙ sym (append_assoc first (entry_lines_from code (n + 1) t front)
+    (entry_lines_from code (n + length (e ∷ front)) (state_after_entries code t (entry_events front)) back))
   where
     first : List ℕ
-    first = entry_text (n + 1) e (happens code s e.what)
+    first = entry_text (n + 1) e (entry_result code s e.what)
 
     t : State
-    t = (happens code s e.what).state
+    t = (entry_result code s e.what).state
 
     count : n + 1 + length front ≡ n + length (e ∷ front)
     count = omega arith
@@ -87,9 +87,9 @@ lines-behind : ContinuesByMore → (r : Recording) (front back : List Entry)
     → lines_behind r (front ++ back) ≡ lines_behind r front ++ lines_behind (with_entries r front) back
 lines-behind continues r front back =
     lines-split code (length r.history) (final_state r) front back
-    ∙ ap (λ (m : ℕ). lines_behind r front ++ lines_from code m (run_from code (final_state r) (entry_events front)) back)
+    ∙ ap (λ (m : ℕ). lines_behind r front ++ entry_lines_from code m (state_after_entries code (final_state r) (entry_events front)) back)
     (sym (length-append r.history front))
-    ∙ ap (λ (s : State). lines_behind r front ++ lines_from code (length (r.history ++ front)) s back)
+    ∙ ap (λ (s : State). lines_behind r front ++ entry_lines_from code (length (r.history ++ front)) s back)
     (sym (replayed-on continues r front))
   where
     code : Code
@@ -100,7 +100,7 @@ pub request-lines : (r : Recording) (e : Entry) (request : Request) (n m : ℕ) 
     → e.what ≡ Ask request → n ≡ m → shown ≡ (next_happens r e).seen
     → answer ≡ request_reply (code_of r.program) request (final_state r) → middle ≡ before ++ shown_text n shown
     → middle ++ reply_text n e.who request answer ≡ before ++ entry_text m e (next_happens r e)
-unfolding happens
+unfolding entry_result
 request-lines r e request n m shown answer before middle asks count is replies appended =
     ap (λ (t : List ℕ). t ++ reply_text n e.who request answer) appended
     ∙ append_assoc before (shown_text n shown) (reply_text n e.who request answer)
@@ -116,21 +116,21 @@ unfolding shown_text
 no-text n = refl
 
 -- nor has a step that shows nothing
-quiet-step : (code : Code) (n : ℕ) (s : State) (e : Entry) → e.what ≡ Step → (happens code s Step).seen ≡ nothing_shown
-    → entry_text n e (happens code s e.what) ≡ []
+quiet-step : (code : Code) (n : ℕ) (s : State) (e : Entry) → e.what ≡ Step → (entry_result code s Step).seen ≡ nothing_shown
+    → entry_text n e (entry_result code s e.what) ≡ []
 quiet-step code n s e is nothing =
-    ap (λ (w : What). shown_text n (happens code s w).seen ++ replied_text n e.who w (happens code s w).reply) is
+    ap (λ (w : What). shown_text n (entry_result code s w).seen ++ replied_text n e.who w (entry_result code s w).reply) is
     ∙ ap (λ (o : Observed). shown_text n o ++ []) nothing
     ∙ ap (λ (t : List ℕ). t ++ []) (no-text n)
 
 quiet-steps : (code : Code) (n : ℕ) (s : State) (e : Entry) (k : ℕ) → e.what ≡ Step → ShowNothing code s (replicate k Step)
-    → lines_from code n s (replicate k e) ≡ []
+    → entry_lines_from code n s (replicate k e) ≡ []
 quiet-steps code n s e zero is nothing = refl
 quiet-steps code n s e (suc k) is nothing =
-    ap (λ (t : List ℕ). t ++ lines_from code (n + 1) (happens code s e.what).state (replicate k e))
+    ap (λ (t : List ℕ). t ++ entry_lines_from code (n + 1) (entry_result code s e.what).state (replicate k e))
     (quiet-step code (n + 1) s e is nothing.0)
-    ∙ ap (λ (w : What). lines_from code (n + 1) (happens code s w).state (replicate k e)) is
-    ∙ quiet-steps code (n + 1) (happens code s Step).state e k is nothing.1
+    ∙ ap (λ (w : What). entry_lines_from code (n + 1) (entry_result code s w).state (replicate k e)) is
+    ∙ quiet-steps code (n + 1) (entry_result code s Step).state e k is nothing.1
 
 -- ---- what was applied and written
 
@@ -159,7 +159,7 @@ rest-lines continues s1 s2 rest piece more splits on =
 -- a part of the rest was applied, and its lines were written
 pub follows-written : ContinuesByMore → (s0 s1 s2 : Recording) (es rest piece more : List Entry) (a b c : SinkAt) (u : Unit)
     → Follows s0 es rest s1 a b → rest ≡ piece ++ more → s2 ≡ with_entries s1 piece
-    → Wrote {X = Unit {0}} b c (lines_behind s1 piece) (Ok u) → Follows s0 es more s2 a c
+    → WroteText {X = Unit {0}} b c (lines_behind s1 piece) (Ok u) → Follows s0 es more s2 a c
 follows-written continues s0 s1 s2 es rest piece more a b c u so_far splits on wrote = record {
   front = so_far.front ++ piece;
   all = append_assoc so_far.front piece more ∙ ap (λ (l : List Entry). so_far.front ++ l) (sym splits) ∙ so_far.all;
@@ -196,7 +196,7 @@ follows-quiet continues s0 s1 s2 es e k left more a b so_far is few fewer on not
 -- the part of the rest whose lines are being written ends so
 pub follows-cut : ContinuesByMore → (s0 s1 : Recording) (es rest piece more : List Entry) (a b c : SinkAt) (fault : IoFault)
     (r : Result Unit IoFault) → Follows s0 es rest s1 a b → rest ≡ piece ++ more
-    → Wrote {X = Unit {0}} b c (lines_behind s1 piece) (Err fault) → r ≡ Err fault → Wrote a c (lines_behind s0 es) r
+    → WroteText {X = Unit {0}} b c (lines_behind s1 piece) (Err fault) → r ≡ Err fault → WroteText a c (lines_behind s0 es) r
 follows-cut continues s0 s1 es rest piece more a b c fault r so_far splits wrote ends =
     goes-cut (lines_behind s0 es) (lines_behind s1 rest) (lines_behind s1 piece) (lines_behind (with_entries s1 piece) more)
     (lines_behind s1 piece) a b c fault r so_far.goes_on
@@ -204,7 +204,7 @@ follows-cut continues s0 s1 es rest piece more a b c fault r so_far splits wrote
 
 -- all were applied and written
 pub follows-end : (s0 s1 : Recording) (es rest : List Entry) (a b : SinkAt) (u : Unit) → Follows s0 es rest s1 a b
-    → rest ≡ [] → Wrote {X = Unit {0}} a b (lines_behind s0 es) (Ok u)
+    → rest ≡ [] → WroteText {X = Unit {0}} a b (lines_behind s0 es) (Ok u)
 follows-end s0 s1 es rest a b u so_far none =
     goes-end (lines_behind s0 es) (lines_behind s1 rest) a b u so_far.goes_on (ap (lines_behind s1) none)
 
@@ -226,7 +226,7 @@ one-step (suc n) m e some less = ap (λ (k : ℕ). e ∷ replicate k e) (omega (
 
 pub steps-next : ContinuesByMore → (s0 s1 s2 : Recording) (e : Entry) (count left : ℕ) (a b c : SinkAt) (u : Unit)
     → Follows s0 (replicate count e) (replicate left e) s1 a b → 1 ≤ left → s2 ≡ with_entries s1 (e ∷ [])
-    → Wrote {X = Unit {0}} b c (lines_behind s1 (e ∷ [])) (Ok u)
+    → WroteText {X = Unit {0}} b c (lines_behind s1 (e ∷ [])) (Ok u)
     → Follows s0 (replicate count e) (replicate (left - 1) e) s2 a c
 steps-next continues s0 s1 s2 e count left a b c u so_far some on wrote =
     follows-written continues s0 s1 s2 (replicate count e) (replicate left e) (e ∷ []) (replicate (left - 1) e) a b c u
@@ -234,8 +234,8 @@ steps-next continues s0 s1 s2 e count left a b c u so_far some on wrote =
 
 pub steps-cut : ContinuesByMore → (s0 s1 : Recording) (e : Entry) (count left : ℕ) (a b c : SinkAt) (fault : IoFault)
     (r : Result Unit IoFault) → Follows s0 (replicate count e) (replicate left e) s1 a b → 1 ≤ left
-    → Wrote {X = Unit {0}} b c (lines_behind s1 (e ∷ [])) (Err fault) → r ≡ Err fault
-    → Wrote a c (lines_behind s0 (replicate count e)) r
+    → WroteText {X = Unit {0}} b c (lines_behind s1 (e ∷ [])) (Err fault) → r ≡ Err fault
+    → WroteText a c (lines_behind s0 (replicate count e)) r
 steps-cut continues s0 s1 e count left a b c fault r so_far some wrote ends =
     follows-cut continues s0 s1 (replicate count e) (replicate left e) (e ∷ []) (replicate (left - 1) e) a b c fault r
     so_far (one-step left (left - 1) e some refl) wrote ends
@@ -251,53 +251,53 @@ steps-room s0 s1 e count left a b so_far room =
 
 -- the entries of the runs from a place on
 runs-next : (runs : List Run) (i : ℕ) (r : Run) → i < length runs → r ≡ get_or runs i r
-    → written_out (drop i runs) ≡ replicate r.count r.entry ++ written_out (drop (i + 1) runs)
-runs-next runs i r within at = ap written_out (drop_next runs i r within at)
+    → entries_of_runs (drop i runs) ≡ replicate r.count r.entry ++ entries_of_runs (drop (i + 1) runs)
+runs-next runs i r within at = ap entries_of_runs (drop_next runs i r within at)
 
-run-is : (runs : List Run) (i : ℕ) (r : Run) → AreRuns runs → i < length runs → r ≡ get_or runs i r → IsRun r
-run-is runs i r are within at = subst IsRun (sym at) (by runs i are.each within)
+run-is : (runs : List Run) (i : ℕ) (r : Run) → AreRuns runs → i < length runs → r ≡ get_or runs i r → IsHistoryRun r
+run-is runs i r are within at = subst IsHistoryRun (sym at) (by runs i are.each within)
   where
-    by : (runs : List Run) (i : ℕ) → AllByRecursion IsRun runs → i < length runs → IsRun (get_or runs i r)
+    by : (runs : List Run) (i : ℕ) → AllByRecursion IsHistoryRun runs → i < length runs → IsHistoryRun (get_or runs i r)
     by [] i each within = absurd (omega (arith, within))
     by (run ∷ runs) zero each within = each.0
     by (run ∷ runs) (suc i) each within = by runs i each.1 (omega (arith, within))
 
 -- the entry of a run is one of theirs
-pub run-valid : (runs : List Run) (i : ℕ) (r : Run) → AreRuns runs → All IsValid (written_out runs) → i < length runs
+pub run-valid : (runs : List Run) (i : ℕ) (r : Run) → AreRuns runs → All IsValid (entries_of_runs runs) → i < length runs
     → r ≡ get_or runs i r → IsValid r.entry
 run-valid runs i r are valid within at =
-    first r.count (written_out (drop (i + 1) runs)) (run-is runs i r are within at).some
+    first r.count (entries_of_runs (drop (i + 1) runs)) (run-is runs i r are within at).some
     (subst (All IsValid) (runs-next runs i r within at) (rest runs i valid))
   where
     behind : (xs ys : List Entry) → All IsValid (xs ++ ys) → All IsValid ys
     behind [] ys valid = valid
     behind (x ∷ xs) ys valid = behind xs ys (All-tail IsValid x (xs ++ ys) valid)
 
-    rest : (runs : List Run) (i : ℕ) → All IsValid (written_out runs) → All IsValid (written_out (drop i runs))
+    rest : (runs : List Run) (i : ℕ) → All IsValid (entries_of_runs runs) → All IsValid (entries_of_runs (drop i runs))
     rest runs zero valid = valid
     rest [] (suc i) valid = valid
-    rest (run ∷ runs) (suc i) valid = rest runs i (behind (replicate run.count run.entry) (written_out runs) valid)
+    rest (run ∷ runs) (suc i) valid = rest runs i (behind (replicate run.count run.entry) (entries_of_runs runs) valid)
 
     first : (count : ℕ) (more : List Entry) → 1 ≤ count → All IsValid (replicate count r.entry ++ more) → IsValid r.entry
     first zero more some valid = absurd (omega (arith, some))
     first (suc count) more some valid = All-head IsValid r.entry (replicate count r.entry ++ more) valid
 
 pub runs-more : ContinuesByMore → (s0 s1 s2 : Recording) (runs : List Run) (i : ℕ) (r : Run) (a b c : SinkAt) (u : Unit)
-    → Follows s0 (written_out runs) (written_out (drop i runs)) s1 a b → i < length runs → r ≡ get_or runs i r
+    → Follows s0 (entries_of_runs runs) (entries_of_runs (drop i runs)) s1 a b → i < length runs → r ≡ get_or runs i r
     → s2 ≡ with_entries s1 (replicate r.count r.entry)
-    → Wrote {X = Unit {0}} b c (lines_behind s1 (replicate r.count r.entry)) (Ok u)
-    → Follows s0 (written_out runs) (written_out (drop (i + 1) runs)) s2 a c
+    → WroteText {X = Unit {0}} b c (lines_behind s1 (replicate r.count r.entry)) (Ok u)
+    → Follows s0 (entries_of_runs runs) (entries_of_runs (drop (i + 1) runs)) s2 a c
 runs-more continues s0 s1 s2 runs i r a b c u so_far within at on wrote =
-    follows-written continues s0 s1 s2 (written_out runs) (written_out (drop i runs)) (replicate r.count r.entry)
-    (written_out (drop (i + 1) runs)) a b c u so_far (runs-next runs i r within at) on wrote
+    follows-written continues s0 s1 s2 (entries_of_runs runs) (entries_of_runs (drop i runs)) (replicate r.count r.entry)
+    (entries_of_runs (drop (i + 1) runs)) a b c u so_far (runs-next runs i r within at) on wrote
 
 pub runs-cut : ContinuesByMore → (s0 s1 : Recording) (runs : List Run) (i : ℕ) (r : Run) (a b c : SinkAt) (fault : IoFault)
-    (came : Result Unit IoFault) → Follows s0 (written_out runs) (written_out (drop i runs)) s1 a b → i < length runs
-    → r ≡ get_or runs i r → Wrote {X = Unit {0}} b c (lines_behind s1 (replicate r.count r.entry)) (Err fault)
-    → came ≡ Err fault → Wrote a c (lines_behind s0 (written_out runs)) came
+    (came : Result Unit IoFault) → Follows s0 (entries_of_runs runs) (entries_of_runs (drop i runs)) s1 a b → i < length runs
+    → r ≡ get_or runs i r → WroteText {X = Unit {0}} b c (lines_behind s1 (replicate r.count r.entry)) (Err fault)
+    → came ≡ Err fault → WroteText a c (lines_behind s0 (entries_of_runs runs)) came
 runs-cut continues s0 s1 runs i r a b c fault came so_far within at wrote ends =
-    follows-cut continues s0 s1 (written_out runs) (written_out (drop i runs)) (replicate r.count r.entry)
-    (written_out (drop (i + 1) runs)) a b c fault came so_far (runs-next runs i r within at) wrote ends
+    follows-cut continues s0 s1 (entries_of_runs runs) (entries_of_runs (drop i runs)) (replicate r.count r.entry)
+    (entries_of_runs (drop (i + 1) runs)) a b c fault came so_far (runs-next runs i r within at) wrote ends
 
 -- ---- a whole run
 

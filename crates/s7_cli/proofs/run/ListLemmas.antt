@@ -7,7 +7,7 @@ use Rattle.std.proofs.lemmas.List.{take_all}
 use Rattle.std.proofs.lemmas.Grind.{common_steps}
 use Rattle.std.proofs.lemmas.Option.{get_or_from_slice_get, slice_get_within}
 use Rattle.plc_base.proofs.ListLemmas.{drop_next}
-use Rattle.s7_cli.specs.run_text.RunText.{block_text, row_of}
+use Rattle.s7_cli.specs.run_text.RunText.{data_block_text, row_of}
 
 -- the texts of the elements from a place on
 pub texts-next : {A : Type 0} (f : A → List ℕ) (xs : List A) (i : ℕ) (x : A) → i < length xs → x ≡ get_or xs i x
@@ -68,8 +68,8 @@ front-of bytes at n is =
 
 -- a block is its rows, from the first one on
 pub block-is : (number : ℕ) (bytes : List ℕ)
-    → block_text (number, bytes) ≡ flat_map (row_of number bytes) (from_to 0 (div_ceil (length bytes) 32))
-unfolding block_text
+    → data_block_text (number, bytes) ≡ flat_map (row_of number bytes) (from_to 0 (div_ceil (length bytes) 32))
+unfolding data_block_text
 block-is number bytes = ap (λ (n : ℕ). flat_map (row_of number bytes) (range_with_len 0 n)) same
   where
     same : div_ceil (length bytes) 32 ≡ div_ceil (length bytes) 32 - 0

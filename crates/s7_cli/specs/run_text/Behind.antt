@@ -5,7 +5,7 @@ use Rattle.var_access.specs.declared.Entry.{Entry}
 use Rattle.machine.specs.Flat.{code_of}
 use Rattle.controller.specs.Recording.{Recording}
 use Rattle.controller.specs.Replayed.{final_state}
-use Rattle.s7_cli.specs.run_text.RunText.{closing_text, lines_from}
+use Rattle.s7_cli.specs.run_text.RunText.{closing_text, entry_lines_from}
 
 -- a controller with further entries in its history
 abbrev pub with_entries : Recording → List Entry → Recording
@@ -14,12 +14,12 @@ with_entries r entries =
 
 -- the lines of further entries, which are counted on from those of its history
 abbrev pub lines_behind : Recording → List Entry → List ℕ
-lines_behind r entries = lines_from (code_of r.program) (length r.history) (final_state r) entries
+lines_behind r entries = entry_lines_from (code_of r.program) (length r.history) (final_state r) entries
 
 -- the lines at the end of its history
 abbrev pub closing_of : Recording → List ℕ
 closing_of r = closing_text (length r.history) (final_state r)
 
 -- its program, with the profile
-abbrev pub program_of : Recording → LoadedProgram
-program_of r = record { program = r.program; profile = r.profile }
+abbrev pub program_of_recording : Recording → LoadedProgram
+program_of_recording r = record { program = r.program; profile = r.profile }

@@ -12,10 +12,10 @@ use Rattle.var_access.specs.declared.Reply.{Reply}
 use Rattle.var_access.specs.declared.What.{What}
 use Rattle.var_access.specs.declared.What.TheVariants.{Ask}
 use Rattle.machine.specs.Code.{Code}
-use Rattle.machine.specs.Statement.{World}
+use Rattle.machine.specs.Statement.{GlobalStore}
 use Rattle.controller.specs.declared.Observed.{Observed}
-use Rattle.controller.specs.Replay.{Happened, happens, replay}
-use Rattle.controller.specs.Start.{start}
+use Rattle.controller.specs.Replay.{EntryResult, entry_result, replay}
+use Rattle.controller.specs.Start.{initial_state}
 use Rattle.controller.specs.State.{State}
 use Rattle.controller.specs.Replayed.{entry_events}
 use Rattle.monitor.specs.LineText.{end_text, mode_text, mon_text, output_text, row_text}
@@ -42,36 +42,36 @@ replied_text n who (Ask request) reply = reply_text n who request reply
 replied_text n who what reply = []
 
 -- what entry n did: what it showed, and then its reply
-abbrev pub entry_text : ℕ → Entry → Happened → List ℕ
+abbrev pub entry_text : ℕ → Entry → EntryResult → List ℕ
 entry_text n e happened =
     shown_text n happened.seen ++ replied_text n e.who e.what happened.reply
 
 -- the lines of these entries, from the state behind n entries
-abbrev pub lines_from : Code → ℕ → State → List Entry → List ℕ
-lines_from code n s [] = []
-lines_from code n s (e ∷ es) =
-    entry_text (n + 1) e (happens code s e.what)
-    ++ lines_from code (n + 1) (happens code s e.what).state es
+abbrev pub entry_lines_from : Code → ℕ → State → List Entry → List ℕ
+entry_lines_from code n s [] = []
+entry_lines_from code n s (e ∷ es) =
+    entry_text (n + 1) e (entry_result code s e.what)
+    ++ entry_lines_from code (n + 1) (entry_result code s e.what).state es
 
 -- 32 bytes of a data block stand in a line, and in its last one what is left
 abbrev pub row_of : (number : ℕ) (bytes : List ℕ) → (row : ℕ) → List ℕ
 row_of number bytes row = row_text number (32 * row) (take 32 (drop (32 * row) bytes))
 
 -- a data block by its number; one of no bytes has no line
-unfoldable pub block_text : ℕ × List ℕ → List ℕ
-block_text block =
+unfoldable pub data_block_text : ℕ × List ℕ → List ℕ
+data_block_text block =
     flat_map (row_of block.0 block.1) (range_with_len 0 (div_ceil (length block.1) 32))
 
 -- the data blocks by rising number
-abbrev pub blocks_text : World → List ℕ
-blocks_text world = flat_map block_text (finmap.entries world.memory.data_blocks)
+abbrev pub data_blocks_text : GlobalStore → List ℕ
+data_blocks_text world = flat_map data_block_text (finmap.entries world.memory.data_blocks)
 
 -- the mode after n entries, and then the data blocks
 abbrev pub closing_text : ℕ → State → List ℕ
-closing_text n s = end_text n s.mode ++ blocks_text s.world
+closing_text n s = end_text n s.mode ++ data_blocks_text s.world
 
 -- the text of a program's run along a history, at a profile
 unfoldable pub run_text : Profile → Code → List Entry → List ℕ
 run_text profile code entries =
-    lines_from code 0 (start profile code) entries
+    entry_lines_from code 0 (initial_state profile code) entries
     ++ closing_text (length entries) (replay profile code (entry_events entries))

@@ -1,9 +1,9 @@
 ghost use Rattle.std.specs.Prelude.{◌≡◌, ◌≤◌, length, take, drop};
 ghost use Rattle.std.specs.List.{flat_map};
-ghost use Rattle.plc_io.specs.Taken.{Wrote};
+ghost use Rattle.plc_io.specs.Taken.{WroteText};
 ghost use Rattle.controller.specs.Replayed.{final_data_blocks as blocks_after};
 ghost use Rattle.s7_cli.specs.run_text.Behind.{closing_of};
-ghost use Rattle.s7_cli.specs.run_text.RunText.{block_text};
+ghost use Rattle.s7_cli.specs.run_text.RunText.{data_block_text};
 
 use controller::Controller;
 use monitor::{ROW_BYTES, end_text, row_text};
@@ -20,9 +20,9 @@ fn row_bytes(bytes: &[u8], at: usize) -> &[u8]
 }
 
 /// Writes a data block in rows of 32 bytes.
-#[tactic(auto, unfolding(crate::specs::run_text::RunText::block_text))]
+#[tactic(auto, unfolding(crate::specs::run_text::RunText::data_block_text))]
 fn write_block<K: Sink>(out: &mut K, number: u16, bytes: &[u8]) -> Result<(), IoFault>
-    ensures { Wrote (K.shown out.old) (K.shown out.new) (block_text (number, bytes.now)) result }
+    ensures { WroteText (K.shown out.old) (K.shown out.new) (data_block_text (number, bytes.now)) result }
 {
     for row in 0..bytes.len().div_ceil(ROW_BYTES) {
         let at = ROW_BYTES * row;
@@ -33,8 +33,8 @@ fn write_block<K: Sink>(out: &mut K, number: u16, bytes: &[u8]) -> Result<(), Io
 
 /// Writes the data blocks by rising number.
 fn write_blocks<K: Sink>(out: &mut K, controller: &Controller) -> Result<(), IoFault>
-    ensures { Wrote (K.shown out.old) (K.shown out.new)
-        (flat_map block_text (blocks_after controller.now)) result }
+    ensures { WroteText (K.shown out.old) (K.shown out.new)
+        (flat_map data_block_text (blocks_after controller.now)) result }
 {
     let mut place = 0;
     while let Some((number, bytes)) = controller.data_block(place) {
@@ -49,7 +49,7 @@ fn write_blocks<K: Sink>(out: &mut K, controller: &Controller) -> Result<(), IoF
 
 /// Writes the mode at the end of a history, and the data blocks.
 pub fn write_closing<K: Sink>(out: &mut K, controller: &Controller) -> Result<(), IoFault>
-    ensures { Wrote (K.shown out.old) (K.shown out.new) (closing_of controller.now) result }
+    ensures { WroteText (K.shown out.old) (K.shown out.new) (closing_of controller.now) result }
 {
     let end = end_text(controller.history_len(), controller.mode());
     push_all(out, end.as_slice())?;

@@ -1,9 +1,9 @@
 ghost use Rattle.std.specs.Prelude.{◌≡◌, ◌≤◌, [], ◌∷◌, ◌++◌, length, replicate, true, All, OnOk};
 ghost use Rattle.std.specs.List.{flat_map};
-ghost use Rattle.plc_io.specs.Taken.{Wrote};
+ghost use Rattle.plc_io.specs.Taken.{WroteText};
 ghost use Rattle.monitor.specs.LineText.{output_text};
 ghost use Rattle.var_access.specs.Entry.{IsValid};
-ghost use Rattle.var_access.specs.Runs.{IsRun, AreRuns, written_out};
+ghost use Rattle.var_access.specs.Runs.{IsHistoryRun, AreRuns, entries_of_runs};
 ghost use Rattle.var_access.specs.declared.What.TheVariants.{Ask, Step};
 ghost use Rattle.controller.specs.Replayed.{next_happens};
 ghost use Rattle.controller.specs.Shown.{nothing_shown};
@@ -141,7 +141,7 @@ fn write_applied<K: Sink>(
     requires room { 1 ≤ controller.old.spare }
     requires valid { IsValid entry.now }
     ensures applied { controller.new ≡ with_entries controller.old (entry.now ∷ []) }
-    ensures text { Wrote (K.shown out.old) (K.shown out.new)
+    ensures text { WroteText (K.shown out.old) (K.shown out.new)
         (lines_behind controller.old (entry.now ∷ [])) result }
 {
     text.clear();
@@ -163,7 +163,7 @@ fn write_steps<K: Sink>(
     requires is { step.now.what ≡ Step }
     ensures applied { OnOk result
         (controller.new ≡ with_entries controller.old (replicate count step.now)) }
-    ensures text { Wrote (K.shown out.old) (K.shown out.new)
+    ensures text { WroteText (K.shown out.old) (K.shown out.new)
         (lines_behind controller.old (replicate count step.now)) result }
 {
     controller::laws::continues_replay();
@@ -187,10 +187,10 @@ fn write_run<K: Sink>(
 ) -> Result<(), IoFault>
     requires room { run.now.count ≤ controller.old.spare }
     requires valid { IsValid run.now.entry }
-    requires is { IsRun run.now }
+    requires is { IsHistoryRun run.now }
     ensures applied { OnOk result
         (controller.new ≡ with_entries controller.old (replicate run.now.count run.now.entry)) }
-    ensures text { Wrote (K.shown out.old) (K.shown out.new)
+    ensures text { WroteText (K.shown out.old) (K.shown out.new)
         (lines_behind controller.old (replicate run.now.count run.now.entry)) result }
 {
     if run.entry.is_step() {
@@ -207,13 +207,13 @@ fn write_runs<K: Sink>(
     out: &mut K,
     text: &mut Vec<u8>,
 ) -> Result<(), IoFault>
-    requires room { length (written_out runs.now) ≤ controller.old.spare }
-    requires valid { All IsValid (written_out runs.now) }
+    requires room { length (entries_of_runs runs.now) ≤ controller.old.spare }
+    requires valid { All IsValid (entries_of_runs runs.now) }
     requires are { AreRuns runs.now }
     ensures applied { OnOk result
-        (controller.new ≡ with_entries controller.old (written_out runs.now)) }
-    ensures text { Wrote (K.shown out.old) (K.shown out.new)
-        (lines_behind controller.old (written_out runs.now)) result }
+        (controller.new ≡ with_entries controller.old (entries_of_runs runs.now)) }
+    ensures text { WroteText (K.shown out.old) (K.shown out.new)
+        (lines_behind controller.old (entries_of_runs runs.now)) result }
 {
     controller::laws::continues_replay();
     for run in runs {
@@ -233,7 +233,7 @@ pub fn write_entries<K: Sink>(
     requires valid { All IsValid entries.now.entries }
     ensures applied { OnOk result
         (controller.new ≡ with_entries controller.old entries.now.entries) }
-    ensures text { Wrote (K.shown out.old) (K.shown out.new)
+    ensures text { WroteText (K.shown out.old) (K.shown out.new)
         (lines_behind controller.old entries.now.entries) result }
 {
     write_runs(controller, entries.runs(), out, text)

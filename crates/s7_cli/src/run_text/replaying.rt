@@ -1,5 +1,5 @@
 ghost use Rattle.std.specs.Prelude.{◌≡◌, [], All, IfOk, IfErr};
-ghost use Rattle.plc_io.specs.Taken.{Wrote};
+ghost use Rattle.plc_io.specs.Taken.{WroteText};
 ghost use Rattle.plc_io.specs.declared.faults.IoFault.TheVariants.{NoMemory};
 ghost use Rattle.var_access.specs.Entry.{IsValid};
 ghost use Rattle.machine.specs.Flat.{code_of};
@@ -45,7 +45,7 @@ pub fn replay_text<K: Sink>(
     out: &mut K,
 ) -> Result<(), IoFault>
     requires { All IsValid entries.now.entries }
-    ensures { Wrote (K.shown out.old) (K.shown out.new)
+    ensures { WroteText (K.shown out.old) (K.shown out.new)
         (run_text program.profile (code_of program.program) entries.now.entries) result }
 {
     let mut controller = started(alloc, program, entries.len())?;

@@ -20,12 +20,12 @@ use Rattle.plc_base.specs.Least.{broken_if}
 use Rattle.stl_symbols.specs.Symbol.{Symbol}
 use Rattle.plc_base.proofs.LeastLemmas.{least_none}
 use Rattle.plc_base.proofs.ListLemmas.{all_append, nil_parts}
-use Rattle.block_layout.specs.Around.{in_block}
+use Rattle.block_layout.specs.Around.{refusals_in_block}
 use Rattle.block_layout.specs.ByPlace.{by_place}
 use Rattle.block_layout.specs.Heads.{on_heads}
 use Rattle.block_layout.specs.Layouts.{block_layout, layouts_by, layouts_from, layouts_of}
-use Rattle.block_layout.specs.Measures.{types_of}
-use Rattle.block_layout.specs.Operands.{Judged, in_body, operands_of}
+use Rattle.block_layout.specs.Measures.{types_of_source}
+use Rattle.block_layout.specs.Operands.{OperandAtLine, in_body, operands_of}
 use Rattle.block_layout.specs.Rule21.{broken_21, rule_21}
 use Rattle.block_layout.specs.Rule22.{is_block_twice, rule_22}
 use Rattle.block_layout.specs.Rule23.{broken_23, has_unknown_head, names_unknown, operand_23, rule_23}
@@ -41,26 +41,26 @@ use Rattle.block_layout.specs.Rule54.{exceeds_total, rule_54}
 use Rattle.block_layout.specs.Rule55.{has_too_many_statements, rule_55}
 use Rattle.block_layout.specs.Rule56.{broken_56, rule_56}
 use Rattle.block_layout.specs.Settings.{in_settings, on_settings}
-use Rattle.block_layout.specs.Table.{layout_refusals, refusals_by as layout_refusals_by}
+use Rattle.block_layout.specs.Table.{layout_refusals, refusals_of_blocks as layout_refusals_by}
 use Rattle.block_layout.specs.Types.{Types}
 use Rattle.block_layout.specs.declared.blocks.BlockLayout.{BlockLayout}
 use Rattle.stl_types.specs.Actuals.{formal_named}
 use Rattle.stl_types.specs.Bodies.{first_context, in_contexts}
-use Rattle.stl_types.specs.Brackets.{closes_none, is_eighth, left_open, rule_29, rule_30, rule_31, with_brackets}
-use Rattle.stl_types.specs.Calls.{by_callee, call_37, calls_unknown, dates_in, has_wrong_instance, is_bare_call, lacks_actual, misfits, names_none, rule_24_of_actuals, rule_34, rule_35, rule_36, rule_37, rule_38, rule_40, rule_46, sees_date, supplied_twice, unnamed}
+use Rattle.stl_types.specs.Brackets.{closes_no_bracket, is_eighth_bracket, brackets_left_open, rule_29, rule_30, rule_31, with_brackets}
+use Rattle.stl_types.specs.Calls.{by_callee, call_37, calls_unknown, dates_in, has_wrong_instance, is_bare_call, lacks_actual, misfits_formal, names_no_formal, rule_24_of_actuals, rule_34, rule_35, rule_36, rule_37, rule_38, rule_40, rule_46, sees_date, actuals_supplied_twice, actuals_without_formal}
 use Rattle.stl_types.specs.Context.{Context}
 use Rattle.stl_types.specs.Labels.{labels_of, labels_twice, rule_26, rule_27, unknown_labels}
-use Rattle.stl_types.specs.Landings.{crossing_jumps, landings_at_labels, outside, rule_33}
+use Rattle.stl_types.specs.Landings.{crossing_jumps, landings_at_labels, empty_nesting, rule_33}
 use Rattle.stl_types.specs.Lists.{lists_from, rule_32}
 use Rattle.stl_types.specs.Operands.{at_line, operands_24, rules_24_25_39, statement_rule}
 use Rattle.stl_types.specs.Parameters.{Callee, callee_of}
-use Rattle.stl_types.specs.Resolution.{seen}
-use Rattle.stl_types.specs.Table.{refusals_by as statement_refusals_by, statement_refusals}
+use Rattle.stl_types.specs.Resolution.{resolution_of}
+use Rattle.stl_types.specs.Table.{statement_refusals_by, statement_refusals}
 use Rattle.stl_types.specs.Unknown.{is_unknown, operand_20, rule_20, sets_unknown}
-use Rattle.stl_types.specs.Zones.{ends_none, is_ninth, rule_47, rule_48, rule_49, with_zones, zones_left_open}
+use Rattle.stl_types.specs.Zones.{ends_no_zone, is_ninth_zone, rule_47, rule_48, rule_49, with_zones, zones_left_open}
 use Rattle.stl_codegen.specs.Compiled.{StatedBlock}
-use Rattle.stl_codegen.specs.Generated.{code_block, code_block_of, code_blocks_of, data_block, data_block_of, data_blocks_of, each_block}
-use Rattle.stl_codegen.specs.Order.{inserted, is_code_before, is_data_before, sorted}
+use Rattle.stl_codegen.specs.Generated.{code_block, code_block_of, code_blocks_of, generated_data_block, data_block_of, data_blocks_of, each_block}
+use Rattle.stl_codegen.specs.Order.{sorted_insertion, is_code_before, is_data_before, sorted_list}
 use Rattle.flat_code.specs.Programs.{DataBlock}
 use Rattle.sem_kept.specs.Accepted.{IsAccepted}
 
@@ -109,21 +109,21 @@ all_both P Q [] h k = tt
 all_both P Q (x ∷ xs) h k = ((h.0, k.0), all_both P Q xs h.1 k.1)
 
 pub all_inserted : {A : Type 0} (P : A → Type 0) (before : A → A → Bool) (x : A) (ys : List A)
-    → P x → AllByRecursion P ys → AllByRecursion P (inserted before x ys)
+    → P x → AllByRecursion P ys → AllByRecursion P (sorted_insertion before x ys)
 all_inserted P before x [] h k = (h, tt)
 all_inserted P before x (y ∷ ys) h k = by (before y x) (all_inserted P before x ys h k.1)
   where
-    by : (first : Bool) → AllByRecursion P (inserted before x ys)
-        → AllByRecursion P (if first then y ∷ inserted before x ys else x ∷ y ∷ ys)
+    by : (first : Bool) → AllByRecursion P (sorted_insertion before x ys)
+        → AllByRecursion P (if first then y ∷ sorted_insertion before x ys else x ∷ y ∷ ys)
     by true more = (k.0, more)
     by false more = (h, k)
 
 pub all_sorted : {A : Type 0} (P : A → Type 0) (before : A → A → Bool) (xs : List A)
-    → AllByRecursion P xs → AllByRecursion P (sorted before xs)
-unfolding sorted
+    → AllByRecursion P xs → AllByRecursion P (sorted_list before xs)
+unfolding sorted_list
 all_sorted P before [] h = tt
 all_sorted P before (x ∷ xs) h =
-    all_inserted P before x (sorted before xs) h.0 (all_sorted P before xs h.1)
+    all_inserted P before x (sorted_list before xs) h.0 (all_sorted P before xs h.1)
 
 -- ---- each rule by itself
 
@@ -336,24 +336,24 @@ heads_none breaks rule before (b ∷ bs) e = (
 
 -- an actual parameter
 pub record IsSoundActual (y : Types) (c : Context) (a : Actual) : Type 0 where
-  pub known : is_unknown (seen c a.value) ≡ false  -- 20
+  pub known : is_unknown (resolution_of c a.value) ≡ false  -- 20
   pub there : names_unknown y a.value ≡ false  -- 23
   pub inside : operand_is_outside y c.layouts c.block a.value ≡ false  -- 42
-  pub undated : sees_date (seen c a.value) ≡ false  -- 24
+  pub undated : sees_date (resolution_of c a.value) ≡ false  -- 24
 
 -- a call of a block that is checked
 pub record IsSoundCall (c : Context) (callee : Callee) (s : Statement) : Type 0 where
-  pub named : AllByRecursion (λ a. names_none callee.formals a ≡ false) s.actuals  -- 34
-  pub once : supplied_twice callee.formals [] s.actuals ≡ []  -- 35
+  pub named : AllByRecursion (λ a. names_no_formal callee.formals a ≡ false) s.actuals  -- 34
+  pub once : actuals_supplied_twice callee.formals [] s.actuals ≡ []  -- 35
   pub complete : lacks_actual callee s ≡ false  -- 36
-  pub fits : AllByRecursion (λ a. misfits c a (formal_named callee.formals a.name) ≡ false) s.actuals  -- 37
+  pub fits : AllByRecursion (λ a. misfits_formal c a (formal_named callee.formals a.name) ≡ false) s.actuals  -- 37
   pub instance : has_wrong_instance c callee s.operand ≡ false  -- 38
   pub bare : is_bare_call callee s ≡ false  -- 40
 
 -- a statement
 pub record IsSoundStatement (y : Types) (c : Context) (s : Statement) : Type 0 where
   pub well_formed : IsStatement s
-  pub known : is_unknown (seen c s.operand) ≡ false  -- 20
+  pub known : is_unknown (resolution_of c s.operand) ≡ false  -- 20
   pub there : names_unknown y s.operand ≡ false  -- 23
   pub inside : operand_is_outside y c.layouts c.block s.operand ≡ false  -- 42
   pub allowed : statement_rule c s ≡ None  -- 24, 25, 39
@@ -365,14 +365,14 @@ pub record IsSoundStatement (y : Types) (c : Context) (s : Statement) : Type 0 w
 pub record IsSoundBody (body : List Statement) : Type 0 where
   pub by_26 : unknown_labels (labels_of body) body ≡ []
   pub by_27 : labels_twice [] body ≡ []
-  pub by_29 : with_brackets (λ brackets s. broken_if (closes_none brackets s) s.line 29) [] body ≡ []
-  pub by_30 : left_open body ≡ []
-  pub by_31 : with_brackets (λ brackets s. broken_if (is_eighth brackets s) s.line 31) [] body ≡ []
+  pub by_29 : with_brackets (λ brackets s. broken_if (closes_no_bracket brackets s) s.line 29) [] body ≡ []
+  pub by_30 : brackets_left_open body ≡ []
+  pub by_31 : with_brackets (λ brackets s. broken_if (is_eighth_bracket brackets s) s.line 31) [] body ≡ []
   pub by_32 : lists_from [] body ≡ []
-  pub by_33 : crossing_jumps (labels_of body) (landings_at_labels outside body) body ≡ []
-  pub by_47 : with_zones (λ zones s. broken_if (ends_none zones s) s.line 47) [] body ≡ []
+  pub by_33 : crossing_jumps (labels_of body) (landings_at_labels empty_nesting body) body ≡ []
+  pub by_47 : with_zones (λ zones s. broken_if (ends_no_zone zones s) s.line 47) [] body ≡ []
   pub by_48 : zones_left_open body ≡ []
-  pub by_49 : with_zones (λ zones s. broken_if (is_ninth zones s) s.line 49) [] body ≡ []
+  pub by_49 : with_zones (λ zones s. broken_if (is_ninth_zone zones s) s.line 49) [] body ≡ []
 
 -- the head of a block behind others, and the whole of it
 pub record IsSoundHead (y : Types) (blocks before : List Block) (b : Block) : Type 0 where
@@ -389,11 +389,11 @@ pub record IsSoundHead (y : Types) (blocks before : List Block) (b : Block) : Ty
 
 -- its declarations
 pub record AreSoundDeclarations (y : Types) (b : Block) : Type 0 where
-  pub by_21 : in_block broken_21 b ≡ []
-  pub by_23 : in_block (broken_23 y) b ≡ []
-  pub by_41 : in_block broken_41 b ≡ []
-  pub by_42 : in_block broken_42 b ≡ []
-  pub by_56 : in_block (broken_56 y) b ≡ []
+  pub by_21 : refusals_in_block broken_21 b ≡ []
+  pub by_23 : refusals_in_block (broken_23 y) b ≡ []
+  pub by_41 : refusals_in_block broken_41 b ≡ []
+  pub by_42 : refusals_in_block broken_42 b ≡ []
+  pub by_56 : refusals_in_block (broken_56 y) b ≡ []
 
 -- its settings
 pub record AreSoundSettings (l : List BlockLayout) (k : ℕ) (b : Block) : Type 0 where
@@ -407,28 +407,28 @@ pub record IsSound (symbols : List Symbol) (t : Tree) (k : ℕ) (b : Block) (l :
   pub well_formed : IsBlock b
   pub before : List Block
   pub count : length before ≡ k
-  pub layout : l ≡ block_layout (types_of symbols t.blocks) t.blocks before b
+  pub layout : l ≡ block_layout (types_of_source symbols t.blocks) t.blocks before b
   pub whole : l.broken ≡ false
   pub block_there : slice_get t.blocks k ≡ Some b
   pub layout_there : slice_get (layouts_of t symbols) k ≡ Some l
-  pub head : IsSoundHead (types_of symbols t.blocks) t.blocks before b
-  pub declarations : AreSoundDeclarations (types_of symbols t.blocks) b
+  pub head : IsSoundHead (types_of_source symbols t.blocks) t.blocks before b
+  pub declarations : AreSoundDeclarations (types_of_source symbols t.blocks) b
   pub settings : AreSoundSettings (layouts_of t symbols) k b
   pub body : IsSoundBody b.body
   pub statements : AllByRecursion
-      (IsSoundStatement (types_of symbols t.blocks) (context_at symbols t k)) b.body
+      (IsSoundStatement (types_of_source symbols t.blocks) (context_at symbols t k)) b.body
 
 -- and all blocks of a tree
 pub record IsSoundTree (symbols : List Symbol) (t : Tree) : Type 0 where
   pub well_formed : IsWellFormed t
-  pub by_layout : LaysOutRight (types_of symbols t.blocks) (layouts_of t symbols) t.blocks
+  pub by_layout : LaysOutRight (types_of_source symbols t.blocks) (layouts_of t symbols) t.blocks
   pub by_statements : StatesRight (first_context symbols (layouts_of t symbols) t.blocks) t.blocks
   pub blocks : AllLaid (IsSound symbols t) 0 t.blocks (layouts_of t symbols)
 
 -- ---- from the rules to each statement
 
 actuals_pass : (breaks : Operand → Bool) (rule : ℕ) (actuals : List Actual)
-    → flat_map (λ (o : Judged). broken_if (breaks o.operand) o.line rule)
+    → flat_map (λ (o : OperandAtLine). broken_if (breaks o.operand) o.line rule)
     (map (λ (a : Actual). record { line = a.line; operand = a.value }) actuals) ≡ []
     → AllByRecursion (λ (a : Actual). breaks a.value ≡ false) actuals
 actuals_pass breaks rule [] e = tt
@@ -443,7 +443,7 @@ record Passes (breaks : Operand → Bool) (s : Statement) : Type 0 where
   actuals : AllByRecursion (λ (a : Actual). breaks a.value ≡ false) s.actuals
 
 passes_of : (breaks : Operand → Bool) (rule : ℕ) (s : Statement)
-    → flat_map (λ (o : Judged). broken_if (breaks o.operand) o.line rule) (operands_of s) ≡ []
+    → flat_map (λ (o : OperandAtLine). broken_if (breaks o.operand) o.line rule) (operands_of s) ≡ []
     → Passes breaks s
 passes_of breaks rule s e = record {
   own = not_broken (breaks s.operand) s.line rule
@@ -457,10 +457,10 @@ no_rule line None e = refl
 no_rule line (Some rule) e = absurd cc
 
 actuals_sound : (y : Types) (c : Context) (actuals : List Actual)
-    → AllByRecursion (λ (a : Actual). is_unknown (seen c a.value) ≡ false) actuals
+    → AllByRecursion (λ (a : Actual). is_unknown (resolution_of c a.value) ≡ false) actuals
     → AllByRecursion (λ (a : Actual). names_unknown y a.value ≡ false) actuals
     → AllByRecursion (λ (a : Actual). operand_is_outside y c.layouts c.block a.value ≡ false) actuals
-    → AllByRecursion (λ (a : Actual). sees_date (seen c a.value) ≡ false) actuals
+    → AllByRecursion (λ (a : Actual). sees_date (resolution_of c a.value) ≡ false) actuals
     → AllByRecursion (IsSoundActual y c) actuals
 actuals_sound y c [] h20 h23 h42 h24 = tt
 actuals_sound y c (a ∷ more) h20 h23 h42 h24 = (
@@ -478,10 +478,10 @@ abbrev CallsRight : (Context → Callee → Statement → List Refusal) → Cont
 CallsRight broken c s = by_callee (broken c) s (callee_of c s.operand) ≡ []
 
 abbrev calls_34 : Context → Callee → Statement → List Refusal
-calls_34 c callee s = unnamed callee.formals s.actuals
+calls_34 c callee s = actuals_without_formal callee.formals s.actuals
 
 abbrev calls_35 : Context → Callee → Statement → List Refusal
-calls_35 c callee s = supplied_twice callee.formals [] s.actuals
+calls_35 c callee s = actuals_supplied_twice callee.formals [] s.actuals
 
 abbrev calls_36 : Context → Callee → Statement → List Refusal
 calls_36 c callee s = broken_if (lacks_actual callee s) s.line 36
@@ -499,7 +499,7 @@ record IsClean (y : Types) (c : Context) (s : Statement) : Type 0 where
   by_23 : flat_map (operand_23 y) (operands_of s) ≡ []
   by_42 : flat_map (operand_42 y c.layouts c.block) (operands_of s) ≡ []
   by_24 : at_line s.line (statement_rule c s) ≡ []
-  by_dates : flat_map (λ (a : Actual). broken_if (sees_date (seen c a.value)) a.line 24) s.actuals ≡ []
+  by_dates : flat_map (λ (a : Actual). broken_if (sees_date (resolution_of c a.value)) a.line 24) s.actuals ≡ []
   by_34 : CallsRight calls_34 c s
   by_35 : CallsRight calls_35 c s
   by_36 : CallsRight calls_36 c s
@@ -511,12 +511,12 @@ record IsClean (y : Types) (c : Context) (s : Statement) : Type 0 where
 call_sound : (y : Types) (c : Context) (s : Statement) → IsClean y c s → (callee : Callee)
     → callee_of c s.operand ≡ Some callee → IsSoundCall c callee s
 call_sound y c s h callee e = record {
-  named = each_passes (names_none callee.formals) (λ a. a.line) 34 s.actuals
+  named = each_passes (names_no_formal callee.formals) (λ a. a.line) 34 s.actuals
       (of_callee (calls_34 c) s (callee_of c s.operand) callee h.by_34 e);
   once = of_callee (calls_35 c) s (callee_of c s.operand) callee h.by_35 e;
   complete = not_broken (lacks_actual callee s) s.line 36
       (of_callee (calls_36 c) s (callee_of c s.operand) callee h.by_36 e);
-  fits = each_passes (λ a. misfits c a (formal_named callee.formals a.name)) (λ a. a.line) 37
+  fits = each_passes (λ a. misfits_formal c a (formal_named callee.formals a.name)) (λ a. a.line) 37
       s.actuals (of_callee (call_37 c) s (callee_of c s.operand) callee h.by_37 e);
   instance = not_broken (has_wrong_instance c callee s.operand) s.line 38
       (of_callee (calls_38 c) s (callee_of c s.operand) callee h.by_38 e);
@@ -533,12 +533,12 @@ statement_sound y c s h = record {
   allowed = no_rule s.line (statement_rule c s) h.by_24;
   one_of_nine = not_broken (calls_unknown c s.operand) s.line 46 h.by_46;
   actuals = actuals_sound y c s.actuals pass_20.actuals pass_23.actuals pass_42.actuals
-      (each_passes (λ a. sees_date (seen c a.value)) (λ a. a.line) 24 s.actuals h.by_dates);
+      (each_passes (λ a. sees_date (resolution_of c a.value)) (λ a. a.line) 24 s.actuals h.by_dates);
   calls = call_sound y c s h;
 }
   where
-    pass_20 : Passes (λ o. is_unknown (seen c o)) s
-    pass_20 = passes_of (λ o. is_unknown (seen c o)) 20 s h.by_20
+    pass_20 : Passes (λ o. is_unknown (resolution_of c o)) s
+    pass_20 = passes_of (λ o. is_unknown (resolution_of c o)) 20 s h.by_20
 
     pass_23 : Passes (names_unknown y) s
     pass_23 = passes_of (names_unknown y) 23 s h.by_23
@@ -640,18 +640,18 @@ heads_sound y blocks before (b ∷ bs) h22 h23 h43 h44 h50 h51 h52 h53 h54 h55 =
 -- what the rules of the layout and of statements leave of the blocks from a place on
 record AreClean (symbols : List Symbol) (t : Tree) (k : ℕ) (before bs : List Block) : Type 0 where
   well : AllByRecursion IsBlock bs
-  heads : AllHeads (IsSoundHead (types_of symbols t.blocks) t.blocks) before bs
-  by_21 : AllByRecursion (λ b. in_block broken_21 b ≡ []) bs
-  by_23 : AllByRecursion (λ b. in_block (broken_23 (types_of symbols t.blocks)) b ≡ []) bs
-  by_41 : AllByRecursion (λ b. in_block broken_41 b ≡ []) bs
-  by_42 : AllByRecursion (λ b. in_block broken_42 b ≡ []) bs
-  by_56 : AllByRecursion (λ b. in_block (broken_56 (types_of symbols t.blocks)) b ≡ []) bs
+  heads : AllHeads (IsSoundHead (types_of_source symbols t.blocks) t.blocks) before bs
+  by_21 : AllByRecursion (λ b. refusals_in_block broken_21 b ≡ []) bs
+  by_23 : AllByRecursion (λ b. refusals_in_block (broken_23 (types_of_source symbols t.blocks)) b ≡ []) bs
+  by_41 : AllByRecursion (λ b. refusals_in_block broken_41 b ≡ []) bs
+  by_42 : AllByRecursion (λ b. refusals_in_block broken_42 b ≡ []) bs
+  by_56 : AllByRecursion (λ b. refusals_in_block (broken_56 (types_of_source symbols t.blocks)) b ≡ []) bs
   sets_20 : AllFrom (λ k b. in_settings (sets_unknown (layouts_of t symbols) k) 20 b.settings ≡ []) k bs
   sets_41 : AllFrom (λ k b. in_settings (setting_misfits (layouts_of t symbols) k) 41 b.settings ≡ []) k bs
   sets_42 : AllFrom (λ k b. in_settings (setting_is_outside (layouts_of t symbols) k) 42 b.settings ≡ []) k bs
   in_20 : AllFrom (λ k b. in_body (operand_20 (context_at symbols t k)) b.body ≡ []) k bs
-  in_23 : AllByRecursion (λ b. in_body (operand_23 (types_of symbols t.blocks)) b.body ≡ []) bs
-  in_42 : AllFrom (λ k b. in_body (operand_42 (types_of symbols t.blocks) (layouts_of t symbols) k) b.body ≡ []) k bs
+  in_23 : AllByRecursion (λ b. in_body (operand_23 (types_of_source symbols t.blocks)) b.body ≡ []) bs
+  in_42 : AllFrom (λ k b. in_body (operand_42 (types_of_source symbols t.blocks) (layouts_of t symbols) k) b.body ≡ []) k bs
   in_24 : AllFrom (λ k b. operands_24 (context_at symbols t k) b.body ≡ []) k bs
   in_dates : AllFrom (λ k b. dates_in (context_at symbols t k) b.body ≡ []) k bs
   in_34 : AllFrom (λ k b. flat_map (λ s. by_callee (calls_34 (context_at symbols t k)) s (callee_of (context_at symbols t k) s.operand)) b.body ≡ []) k bs
@@ -663,17 +663,17 @@ record AreClean (symbols : List Symbol) (t : Tree) (k : ℕ) (before bs : List B
   in_46 : AllFrom (λ k b. flat_map (λ s. broken_if (calls_unknown (context_at symbols t k) s.operand) s.line 46) b.body ≡ []) k bs
   by_26 : AllByRecursion (λ b. unknown_labels (labels_of b.body) b.body ≡ []) bs
   by_27 : AllByRecursion (λ b. labels_twice [] b.body ≡ []) bs
-  by_29 : AllByRecursion (λ b. with_brackets (λ brackets s. broken_if (closes_none brackets s) s.line 29) [] b.body ≡ []) bs
-  by_30 : AllByRecursion (λ b. left_open b.body ≡ []) bs
-  by_31 : AllByRecursion (λ b. with_brackets (λ brackets s. broken_if (is_eighth brackets s) s.line 31) [] b.body ≡ []) bs
+  by_29 : AllByRecursion (λ b. with_brackets (λ brackets s. broken_if (closes_no_bracket brackets s) s.line 29) [] b.body ≡ []) bs
+  by_30 : AllByRecursion (λ b. brackets_left_open b.body ≡ []) bs
+  by_31 : AllByRecursion (λ b. with_brackets (λ brackets s. broken_if (is_eighth_bracket brackets s) s.line 31) [] b.body ≡ []) bs
   by_32 : AllByRecursion (λ b. lists_from [] b.body ≡ []) bs
   by_33 : AllByRecursion
-      (λ b. crossing_jumps (labels_of b.body) (landings_at_labels outside b.body) b.body ≡ []) bs
+      (λ b. crossing_jumps (labels_of b.body) (landings_at_labels empty_nesting b.body) b.body ≡ []) bs
   by_47 : AllByRecursion
-      (λ b. with_zones (λ zones s. broken_if (ends_none zones s) s.line 47) [] b.body ≡ []) bs
+      (λ b. with_zones (λ zones s. broken_if (ends_no_zone zones s) s.line 47) [] b.body ≡ []) bs
   by_48 : AllByRecursion (λ b. zones_left_open b.body ≡ []) bs
   by_49 : AllByRecursion
-      (λ b. with_zones (λ zones s. broken_if (is_ninth zones s) s.line 49) [] b.body ≡ []) bs
+      (λ b. with_zones (λ zones s. broken_if (is_ninth_zone zones s) s.line 49) [] b.body ≡ []) bs
 
 rest_blocks : (symbols : List Symbol) (t : Tree) (k : ℕ) (before : List Block) (b : Block)
     (bs : List Block) → AreClean symbols t k before (b ∷ bs)
@@ -748,14 +748,14 @@ block_sound : (symbols : List Symbol) (t : Tree) (k : ℕ) (before : List Block)
     (bs : List Block) → AreClean symbols t k before (b ∷ bs) → length before ≡ k
     → slice_get t.blocks k ≡ Some b
     → slice_get (layouts_of t symbols) k
-    ≡ Some (block_layout (types_of symbols t.blocks) t.blocks before b)
-    → IsSound symbols t k b (block_layout (types_of symbols t.blocks) t.blocks before b)
+    ≡ Some (block_layout (types_of_source symbols t.blocks) t.blocks before b)
+    → IsSound symbols t k b (block_layout (types_of_source symbols t.blocks) t.blocks before b)
 block_sound symbols t k before b bs h n there laid = record {
   well_formed = h.well.0;
   before = before;
   count = n;
   layout = refl;
-  whole = none_broken (types_of symbols t.blocks) t.blocks before b h.heads.0;
+  whole = none_broken (types_of_source symbols t.blocks) t.blocks before b h.heads.0;
   block_there = there;
   layout_there = laid;
   head = h.heads.0;
@@ -779,7 +779,7 @@ block_sound symbols t k before b bs h n there laid = record {
     by_48 = h.by_48.0;
     by_49 = h.by_49.0;
   };
-  statements = statements_sound (types_of symbols t.blocks) (context_at symbols t k) b.body (record {
+  statements = statements_sound (types_of_source symbols t.blocks) (context_at symbols t k) b.body (record {
     well = h.well.0.runs.0;
     by_20 = h.in_20.0;
     by_23 = h.in_23.0;
@@ -800,8 +800,8 @@ blocks_sound : (symbols : List Symbol) (t : Tree) (k : ℕ) (before front bs : L
     (laid : List BlockLayout) → AreClean symbols t k before bs → length before ≡ k
     → t.blocks ≡ front ++ bs → length front ≡ k
     → layouts_of t symbols
-    ≡ laid ++ layouts_from (types_of symbols t.blocks) t.blocks before bs → length laid ≡ k
-    → AllLaid (IsSound symbols t) k bs (layouts_from (types_of symbols t.blocks) t.blocks before bs)
+    ≡ laid ++ layouts_from (types_of_source symbols t.blocks) t.blocks before bs → length laid ≡ k
+    → AllLaid (IsSound symbols t) k bs (layouts_from (types_of_source symbols t.blocks) t.blocks before bs)
 blocks_sound symbols t k before front [] laid h n e m f o = tt
 blocks_sound symbols t k before front (b ∷ bs) laid h n e m f o = (
   block_sound symbols t k before b bs h n (there_at t.blocks front b bs k e m)
@@ -813,7 +813,7 @@ blocks_sound symbols t k before front (b ∷ bs) laid h n e m f o = (
 )
   where
     y : Types
-    y = types_of symbols t.blocks
+    y = types_of_source symbols t.blocks
 
     one : BlockLayout
     one = block_layout y t.blocks before b
@@ -825,34 +825,34 @@ blocks_sound symbols t k before front (b ∷ bs) laid h n e m f o = (
 
 -- the rules of declarations, settings and bodies, taken apart
 record AreParts (symbols : List Symbol) (t : Tree) : Type 0 where
-  declared_23 : flat_map (in_block (broken_23 (types_of symbols t.blocks))) t.blocks ≡ []
-  heads_23 : on_heads (λ before b. has_unknown_head (types_of symbols t.blocks) b) 23 t.blocks ≡ []
-  bodies_23 : flat_map (λ b. in_body (operand_23 (types_of symbols t.blocks)) b.body) t.blocks ≡ []
-  declared_41 : flat_map (in_block broken_41) t.blocks ≡ []
+  declared_23 : flat_map (refusals_in_block (broken_23 (types_of_source symbols t.blocks))) t.blocks ≡ []
+  heads_23 : on_heads (λ before b. has_unknown_head (types_of_source symbols t.blocks) b) 23 t.blocks ≡ []
+  bodies_23 : flat_map (λ b. in_body (operand_23 (types_of_source symbols t.blocks)) b.body) t.blocks ≡ []
+  declared_41 : flat_map (refusals_in_block broken_41) t.blocks ≡ []
   set_41 : on_settings (setting_misfits (layouts_of t symbols)) 41 0 t.blocks ≡ []
-  declared_42 : flat_map (in_block broken_42) t.blocks ≡ []
+  declared_42 : flat_map (refusals_in_block broken_42) t.blocks ≡ []
   set_42 : on_settings (setting_is_outside (layouts_of t symbols)) 42 0 t.blocks ≡ []
-  bodies_42 : by_place (λ k b. in_body (operand_42 (types_of symbols t.blocks) (layouts_of t symbols) k) b.body) 0 t.blocks ≡ []
+  bodies_42 : by_place (λ k b. in_body (operand_42 (types_of_source symbols t.blocks) (layouts_of t symbols) k) b.body) 0 t.blocks ≡ []
   set_20 : on_settings (sets_unknown (layouts_of t symbols)) 20 0 t.blocks ≡ []
   bodies_20 : in_contexts (λ c body. in_body (operand_20 c) body) (context_at symbols t 0) t.blocks ≡ []
 
 parts_clean : (symbols : List Symbol) (t : Tree)
-    → LaysOutRight (types_of symbols t.blocks) (layouts_of t symbols) t.blocks
+    → LaysOutRight (types_of_source symbols t.blocks) (layouts_of t symbols) t.blocks
     → StatesRight (context_at symbols t 0) t.blocks → AreParts symbols t
 unfolding rule_23 rule_41 rule_42 rule_20
 parts_clean symbols t l s = record {
-  declared_23 = none_right _ (flat_map (in_block (broken_23 (types_of symbols t.blocks))) t.blocks)
-      (none_left _ (flat_map (λ b. in_body (operand_23 (types_of symbols t.blocks)) b.body) t.blocks) l.by_23);
-  heads_23 = none_left _ (flat_map (in_block (broken_23 (types_of symbols t.blocks))) t.blocks)
-      (none_left _ (flat_map (λ b. in_body (operand_23 (types_of symbols t.blocks)) b.body) t.blocks) l.by_23);
-  bodies_23 = none_right _ (flat_map (λ b. in_body (operand_23 (types_of symbols t.blocks)) b.body) t.blocks) l.by_23;
+  declared_23 = none_right _ (flat_map (refusals_in_block (broken_23 (types_of_source symbols t.blocks))) t.blocks)
+      (none_left _ (flat_map (λ b. in_body (operand_23 (types_of_source symbols t.blocks)) b.body) t.blocks) l.by_23);
+  heads_23 = none_left _ (flat_map (refusals_in_block (broken_23 (types_of_source symbols t.blocks))) t.blocks)
+      (none_left _ (flat_map (λ b. in_body (operand_23 (types_of_source symbols t.blocks)) b.body) t.blocks) l.by_23);
+  bodies_23 = none_right _ (flat_map (λ b. in_body (operand_23 (types_of_source symbols t.blocks)) b.body) t.blocks) l.by_23;
   declared_41 = none_left _ (on_settings (setting_misfits (layouts_of t symbols)) 41 0 t.blocks) l.by_41;
   set_41 = none_right _ (on_settings (setting_misfits (layouts_of t symbols)) 41 0 t.blocks) l.by_41;
   declared_42 = none_left _ (on_settings (setting_is_outside (layouts_of t symbols)) 42 0 t.blocks)
-      (none_left _ (by_place (λ k b. in_body (operand_42 (types_of symbols t.blocks) (layouts_of t symbols) k) b.body) 0 t.blocks) l.by_42);
+      (none_left _ (by_place (λ k b. in_body (operand_42 (types_of_source symbols t.blocks) (layouts_of t symbols) k) b.body) 0 t.blocks) l.by_42);
   set_42 = none_right _ (on_settings (setting_is_outside (layouts_of t symbols)) 42 0 t.blocks)
-      (none_left _ (by_place (λ k b. in_body (operand_42 (types_of symbols t.blocks) (layouts_of t symbols) k) b.body) 0 t.blocks) l.by_42);
-  bodies_42 = none_right _ (by_place (λ k b. in_body (operand_42 (types_of symbols t.blocks) (layouts_of t symbols) k) b.body) 0 t.blocks) l.by_42;
+      (none_left _ (by_place (λ k b. in_body (operand_42 (types_of_source symbols t.blocks) (layouts_of t symbols) k) b.body) 0 t.blocks) l.by_42);
+  bodies_42 = none_right _ (by_place (λ k b. in_body (operand_42 (types_of_source symbols t.blocks) (layouts_of t symbols) k) b.body) 0 t.blocks) l.by_42;
   set_20 = none_left _ (in_contexts (λ c body. in_body (operand_20 c) body) (context_at symbols t 0) t.blocks) s.by_20;
   bodies_20 = none_right _ (in_contexts (λ c body. in_body (operand_20 c) body) (context_at symbols t 0) t.blocks) s.by_20;
 }
@@ -863,9 +863,9 @@ head_rule : (breaks : List Block → Block → Bool) (rule : ℕ) (blocks : List
 head_rule breaks rule blocks e = heads_none breaks rule [] blocks e
 
 heads_clean : (symbols : List Symbol) (t : Tree)
-    → LaysOutRight (types_of symbols t.blocks) (layouts_of t symbols) t.blocks
+    → LaysOutRight (types_of_source symbols t.blocks) (layouts_of t symbols) t.blocks
     → AreParts symbols t
-    → AllHeads (IsSoundHead (types_of symbols t.blocks) t.blocks) [] t.blocks
+    → AllHeads (IsSoundHead (types_of_source symbols t.blocks) t.blocks) [] t.blocks
 unfolding rule_22 rule_43 rule_44 rule_50 rule_51 rule_52 rule_53 rule_54 rule_55
 heads_clean symbols t l p =
     heads_sound y t.blocks [] t.blocks
@@ -881,20 +881,20 @@ heads_clean symbols t l p =
     (head_rule (λ before b. has_too_many_statements b) 55 t.blocks l.by_55)
   where
     y : Types
-    y = types_of symbols t.blocks
+    y = types_of_source symbols t.blocks
 
 blocks_clean : (symbols : List Symbol) (t : Tree) → IsWellFormed t
-    → LaysOutRight (types_of symbols t.blocks) (layouts_of t symbols) t.blocks
+    → LaysOutRight (types_of_source symbols t.blocks) (layouts_of t symbols) t.blocks
     → StatesRight (context_at symbols t 0) t.blocks → AreClean symbols t 0 [] t.blocks
 unfolding rule_21 rule_56 rules_24_25_39 rule_24_of_actuals rule_26 rule_27 rule_29 rule_30 rule_31 rule_32 rule_33 rule_34 rule_35 rule_36 rule_37 rule_38 rule_40 rule_46 rule_47 rule_48 rule_49
 blocks_clean symbols t well l s = record {
   well = well;
   heads = heads_clean symbols t l p;
-  by_21 = each_none (in_block broken_21) t.blocks l.by_21;
-  by_23 = each_none (in_block (broken_23 y)) t.blocks p.declared_23;
-  by_41 = each_none (in_block broken_41) t.blocks p.declared_41;
-  by_42 = each_none (in_block broken_42) t.blocks p.declared_42;
-  by_56 = each_none (in_block (broken_56 y)) t.blocks l.by_56;
+  by_21 = each_none (refusals_in_block broken_21) t.blocks l.by_21;
+  by_23 = each_none (refusals_in_block (broken_23 y)) t.blocks p.declared_23;
+  by_41 = each_none (refusals_in_block broken_41) t.blocks p.declared_41;
+  by_42 = each_none (refusals_in_block broken_42) t.blocks p.declared_42;
+  by_56 = each_none (refusals_in_block (broken_56 y)) t.blocks l.by_56;
   sets_20 = places_none (λ k b. in_settings (sets_unknown (layouts_of t symbols) k) 20 b.settings) 0 t.blocks p.set_20;
   sets_41 = places_none (λ k b. in_settings (setting_misfits (layouts_of t symbols) k) 41 b.settings) 0 t.blocks p.set_41;
   sets_42 = places_none (λ k b. in_settings (setting_is_outside (layouts_of t symbols) k) 42 b.settings) 0 t.blocks p.set_42;
@@ -912,22 +912,22 @@ blocks_clean symbols t well l s = record {
   in_46 = contexts_none (λ c body. flat_map (λ s. broken_if (calls_unknown c s.operand) s.line 46) body) symbols t 0 t.blocks s.by_46;
   by_26 = each_none (λ b. unknown_labels (labels_of b.body) b.body) t.blocks s.by_26;
   by_27 = each_none (λ b. labels_twice [] b.body) t.blocks s.by_27;
-  by_29 = each_none (λ b. with_brackets (λ brackets s. broken_if (closes_none brackets s) s.line 29) [] b.body) t.blocks s.by_29;
-  by_30 = each_none (λ b. left_open b.body) t.blocks s.by_30;
-  by_31 = each_none (λ b. with_brackets (λ brackets s. broken_if (is_eighth brackets s) s.line 31) [] b.body) t.blocks s.by_31;
+  by_29 = each_none (λ b. with_brackets (λ brackets s. broken_if (closes_no_bracket brackets s) s.line 29) [] b.body) t.blocks s.by_29;
+  by_30 = each_none (λ b. brackets_left_open b.body) t.blocks s.by_30;
+  by_31 = each_none (λ b. with_brackets (λ brackets s. broken_if (is_eighth_bracket brackets s) s.line 31) [] b.body) t.blocks s.by_31;
   by_32 = each_none (λ b. lists_from [] b.body) t.blocks s.by_32;
   by_33 = each_none
-      (λ b. crossing_jumps (labels_of b.body) (landings_at_labels outside b.body) b.body) t.blocks
+      (λ b. crossing_jumps (labels_of b.body) (landings_at_labels empty_nesting b.body) b.body) t.blocks
       s.by_33;
-  by_47 = each_none (λ b. with_zones (λ zones s. broken_if (ends_none zones s) s.line 47) [] b.body)
+  by_47 = each_none (λ b. with_zones (λ zones s. broken_if (ends_no_zone zones s) s.line 47) [] b.body)
       t.blocks s.by_47;
   by_48 = each_none (λ b. zones_left_open b.body) t.blocks s.by_48;
-  by_49 = each_none (λ b. with_zones (λ zones s. broken_if (is_ninth zones s) s.line 49) [] b.body)
+  by_49 = each_none (λ b. with_zones (λ zones s. broken_if (is_ninth_zone zones s) s.line 49) [] b.body)
       t.blocks s.by_49;
 }
   where
     y : Types
-    y = types_of symbols t.blocks
+    y = types_of_source symbols t.blocks
 
     p : AreParts symbols t
     p = parts_clean symbols t l s
@@ -942,12 +942,12 @@ blocks_clean symbols t well l s = record {
         symbols t 0 t.blocks e
 
 layouts_are : (symbols : List Symbol) (t : Tree)
-    → layouts_of t symbols ≡ layouts_from (types_of symbols t.blocks) t.blocks [] t.blocks
+    → layouts_of t symbols ≡ layouts_from (types_of_source symbols t.blocks) t.blocks [] t.blocks
 unfolding layouts_of layouts_by
 layouts_are symbols t = refl
 
 tree_sound : (symbols : List Symbol) (t : Tree) → IsWellFormed t
-    → LaysOutRight (types_of symbols t.blocks) (layouts_of t symbols) t.blocks
+    → LaysOutRight (types_of_source symbols t.blocks) (layouts_of t symbols) t.blocks
     → StatesRight (context_at symbols t 0) t.blocks → IsSoundTree symbols t
 tree_sound symbols t well l s = record {
   well_formed = well;
@@ -965,7 +965,7 @@ pub right_tree : (source file : List ℕ) (symbols : List Symbol) (t : Tree)
 unfolding layout_refusals statement_refusals
 right_tree source file symbols t a =
     tree_sound symbols t (well_formed source a.tokens t a.parsed)
-    (lays_out_right (types_of symbols t.blocks) (layouts_of t symbols) t.blocks
+    (lays_out_right (types_of_source symbols t.blocks) (layouts_of t symbols) t.blocks
     (least_none (layout_refusals t symbols) a.laid_out))
     (states_right (context_at symbols t 0) t.blocks
     (least_none (statement_refusals t symbols (layouts_of t symbols)) a.checked))
@@ -1033,7 +1033,7 @@ sound_code_blocks symbols t P h f =
 
 each_data : (symbols : List Symbol) (t : Tree) (P : DataBlock → Type 0)
     → ((k : ℕ) (b : Block) (l : BlockLayout) (id : BlockId) → IsSound symbols t k b l
-    → l.id ≡ Some id → is_data_block id.kind ≡ true → P (data_block (context_at symbols t k) l id))
+    → l.id ≡ Some id → is_data_block id.kind ≡ true → P (generated_data_block (context_at symbols t k) l id))
     → (k : ℕ) (bs : List Block) (ls : List BlockLayout) → AllLaid (IsSound symbols t) k bs ls
     → AllByRecursion P (each_block (λ c b l. data_block_of c l l.id) (context_at symbols t k) bs ls)
 each_data symbols t P f k [] ls h = tt
@@ -1049,14 +1049,14 @@ each_data symbols t P f k (b ∷ bs) (l ∷ ls) h =
     by (Some id) e = whether (is_data_block id.kind) refl
       where
         whether : (is : Bool) → is_data_block id.kind ≡ is
-            → AllByRecursion P (if is then data_block (context_at symbols t k) l id ∷ [] else [])
+            → AllByRecursion P (if is then generated_data_block (context_at symbols t k) l id ∷ [] else [])
         whether true g = (f k b l id h.0 e g, tt)
         whether false g = tt
 
 pub sound_data_blocks : (symbols : List Symbol) (t : Tree) (P : DataBlock → Type 0)
     → IsSoundTree symbols t
     → ((k : ℕ) (b : Block) (l : BlockLayout) (id : BlockId) → IsSound symbols t k b l
-    → l.id ≡ Some id → is_data_block id.kind ≡ true → P (data_block (context_at symbols t k) l id))
+    → l.id ≡ Some id → is_data_block id.kind ≡ true → P (generated_data_block (context_at symbols t k) l id))
     → AllByRecursion P (data_blocks_of t symbols (layouts_of t symbols))
 unfolding data_blocks_of
 sound_data_blocks symbols t P h f =

@@ -7,19 +7,19 @@ use Rattle.plc_base.specs.declared.blocks.BlockId.{BlockId}
 use Rattle.plc_base.proofs.ListLemmas.{all_append}
 use Rattle.flat_code.specs.Codes.{are_ops, code_bytes, code_layout, is_nowhere, stop_at}
 use Rattle.flat_code.specs.declared.operations.EndOperation.TheVariants as end
-use Rattle.stl_ast.specs.Statements.{is_empty}
+use Rattle.stl_ast.specs.Statements.{is_empty_statement}
 use Rattle.stl_ast.specs.declared.blocks.Block.{Block}
 use Rattle.stl_ast.specs.declared.blocks.Tree.{Tree}
 use Rattle.stl_ast.specs.declared.statements.Statement.{Statement}
 use Rattle.stl_symbols.specs.Symbol.{Symbol}
 use Rattle.block_layout.specs.Layouts.{layouts_of}
-use Rattle.block_layout.specs.Measures.{types_of}
+use Rattle.block_layout.specs.Measures.{types_of_source}
 use Rattle.block_layout.specs.Rule55.{has_too_many_statements}
 use Rattle.block_layout.specs.declared.blocks.BlockLayout.{BlockLayout}
 use Rattle.stl_types.specs.Context.{Context}
-use Rattle.stl_codegen.specs.Compiled.{StatedBlock, compiled}
+use Rattle.stl_codegen.specs.Compiled.{StatedBlock, compiled_block}
 use Rattle.stl_codegen.specs.Emitted.{ops_of}
-use Rattle.stl_codegen.specs.Generated.{code_block, code_blocks_of, returning, stated_from, statements_of}
+use Rattle.stl_codegen.specs.Generated.{code_block, code_blocks_of, return_statement, stated_from, statements_of}
 use Rattle.stl_codegen.specs.Instruction.{instruction}
 use Rattle.sem_kept.proofs.accepted.Accepted.{IsSound, IsSoundStatement, IsSoundTree, context_at, right_tree, sound_code_blocks}
 use Rattle.sem_kept.proofs.accepted.CodedBlocks.{AreGood, block_coded}
@@ -29,7 +29,7 @@ use Rattle.sem_kept.proofs.accepted.CodedSources.{context_fit, formals_few}
 use Rattle.sem_kept.proofs.accepted.CodedSymbols.{symbols_fit}
 use Rattle.sem_kept.proofs.accepted.CodedViews.{IsFit, SymbolFits, got_holds}
 use Rattle.sem_kept.proofs.accepted.Shared.{stated_count}
-use Rattle.sem_kept.specs.Coded.{AreCoded, CodedIsGood, IsCoded, StatementHasBytes}
+use Rattle.sem_kept.specs.Coded.{AreCoded, CodedIsGood, IsBlockCoded, StatementHasBytes}
 
 -- ---- the statements of a body
 
@@ -37,10 +37,10 @@ stated_good : (c : Context) (body : List Statement) (n : ℕ) (ss : List Stateme
     → AllByRecursion (IsGoodSource c) ss → AreGood (stated_from c body n ss)
 stated_good c body n [] fit h = tt
 stated_good c body n (s ∷ ss) fit h =
-    by (is_empty s.code) refl (stated_good c body n ss fit h.1)
+    by (is_empty_statement s.code) refl (stated_good c body n ss fit h.1)
     (stated_good c body (suc n) ss fit h.1)
   where
-    by : (b : Bool) → is_empty s.code ≡ b → AreGood (stated_from c body n ss)
+    by : (b : Bool) → is_empty_statement s.code ≡ b → AreGood (stated_from c body n ss)
         → AreGood (stated_from c body (suc n) ss)
         → AreGood (if b then stated_from c body n ss
         else record { instr = instruction c body n s; line = s.line }
@@ -52,7 +52,7 @@ stated_good c body n (s ∷ ss) fit h =
 
 sources_good : (symbols : List Symbol) (t : Tree) (k : ℕ) (ss : List Statement)
     → AllByRecursion SymbolFits symbols → IsSoundTree symbols t
-    → AllByRecursion (IsSoundStatement (types_of symbols t.blocks) (context_at symbols t k)) ss
+    → AllByRecursion (IsSoundStatement (types_of_source symbols t.blocks) (context_at symbols t k)) ss
     → AllByRecursion StatementHasBytes ss
     → AllByRecursion (IsGoodSource (context_at symbols t k)) ss
 sources_good symbols t k [] fit tree sound has = tt
@@ -66,14 +66,14 @@ sources_good symbols t k (s ∷ ss) fit tree sound has = (
 )
 
 few_statements : (b : Block) → has_too_many_statements b ≡ false
-    → count_by (λ s. not (is_empty s.code)) b.body ≤ 65534
+    → count_by (λ s. not (is_empty_statement s.code)) b.body ≤ 65534
 few_statements b h =
-    let k = ltb-false 65534 (count_by (λ s. not (is_empty s.code)) b.body) h in omega (arith, k)
+    let k = ltb-false 65534 (count_by (λ s. not (is_empty_statement s.code)) b.body) h in omega (arith, k)
 
 source_coded : (symbols : List Symbol) (t : Tree) (k : ℕ) (b : Block) (l : BlockLayout)
     (id : BlockId) → AllByRecursion SymbolFits symbols → IsSoundTree symbols t
     → IsSound symbols t k b l → AllByRecursion StatementHasBytes b.body
-    → IsCoded (compiled (code_block (context_at symbols t k) b l id))
+    → IsBlockCoded (compiled_block (code_block (context_at symbols t k) b l id))
 unfolding statements_of
 source_coded symbols t k b l id fit tree sound has =
     let c = context_at symbols t k in
@@ -82,16 +82,16 @@ source_coded symbols t k b l id fit tree sound has =
     (sources_good symbols t k b.body fit tree sound.statements has) in
     let count = stated_count c b.body 0 b.body in
     let few = few_statements b sound.head.by_55 in
-    let all = length-append inner (returning b ∷ []) in
+    let all = length-append inner (return_statement b ∷ []) in
     block_coded (code_block c b l id) inner b.end_line refl
-    (all_append (λ s. IsGoodStatement (ops_of s.instr)) inner (returning b ∷ []) good
+    (all_append (λ s. IsGoodStatement (ops_of s.instr)) inner (return_statement b ∷ []) good
     (end_good end.Be, tt))
     (omega (arith, count, few, all))
 
 -- ---- the program
 
-mapped_coded : (bs : List StatedBlock) → AllByRecursion (λ b. IsCoded (compiled b)) bs
-    → AllByRecursion IsCoded (map compiled bs)
+mapped_coded : (bs : List StatedBlock) → AllByRecursion (λ b. IsBlockCoded (compiled_block b)) bs
+    → AllByRecursion IsBlockCoded (map compiled_block bs)
 mapped_coded [] h = tt
 mapped_coded (b ∷ bs) h = (h.0, mapped_coded bs h.1)
 
@@ -106,7 +106,7 @@ are_coded source file symbols t accepted bytes =
     let tree = right_tree source file symbols t accepted in
     let has = tree_has source accepted.tokens t bytes accepted.parsed in
     mapped_coded (code_blocks_of t symbols (layouts_of t symbols))
-    (sound_code_blocks symbols t (λ b. IsCoded (compiled b)) tree
+    (sound_code_blocks symbols t (λ b. IsBlockCoded (compiled_block b)) tree
     (λ k b l id sound named is.
     source_coded symbols t k b l id fit tree sound
     (got_some (λ (b : Block). AllByRecursion StatementHasBytes b.body) t.blocks k b has

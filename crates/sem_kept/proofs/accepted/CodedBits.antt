@@ -16,7 +16,7 @@ use Rattle.stl_ast.specs.declared.literals.Literal.TheVariants as literal
 use Rattle.stl_ast.specs.declared.mnemonics.Mnemonic.{Mnemonic}
 use Rattle.stl_ast.specs.declared.mnemonics.Mnemonic.TheVariants as code
 use Rattle.stl_ast.specs.declared.operands.Operand.TheVariants as operand
-use Rattle.block_layout.specs.Fits.{bits_of, fits, number_from, or_0, twos}
+use Rattle.block_layout.specs.Fits.{bits_of, fits_elementary_type, number_from, or_0, twos_complement_bits}
 use Rattle.block_layout.specs.Sizes.{plain_bits}
 use Rattle.stl_types.specs.Constants.{is_count, takes_constant}
 use Rattle.stl_types.specs.Forms.{form_of}
@@ -47,11 +47,11 @@ time_small ms = by (smallest_base ms)
     by None = omega arith
     by (Some b) = based_small b (ms / unit_of b)
 
-decimal_small : (v : ℤ) → IsDecimal v → twos 16 v ≤ 65535
+decimal_small : (v : ℤ) → IsDecimal v → twos_complement_bits 16 v ≤ 65535
 decimal_small (pos n) h = h
 decimal_small (negsuc n) h = omega arith
 
-long_small : (v : ℤ) → IsLong v → twos 32 v ≤ 4294967295
+long_small : (v : ℤ) → IsLong v → twos_complement_bits 32 v ≤ 4294967295
 long_small (pos n) h = omega (arith, h)
 long_small (negsuc n) h = omega arith
 
@@ -90,9 +90,9 @@ bits_small (literal.Bytes bytes) is has =
     (⊎_elim (λ two. omega (arith, two)) (λ four. omega (arith, four)) is.0) is.1
 
 -- and 16 bits what fits WORD
-word_small : (value : Literal) → IsLiteral value → HasBytes value → fits value simple.Word ≡ true
+word_small : (value : Literal) → IsLiteral value → HasBytes value → fits_elementary_type value simple.Word ≡ true
     → bits_of value ≤ 65535
-unfolding bits_of fits
+unfolding bits_of fits_elementary_type
 word_small (literal.Number (pos n)) is has h = leb-true n 65535 h
 word_small (literal.Number (negsuc n)) is has h = absurd cc
 word_small (literal.Binary n) is has h = leb-true n 65535 h
@@ -110,8 +110,8 @@ one_small (a ∷ b ∷ more) one h = absurd (omega (arith, one))
 
 -- and the bits of a type what fits it
 pub value_fits : (value : Literal) (kind : Simple) → IsLiteral value → HasBytes value
-    → fits value kind ≡ true → bits_of value < 2 ^ plain_bits kind
-unfolding bits_of fits
+    → fits_elementary_type value kind ≡ true → bits_of value < 2 ^ plain_bits kind
+unfolding bits_of fits_elementary_type
 value_fits (literal.Truth true) simple.Bool is has e = omega arith
 value_fits (literal.Truth false) simple.Bool is has e = omega arith
 value_fits (literal.Truth value) _ is has e = absurd cc
@@ -161,7 +161,7 @@ counted most (literal.Number (negsuc n)) h = absurd cc
 counted most _ h = absurd cc
 
 word_taken : (value : Literal) → IsLiteral value → HasBytes value
-    → fits value simple.Word ≡ true → leb (bits_of value) 65535 ≡ true
+    → fits_elementary_type value simple.Word ≡ true → leb (bits_of value) 65535 ≡ true
 word_taken value is has h = le-leb (bits_of value) 65535 (word_small value is has h)
 
 any_taken : (value : Literal) → IsLiteral value → HasBytes value
@@ -172,8 +172,8 @@ added : (value : Literal) → IsLiteral value
     → takes_constant (form_of code.Add) value ≡ true
     → admits (takes_of_operation (add_operation (operand.Constant value))) (flat.Literal (bits_of value)) ≡ true
 unfolding form_of takes_constant admits bits_of
-added (literal.Number n) is h = le-leb (twos 16 n) 65535 (decimal_small n is)
-added (literal.Long n) is h = le-leb (twos 32 n) 4294967295 (long_small n is)
+added (literal.Number n) is h = le-leb (twos_complement_bits 16 n) 65535 (decimal_small n is)
+added (literal.Long n) is h = le-leb (twos_complement_bits 32 n) 4294967295 (long_small n is)
 added _ is h = absurd cc
 
 -- an instruction takes the constants that its form does

@@ -5,7 +5,7 @@ use Rattle.std.specs.List.{AllByRecursion}
 use Rattle.std.proofs.lemmas.Bool.{and_from, ne_eqb}
 use Rattle.std.proofs.lemmas.List.{map-append}
 use Rattle.plc_base.proofs.ListLemmas.{all_append}
-use Rattle.flat_code.specs.Codes.{are_ops, code_fault, ends_by_be, first_found, last_place, only, overlong, size}
+use Rattle.flat_code.specs.Codes.{are_ops, code_fault, ends_by_be, first_found, last_place, if_checked, overlong_statement, size_of_op}
 use Rattle.flat_code.specs.Forms.{passed_coding, direct_coding}
 use Rattle.flat_code.specs.Instr.{Returns}
 use Rattle.flat_code.specs.Ops.{OpData, is_op, op_bytes}
@@ -13,16 +13,16 @@ use Rattle.flat_code.specs.declared.operands.Operand.{Operand as FlatOperand}
 use Rattle.flat_code.specs.declared.operands.Operand.TheVariants as flat
 use Rattle.flat_code.specs.declared.operands.Passed.TheVariants as passed
 use Rattle.flat_code.specs.declared.operations.EndOperation.TheVariants as end
-use Rattle.stl_codegen.specs.Compiled.{Stated, StatedBlock, aimed, aimed_op, compiled, offset_from, offset_of, ops_in, placed_ops}
+use Rattle.stl_codegen.specs.Compiled.{SourceInstruction, StatedBlock, operand_with_target, op_with_target, compiled_block, offset_from, offset_of_statement, ops_in, placed_ops}
 use Rattle.stl_codegen.specs.Emitted.{ops_of}
 use Rattle.sem_kept.proofs.accepted.CodedOps.{IsGood, IsGoodPart, IsGoodStatement}
-use Rattle.sem_kept.specs.Coded.{IsCoded}
+use Rattle.sem_kept.specs.Coded.{IsBlockCoded}
 
-abbrev pub AreGood : List Stated → Type 0
+abbrev pub AreGood : List SourceInstruction → Type 0
 AreGood ss = AllByRecursion (λ s. IsGoodStatement (ops_of s.instr)) ss
 
 -- the last statement of a block returns
-abbrev pub returning_at : ℕ → Stated
+abbrev pub returning_at : ℕ → SourceInstruction
 returning_at line = record { instr = Returns end.Be; line = line }
 
 -- ---- each is an op
@@ -36,65 +36,65 @@ statement_ops ops h =
     subst (AllByRecursion IsGood) (sym h.whole)
     (all_append IsGood h.front (h.final ∷ []) (front_good h.front h.parts) (h.good, tt))
 
-all_good : (ss : List Stated) → AreGood ss → AllByRecursion IsGood (ops_in ss)
+all_good : (ss : List SourceInstruction) → AreGood ss → AllByRecursion IsGood (ops_in ss)
 all_good [] h = tt
 all_good (s ∷ ss) h =
     all_append IsGood (ops_of s.instr) (ops_in ss) (statement_ops (ops_of s.instr) h.0)
     (all_good ss h.1)
 
 ops_aimed : (f : ℕ → ℕ) (ops : List OpData) → ((n : ℕ) → f n < 4294967296)
-    → AllByRecursion IsGood ops → are_ops (map (aimed_op f) ops) ≡ true
+    → AllByRecursion IsGood ops → are_ops (map (op_with_target f) ops) ≡ true
 ops_aimed f [] small h = refl
 ops_aimed f (op ∷ ops) small h =
-    and_from (is_op op.code (aimed f op.operand)) (are_ops (map (aimed_op f) ops)) (h.0 f small)
+    and_from (is_op op.code (operand_with_target f op.operand)) (are_ops (map (op_with_target f) ops)) (h.0 f small)
     (ops_aimed f ops small h.1)
 
 -- ---- at most 64 of them are a statement
 
 overlong_step : (count at : ℕ) (op : OpData) (ops : List OpData) → count ≤ 63
-    → overlong (if op.last then 0 else suc count) (at + size op) ops ≡ None
-    → overlong count at (op ∷ ops) ≡ None
+    → overlong_statement (if op.last then 0 else suc count) (at + size_of_op op) ops ≡ None
+    → overlong_statement count at (op ∷ ops) ≡ None
 overlong_step count at op ops few h =
     let other : eqb count 64 ≡ false = ne_eqb count 64 (λ e. omega (arith, e, few)) in
     rw other h
 
 overlong_front : (f : ℕ → ℕ) (front : List OpData) (final : OpData) (rest : List OpData)
     (count at : ℕ) → AllByRecursion IsGoodPart front → final.last ≡ true
-    → count + length front ≤ 63 → ((at : ℕ) → overlong 0 at rest ≡ None)
-    → overlong count at (map (aimed_op f) front ++ aimed_op f final ∷ rest) ≡ None
+    → count + length front ≤ 63 → ((at : ℕ) → overlong_statement 0 at rest ≡ None)
+    → overlong_statement count at (map (op_with_target f) front ++ op_with_target f final ∷ rest) ≡ None
 overlong_front f [] final rest count at parts last few more =
-    overlong_step count at (aimed_op f final) rest (omega (arith, few))
+    overlong_step count at (op_with_target f final) rest (omega (arith, few))
     (subst
-    (λ (b : Bool). overlong (if b then 0 else suc count) (at + size (aimed_op f final)) rest ≡ None)
-    (sym last) (more (at + size (aimed_op f final))))
+    (λ (b : Bool). overlong_statement (if b then 0 else suc count) (at + size_of_op (op_with_target f final)) rest ≡ None)
+    (sym last) (more (at + size_of_op (op_with_target f final))))
 overlong_front f (x ∷ front) final rest count at parts last few more =
-    overlong_step count at (aimed_op f x) (map (aimed_op f) front ++ aimed_op f final ∷ rest)
+    overlong_step count at (op_with_target f x) (map (op_with_target f) front ++ op_with_target f final ∷ rest)
     (omega (arith, few))
     (subst
     (λ (b : Bool).
-    overlong (if b then 0 else suc count) (at + size (aimed_op f x))
-    (map (aimed_op f) front ++ aimed_op f final ∷ rest) ≡ None)
+    overlong_statement (if b then 0 else suc count) (at + size_of_op (op_with_target f x))
+    (map (op_with_target f) front ++ op_with_target f final ∷ rest) ≡ None)
     (sym parts.0.inner)
-    (overlong_front f front final rest (suc count) (at + size (aimed_op f x)) parts.1 last
+    (overlong_front f front final rest (suc count) (at + size_of_op (op_with_target f x)) parts.1 last
     (omega (arith, few)) more))
 
 parted : (f : ℕ → ℕ) (front : List OpData) (final : OpData) (rest : List OpData)
-    → map (aimed_op f) ((front ++ final ∷ []) ++ rest)
-    ≡ map (aimed_op f) front ++ aimed_op f final ∷ map (aimed_op f) rest
+    → map (op_with_target f) ((front ++ final ∷ []) ++ rest)
+    ≡ map (op_with_target f) front ++ op_with_target f final ∷ map (op_with_target f) rest
 parted f [] final rest = refl
 parted f (x ∷ front) final rest =
-    ap (λ (l : List OpData). aimed_op f x ∷ l) (parted f front final rest)
+    ap (λ (l : List OpData). op_with_target f x ∷ l) (parted f front final rest)
 
-not_overlong : (f : ℕ → ℕ) (ss : List Stated) (at : ℕ) → AreGood ss
-    → overlong 0 at (map (aimed_op f) (ops_in ss)) ≡ None
+not_overlong : (f : ℕ → ℕ) (ss : List SourceInstruction) (at : ℕ) → AreGood ss
+    → overlong_statement 0 at (map (op_with_target f) (ops_in ss)) ≡ None
 not_overlong f [] at h = refl
 not_overlong f (s ∷ ss) at h =
-    let cut : map (aimed_op f) (ops_of s.instr ++ ops_in ss)
-    ≡ map (aimed_op f) h.0.front ++ aimed_op f h.0.final ∷ map (aimed_op f) (ops_in ss) =
-    ap (λ (l : List OpData). map (aimed_op f) (l ++ ops_in ss)) h.0.whole
+    let cut : map (op_with_target f) (ops_of s.instr ++ ops_in ss)
+    ≡ map (op_with_target f) h.0.front ++ op_with_target f h.0.final ∷ map (op_with_target f) (ops_in ss) =
+    ap (λ (l : List OpData). map (op_with_target f) (l ++ ops_in ss)) h.0.whole
     ∙ parted f h.0.front h.0.final (ops_in ss) in
-    subst (λ (l : List OpData). overlong 0 at l ≡ None) (sym cut)
-    (overlong_front f h.0.front h.0.final (map (aimed_op f) (ops_in ss)) 0 at h.0.parts h.0.last
+    subst (λ (l : List OpData). overlong_statement 0 at l ≡ None) (sym cut)
+    (overlong_front f h.0.front h.0.final (map (op_with_target f) (ops_in ss)) 0 at h.0.parts h.0.last
     (omega (arith, h.0.few)) (λ next. not_overlong f ss next h.1))
 
 -- ---- the last one is BE
@@ -105,28 +105,28 @@ ends_behind (x ∷ []) [] h = absurd cc
 ends_behind (x ∷ []) (y ∷ ys) h = h
 ends_behind (x ∷ z ∷ xs) ys h = ends_behind (z ∷ xs) ys h
 
-ends_right : (f : ℕ → ℕ) (ss : List Stated) (line : ℕ)
-    → ends_by_be (map (aimed_op f) (ops_in (ss ++ returning_at line ∷ []))) ≡ true
+ends_right : (f : ℕ → ℕ) (ss : List SourceInstruction) (line : ℕ)
+    → ends_by_be (map (op_with_target f) (ops_in (ss ++ returning_at line ∷ []))) ≡ true
 unfolding ops_of
 ends_right f [] line = refl
 ends_right f (s ∷ ss) line =
     let behind = ops_in (ss ++ returning_at line ∷ []) in
     subst (λ (l : List OpData). ends_by_be l ≡ true)
-    (sym (map-append (aimed_op f) (ops_of s.instr) behind))
-    (ends_behind (map (aimed_op f) (ops_of s.instr)) (map (aimed_op f) behind)
+    (sym (map-append (op_with_target f) (ops_of s.instr) behind))
+    (ends_behind (map (op_with_target f) (ops_of s.instr)) (map (op_with_target f) behind)
     (ends_right f ss line))
 
-no_fault : (ops : List OpData) → overlong 0 0 ops ≡ None → ends_by_be ops ≡ true → code_fault ops ≡ None
+no_fault : (ops : List OpData) → overlong_statement 0 0 ops ≡ None → ends_by_be ops ≡ true → code_fault ops ≡ None
 no_fault ops few right =
-    ap (λ (o : Option ℕ). first_found (only true o) (only true (if ends_by_be ops then None else Some (last_place 0 ops)))) few
-    ∙ ap (λ (b : Bool). only true (if b then None else Some (last_place 0 ops))) right
+    ap (λ (o : Option ℕ). first_found (if_checked true o) (if_checked true (if ends_by_be ops then None else Some (last_place 0 ops)))) few
+    ∙ ap (λ (b : Bool). if_checked true (if b then None else Some (last_place 0 ops))) right
 
 -- ---- offsets are small
 
 -- how many bytes ops take
 abbrev total : List OpData → ℕ
 total [] = 0
-total (op ∷ ops) = size op + total ops
+total (op ∷ ops) = size_of_op op + total ops
 
 total_append : (xs ys : List OpData) → total (xs ++ ys) ≡ total xs + total ys
 total_append [] ys = omega arith
@@ -137,13 +137,13 @@ offset_within : (at : ℕ) (begins : Bool) (ops : List OpData) (n : ℕ)
 offset_within at begins [] n = omega arith
 offset_within at true (op ∷ ops) zero = omega arith
 offset_within at true (op ∷ ops) (suc n) =
-    let h = offset_within (at + size op) op.last ops n in omega (arith, h)
+    let h = offset_within (at + size_of_op op) op.last ops n in omega (arith, h)
 offset_within at false (op ∷ ops) n =
-    let h = offset_within (at + size op) op.last ops n in omega (arith, h)
+    let h = offset_within (at + size_of_op op) op.last ops n in omega (arith, h)
 
 operand_long : (code : ℕ) (last : Bool) (o : FlatOperand)
-    → size (record { code = code; last = last; operand = o }) ≤ 16
-unfolding size op_bytes direct_coding passed_coding
+    → size_of_op (record { code = code; last = last; operand = o }) ≤ 16
+unfolding size_of_op op_bytes direct_coding passed_coding
 operand_long code last (flat.Pass index (passed.Literal value)) = omega arith
 operand_long code last (flat.Pass index (passed.Direct area w byte bit)) = omega arith
 operand_long code last (flat.Pass index (passed.Parameter own w)) = omega arith
@@ -163,7 +163,7 @@ operand_long code last (flat.Called kind number instance) = omega arith
 operand_long code last (flat.OpenBlock register number) = omega arith
 operand_long code last (flat.OpenBy register from byte) = omega arith
 
-op_long : (op : OpData) → size op ≤ 16
+op_long : (op : OpData) → size_of_op op ≤ 16
 op_long op = operand_long op.code op.last op.operand
 
 total_long : (ops : List OpData) → total ops ≤ 16 * length ops
@@ -178,7 +178,7 @@ statement_long ops h =
     let bytes = total_long ops in
     omega (arith, count, bytes, h.few)
 
-statements_long : (ss : List Stated) → AreGood ss → total (ops_in ss) ≤ 1024 * length ss
+statements_long : (ss : List SourceInstruction) → AreGood ss → total (ops_in ss) ≤ 1024 * length ss
 statements_long [] h = omega arith
 statements_long (s ∷ ss) h =
     let one = statement_long (ops_of s.instr) h.0 in
@@ -186,9 +186,9 @@ statements_long (s ∷ ss) h =
     let both = total_append (ops_of s.instr) (ops_in ss) in
     omega (arith, one, more, both)
 
-offsets_small : (ss : List Stated) → AreGood ss → length ss ≤ 65536 → (n : ℕ)
-    → offset_of (ops_in ss) n < 4294967296
-unfolding offset_of
+offsets_small : (ss : List SourceInstruction) → AreGood ss → length ss ≤ 65536 → (n : ℕ)
+    → offset_of_statement (ops_in ss) n < 4294967296
+unfolding offset_of_statement
 offsets_small ss h few n =
     let within = offset_within 0 true (ops_in ss) n in
     let bytes = statements_long ss h in
@@ -196,17 +196,17 @@ offsets_small ss h few n =
 
 -- ---- THE CODE OF A BLOCK
 
-pub block_coded : (b : StatedBlock) (inner : List Stated) (line : ℕ)
+pub block_coded : (b : StatedBlock) (inner : List SourceInstruction) (line : ℕ)
     → b.statements ≡ inner ++ returning_at line ∷ [] → AreGood b.statements
-    → length b.statements ≤ 65535 → IsCoded (compiled b)
+    → length b.statements ≤ 65535 → IsBlockCoded (compiled_block b)
 unfolding placed_ops
 block_coded b inner line whole good few =
-    let f = offset_of (ops_in b.statements) in
+    let f = offset_of_statement (ops_in b.statements) in
     record {
       ops = ops_aimed f (ops_in b.statements)
           (offsets_small b.statements good (omega (arith, few))) (all_good b.statements good);
-      right = no_fault (map (aimed_op f) (ops_in b.statements))
+      right = no_fault (map (op_with_target f) (ops_in b.statements))
           (not_overlong f b.statements 0 good)
-          (subst (λ (l : List Stated). ends_by_be (map (aimed_op f) (ops_in l)) ≡ true) (sym whole)
+          (subst (λ (l : List SourceInstruction). ends_by_be (map (op_with_target f) (ops_in l)) ≡ true) (sym whole)
           (ends_right f inner line));
     }

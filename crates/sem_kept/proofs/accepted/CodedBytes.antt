@@ -9,8 +9,8 @@ use Rattle.plc_base.specs.declared.places.Width.TheVariants as width
 use Rattle.plc_base.proofs.ListLemmas.{all_front, all_back}
 use Rattle.stl_lexer.specs.Bytes.{letter_b, letter_c, letter_s, letter_w, two_digit}
 use Rattle.stl_lexer.specs.Limits.{greatest_count, greatest_s5time}
-use Rattle.stl_lexer.specs.Rules.{behind_prefix, first_letter, within}
-use Rattle.stl_lexer.specs.TimeLiteral.{milliseconds, units}
+use Rattle.stl_lexer.specs.Rules.{behind_prefix, first_letter, value_up_to}
+use Rattle.stl_lexer.specs.TimeLiteral.{milliseconds, time_units}
 use Rattle.stl_lexer.specs.Tokens.{text_of}
 use Rattle.stl_lexer.specs.declared.kinds.Token.{Token}
 use Rattle.stl_lexer.specs.declared.kinds.TokenKind.{TokenKind}
@@ -48,18 +48,18 @@ use Rattle.stl_ast.specs.declared.statements.Actual.{Actual}
 use Rattle.stl_ast.specs.declared.statements.Statement.{Statement}
 use Rattle.stl_parser.specs.Addresses.{address_at, bit_of, block_at}
 use Rattle.stl_parser.specs.Clauses as clauses
-use Rattle.stl_parser.specs.Declarations.{after_struct, declaration_of, declared_at, init_behind, structure_at}
-use Rattle.stl_parser.specs.Types.{arrays_at, at_end, counted_at, counted_end, element_at, init_at, init_list, init_of, next_init, single_init}
-use Rattle.stl_parser.specs.Literals.{byte_of, bytes_at, bytes_behind, characters_of, last_bytes, literal_at, literal_of, literal_token, long_literal, truth_of, unquoted}
-use Rattle.stl_parser.specs.Numbers.{number_of, signed_at}
+use Rattle.stl_parser.specs.Declarations.{after_struct, declaration_of, declared_name_at, init_behind, structure_at}
+use Rattle.stl_parser.specs.Types.{arrays_at, end_of_tokens, counted_init_at, counted_init_end, element_at, init_at, init_list, init_of, next_init, single_init}
+use Rattle.stl_parser.specs.Literals.{byte_of, bytes_at, bytes_behind, characters_of, last_bytes, literal_at, literal_of, literal_token, long_literal, truth_of, text_between_quotes}
+use Rattle.stl_parser.specs.Numbers.{number_of, signed_number_at}
 use Rattle.stl_parser.specs.Operands as reads
-use Rattle.stl_parser.specs.Parts.{parts_from, whole}
-use Rattle.stl_parser.specs.Source.{IsTree, Reads}
-use Rattle.stl_parser.specs.Spelling.{is_kept, spelled_block, spelled_part, spelled_shape, spelled_type}
+use Rattle.stl_parser.specs.Parts.{parts_from, complete_reading}
+use Rattle.stl_parser.specs.Source.{IsTree, ReadsClauses}
+use Rattle.stl_parser.specs.Spelling.{is_kept_by_tree, spelled_block, spelled_part, spelled_shape, spelled_type}
 use Rattle.stl_parser.specs.Statements as states
 use Rattle.stl_parser.specs.Tables.{addresses, flags, head_words, keywords, look_up, mnemonics, opening_mnemonics, registers}
 use Rattle.stl_parser.specs.Terminals.{has_kind, is_key, is_mark}
-use Rattle.stl_parser.specs.Values.{based_literal, based_value, duration, long_or_count, long_value, time_value, value_from}
+use Rattle.stl_parser.specs.Values.{based_literal, based_value, duration_literal, long_or_count, long_value, time_value, value_from}
 use Rattle.stl_parser.specs.declared.clauses.Clause.{Clause}
 use Rattle.stl_parser.specs.declared.clauses.Clause.TheVariants as clause
 use Rattle.stl_parser.specs.declared.keywords.Key.TheVariants as key
@@ -103,8 +103,8 @@ bytes_take (suc n) (b ∷ bytes) h = (h.0, bytes_take n bytes h.1)
 bytes_range : (bytes : List ℕ) (from to : ℕ) → AreBytes bytes → AreBytes (slice_range bytes from to)
 bytes_range bytes from to h = bytes_take (to - from) (drop from bytes) (bytes_drop from bytes h)
 
-bytes_unquoted : (bytes : List ℕ) → AreBytes bytes → AreBytes (unquoted bytes)
-unfolding unquoted
+bytes_unquoted : (bytes : List ℕ) → AreBytes bytes → AreBytes (text_between_quotes bytes)
+unfolding text_between_quotes
 bytes_unquoted bytes h = bytes_range bytes 1 (length bytes - 1) h
 
 text_bytes : (source : List ℕ) (t : Token) → AreBytes source → AreBytes (text_of source t)
@@ -142,11 +142,11 @@ long_or_count_bytes text =
     (made (decimal_up_to greatest_count (behind_prefix text)) _ HasBytes (λ v. tt))
     (made (long_value (behind_prefix text)) _ HasBytes (λ v. tt))
 
-duration_bytes : (text : List ℕ) → IfSome (duration text) HasBytes
-unfolding duration
+duration_bytes : (text : List ℕ) → IfSome (duration_literal text) HasBytes
+unfolding duration_literal
 duration_bytes text =
     both (first_letter text == letter_s) _ _ HasBytes
-    (made (within greatest_s5time (milliseconds units (behind_prefix text))) _ HasBytes (λ v. tt))
+    (made (value_up_to greatest_s5time (milliseconds time_units (behind_prefix text))) _ HasBytes (λ v. tt))
     (made (time_value (behind_prefix text)) _ HasBytes (λ v. tt))
 
 token_bytes : (source : List ℕ) (t : Token) (k : TokenKind) → AreBytes source
@@ -155,8 +155,8 @@ unfolding literal_token
 token_bytes source t kind.Word h = truth_bytes source t
 token_bytes source t kind.Number h = made (number_of source t) _ HasBytes (λ n. tt)
 token_bytes source t kind.Characters h =
-    mapped (characters_of (unquoted (text_of source t))) _ AreBytes HasBytes
-    (characters_bytes (unquoted (text_of source t))
+    mapped (characters_of (text_between_quotes (text_of source t))) _ AreBytes HasBytes
+    (characters_bytes (text_between_quotes (text_of source t))
     (bytes_unquoted (text_of source t) (text_bytes source t h))) (λ bytes k. k)
 token_bytes source t kind.Based h = based_bytes (text_of source t)
 token_bytes source t kind.NumberLiteral h = long_or_count_bytes (text_of source t)
@@ -196,7 +196,7 @@ long_has : (source : List ℕ) (t : Token) (rest : List Token)
 unfolding long_literal
 long_has source t rest =
     both (is_mark source t mark.Bytes) _ _ FirstHasBytes (bytes_has source rest)
-    (made (signed_at source t rest) _ FirstHasBytes (λ r. tt))
+    (made (signed_number_at source t rest) _ FirstHasBytes (λ r. tt))
 
 literal_at_has : (source : List ℕ) (tokens : List Token) → AreBytes source
     → IfSome (literal_at source tokens) FirstHasBytes
@@ -220,14 +220,14 @@ abbrev Has : Operand → Type 0
 Has = OperandHasBytes
 
 register_has : (source : List ℕ) (a : Option Letters) (w : Width) (tokens : List Token)
-    → IfSome (reads.by_register source a w tokens) Has
-unfolding reads.by_register
+    → IfSome (reads.operand_by_register source a w tokens) Has
+unfolding reads.operand_by_register
 register_has source a w tokens = made (reads.register_pointer source tokens) _ Has (λ p. tt)
 
 path_has : (source : List ℕ) (h : PathHead) (tokens : List Token)
     → IfSome (reads.path_of source h tokens) Has
 unfolding reads.path_of
-path_has source h tokens = made (whole (reads.steps_from source [] tokens)) _ Has (λ steps. tt)
+path_has source h tokens = made (complete_reading (reads.steps_from source [] tokens)) _ Has (λ steps. tt)
 
 block_path_has : (source : List ℕ) (name : BlockName) (tokens : List Token)
     → IfSome (reads.block_path source name tokens) Has
@@ -235,37 +235,37 @@ unfolding reads.block_path
 block_path_has source name [] = tt
 block_path_has source name (w ∷ rest) =
     passed (has_kind w kind.Word) _ Has
-    (λ test. made (whole (reads.steps_from source _ rest)) _ Has (λ steps. tt))
+    (λ test. made (complete_reading (reads.steps_from source _ rest)) _ Has (λ steps. tt))
 
 in_block_has : (source : List ℕ) (name : BlockName) (tokens : List Token)
-    → IfSome (reads.in_block source name tokens) Has
-unfolding reads.in_block
+    → IfSome (reads.operand_in_block source name tokens) Has
+unfolding reads.operand_in_block
 in_block_has source name tokens =
     either _ (reads.block_path source name tokens) Has
     (made (reads.block_place source tokens) _ Has (λ p. tt)) (block_path_has source name tokens)
 
 behind_block_has : (source : List ℕ) (name : BlockName) (tokens : List Token)
-    → IfSome (reads.behind_block source name tokens) Has
-unfolding reads.behind_block
+    → IfSome (reads.operand_behind_block source name tokens) Has
+unfolding reads.operand_behind_block
 behind_block_has source name [] = tt
 behind_block_has source name (dot ∷ rest) =
     passed (is_mark source dot mark.Dot) _ Has (λ test. in_block_has source name rest)
 
 data_block_has : (source : List ℕ) (n : ℕ) (tokens : List Token)
-    → IfSome (reads.data_block source n tokens) Has
-unfolding reads.data_block
+    → IfSome (reads.data_block_operand source n tokens) Has
+unfolding reads.data_block_operand
 data_block_has source n [] = tt
 data_block_has source n (t ∷ rest) =
     behind_block_has source (reads.data_block_name n) (t ∷ rest)
 
 area_has : (source : List ℕ) (a : Letters) (w : Width) (byte : ℕ) (rest : List Token)
-    → IfSome (reads.area_of source a w byte rest) Has
-unfolding reads.area_of
+    → IfSome (reads.area_operand source a w byte rest) Has
+unfolding reads.area_operand
 area_has source a w byte rest = made (reads.place_bit source w rest) _ Has (λ bit. tt)
 
 direct_has : (source : List ℕ) (a : Address) (n : ℕ) (rest : List Token)
-    → IfSome (reads.direct_of source a n rest) Has
-unfolding reads.direct_of
+    → IfSome (reads.direct_address_operand source a n rest) Has
+unfolding reads.direct_address_operand
 direct_has source (address.Area a w) n rest = area_has source a w n rest
 direct_has source address.Timer n [] = tt
 direct_has source address.Timer n (t ∷ rest) = tt
@@ -276,21 +276,21 @@ direct_has source (address.Block true) n [] = tt
 direct_has source (address.Block true) n (t ∷ rest) = tt
 
 number_has : (source : List ℕ) (what : Numbered) (tokens : List Token)
-    → IfSome (reads.number_by source what tokens) Has
-unfolding reads.number_by
+    → IfSome (reads.operand_by_memory_number source what tokens) Has
+unfolding reads.operand_by_memory_number
 number_has source what tokens = made (reads.memory_pointer source false tokens) _ Has (λ p. tt)
 
 area_by_has : (source : List ℕ) (a : Letters) (w : Width) (tokens : List Token)
-    → IfSome (reads.area_by source a w tokens) Has
-unfolding reads.area_by
+    → IfSome (reads.operand_by_pointer source a w tokens) Has
+unfolding reads.operand_by_pointer
 area_by_has source a w tokens =
-    either _ (reads.by_register source (Some a) w tokens) Has
+    either _ (reads.operand_by_register source (Some a) w tokens) Has
     (made (reads.memory_pointer source true tokens) _ Has (λ p. tt))
     (register_has source (Some a) w tokens)
 
 indirect_has : (source : List ℕ) (a : Address) (tokens : List Token)
-    → IfSome (reads.indirect_of source a tokens) Has
-unfolding reads.indirect_of
+    → IfSome (reads.indirect_operand source a tokens) Has
+unfolding reads.indirect_operand
 indirect_has source (address.Area a w) tokens = area_by_has source a w tokens
 indirect_has source address.Timer tokens = number_has source numbered.Timer tokens
 indirect_has source address.Counter tokens = number_has source numbered.Counter tokens
@@ -316,8 +316,8 @@ plain_pointer_has source [] = tt
 plain_pointer_has source (n ∷ rest) =
     then_made (number_of source n) _ Has (λ byte. made (bit_of source rest) _ Has (λ bit. tt))
 
-pointer_has : (source : List ℕ) (tokens : List Token) → IfSome (reads.pointer_of source tokens) Has
-unfolding reads.pointer_of
+pointer_has : (source : List ℕ) (tokens : List Token) → IfSome (reads.pointer_constant_operand source tokens) Has
+unfolding reads.pointer_constant_operand
 pointer_has source tokens =
     either (reads.plain_pointer source tokens) _ Has (plain_pointer_has source tokens)
     (then_made (address_at source tokens) _ Has (λ r. area_pointer_has source r.0 r.1 r.2))
@@ -326,20 +326,20 @@ condition_has : (source : List ℕ) (t : Token) → IfSome (reads.condition_of s
 unfolding reads.condition_of
 condition_has source t = made (look_up flags (text_of source t)) _ Has (λ flag. tt)
 
-other_has : (source : List ℕ) (t : Token) → IfSome (reads.other_of source t) Has
-unfolding reads.other_of
+other_has : (source : List ℕ) (t : Token) → IfSome (reads.register_name_operand source t) Has
+unfolding reads.register_name_operand
 other_has source t = by (look_up registers (text_of source t))
   where
-    by : (found : Option Bool) → IfSome (reads.other_if (text_of source t) found) Has
+    by : (found : Option Bool) → IfSome (reads.register_name_operand_if (text_of source t) found) Has
     by (Some true) = tt
     by (Some false) = tt
     by None = tt
 
 alone_has : (source : List ℕ) (t : Token) (rest : List Token)
-    → IfSome (reads.alone_of source t rest) Has
-unfolding reads.alone_of
+    → IfSome (reads.lone_word_operand source t rest) Has
+unfolding reads.lone_word_operand
 alone_has source t [] =
-    either (reads.condition_of source t) (reads.other_of source t) Has (condition_has source t)
+    either (reads.condition_of source t) (reads.register_name_operand source t) Has (condition_has source t)
     (other_has source t)
 alone_has source t (u ∷ rest) = tt
 
@@ -359,14 +359,14 @@ sized_has source t rest =
     (passed (is_key source t key.D) _ Has (λ test. register_has source None width.Dword rest)))
 
 with_number_has : (source : List ℕ) (tokens : List Token)
-    → IfSome (reads.with_number source tokens) Has
-unfolding reads.with_number
+    → IfSome (reads.operand_with_number source tokens) Has
+unfolding reads.operand_with_number
 with_number_has source tokens =
     then_made (address_at source tokens) _ Has (λ r. direct_has source r.0 r.1 r.2)
 
 with_pointer_has : (source : List ℕ) (t : Token) (rest : List Token)
-    → IfSome (reads.with_pointer source t rest) Has
-unfolding reads.with_pointer
+    → IfSome (reads.operand_with_pointer source t rest) Has
+unfolding reads.operand_with_pointer
 with_pointer_has source t rest =
     then_made (look_up addresses (text_of source t)) _ Has (λ a. indirect_has source a rest)
 
@@ -374,9 +374,9 @@ word_has : (source : List ℕ) (t : Token) (rest tokens : List Token)
     → IfSome (reads.word_operand source t rest tokens) Has
 unfolding reads.word_operand
 word_has source t rest tokens =
-    either (reads.alone_of source t rest) _ Has (alone_has source t rest)
-    (either (reads.with_number source tokens) _ Has (with_number_has source tokens)
-    (either (reads.with_pointer source t rest) _ Has (with_pointer_has source t rest)
+    either (reads.lone_word_operand source t rest) _ Has (alone_has source t rest)
+    (either (reads.operand_with_number source tokens) _ Has (with_number_has source tokens)
+    (either (reads.operand_with_pointer source t rest) _ Has (with_pointer_has source t rest)
     (either (reads.sized_by_register source t rest) _ Has (sized_has source t rest)
     (plain_path_has source t rest))))
 
@@ -385,7 +385,7 @@ quoted_has : (source : List ℕ) (t : Token) (rest : List Token)
 unfolding reads.quoted_operand
 quoted_has source t [] = tt
 quoted_has source t (u ∷ rest) =
-    behind_block_has source (block.Quoted (unquoted (text_of source t))) (u ∷ rest)
+    behind_block_has source (block.Quoted (text_between_quotes (text_of source t))) (u ∷ rest)
 
 mark_has : (source : List ℕ) (t : Token) (rest tokens : List Token)
     → IfSome (reads.mark_operand source t rest tokens) Has
@@ -435,8 +435,8 @@ record BareHas (i : BareStatement) : Type 0 where
   actuals : AreHeld i.actuals
 
 with_operand_has : (source : List ℕ) (code : Mnemonic) (tokens : List Token) → AreBytes source
-    → IfSome (states.with_operand source code tokens) BareHas
-unfolding states.with_operand
+    → IfSome (states.statement_with_operand source code tokens) BareHas
+unfolding states.statement_with_operand
 with_operand_has source code tokens h =
     mapped (reads.operand_of source tokens) _ Has BareHas (operand_has source tokens h)
     (λ o k. record { operand = k; actuals = tt })
@@ -463,7 +463,7 @@ block_call_has : (source : List ℕ) (code : Mnemonic) (tokens : List Token)
     → IfSome (states.block_call_of source code tokens) BareHas
 unfolding states.block_call_of
 block_call_has source code tokens =
-    made (whole (block_at source tokens)) _ BareHas (λ name. record { operand = tt; actuals = tt })
+    made (complete_reading (block_at source tokens)) _ BareHas (λ name. record { operand = tt; actuals = tt })
 
 value_has : (source : List ℕ) (tokens : List Token) → AreBytes source
     → IfSome (states.value_of source tokens) Has
@@ -538,8 +538,8 @@ behind_word_has source form.BlockCall code tokens h = block_call_has source code
 behind_word_has source form.Call code tokens h = call_has source code tokens h
 
 opening_has : (source : List ℕ) (t : Token) (rest : List Token) → AreBytes source
-    → IfSome (states.opening_of source t rest) BareHas
-unfolding states.opening_of
+    → IfSome (states.opening_instruction source t rest) BareHas
+unfolding states.opening_instruction
 opening_has source t rest h =
     then_made (look_up opening_mnemonics (text_of source t)) _ BareHas
     (λ m. then_made (states.after_paren source rest) _ BareHas
@@ -554,8 +554,8 @@ zone_end_has source t (w ∷ rest) h =
     (λ test. with_operand_has source mnemonic.McrClose rest h)
 
 closed_has : (source : List ℕ) (t : Token) (rest : List Token) → AreBytes source
-    → IfSome (states.closed_of source t rest) BareHas
-unfolding states.closed_of
+    → IfSome (states.one_token_instruction source t rest) BareHas
+unfolding states.one_token_instruction
 closed_has source t rest h =
     then_made (look_up mnemonics (text_of source t)) _ BareHas
     (λ m. behind_word_has source m.1 m.0 rest h)
@@ -565,7 +565,7 @@ instruction_has : (source : List ℕ) (tokens : List Token) → AreBytes source
 unfolding states.instruction_of
 instruction_has source [] h = tt
 instruction_has source (t ∷ rest) h =
-    either (states.opening_of source t rest) _ BareHas (opening_has source t rest h)
+    either (states.opening_instruction source t rest) _ BareHas (opening_has source t rest h)
     (either (states.zone_end_of source t rest) _ BareHas (zone_end_has source t rest h)
     (closed_has source t rest h))
 
@@ -573,15 +573,15 @@ abbrev ReadHas : Statement × Bool → Type 0
 ReadHas r = StatementHasBytes r.0
 
 labelled_has : (source : List ℕ) (line : ℕ) (w : Token) (rest : List Token) → AreBytes source
-    → IfSome (states.labelled source line w rest) ReadHas
-unfolding states.labelled
+    → IfSome (states.labelled_statement source line w rest) ReadHas
+unfolding states.labelled_statement
 labelled_has source line w rest h =
     mapped (states.instruction_of source rest) _ BareHas ReadHas (instruction_has source rest h)
     (λ i k. record { operand = k.operand; actuals = k.actuals })
 
 unlabelled_has : (source : List ℕ) (line : ℕ) (tokens : List Token) → AreBytes source
-    → IfSome (states.unlabelled source line tokens) ReadHas
-unfolding states.unlabelled
+    → IfSome (states.unlabelled_statement source line tokens) ReadHas
+unfolding states.unlabelled_statement
 unlabelled_has source line tokens h =
     mapped (states.instruction_of source tokens) _ BareHas ReadHas (instruction_has source tokens h)
     (λ i k. record { operand = k.operand; actuals = k.actuals })
@@ -604,15 +604,15 @@ abbrev FirstInitHas : Init × List Token → Type 0
 FirstInitHas r = HasBytes r.0.value
 
 counted_end_has : (source : List ℕ) (count : ℕ) (value : Literal) (tokens : List Token)
-    → HasBytes value → IfSome (counted_end source count value tokens) FirstInitHas
-unfolding counted_end
+    → HasBytes value → IfSome (counted_init_end source count value tokens) FirstInitHas
+unfolding counted_init_end
 counted_end_has source count value [] h = tt
 counted_end_has source count value (t ∷ rest) h =
     passed (is_mark source t mark.CloseParen) _ FirstInitHas (λ test. h)
 
 counted_has : (source : List ℕ) (tokens : List Token) → AreBytes source
-    → IfSome (counted_at source tokens) FirstInitHas
-unfolding counted_at
+    → IfSome (counted_init_at source tokens) FirstInitHas
+unfolding counted_init_at
 counted_has source (n ∷ open_ ∷ rest) h =
     passed (is_mark source open_ mark.OpenParen) _ FirstInitHas
     (λ test. then_made (number_of source n) _ FirstInitHas
@@ -625,7 +625,7 @@ init_at_has : (source : List ℕ) (tokens : List Token) → AreBytes source
     → IfSome (init_at source tokens) FirstInitHas
 unfolding init_at
 init_at_has source tokens h =
-    either (counted_at source tokens) _ FirstInitHas (counted_has source tokens h)
+    either (counted_init_at source tokens) _ FirstInitHas (counted_has source tokens h)
     (mapped (literal_at source tokens) _ FirstHasBytes FirstInitHas (literal_at_has source tokens h)
     (λ r k. k))
 
@@ -642,8 +642,8 @@ unfolding init_list
 init_list_has source tokens h =
     chained (init_at source tokens) _ FirstInitHas InitsHave (init_at_has source tokens h)
     (λ r k.
-    whole_holds (parts_from at_end (next_init source) (r.0 ∷ []) (length r.1) r.1) InitsHave
-    (parts_hold at_end (next_init source) (r.0 ∷ []) (length r.1) r.1 (λ xs ts. InitsHave xs)
+    whole_holds (parts_from end_of_tokens (next_init source) (r.0 ∷ []) (length r.1) r.1) InitsHave
+    (parts_hold end_of_tokens (next_init source) (r.0 ∷ []) (length r.1) r.1 (λ xs ts. InitsHave xs)
     InitsHave (k, tt)
     (λ xs ts all. one_more xs (next_init source ts) (next_init_has source ts h) all)
     (λ xs ts all. all)))
@@ -684,7 +684,7 @@ declaration_has : (source : List ℕ) (level : ℕ) (tokens : List Token) → Ar
     → IfSome (declaration_of source level tokens) DeclarationHas
 unfolding declaration_of
 declaration_has source level tokens h =
-    then_made (declared_at source tokens) _ DeclarationHas
+    then_made (declared_name_at source tokens) _ DeclarationHas
     (λ d. then_made (arrays_at source d.1) _ DeclarationHas
     (λ a. then_made (element_at source a.1) _ DeclarationHas
     (λ e. mapped (init_behind source a.0 e.0 e.1) _ InitsHave DeclarationHas
@@ -697,7 +697,7 @@ opens_has : (source : List ℕ) (level : ℕ) (tokens : List Token)
     → IfSome (structure_at source level tokens) FirstDeclarationHas
 unfolding structure_at
 opens_has source level tokens =
-    then_made (declared_at source tokens) _ FirstDeclarationHas
+    then_made (declared_name_at source tokens) _ FirstDeclarationHas
     (λ d. then_made (arrays_at source d.1) _ FirstDeclarationHas
     (λ a. made (after_struct source a.1) _ FirstDeclarationHas (λ rest. tt)))
 
@@ -765,20 +765,20 @@ plain_has source p line tokens h =
 
 other_clause_has : (source : List ℕ) (p : ClausePlace) (line : ℕ) (tokens : List Token)
     → AreBytes source → IfSome (clauses.other_clause source p line tokens) FirstClauseHas
-unfolding clauses.other_clause clauses.based_at
+unfolding clauses.other_clause clauses.base_block_at
 other_clause_has source p line tokens h =
     both (clauses.in_data_head p) _ _ FirstClauseHas
     (either _ (clauses.plain_clause source p line tokens) FirstClauseHas
     (then_made (block_at source tokens) _ FirstClauseHas
-    (λ r. passed (clauses.is_base r.0) _ FirstClauseHas (λ test. tt)))
+    (λ r. passed (clauses.is_base_block r.0) _ FirstClauseHas (λ test. tt)))
     (plain_has source p line tokens h))
     (plain_has source p line tokens h)
 
 keyword_has : (source : List ℕ) (p : ClausePlace) (line : ℕ) (k : Keyword) (rest : List Token)
     → IfSome (clauses.keyword_clause source p line k rest) FirstClauseHas
-unfolding clauses.keyword_clause clauses.head_of clauses.structure_end clauses.inner_end
+unfolding clauses.keyword_clause clauses.head_clause clauses.structure_end clauses.inner_end
 keyword_has source p line (keyword.Opens k) rest =
-    then_made (clauses.named_at source k rest) _ FirstClauseHas
+    then_made (clauses.block_of_kind_at source k rest) _ FirstClauseHas
     (λ b. made (clauses.result_at source k b.1) _ FirstClauseHas (λ r. tt))
 keyword_has source p line (keyword.Ends k) rest = tt
 keyword_has source p line (keyword.Section k) rest = tt
@@ -830,7 +830,7 @@ clause_has source p (t ∷ rest) h = clause_kind_has source p t rest (t ∷ rest
 -- ---- the tree
 
 reads_has : (source : List ℕ) (p : ClausePlace) (ts : List Token) (cs : List Clause)
-    (q : ClausePlace) (rest : List Token) → AreBytes source → Reads source p ts cs q rest
+    (q : ClausePlace) (rest : List Token) → AreBytes source → ReadsClauses source p ts cs q rest
     → AllByRecursion ClauseHas cs
 reads_has source p ts [] q rest h reads = tt
 reads_has source p ts (c ∷ cs) q rest h reads =
@@ -841,12 +841,12 @@ reads_has source p ts (c ∷ cs) q rest h reads =
     )
 
 kept_has : (cs : List Clause) → AllByRecursion ClauseHas cs
-    → AllByRecursion ClauseHas (filter is_kept cs)
+    → AllByRecursion ClauseHas (filter is_kept_by_tree cs)
 kept_has [] h = tt
-kept_has (c ∷ cs) h = by (is_kept c) (kept_has cs h.1)
+kept_has (c ∷ cs) h = by (is_kept_by_tree c) (kept_has cs h.1)
   where
-    by : (b : Bool) → AllByRecursion ClauseHas (filter is_kept cs)
-        → AllByRecursion ClauseHas (cond b (c ∷ filter is_kept cs) (filter is_kept cs))
+    by : (b : Bool) → AllByRecursion ClauseHas (filter is_kept_by_tree cs)
+        → AllByRecursion ClauseHas (cond b (c ∷ filter is_kept_by_tree cs) (filter is_kept_by_tree cs))
     by true more = (h.0, more)
     by false more = more
 

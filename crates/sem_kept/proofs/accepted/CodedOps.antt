@@ -28,7 +28,7 @@ use Rattle.flat_code.specs.declared.operations.Operation.TheVariants as operatio
 use Rattle.block_layout.specs.Fits.{bits_of}
 use Rattle.stl_ast.specs.Literals.{IsLiteral}
 use Rattle.stl_ast.specs.Operands.{IsOperand}
-use Rattle.stl_ast.specs.Statements.{AreActuals, IsStatement, is_empty}
+use Rattle.stl_ast.specs.Statements.{AreActuals, IsStatement, is_empty_statement}
 use Rattle.stl_ast.specs.declared.blocks.Block.{Block}
 use Rattle.stl_ast.specs.declared.declarations.Simple.{Simple}
 use Rattle.stl_ast.specs.declared.literals.Literal.{Literal}
@@ -43,10 +43,10 @@ use Rattle.plc_base.specs.Kinds.{is_callable as is_callable_kind, kind_number}
 use Rattle.stl_types.specs.Constants.{takes_constant}
 use Rattle.stl_types.specs.Context.{Context}
 use Rattle.stl_types.specs.Forms.{form_of}
-use Rattle.stl_types.specs.Operands.{is_on_wrong_side, operand_rule, rule_of, rule_seen, statement_rule, takes as form_takes}
+use Rattle.stl_types.specs.Operands.{is_on_wrong_side, operand_rule, rule_of_resolved_operand, rule_seen, statement_rule, takes_operand as form_takes}
 use Rattle.stl_types.specs.Parameters.{Callee, callee_of}
-use Rattle.stl_types.specs.Resolved.{resolved, seen_view}
-use Rattle.stl_types.specs.Resolution.{seen}
+use Rattle.stl_types.specs.Resolved.{resolved_operand, seen_view}
+use Rattle.stl_types.specs.Resolution.{resolution_of}
 use Rattle.stl_types.specs.declared.forms.OperandRule.{OperandRule}
 use Rattle.stl_types.specs.declared.forms.OperandRule.TheVariants as form
 use Rattle.stl_types.specs.declared.parameters.Formal.{Formal}
@@ -56,12 +56,12 @@ use Rattle.stl_types.specs.declared.views.Resolution.TheVariants.{Resolved, Unkn
 use Rattle.stl_types.specs.declared.views.ResolvedOperand.{ResolvedOperand}
 use Rattle.stl_types.specs.declared.views.ResolvedOperand.TheVariants as view
 use Rattle.stl_codegen.proofs.OpLemmas.{jumps, jump_ops}
-use Rattle.stl_codegen.specs.Compiled.{aimed}
-use Rattle.stl_codegen.specs.Emitted.{call_op, end_op, ending, instance_number, jump_op, opening, ops_of, passing, preparing}
-use Rattle.stl_codegen.specs.Instruction.{block_at, call_instr, end_instr, filler, in_order, instr_by, instruction, jump_instr, passings_to, resolved_instr, return_last, target_of, view_instr}
-use Rattle.stl_codegen.specs.Operands.{constant_bits, is_in_named_block, opened_by, operand_of}
-use Rattle.stl_codegen.specs.Passed.{passed_actual, passed_place, passed_seen, passed_view, passings_from, supplied, with_index}
-use Rattle.stl_codegen.specs.Operations.{call_of, end_of, jump_of, operation_for}
+use Rattle.stl_codegen.specs.Compiled.{operand_with_target}
+use Rattle.stl_codegen.specs.Emitted.{call_op, end_op, op_with_end_mark, instance_number_or_zero, jump_op, use_db_ops, ops_of, pass_ops, preparing_op}
+use Rattle.stl_codegen.specs.Instruction.{source_block_at, call_instr, end_instr, filler_instruction, in_parameter_order, instr_by, instruction, jump_instr, passings_to, resolved_instr, return_last, target_of, view_instr}
+use Rattle.stl_codegen.specs.Operands.{constant_bits, is_in_named_block, block_opened_by_operand, flat_operand_of}
+use Rattle.stl_codegen.specs.Passed.{passed_actual, passed_place, passed_seen, passed_view, passings_from, actual_of_formal, with_index}
+use Rattle.stl_codegen.specs.Operations.{call_operation_of, end_operation_of, jump_operation_of, operation_for}
 use Rattle.sem_kept.proofs.accepted.CodedBits.{bits_small, constant_taken}
 use Rattle.sem_kept.proofs.accepted.CodedTables.{taken, operation_is_op}
 use Rattle.sem_kept.proofs.accepted.CodedViews.{IsFit, IsWord, PlaceFits, SeenFits, ViewFits, direct_fits, found_holds, payload_right, pointer_fits, seen_fits, word_fits}
@@ -72,7 +72,7 @@ use Rattle.sem_kept.proofs.accepted.Shared.{call_form, no_call_constant, rule_ca
 -- ---- ops that stay ops wherever they lead
 
 abbrev pub IsGood : OpData → Type 0
-IsGood op = (f : ℕ → ℕ) → ((n : ℕ) → f n < 4294967296) → is_op op.code (aimed f op.operand) ≡ true
+IsGood op = (f : ℕ → ℕ) → ((n : ℕ) → f n < 4294967296) → is_op op.code (operand_with_target f op.operand) ≡ true
 
 -- an op that prepares its statement
 pub record IsGoodPart (op : OpData) : Type 0 where
@@ -90,7 +90,7 @@ pub record IsGoodStatement (ops : List OpData) : Type 0 where
   pub last : final.last ≡ true
 
 -- an operand that isn't a jump's
-still_good : (w : Operation) (last : Bool) (o : FlatOperand) → ((f : ℕ → ℕ) → aimed f o ≡ o)
+still_good : (w : Operation) (last : Bool) (o : FlatOperand) → ((f : ℕ → ℕ) → operand_with_target f o ≡ o)
     → is_instruction w o ≡ true → IsGood (record { code = op_code_of w; last = last; operand = o })
 still_good w last o still h f small =
     ap (λ (x : FlatOperand). is_op (op_code_of w) x) (still f) ∙ operation_is_op w o h
@@ -112,17 +112,17 @@ alone op good last = record {
 -- what the rules say of an operand and what it names
 abbrev IsAllowed : OperandRule → Operand → ResolvedOperand → Type 0
 IsAllowed f (operand.Constant value) v = (takes_constant f value ≡ true) × (v ≡ view.Constant)
-IsAllowed f _ v = rule_of f v ≡ None
+IsAllowed f _ v = rule_of_resolved_operand f v ≡ None
 
 record IsTaken (f : OperandRule) (v : ResolvedOperand) : Type 0 where
   takes : form_takes f v ≡ true
   side : is_on_wrong_side f v ≡ false
 
-rule_parts : (f : OperandRule) (v : ResolvedOperand) → rule_of f v ≡ None → IsTaken f v
+rule_parts : (f : OperandRule) (v : ResolvedOperand) → rule_of_resolved_operand f v ≡ None → IsTaken f v
 rule_parts f v h = let all = allowed f v h in record { takes = all.taken; side = all.side }
 
-still_view : (o : Operand) (v : ResolvedOperand) (f : ℕ → ℕ) → aimed f (operand_of o v) ≡ operand_of o v
-unfolding operand_of
+still_view : (o : Operand) (v : ResolvedOperand) (f : ℕ → ℕ) → operand_with_target f (flat_operand_of o v) ≡ flat_operand_of o v
+unfolding flat_operand_of
 still_view o (view.NumberBy numbered.Timer from byte) f = refl
 still_view o (view.NumberBy numbered.Counter from byte) f = refl
 still_view o (view.NumberBy numbered.Db from byte) f = refl
@@ -134,22 +134,22 @@ still_view o (view.Register register.Dino) f = refl
 still_view o (view.Register _) f = refl
 still_view o _ f = refl
 
-by_rule : (m : Mnemonic) (o : Operand) (v : ResolvedOperand) → jump_of m ≡ None → call_of m ≡ None
-    → end_of m ≡ None → is_empty m ≡ false → ViewFits o v → rule_of (form_of m) v ≡ None
-    → is_instruction (operation_for m o v) (operand_of o v) ≡ true
+by_rule : (m : Mnemonic) (o : Operand) (v : ResolvedOperand) → jump_operation_of m ≡ None → call_operation_of m ≡ None
+    → end_operation_of m ≡ None → is_empty_statement m ≡ false → ViewFits o v → rule_of_resolved_operand (form_of m) v ≡ None
+    → is_instruction (operation_for m o v) (flat_operand_of o v) ≡ true
 unfolding is_instruction
 by_rule m o v j c e n fits rule =
     let t = rule_parts (form_of m) v rule in
-    and_from (admits (takes_of_operation (operation_for m o v)) (operand_of o v))
-    (payload_fits (operand_of o v))
+    and_from (admits (takes_of_operation (operation_for m o v)) (flat_operand_of o v))
+    (payload_fits (flat_operand_of o v))
     (taken m o v j c e n (pointer_fits o v fits) t.takes)
     (payload_right (form_of m) o v t.side fits)
 
 by_constant : (m : Mnemonic) (value : Literal) → IsLiteral value → HasBytes value
     → takes_constant (form_of m) value ≡ true
     → is_instruction (operation_for m (operand.Constant value) view.Constant)
-    (operand_of (operand.Constant value) view.Constant) ≡ true
-unfolding is_instruction operand_of
+    (flat_operand_of (operand.Constant value) view.Constant) ≡ true
+unfolding is_instruction flat_operand_of
 by_constant m value is has h =
     let small = bits_small value is has in
     and_from
@@ -158,13 +158,13 @@ by_constant m value is has h =
     (ltb (bits_of value) 4294967296) (constant_taken m value is has h)
     (lt-ltb (bits_of value) 4294967296 (omega (arith, small)))
 
-is_taken : (m : Mnemonic) (o : Operand) (v : ResolvedOperand) → jump_of m ≡ None → call_of m ≡ None
-    → end_of m ≡ None → is_empty m ≡ false → IsOperand o → OperandHasBytes o → ViewFits o v
-    → IsAllowed (form_of m) o v → is_instruction (operation_for m o v) (operand_of o v) ≡ true
+is_taken : (m : Mnemonic) (o : Operand) (v : ResolvedOperand) → jump_operation_of m ≡ None → call_operation_of m ≡ None
+    → end_operation_of m ≡ None → is_empty_statement m ≡ false → IsOperand o → OperandHasBytes o → ViewFits o v
+    → IsAllowed (form_of m) o v → is_instruction (operation_for m o v) (flat_operand_of o v) ≡ true
 is_taken m (operand.Constant value) v j c e n is has fits allowed =
     subst
     (λ (x : ResolvedOperand).
-    is_instruction (operation_for m (operand.Constant value) x) (operand_of (operand.Constant value) x)
+    is_instruction (operation_for m (operand.Constant value) x) (flat_operand_of (operand.Constant value) x)
     ≡ true)
     (sym allowed.1) (by_constant m value is has allowed.0)
 is_taken m operand.Nothing v j c e n is has fits allowed =
@@ -197,7 +197,7 @@ is_taken m (operand.Called name instance) v j c e n is has fits allowed =
     by_rule m (operand.Called name instance) v j c e n fits allowed
 
 -- what stands in the source
-seen_rule : (f : OperandRule) (s : Resolution) (v : ResolvedOperand) → s ≡ Resolved v → rule_seen f s ≡ None → rule_of f v ≡ None
+seen_rule : (f : OperandRule) (s : Resolution) (v : ResolvedOperand) → s ≡ Resolved v → rule_seen f s ≡ None → rule_of_resolved_operand f v ≡ None
 seen_rule f s v e h = subst (λ (x : Resolution). rule_seen f x ≡ None) e h
 
 abbrev constant_by : Bool → Option ℕ
@@ -212,36 +212,36 @@ the_view d (Resolved v) = v
 the_view d _ = d
 
 allowed_by : (c : Context) (f : OperandRule) (o : Operand) (v : ResolvedOperand) → operand_rule c f o ≡ None
-    → seen c o ≡ Resolved v → IsAllowed f o v
-unfolding seen
+    → resolution_of c o ≡ Resolved v → IsAllowed f o v
+unfolding resolution_of
 allowed_by c f (operand.Constant value) v h e =
     (constant_rule (takes_constant f value) h, sym (ap (the_view view.Constant) e))
-allowed_by c f operand.Nothing v h e = seen_rule f (seen c operand.Nothing) v e h
+allowed_by c f operand.Nothing v h e = seen_rule f (resolution_of c operand.Nothing) v e h
 allowed_by c f (operand.Direct name a w byte bit) v h e =
-    seen_rule f (seen c (operand.Direct name a w byte bit)) v e h
-allowed_by c f (operand.Timer k) v h e = seen_rule f (seen c (operand.Timer k)) v e h
-allowed_by c f (operand.Counter k) v h e = seen_rule f (seen c (operand.Counter k)) v e h
+    seen_rule f (resolution_of c (operand.Direct name a w byte bit)) v e h
+allowed_by c f (operand.Timer k) v h e = seen_rule f (resolution_of c (operand.Timer k)) v e h
+allowed_by c f (operand.Counter k) v h e = seen_rule f (resolution_of c (operand.Counter k)) v e h
 allowed_by c f (operand.Named path steps) v h e =
-    seen_rule f (seen c (operand.Named path steps)) v e h
+    seen_rule f (resolution_of c (operand.Named path steps)) v e h
 allowed_by c f (operand.ByMemory a w from byte) v h e =
-    seen_rule f (seen c (operand.ByMemory a w from byte)) v e h
+    seen_rule f (resolution_of c (operand.ByMemory a w from byte)) v e h
 allowed_by c f (operand.NumberBy what from byte) v h e =
-    seen_rule f (seen c (operand.NumberBy what from byte)) v e h
+    seen_rule f (resolution_of c (operand.NumberBy what from byte)) v e h
 allowed_by c f (operand.ByRegister a w r bits) v h e =
-    seen_rule f (seen c (operand.ByRegister a w r bits)) v e h
+    seen_rule f (resolution_of c (operand.ByRegister a w r bits)) v e h
 allowed_by c f (operand.Pointer a byte bit) v h e =
-    seen_rule f (seen c (operand.Pointer a byte bit)) v e h
-allowed_by c f (operand.Label name) v h e = seen_rule f (seen c (operand.Label name)) v e h
-allowed_by c f (operand.OfStatus flag) v h e = seen_rule f (seen c (operand.OfStatus flag)) v e h
-allowed_by c f (operand.Other name) v h e = seen_rule f (seen c (operand.Other name)) v e h
+    seen_rule f (resolution_of c (operand.Pointer a byte bit)) v e h
+allowed_by c f (operand.Label name) v h e = seen_rule f (resolution_of c (operand.Label name)) v e h
+allowed_by c f (operand.OfStatus flag) v h e = seen_rule f (resolution_of c (operand.OfStatus flag)) v e h
+allowed_by c f (operand.Other name) v h e = seen_rule f (resolution_of c (operand.Other name)) v e h
 allowed_by c f (operand.OpenBlock di name) v h e =
-    seen_rule f (seen c (operand.OpenBlock di name)) v e h
+    seen_rule f (resolution_of c (operand.OpenBlock di name)) v e h
 allowed_by c f (operand.Called name instance) v h e =
-    seen_rule f (seen c (operand.Called name instance)) v e h
+    seen_rule f (resolution_of c (operand.Called name instance)) v e h
 
 -- ---- one that opens a data block first
 
-opened_fits : (o : Operand) (v : ResolvedOperand) → ViewFits o v → IfSome (opened_by v) IsWord
+opened_fits : (o : Operand) (v : ResolvedOperand) → ViewFits o v → IfSome (block_opened_by_operand v) IsWord
 opened_fits o (view.Direct place w side declared) fits = by (is_in_named_block place)
   where
     by : (b : Bool) → IfSome (if b then Some place.number else None) IsWord
@@ -249,7 +249,7 @@ opened_fits o (view.Direct place w side declared) fits = by (is_in_named_block p
     by false = tt
 opened_fits o _ fits = tt
 
-opening_good : (n : ℕ) → IsWord n → IsGoodPart (preparing operation.UseDb (flat.UseDb n))
+opening_good : (n : ℕ) → IsWord n → IsGoodPart (preparing_op operation.UseDb (flat.UseDb n))
 unfolding is_instruction admits
 opening_good n h = record {
   good = still_good operation.UseDb false (flat.UseDb n) (λ f. refl) (word_fits n h);
@@ -257,11 +257,11 @@ opening_good n h = record {
 }
 
 opened_good : (use_db : Option ℕ) (w : Operation) (o : FlatOperand) → IfSome use_db IsWord
-    → IsGood (ending w o) → IsGoodStatement (opening use_db ++ ending w o ∷ [])
-opened_good None w o h good = alone (ending w o) good refl
+    → IsGood (op_with_end_mark w o) → IsGoodStatement (use_db_ops use_db ++ op_with_end_mark w o ∷ [])
+opened_good None w o h good = alone (op_with_end_mark w o) good refl
 opened_good (Some n) w o h good = record {
-  front = opening (Some n);
-  final = ending w o;
+  front = use_db_ops (Some n);
+  final = op_with_end_mark w o;
   whole = refl;
   parts = (opening_good n h, tt);
   few = omega arith;
@@ -280,7 +280,7 @@ kind_called kinds.Ob h = absurd cc
 kind_called kinds.Db h = absurd cc
 kind_called kinds.Udt h = absurd cc
 
-instance_small : (instance : Option ℕ) → IfSome instance IsWord → IsWord (instance_number instance)
+instance_small : (instance : Option ℕ) → IfSome instance IsWord → IsWord (instance_number_or_zero instance)
 instance_small None h = omega arith
 instance_small (Some n) h = h
 
@@ -296,8 +296,8 @@ call_good : (how : CallOperation) (id : BlockId) (instance : Option ℕ) → is_
     → IsWord id.number → IfSome instance IsWord → IsGood (call_op how id instance)
 call_good how id instance c h k =
     still_good (operation.Call how) true
-    (flat.Called (kind_number id.kind) id.number (instance_number instance)) (λ f. refl)
-    (call_takes how (kind_number id.kind) id.number (instance_number instance)
+    (flat.Called (kind_number id.kind) id.number (instance_number_or_zero instance)) (λ f. refl)
+    (call_takes how (kind_number id.kind) id.number (instance_number_or_zero instance)
     (kind_called id.kind c) h (instance_small instance k))
 
 -- what is passed
@@ -331,8 +331,8 @@ seen_passed o Unjudged fits = tt
 
 -- what a call passes for the parameters from an index on
 record IsGoodPassing (most : ℕ) (ps : List Passing) : Type 0 where
-  parts : AllByRecursion IsGoodPart (passing ps)
-  few : length (passing ps) ≤ most
+  parts : AllByRecursion IsGoodPart (pass_ops ps)
+  few : length (pass_ops ps) ≤ most
 
 pass_takes : (index : ℕ) (a : Passed) → index < 256 → actual_fits a ≡ true
     → is_instruction operation.Pass (flat.Pass index a) ≡ true
@@ -340,21 +340,21 @@ unfolding is_instruction admits passed_coding
 pass_takes index a lt fits = and_from (ltb index 256) (actual_fits a) (lt-ltb index 256 lt) fits
 
 pass_good : (index : ℕ) (a : Passed) → index < 256 → actual_fits a ≡ true
-    → IsGoodPart (preparing operation.Pass (flat.Pass index a))
+    → IsGoodPart (preparing_op operation.Pass (flat.Pass index a))
 pass_good index a lt fits = record {
   good = still_good operation.Pass false (flat.Pass index a) (λ f. refl) (pass_takes index a lt fits);
   inner = refl;
 }
 
 abbrev IsActualOf : Context → Actual → Type 0
-IsActualOf c a = SeenFits a.value (seen c a.value)
+IsActualOf c a = SeenFits a.value (resolution_of c a.value)
 
 passed_one : (c : Context) (index : ℕ) (a : Option Actual) (ps : List Passing) (n : ℕ)
     → index < 256 → IfSome a (IsActualOf c) → IsGoodPassing n ps
     → IsGoodPassing (suc n) (passed_actual c index a ++ ps)
 passed_one c index None ps n lt h more = record { parts = more.parts; few = omega (arith, more.few) }
 passed_one c index (Some a) ps n lt h more =
-    by (passed_seen a.value (seen c a.value)) (seen_passed a.value (seen c a.value) h)
+    by (passed_seen a.value (resolution_of c a.value)) (seen_passed a.value (resolution_of c a.value) h)
   where
     by : (p : Option Passed) → IfSome p (λ p. actual_fits p ≡ true)
         → IsGoodPassing (suc n) (with_index index p ++ ps)
@@ -369,13 +369,13 @@ passed_good : (c : Context) (actuals : List Actual) (index : ℕ) (formals : Lis
     → IsGoodPassing (length formals) (passings_from c actuals index formals)
 passed_good c actuals index [] all few = record { parts = tt; few = omega arith }
 passed_good c actuals index (f ∷ fs) all few =
-    passed_one c index (supplied actuals f) (passings_from c actuals (suc index) fs) (length fs)
+    passed_one c index (actual_of_formal actuals f) (passings_from c actuals (suc index) fs) (length fs)
     (omega (arith, few))
     (found_holds (IsActualOf c) (λ a. bytes_eq (upper_case_name a.name) f.name) actuals all)
     (passed_good c actuals (suc index) fs all (omega (arith, few)))
 
 in_order_length : (b : Option Block) (formals : List Formal)
-    → length (in_order b formals) ≡ length formals
+    → length (in_parameter_order b formals) ≡ length formals
 in_order_length None formals = refl
 in_order_length (Some b) formals = by b.result
   where
@@ -395,9 +395,9 @@ passings_good : (c : Context) (s : Statement) (callee : Option Callee)
     → IsGoodPassing 60 (passings_to c s callee)
 passings_good c s None all few = record { parts = tt; few = omega arith }
 passings_good c s (Some callee) all few =
-    let ordered = in_order (block_at c.blocks callee.place) callee.formals in
+    let ordered = in_parameter_order (source_block_at c.blocks callee.place) callee.formals in
     let same : length ordered ≡ length callee.formals =
-    in_order_length (block_at c.blocks callee.place) callee.formals in
+    in_order_length (source_block_at c.blocks callee.place) callee.formals in
     let within : 0 + length ordered ≤ 256 = omega (arith, same, few) in
     let good = passed_good c s.actuals 0 ordered all within in
     record { parts = good.parts; few = omega (arith, good.few, same, few) }
@@ -407,7 +407,7 @@ called_good : (how : CallOperation) (id : BlockId) (instance : Option ℕ) (ps :
     → IsGoodStatement (ops_of (Calls how id instance ps))
 unfolding ops_of
 called_good how id instance ps c h k good = record {
-  front = passing ps;
+  front = pass_ops ps;
   final = call_op how id instance;
   whole = refl;
   parts = good.parts;
@@ -418,10 +418,10 @@ called_good how id instance ps c h k good = record {
 
 -- ---- statements
 
-filler_good : IsGoodStatement (ops_of filler)
+filler_good : IsGoodStatement (ops_of filler_instruction)
 unfolding ops_of is_instruction admits
 filler_good =
-    alone (ending operation.Nop (flat.Literal 0))
+    alone (op_with_end_mark operation.Nop (flat.Literal 0))
     (still_good operation.Nop true (flat.Literal 0) (λ f. refl) refl) refl
 
 jump_good : (how : JumpOperation) (n target : ℕ) → IsGoodStatement (ops_of (jump_instr how n target))
@@ -444,7 +444,7 @@ end_good how =
     (still_good (operation.End how) true flat.Nothing (λ f. refl) (end_takes how)) refl
 
 does_good : (use_db : Option ℕ) (w : Operation) (o : FlatOperand) → IfSome use_db IsWord
-    → IsGood (ending w o) → IsGoodStatement (ops_of (Does use_db w o))
+    → IsGood (op_with_end_mark w o) → IsGoodStatement (ops_of (Does use_db w o))
 unfolding ops_of
 does_good use_db w o h good = opened_good use_db w o h good
 
@@ -465,7 +465,7 @@ abbrev CallsCallable : ResolvedOperand → Type 0
 CallsCallable (view.Called id instance) = is_callable_kind id.kind ≡ true
 CallsCallable _ = Unit {0}
 
-calls_callable : (v : ResolvedOperand) → rule_of form.Calls v ≡ None → CallsCallable v
+calls_callable : (v : ResolvedOperand) → rule_of_resolved_operand form.Calls v ≡ None → CallsCallable v
 calls_callable (view.Called id instance) h = rule_callable id instance h
 calls_callable _ h = tt
 
@@ -479,44 +479,44 @@ call_view_good c s how (view.Called id instance) fit good fits calls =
 call_view_good c s how _ fit good fits calls = filler_good
 
 view_good : (c : Context) (s : Statement) (v : ResolvedOperand) → IsFit c → IsGoodSource c s
-    → is_empty s.code ≡ false → jump_of s.code ≡ None → statement_rule c s ≡ None
-    → seen c s.operand ≡ Resolved v → IsGoodStatement (ops_of (view_instr c s v (call_of s.code)))
-view_good c s v fit good some no_jump rule e = by (call_of s.code) refl
+    → is_empty_statement s.code ≡ false → jump_operation_of s.code ≡ None → statement_rule c s ≡ None
+    → resolution_of c s.operand ≡ Resolved v → IsGoodStatement (ops_of (view_instr c s v (call_operation_of s.code)))
+view_good c s v fit good some no_jump rule e = by (call_operation_of s.code) refl
   where
     fits : ViewFits s.operand v
     fits =
         subst (SeenFits s.operand) e (seen_fits c s.operand fit good.formed.value good.has.operand)
 
-    ended : (end : Option EndOperation) → call_of s.code ≡ None → end_of s.code ≡ end
+    ended : (end : Option EndOperation) → call_operation_of s.code ≡ None → end_operation_of s.code ≡ end
         → IsGoodStatement (ops_of (end_instr s v end))
     ended (Some how) no_call is = end_good how
     ended None no_call is =
-        does_good (opened_by v) (operation_for s.code s.operand v) (operand_of s.operand v)
+        does_good (block_opened_by_operand v) (operation_for s.code s.operand v) (flat_operand_of s.operand v)
         (opened_fits s.operand v fits)
-        (still_good (operation_for s.code s.operand v) true (operand_of s.operand v)
+        (still_good (operation_for s.code s.operand v) true (flat_operand_of s.operand v)
         (still_view s.operand v)
         (is_taken s.code s.operand v no_jump no_call is some good.formed.value good.has.operand fits
         (allowed_by c (form_of s.code) s.operand v rule e)))
 
-    by : (how : Option CallOperation) → call_of s.code ≡ how
+    by : (how : Option CallOperation) → call_operation_of s.code ≡ how
         → IsGoodStatement (ops_of (view_instr c s v how))
     by (Some how) is =
         call_view_good c s how v fit good fits
         (calls_callable v
         (rule_there c form.Calls s.operand v no_call_constant
         (ap (λ (f : OperandRule). operand_rule c f s.operand) (sym (call_form s.code how is)) ∙ rule) e))
-    by None is = ended (end_of s.code) is refl
+    by None is = ended (end_operation_of s.code) is refl
 
 record IsResolved (c : Context) (s : Statement) (v : ResolvedOperand) : Type 0 where
   rule : statement_rule c s ≡ None
-  seen : seen c s.operand ≡ Resolved v
+  seen : resolution_of c s.operand ≡ Resolved v
 
-resolved_parts : (c : Context) (s : Statement) (v : ResolvedOperand) → resolved c s ≡ Some v
+resolved_parts : (c : Context) (s : Statement) (v : ResolvedOperand) → resolved_operand c s ≡ Some v
     → IsResolved c s v
-unfolding resolved
-resolved_parts c s v e = by (statement_rule c s) (seen c s.operand) refl refl e
+unfolding resolved_operand
+resolved_parts c s v e = by (statement_rule c s) (resolution_of c s.operand) refl refl e
   where
-    by : (rule : Option ℕ) (what : Resolution) → statement_rule c s ≡ rule → seen c s.operand ≡ what
+    by : (rule : Option ℕ) (what : Resolution) → statement_rule c s ≡ rule → resolution_of c s.operand ≡ what
         → (if is_none rule then seen_view what else None) ≡ Some v → IsResolved c s v
     by None (Resolved x) r k h = record { rule = r; seen = k ∙ ap Resolved (ap (view_or x) h) }
       where
@@ -529,18 +529,18 @@ resolved_parts c s v e = by (statement_rule c s) (seen c s.operand) refl refl e
 
 -- THE OPS OF A STATEMENT
 pub statement_good : (c : Context) (body : List Statement) (n : ℕ) (s : Statement) → IsFit c
-    → IsGoodSource c s → is_empty s.code ≡ false
+    → IsGoodSource c s → is_empty_statement s.code ≡ false
     → IsGoodStatement (ops_of (instruction c body n s))
 unfolding instruction
-statement_good c body n s fit good some = by (jump_of s.code) refl
+statement_good c body n s fit good some = by (jump_operation_of s.code) refl
   where
-    resolves : (v : Option ResolvedOperand) → jump_of s.code ≡ None → resolved c s ≡ v
+    resolves : (v : Option ResolvedOperand) → jump_operation_of s.code ≡ None → resolved_operand c s ≡ v
         → IsGoodStatement (ops_of (resolved_instr c s v))
     resolves None no_jump e = filler_good
     resolves (Some v) no_jump e =
         let r = resolved_parts c s v e in view_good c s v fit good some no_jump r.rule r.seen
 
-    by : (how : Option JumpOperation) → jump_of s.code ≡ how
+    by : (how : Option JumpOperation) → jump_operation_of s.code ≡ how
         → IsGoodStatement (ops_of (instr_by c body n s how))
     by (Some how) is = jump_good how n (target_of body s.operand)
-    by None is = resolves (resolved c s) is refl
+    by None is = resolves (resolved_operand c s) is refl

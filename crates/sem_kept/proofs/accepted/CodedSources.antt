@@ -9,8 +9,8 @@ use Rattle.plc_base.specs.Kinds.{is_function, is_function_block, is_same_kind, i
 use Rattle.plc_base.specs.declared.blocks.BlockId.{BlockId}
 use Rattle.plc_base.specs.declared.blocks.BlockKind.{BlockKind}
 use Rattle.plc_base.specs.declared.blocks.BlockKind.TheVariants as kinds
-use Rattle.stl_ast.specs.Blocks.{is_parameter, may_have}
-use Rattle.stl_ast.specs.Declarations.{is_elementary, is_plain}
+use Rattle.stl_ast.specs.Blocks.{is_parameter, may_have_section}
+use Rattle.stl_ast.specs.Declarations.{is_elementary, is_elementary_type}
 use Rattle.stl_ast.specs.Operands.{IsAnyName}
 use Rattle.stl_ast.specs.Outline.{IsOutline, level_behind}
 use Rattle.stl_ast.specs.WellFormed.{AreDeclaredIn, IsBlock, IsHeadName, IsSection, IsShapeOf}
@@ -30,13 +30,13 @@ use Rattle.stl_ast.specs.declared.operands.Operand.{Operand}
 use Rattle.stl_ast.specs.declared.operands.Operand.TheVariants as operand
 use Rattle.stl_ast.specs.declared.statements.Statement.{Statement}
 use Rattle.stl_symbols.specs.Symbol.{Symbol}
-use Rattle.block_layout.specs.Around.{Outside, of_sections, of_structure, onto}
+use Rattle.block_layout.specs.Around.{Outside, of_sections, of_structure, declarations_before_next}
 use Rattle.block_layout.specs.Blocks.{id_of, named_block, of_kind}
-use Rattle.block_layout.specs.Cells.{cell_of, cells_of, components_of, is_temp, opened, returned_cells, section_cells}
+use Rattle.block_layout.specs.Cells.{cell_of, cells_of, components_of, is_temp, with_first_cell_opening, returned_cells, section_cells}
 use Rattle.block_layout.specs.Layouts.{block_layout, layouts_by, layouts_from, layouts_of}
-use Rattle.block_layout.specs.Measures.{types_of, with_all_bits, with_all_depths}
+use Rattle.block_layout.specs.Measures.{types_of_source, with_all_bits, with_all_depths}
 use Rattle.block_layout.specs.Paths.{cells_at, cells_in}
-use Rattle.block_layout.specs.Rule52.{declared_in, has_too_many_parameters, parameter_count, returned}
+use Rattle.block_layout.specs.Rule52.{parameters_in_section, has_too_many_parameters, parameter_count, return_value_count}
 use Rattle.block_layout.specs.Types.{Types}
 use Rattle.block_layout.specs.declared.blocks.BlockLayout.{BlockLayout}
 use Rattle.block_layout.specs.declared.cells.Cell.{Cell}
@@ -55,7 +55,7 @@ use Rattle.sem_kept.proofs.accepted.CodedViews.{IsFit, IsWord, LayoutFits, Symbo
 plain_level : (d : Declaration) → is_elementary d ≡ true → level_behind d.level d.of.of ≡ d.level
 plain_level d h = by d.of.arrays d.of.of h
   where
-    by : (arrays : List Bounds) (t : ElementType) → is_plain arrays t ≡ true
+    by : (arrays : List Bounds) (t : ElementType) → is_elementary_type arrays t ≡ true
         → level_behind d.level t ≡ d.level
     by [] (type.Plain kind) e = refl
     by [] type.Structure e = absurd cc
@@ -87,12 +87,12 @@ formals_append : (xs ys : List Cell)
 formals_append xs ys =
     ap length (flat_map-append formal_here xs ys) ∙ length-append (formals_of xs) (formals_of ys)
 
-formals_opened : (cells : List Cell) → formals_of (opened cells) ≡ formals_of cells
+formals_opened : (cells : List Cell) → formals_of (with_first_cell_opening cells) ≡ formals_of cells
 formals_opened [] = refl
 formals_opened (c ∷ cells) = by c.sound (formals_opened cells)
   where
-    by : (b : Bool) → formals_of (opened cells) ≡ formals_of cells
-        → formals_of (if b then record c { opens = true } ∷ cells else c ∷ opened cells)
+    by : (b : Bool) → formals_of (with_first_cell_opening cells) ≡ formals_of cells
+        → formals_of (if b then record c { opens = true } ∷ cells else c ∷ with_first_cell_opening cells)
         ≡ formals_of (c ∷ cells)
     by true more = refl
     by false more = ap (λ (l : List Formal). formal_here c ++ l) more
@@ -135,14 +135,14 @@ no_formals y o p before (d ∷ ds) h =
 
 section_formals : (y : Types) (o : Outside) (k : BlockKind) (before : List Declaration) (p : Part)
     → IsSection k p
-    → length (formals_of (opened (cells_of y o p.kind before p.items))) ≤ declared_in p
+    → length (formals_of (with_first_cell_opening (cells_of y o p.kind before p.items))) ≤ parameters_in_section p
 section_formals y o k before p section = by (is_parameter p.kind) refl
   where
     cells : List Cell
     cells = cells_of y o p.kind before p.items
 
     by : (b : Bool) → is_parameter p.kind ≡ b
-        → length (formals_of (opened cells))
+        → length (formals_of (with_first_cell_opening cells))
         ≤ (if b then count_by (λ d. nat_eq d.level 0) p.items else 0)
     by true e =
         let same = ap length (formals_opened cells) in
@@ -157,27 +157,27 @@ section_formals y o k before p section = by (is_parameter p.kind) refl
 sections_formals : (y : Types) (o : Outside) (k : BlockKind) (before : List Declaration)
     (parts : List Part) → AllByRecursion (IsSection k) parts
     → length (formals_of (section_cells y o (λ p. not (is_temp p)) before parts))
-    ≤ sum_by declared_in parts
+    ≤ sum_by parameters_in_section parts
 sections_formals y o k before [] h = omega arith
 sections_formals y o k before (p ∷ parts) h =
     by (not (is_temp p.kind))
-    (sections_formals y o k (onto before p.items) parts h.1)
+    (sections_formals y o k (declarations_before_next before p.items) parts h.1)
   where
     rest : List Cell
-    rest = section_cells y o (λ p. not (is_temp p)) (onto before p.items) parts
+    rest = section_cells y o (λ p. not (is_temp p)) (declarations_before_next before p.items) parts
 
-    by : (b : Bool) → length (formals_of rest) ≤ sum_by declared_in parts
+    by : (b : Bool) → length (formals_of rest) ≤ sum_by parameters_in_section parts
         → length (formals_of
-        ((if b then opened (cells_of y o p.kind before p.items) else []) ++ rest))
-        ≤ sum_by declared_in (p ∷ parts)
+        ((if b then with_first_cell_opening (cells_of y o p.kind before p.items) else []) ++ rest))
+        ≤ sum_by parameters_in_section (p ∷ parts)
     by true more =
         let one = section_formals y o k before p h.0 in
-        let both = formals_append (opened (cells_of y o p.kind before p.items)) rest in
-        let all = sum_by-cons declared_in p parts in
+        let both = formals_append (with_first_cell_opening (cells_of y o p.kind before p.items)) rest in
+        let all = sum_by-cons parameters_in_section p parts in
         omega (arith, one, more, both, all)
-    by false more = let all = sum_by-cons declared_in p parts in omega (arith, more, all)
+    by false more = let all = sum_by-cons parameters_in_section p parts in omega (arith, more, all)
 
-returned_count : (result : Option Simple) → length (returned_cells result) ≡ returned result
+returned_count : (result : Option Simple) → length (returned_cells result) ≡ return_value_count result
 returned_count None = refl
 returned_count (Some kind) = refl
 
@@ -197,20 +197,20 @@ block_formals y b is =
 
 -- ---- how many components a function has
 
-opened_count : (cells : List Cell) → length (opened cells) ≡ length cells
+opened_count : (cells : List Cell) → length (with_first_cell_opening cells) ≡ length cells
 opened_count [] = refl
 opened_count (c ∷ cells) = by c.sound (opened_count cells)
   where
-    by : (b : Bool) → length (opened cells) ≡ length cells
-        → length (if b then record c { opens = true } ∷ cells else c ∷ opened cells)
+    by : (b : Bool) → length (with_first_cell_opening cells) ≡ length cells
+        → length (if b then record c { opens = true } ∷ cells else c ∷ with_first_cell_opening cells)
         ≡ length (c ∷ cells)
     by true more = refl
     by false more = ap suc more
 
 -- a section of a function that isn't VAR_TEMP has parameters
-function_section : (p : PartKind) → may_have kinds.Fc p ≡ true → is_temp p ≡ false
+function_section : (p : PartKind) → may_have_section kinds.Fc p ≡ true → is_temp p ≡ false
     → is_parameter p ≡ true
-unfolding may_have
+unfolding may_have_section
 function_section part.Input h e = refl
 function_section part.Output h e = refl
 function_section part.InOut h e = refl
@@ -219,35 +219,35 @@ function_section part.Temp h e = absurd cc
 
 section_count : (y : Types) (o : Outside) (before : List Declaration) (p : Part)
     → IsSection kinds.Fc p → is_temp p.kind ≡ false
-    → length (opened (cells_of y o p.kind before p.items)) ≤ declared_in p
+    → length (with_first_cell_opening (cells_of y o p.kind before p.items)) ≤ parameters_in_section p
 section_count y o before p section e =
     let is = function_section p.kind section.0 e in
     let same = opened_count (cells_of y o p.kind before p.items) in
     let count = cells_count y o p.kind before p.items in
     let all = elementary_count kinds.Fc p.kind p.items is section.1 section.2 in
-    let here : declared_in p ≡ count_by (λ d. nat_eq d.level 0) p.items =
+    let here : parameters_in_section p ≡ count_by (λ d. nat_eq d.level 0) p.items =
     ap (λ (b : Bool). if b then count_by (λ d. nat_eq d.level 0) p.items else 0) is in
     omega (arith, same, count, all, here)
 
 sections_count : (y : Types) (o : Outside) (before : List Declaration) (parts : List Part)
     → AllByRecursion (IsSection kinds.Fc) parts
-    → length (section_cells y o (λ p. not (is_temp p)) before parts) ≤ sum_by declared_in parts
+    → length (section_cells y o (λ p. not (is_temp p)) before parts) ≤ sum_by parameters_in_section parts
 sections_count y o before [] h = omega arith
 sections_count y o before (p ∷ parts) h =
-    by (is_temp p.kind) refl (sections_count y o (onto before p.items) parts h.1)
+    by (is_temp p.kind) refl (sections_count y o (declarations_before_next before p.items) parts h.1)
   where
     rest : List Cell
-    rest = section_cells y o (λ p. not (is_temp p)) (onto before p.items) parts
+    rest = section_cells y o (λ p. not (is_temp p)) (declarations_before_next before p.items) parts
 
-    by : (b : Bool) → is_temp p.kind ≡ b → length rest ≤ sum_by declared_in parts
+    by : (b : Bool) → is_temp p.kind ≡ b → length rest ≤ sum_by parameters_in_section parts
         → length
-        ((if not b then opened (cells_of y o p.kind before p.items) else []) ++ rest)
-        ≤ sum_by declared_in (p ∷ parts)
-    by true e more = let all = sum_by-cons declared_in p parts in omega (arith, more, all)
+        ((if not b then with_first_cell_opening (cells_of y o p.kind before p.items) else []) ++ rest)
+        ≤ sum_by parameters_in_section (p ∷ parts)
+    by true e more = let all = sum_by-cons parameters_in_section p parts in omega (arith, more, all)
     by false e more =
         let one = section_count y o before p h.0 e in
-        let both = length-append (opened (cells_of y o p.kind before p.items)) rest in
-        let all = sum_by-cons declared_in p parts in
+        let both = length-append (with_first_cell_opening (cells_of y o p.kind before p.items)) rest in
+        let all = sum_by-cons parameters_in_section p parts in
         omega (arith, one, more, both, all)
 
 is_fc : (k : BlockKind) → is_function k ≡ true → k ≡ kinds.Fc
@@ -287,8 +287,8 @@ any_head k (block_name.Number id) h = (tt, h.1)
 any_head k (block_name.Quoted name) h = tt
 
 measured_symbols : (symbols : List Symbol) (blocks : List Block)
-    → (types_of symbols blocks).symbols ≡ symbols
-unfolding types_of with_all_bits with_all_depths
+    → (types_of_source symbols blocks).symbols ≡ symbols
+unfolding types_of_source with_all_bits with_all_depths
 measured_symbols symbols blocks = refl
 
 kind_holds : (test : BlockKind → Bool) (id : Option BlockId)
@@ -340,7 +340,7 @@ tree_few : (symbols : List Symbol) (t : Tree) → AllByRecursion SymbolFits symb
     → IsSoundTree symbols t → AllByRecursion IsFewLayout (layouts_of t symbols)
 unfolding layouts_of layouts_by
 tree_few symbols t fit sound =
-    layouts_few (types_of symbols t.blocks) t.blocks [] t.blocks
+    layouts_few (types_of_source symbols t.blocks) t.blocks [] t.blocks
     (subst (AllByRecursion SymbolFits) (sym (measured_symbols symbols t.blocks)) fit)
     (blocks_few symbols t 0 t.blocks (layouts_of t symbols) sound.blocks)
 
@@ -358,7 +358,7 @@ own_few : (symbols : List Symbol) (t : Tree) (k : ℕ) (b : Block) (l : BlockLay
     → IsSound symbols t k b l → in_function (context_at symbols t k) ≡ true
     → length (cells_at (layouts_of t symbols) k false) ≤ 60
 own_few symbols t k b l sound function =
-    let y = types_of symbols t.blocks in
+    let y = types_of_source symbols t.blocks in
     let kind : is_function b.kind ≡ true =
     subst (λ (o : Option Block). is_of_function o ≡ true) sound.block_there function in
     let count = function_count y b sound.well_formed kind in

@@ -3,7 +3,7 @@ use Rattle.std.proofs.Common.{◌≡◌, ℕ, ◌≤◌, List, Ok, arith}
 use Rattle.std.specs.List.{AllByRecursion}
 use Rattle.plc_base.specs.declared.places.Width.{Width}
 use Rattle.plc_base.specs.declared.places.Width.TheVariants as width
-use Rattle.stl_symbols.specs.Symbol.{IsFirstBit, IsSymbol, IsTarget, Symbol}
+use Rattle.stl_symbols.specs.Symbol.{IsFirstBit, IsSymbol, IsSymbolTarget, Symbol}
 use Rattle.stl_symbols.specs.Symbols.{symbols_in}
 use Rattle.stl_symbols.specs.declared.languages.Language.{Language}
 use Rattle.stl_symbols.specs.declared.targets.Target.{Target}
@@ -18,7 +18,7 @@ bit_fits width.Byte bit h = omega (arith, h)
 bit_fits width.Word bit h = omega (arith, h)
 bit_fits width.Dword bit h = omega (arith, h)
 
-target_fits : (t : Target) → IsTarget t → TargetFits t
+target_fits : (t : Target) → IsSymbolTarget t → TargetFits t
 target_fits (target.Variable place w) h =
     let number = h.number in (omega (arith, number), h.byte, bit_fits w place.bit h.bit)
 target_fits (target.Timer n) h = h

@@ -22,19 +22,19 @@ use Rattle.flat_code.specs.declared.operations.Shift.TheVariants as shifts
 use Rattle.plc_base.specs.declared.TimerKind.TheVariants as starts
 use Rattle.flat_code.specs.declared.operations.Operation.{Operation}
 use Rattle.flat_code.specs.declared.operations.Operation.TheVariants as operation
-use Rattle.stl_ast.specs.Statements.{is_empty}
+use Rattle.stl_ast.specs.Statements.{is_empty_statement}
 use Rattle.stl_ast.specs.declared.mnemonics.Mnemonic.{Mnemonic}
 use Rattle.stl_ast.specs.declared.mnemonics.Mnemonic.TheVariants as code
 use Rattle.stl_ast.specs.declared.operands.Numbered.TheVariants as numbered
 use Rattle.stl_ast.specs.declared.operands.Operand.{Operand}
 use Rattle.stl_types.specs.Forms.{form_of}
-use Rattle.stl_types.specs.Operands.{takes as form_takes}
+use Rattle.stl_types.specs.Operands.{takes_operand as form_takes}
 use Rattle.stl_types.specs.declared.forms.OperandRule.TheVariants as form
 use Rattle.stl_types.specs.declared.views.Register.TheVariants as register
 use Rattle.stl_types.specs.declared.views.ResolvedOperand.{ResolvedOperand}
 use Rattle.stl_types.specs.declared.views.ResolvedOperand.TheVariants as view
-use Rattle.stl_codegen.specs.Operands.{operand_of, pointer_bits}
-use Rattle.stl_codegen.specs.Operations.{jump_of, call_of, end_of, or_operation, load_operation, transfer_operation, load_pointer_operation, store_pointer_operation, operation_for}
+use Rattle.stl_codegen.specs.Operands.{flat_operand_of, pointer_bits}
+use Rattle.stl_codegen.specs.Operations.{jump_operation_of, call_operation_of, end_operation_of, or_operation, load_operation, transfer_operation, load_pointer_operation, store_pointer_operation, operation_for}
 
 -- ---- operations and operands are ops
 
@@ -61,14 +61,14 @@ operation_is_op w o h = instruction_is_op w o (ltb-true (op_code_of w) 128 (code
 -- ---- operands by form, constants apart
 
 bare_takes : (o : Operand) (v : ResolvedOperand) → form_takes form.Bare v ≡ true
-    → admits takes.Nothing (operand_of o v) ≡ true
-unfolding form_takes admits operand_of
+    → admits takes.Nothing (flat_operand_of o v) ≡ true
+unfolding form_takes admits flat_operand_of
 bare_takes o view.Nothing h = refl
 bare_takes o _ h = absurd cc
 
 check_takes : (o : Operand) (v : ResolvedOperand) → form_takes form.ReadsBit v ≡ true
-    → admits takes.Check (operand_of o v) ≡ true
-unfolding form_takes admits operand_of
+    → admits takes.Check (flat_operand_of o v) ≡ true
+unfolding form_takes admits flat_operand_of
 check_takes o (view.Direct place width side declared) h = refl
 check_takes o (view.Parameter index section declared) h = refl
 check_takes o (view.ByMemory a width from byte) h = refl
@@ -81,8 +81,8 @@ check_takes o (view.OfStatus flag) h = refl
 check_takes o _ h = absurd cc
 
 or_takes : (o : Operand) (v : ResolvedOperand) → form_takes form.ReadsBitOrBare v ≡ true
-    → admits (takes_of_operation (or_operation v)) (operand_of o v) ≡ true
-unfolding form_takes admits operand_of
+    → admits (takes_of_operation (or_operation v)) (flat_operand_of o v) ≡ true
+unfolding form_takes admits flat_operand_of
 or_takes o view.Nothing h = refl
 or_takes o (view.Direct place width side declared) h = refl
 or_takes o (view.Parameter index section declared) h = refl
@@ -96,8 +96,8 @@ or_takes o (view.OfStatus flag) h = refl
 or_takes o _ h = absurd cc
 
 bit_takes : (o : Operand) (v : ResolvedOperand) → form_takes form.WritesBit v ≡ true
-    → admits takes.Bit (operand_of o v) ≡ true
-unfolding form_takes admits operand_of
+    → admits takes.Bit (flat_operand_of o v) ≡ true
+unfolding form_takes admits flat_operand_of
 bit_takes o (view.Direct place width side declared) h = refl
 bit_takes o (view.Parameter index section declared) h = refl
 bit_takes o (view.ByMemory a width from byte) h = refl
@@ -105,8 +105,8 @@ bit_takes o (view.ByRegister a width r bits) h = refl
 bit_takes o _ h = absurd cc
 
 set_takes : (o : Operand) (v : ResolvedOperand) → form_takes form.Sets v ≡ true
-    → admits takes.BitOrCounter (operand_of o v) ≡ true
-unfolding form_takes admits operand_of
+    → admits takes.BitOrCounter (flat_operand_of o v) ≡ true
+unfolding form_takes admits flat_operand_of
 set_takes o (view.Direct place width side declared) h = refl
 set_takes o (view.Parameter index section declared) h = refl
 set_takes o (view.ByMemory a width from byte) h = refl
@@ -116,8 +116,8 @@ set_takes o (view.NumberBy numbered.Counter from byte) h = refl
 set_takes o _ h = absurd cc
 
 reset_takes : (o : Operand) (v : ResolvedOperand) → form_takes form.Resets v ≡ true
-    → admits takes.BitOrNumbered (operand_of o v) ≡ true
-unfolding form_takes admits operand_of
+    → admits takes.BitOrNumbered (flat_operand_of o v) ≡ true
+unfolding form_takes admits flat_operand_of
 reset_takes o (view.Direct place width side declared) h = refl
 reset_takes o (view.Parameter index section declared) h = refl
 reset_takes o (view.ByMemory a width from byte) h = refl
@@ -129,8 +129,8 @@ reset_takes o (view.NumberBy numbered.Counter from byte) h = refl
 reset_takes o _ h = absurd cc
 
 load_takes : (o : Operand) (v : ResolvedOperand) → form_takes form.Loads v ≡ true
-    → admits (takes_of_operation (load_operation v)) (operand_of o v) ≡ true
-unfolding form_takes admits operand_of
+    → admits (takes_of_operation (load_operation v)) (flat_operand_of o v) ≡ true
+unfolding form_takes admits flat_operand_of
 load_takes o (view.Direct place width side declared) h = refl
 load_takes o (view.Parameter index section declared) h = refl
 load_takes o (view.ByMemory a width from byte) h = refl
@@ -145,8 +145,8 @@ load_takes o (view.Register _) h = refl
 load_takes o _ h = absurd cc
 
 transfer_takes : (o : Operand) (v : ResolvedOperand) → form_takes form.Transfers v ≡ true
-    → admits (takes_of_operation (transfer_operation v)) (operand_of o v) ≡ true
-unfolding form_takes admits operand_of
+    → admits (takes_of_operation (transfer_operation v)) (flat_operand_of o v) ≡ true
+unfolding form_takes admits flat_operand_of
 transfer_takes o (view.Direct place width side declared) h = refl
 transfer_takes o (view.Parameter index section declared) h = refl
 transfer_takes o (view.ByMemory a width from byte) h = refl
@@ -155,8 +155,8 @@ transfer_takes o (view.Register register.Stw) h = refl
 transfer_takes o _ h = absurd cc
 
 numbered_takes : (o : Operand) (v : ResolvedOperand) → form_takes form.LoadsBcd v ≡ true
-    → admits takes.Numbered (operand_of o v) ≡ true
-unfolding form_takes admits operand_of
+    → admits takes.Numbered (flat_operand_of o v) ≡ true
+unfolding form_takes admits flat_operand_of
 numbered_takes o (view.Timer n) h = refl
 numbered_takes o (view.Counter n) h = refl
 numbered_takes o (view.NumberBy numbered.Timer from byte) h = refl
@@ -164,13 +164,13 @@ numbered_takes o (view.NumberBy numbered.Counter from byte) h = refl
 numbered_takes o _ h = absurd cc
 
 enable_takes : (o : Operand) (v : ResolvedOperand) → form_takes form.Enables v ≡ true
-    → admits takes.Numbered (operand_of o v) ≡ true
+    → admits takes.Numbered (flat_operand_of o v) ≡ true
 unfolding form_takes
 enable_takes o v h = numbered_takes o v h
 
 lar1_takes : (o : Operand) (v : ResolvedOperand) → form_takes form.LoadsAr1 v ≡ true
-    → admits (takes_of_operation (load_pointer_operation v)) (operand_of o v) ≡ true
-unfolding form_takes admits operand_of
+    → admits (takes_of_operation (load_pointer_operation v)) (flat_operand_of o v) ≡ true
+unfolding form_takes admits flat_operand_of
 lar1_takes o view.Nothing h = refl
 lar1_takes o (view.Pointer a byte bit) h = refl
 lar1_takes o (view.Direct place width side declared) h = refl
@@ -178,53 +178,53 @@ lar1_takes o (view.Register register.Ar2) h = refl
 lar1_takes o _ h = absurd cc
 
 lar2_takes : (o : Operand) (v : ResolvedOperand) → form_takes form.LoadsAr2 v ≡ true
-    → admits takes.Pointer (operand_of o v) ≡ true
-unfolding form_takes admits operand_of
+    → admits takes.Pointer (flat_operand_of o v) ≡ true
+unfolding form_takes admits flat_operand_of
 lar2_takes o view.Nothing h = refl
 lar2_takes o (view.Pointer a byte bit) h = refl
 lar2_takes o (view.Direct place width side declared) h = refl
 lar2_takes o _ h = absurd cc
 
 tar1_takes : (o : Operand) (v : ResolvedOperand) → form_takes form.StoresAr1 v ≡ true
-    → admits (takes_of_operation (store_pointer_operation v)) (operand_of o v) ≡ true
-unfolding form_takes admits operand_of
+    → admits (takes_of_operation (store_pointer_operation v)) (flat_operand_of o v) ≡ true
+unfolding form_takes admits flat_operand_of
 tar1_takes o view.Nothing h = refl
 tar1_takes o (view.Direct place width side declared) h = refl
 tar1_takes o (view.Register register.Ar2) h = refl
 tar1_takes o _ h = absurd cc
 
 tar2_takes : (o : Operand) (v : ResolvedOperand) → form_takes form.StoresAr2 v ≡ true
-    → admits takes.PointerPlace (operand_of o v) ≡ true
-unfolding form_takes admits operand_of
+    → admits takes.PointerPlace (flat_operand_of o v) ≡ true
+unfolding form_takes admits flat_operand_of
 tar2_takes o view.Nothing h = refl
 tar2_takes o (view.Direct place width side declared) h = refl
 tar2_takes o _ h = absurd cc
 
 timer_takes : (o : Operand) (v : ResolvedOperand) → form_takes form.StartsTimer v ≡ true
-    → admits takes.Timer (operand_of o v) ≡ true
-unfolding form_takes admits operand_of
+    → admits takes.Timer (flat_operand_of o v) ≡ true
+unfolding form_takes admits flat_operand_of
 timer_takes o (view.Timer n) h = refl
 timer_takes o (view.NumberBy numbered.Timer from byte) h = refl
 timer_takes o _ h = absurd cc
 
 counter_takes : (o : Operand) (v : ResolvedOperand) → form_takes form.StepsCounter v ≡ true
-    → admits takes.Counter (operand_of o v) ≡ true
-unfolding form_takes admits operand_of
+    → admits takes.Counter (flat_operand_of o v) ≡ true
+unfolding form_takes admits flat_operand_of
 counter_takes o (view.Counter n) h = refl
 counter_takes o (view.NumberBy numbered.Counter from byte) h = refl
 counter_takes o _ h = absurd cc
 
 open_takes : (o : Operand) (v : ResolvedOperand) → form_takes form.Opens v ≡ true
-    → admits takes.Open (operand_of o v) ≡ true
-unfolding form_takes admits operand_of
+    → admits takes.Open (flat_operand_of o v) ≡ true
+unfolding form_takes admits flat_operand_of
 open_takes o (view.OpenBlock di n) h = refl
 open_takes o (view.NumberBy numbered.Db from byte) h = refl
 open_takes o (view.NumberBy numbered.Di from byte) h = refl
 open_takes o _ h = absurd cc
 
 nothing_takes : (most : ℕ) (o : Operand) (v : ResolvedOperand) → form_takes form.Bare v ≡ true
-    → admits (takes.NothingOrNumber most) (operand_of o v) ≡ true
-unfolding form_takes admits operand_of
+    → admits (takes.NothingOrNumber most) (flat_operand_of o v) ≡ true
+unfolding form_takes admits flat_operand_of
 nothing_takes most o view.Nothing h = refl
 nothing_takes most o _ h = absurd cc
 
@@ -246,8 +246,8 @@ PointerFits (view.Pointer a byte bit) = (byte ≤ 65535) × (bit ≤ 7)
 PointerFits _ = Unit {0}
 
 pointer_takes : (o : Operand) (v : ResolvedOperand) → PointerFits v → form_takes form.AddsToAr v ≡ true
-    → admits (takes.NothingOrNumber 4294967295) (operand_of o v) ≡ true
-unfolding form_takes admits operand_of
+    → admits (takes.NothingOrNumber 4294967295) (flat_operand_of o v) ≡ true
+unfolding form_takes admits flat_operand_of
 pointer_takes o view.Nothing f h = refl
 pointer_takes o (view.Pointer a byte bit) f h =
     le-leb (pointer_bits a byte bit) 4294967295 (pointer_near a byte bit f.0 f.1)
@@ -256,9 +256,9 @@ pointer_takes o _ f h = absurd cc
 -- ---- by instruction
 
 -- an instruction that goes on takes what its form does
-pub taken : (m : Mnemonic) (o : Operand) (v : ResolvedOperand) → jump_of m ≡ None → call_of m ≡ None
-    → end_of m ≡ None → is_empty m ≡ false → PointerFits v → form_takes (form_of m) v ≡ true
-    → admits (takes_of_operation (operation_for m o v)) (operand_of o v) ≡ true
+pub taken : (m : Mnemonic) (o : Operand) (v : ResolvedOperand) → jump_operation_of m ≡ None → call_operation_of m ≡ None
+    → end_operation_of m ≡ None → is_empty_statement m ≡ false → PointerFits v → form_takes (form_of m) v ≡ true
+    → admits (takes_of_operation (operation_for m o v)) (flat_operand_of o v) ≡ true
 unfolding form_of operation_for form_takes
 taken code.Empty o v j c e n f h = absurd cc
 taken code.Ju o v j c e n f h = absurd cc

@@ -34,8 +34,8 @@ use Rattle.stl_symbols.specs.Symbol.{Symbol, symbol_named}
 use Rattle.stl_symbols.specs.declared.targets.Target.{Target}
 use Rattle.stl_symbols.specs.declared.targets.Target.TheVariants as target
 use Rattle.block_layout.specs.Blocks.{block_of, named_block}
-use Rattle.block_layout.specs.Offsets.{place_at, placed, width_of}
-use Rattle.block_layout.specs.Paths.{cells_at, elementary_at, folded_path, walked_data, walked_local, whole_at, whole_block as whole_layout}
+use Rattle.block_layout.specs.Offsets.{place_at, elementary_place, width_of}
+use Rattle.block_layout.specs.Paths.{cells_at, elementary_at, folded_path, path_end_in_data_block, walked_local, whole_at, whole_block as whole_layout}
 use Rattle.block_layout.specs.declared.blocks.BlockLayout.{BlockLayout}
 use Rattle.block_layout.specs.declared.cells.Cell.{Cell}
 use Rattle.block_layout.specs.declared.cells.Element.{Element}
@@ -43,18 +43,18 @@ use Rattle.block_layout.specs.declared.cells.Element.TheVariants as element
 use Rattle.block_layout.specs.declared.walks.ComponentAt.{ComponentAt}
 use Rattle.block_layout.specs.declared.walks.PathEnd.{PathEnd}
 use Rattle.block_layout.specs.declared.walks.PathEnd.TheVariants as walk
-use Rattle.stl_types.specs.Addresses.{address_in, area_of}
-use Rattle.stl_types.specs.Context.{Context, data_number, data_place, in_function, number_of, whole_place}
+use Rattle.stl_types.specs.Addresses.{address_in_block, area_for_letters}
+use Rattle.stl_types.specs.Context.{Context, data_number, data_place, in_function, number_of_block, whole_place}
 use Rattle.stl_types.specs.Operands.{is_on_wrong_side}
-use Rattle.stl_types.specs.Resolution.{called_seen, direct_seen, id_at, instance_number, opened_seen, path_seen, seen, symbol_seen, target_view, whole_block}
-use Rattle.stl_types.specs.Variables.{behind_others, composite, data_at, data_path, data_variable, data_walked, date_or_composite, in_area, is_temporary, own_at, own_elementary, own_variable, own_walked, parameter, parameter_at, parameter_index}
+use Rattle.stl_types.specs.Resolution.{called_seen, direct_seen, id_at, instance_number, opened_seen, path_seen, resolution_of, symbol_seen, target_view, whole_called_block}
+use Rattle.stl_types.specs.Variables.{behind_others, composite_operand, data_at, data_path, data_variable, data_walked, date_or_composite, variable_in_area, is_temporary_variable, own_at, own_elementary, own_variable, own_walked, parameter_resolution, parameter_at, parameter_index}
 use Rattle.stl_types.specs.declared.forms.OperandRule.{OperandRule}
 use Rattle.stl_types.specs.declared.views.Register.TheVariants as register
 use Rattle.stl_types.specs.declared.views.Resolution.{Resolution}
 use Rattle.stl_types.specs.declared.views.Resolution.TheVariants.{Resolved}
 use Rattle.stl_types.specs.declared.views.ResolvedOperand.{ResolvedOperand}
 use Rattle.stl_types.specs.declared.views.ResolvedOperand.TheVariants as view
-use Rattle.stl_codegen.specs.Operands.{constant_bits, operand_of, pointer_bits}
+use Rattle.stl_codegen.specs.Operands.{constant_bits, flat_operand_of, pointer_bits}
 use Rattle.sem_kept.specs.Coded.{OperandHasBytes}
 use Rattle.sem_kept.proofs.accepted.CodedBits.{bits_small}
 use Rattle.sem_kept.proofs.accepted.CodedTables.{PointerFits, pointer_near}
@@ -129,8 +129,8 @@ condition_fits flags.Br = refl
 condition_fits _ = refl
 
 pub payload_right : (f : OperandRule) (o : Operand) (v : ResolvedOperand) → is_on_wrong_side f v ≡ false
-    → ViewFits o v → payload_fits (operand_of o v) ≡ true
-unfolding operand_of
+    → ViewFits o v → payload_fits (flat_operand_of o v) ≡ true
+unfolding flat_operand_of
 payload_right f o (view.Direct place w side declared) r fits =
     direct_fits place.area w place.byte place.bit fits.1 fits.2
 payload_right f o (view.Parameter index section declared) r fits =
@@ -237,7 +237,7 @@ whole_holds l k h = by (slice_get l k) (got_holds LayoutFits l k h)
         whole false = f
 
 number_holds : (id : Option BlockId) → IfSome id (λ id. IsWord id.number)
-    → IfSome (number_of id) IsWord
+    → IfSome (number_of_block id) IsWord
 number_holds None h = tt
 number_holds (Some id) h = h
 
@@ -245,28 +245,28 @@ pub data_fits : (c : Context) (name : BlockName) → IsFit c → IfSome (data_nu
 data_fits c name fit = at (data_place c name)
   where
     at : (place : Option ℕ)
-        → IfSome (option_and_then (λ b. number_of b.id)
+        → IfSome (option_and_then (λ b. number_of_block b.id)
         (option_and_then (whole_at c.layouts) place)) IsWord
     at None = tt
     at (Some k) = by (whole_at c.layouts k) (whole_holds c.layouts k fit.layouts)
       where
         by : (found : Option BlockLayout) → IfSome found LayoutFits
-            → IfSome (option_and_then (λ b. number_of b.id) found) IsWord
+            → IfSome (option_and_then (λ b. number_of_block b.id) found) IsWord
         by None f = tt
         by (Some b) f = number_holds b.id f
 
 -- ---- variables
 
 in_area_fits : (o : Operand) (kind : Simple) (a : Area) (n bits : ℕ) → IsWord n
-    → SeenFits o (in_area kind (placed a n bits (Some kind)))
+    → SeenFits o (variable_in_area kind (elementary_place a n bits (Some kind)))
 in_area_fits o kind a n bits h = by (leb (bits / 8) 65535) refl
   where
     by : (b : Bool) → leb (bits / 8) 65535 ≡ b
-        → SeenFits o (in_area kind (if b then Some (place_at a n bits, width_of kind) else None))
+        → SeenFits o (variable_in_area kind (if b then Some (place_at a n bits, width_of kind) else None))
     by true e = (h, leb-true (bits / 8) 65535 e, omega arith)
     by false e = tt
 
-composite_fits : (o : Operand) (found : Option Cell) → ViewFits o (composite found)
+composite_fits : (o : Operand) (found : Option Cell) → ViewFits o (composite_operand found)
 composite_fits o None = tt
 composite_fits o (Some c) = of c.of
   where
@@ -294,7 +294,7 @@ parameter_holds c o spot kind few =
   where
     by : (found : Option Cell) → slice_get (cells_at c.layouts c.block false) spot.place ≡ found
         → SeenFits o
-        (parameter
+        (parameter_resolution
         (parameter_index (length (cells_at c.layouts c.block false)) spot.place
         (slice_get c.blocks c.block))
         kind found)
@@ -313,7 +313,7 @@ own_elementary_fits c o false spot kind fit = by (in_function c) refl
     by : (b : Bool) → in_function c ≡ b
         → SeenFits o
         (if b then parameter_at c spot kind
-        else in_area kind (placed area.Di 0 spot.offset (Some kind)))
+        else variable_in_area kind (elementary_place area.Di 0 spot.offset (Some kind)))
     by true e = parameter_holds c o spot kind (fit.own e)
     by false e = in_area_fits o kind area.Di 0 spot.offset (omega arith)
 
@@ -321,14 +321,14 @@ own_fits : (c : Context) (o : Operand) (name : List ℕ) (steps : List PathStep)
     → SeenFits o (own_variable c name steps)
 own_fits c o name steps fit = by (walked_local c.layouts c.block name steps)
   where
-    by : (w : PathEnd) → SeenFits o (own_walked c (is_temporary c name) w)
+    by : (w : PathEnd) → SeenFits o (own_walked c (is_temporary_variable c name) w)
     by walk.Unknown = tt
     by walk.Rests = tt
     by (walk.Reaches spot) = at (elementary_at c.layouts spot)
       where
-        at : (kind : Option Simple) → SeenFits o (own_at c (is_temporary c name) spot kind)
+        at : (kind : Option Simple) → SeenFits o (own_at c (is_temporary_variable c name) spot kind)
         at None = composite_fits o (slice_get (cells_at c.layouts spot.block spot.temporary) spot.place)
-        at (Some kind) = own_elementary_fits c o (is_temporary c name) spot kind fit
+        at (Some kind) = own_elementary_fits c o (is_temporary_variable c name) spot kind fit
 
 data_walk_fits : (c : Context) (o : Operand) (n : ℕ) (w : PathEnd) → IsWord n
     → SeenFits o (data_walked c n w)
@@ -347,7 +347,7 @@ data_variable_fits c o name steps fit = by (data_number c name) (data_place c na
     by : (n place : Option ℕ) → IfSome n IsWord → SeenFits o (data_path c steps n place)
     by None place h = tt
     by (Some n) None h = tt
-    by (Some n) (Some block) h = data_walk_fits c o n (walked_data c.layouts block steps) h
+    by (Some n) (Some block) h = data_walk_fits c o n (path_end_in_data_block c.layouts block steps) h
 
 -- ---- operands
 
@@ -381,11 +381,11 @@ direct_seen_fits c o None a w byte bit fit k j = (omega arith, k, bit_small w bi
 direct_seen_fits c o (Some name) a w byte bit fit k j =
     by (data_number c name) (data_fits c name fit)
   where
-    by : (n : Option ℕ) → IfSome n IsWord → SeenFits o (address_in n a w byte bit)
+    by : (n : Option ℕ) → IfSome n IsWord → SeenFits o (address_in_block n a w byte bit)
     by None h = tt
     by (Some n) h = (h, k, bit_small w bit j)
 
-pointer_holds : (a : Letters) → MayHoldPointer a → holds_pointers (area_of a) ≡ true
+pointer_holds : (a : Letters) → MayHoldPointer a → holds_pointers (area_for_letters a) ≡ true
 pointer_holds letters.M h = refl
 pointer_holds letters.L h = refl
 pointer_holds letters.Db h = refl
@@ -413,7 +413,7 @@ opened_fits c o di None h = tt
 opened_fits c o di (Some n) h = h
 
 block_holds : (c : Context) (id : Option BlockId) → IfSome id (λ id. IsWord id.number)
-    → IfSome (whole_block c id) (λ id. IsWord id.number)
+    → IfSome (whole_called_block c id) (λ id. IsWord id.number)
 block_holds c None h = tt
 block_holds c (Some id) h = by (is_system_function id.kind)
   where
@@ -441,8 +441,8 @@ called_fits o (Some id) (Some name) (Some n) h k = (h, k)
 
 -- the numbers of what an operand names fit
 pub seen_fits : (c : Context) (o : Operand) → IsFit c → IsOperand o → OperandHasBytes o
-    → SeenFits o (seen c o)
-unfolding seen
+    → SeenFits o (resolution_of c o)
+unfolding resolution_of
 seen_fits c operand.Nothing fit is has = tt
 seen_fits c (operand.Direct name a w byte bit) fit is has =
     direct_seen_fits c (operand.Direct name a w byte bit) name a w byte bit fit is.1 is.2
@@ -465,7 +465,7 @@ seen_fits c (operand.Other name) fit is has = tt
 seen_fits c (operand.OpenBlock di name) fit is has =
     opened_fits c (operand.OpenBlock di name) di (data_number c name) (data_fits c name fit)
 seen_fits c (operand.Called name instance) fit is has =
-    called_fits (operand.Called name instance) (whole_block c (named_block c.symbols name)) instance
+    called_fits (operand.Called name instance) (whole_called_block c (named_block c.symbols name)) instance
     (instance_number c instance)
     (block_holds c (named_block c.symbols name) (block_fits c.symbols name fit.symbols is.0))
     (instance_fits c instance fit)

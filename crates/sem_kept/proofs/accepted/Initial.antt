@@ -31,19 +31,19 @@ use Rattle.stl_ast.specs.declared.declarations.Simple.TheVariants as simple
 use Rattle.stl_ast.specs.declared.declarations.TypeTree.{TypeTree}
 use Rattle.stl_ast.specs.declared.names.BlockName.{BlockName}
 use Rattle.stl_symbols.specs.Symbol.{Symbol}
-use Rattle.block_layout.specs.Around.{Outside, of_sections, of_structure, onto}
-use Rattle.block_layout.specs.Cells.{breaks_rule, cell_of, cells_of, components_of, is_temp, laid, opened, preset, returned_cells, section_cells, udt_element}
-use Rattle.block_layout.specs.Declarations.{are_within, count, fit_or_none, fit_type, has_upside_down, init_fits, room, set_by, times}
-use Rattle.block_layout.specs.Fits.{bits_of, fits}
-use Rattle.block_layout.specs.InitialBytes.{Write, begun, cell_writes, component_writes, element_starts, filled_starts, in_steps, initial_bytes, length_at, preset_values, put, setting_write, setting_writes, settings_at, structure_writes, type_writes, write_of, writes_at, writes_from}
+use Rattle.block_layout.specs.Around.{Outside, of_sections, of_structure, declarations_before_next}
+use Rattle.block_layout.specs.Cells.{breaks_rule, cell_of, cells_of, components_of, is_temp, layout_element, with_first_cell_opening, preset_of, returned_cells, section_cells, udt_element}
+use Rattle.block_layout.specs.Declarations.{are_within, element_count, fit_or_none, fit_type, has_upside_down, init_fits, settable_count, elements_set_by, repetition_factor}
+use Rattle.block_layout.specs.Fits.{bits_of, fits_elementary_type}
+use Rattle.block_layout.specs.InitialBytes.{Write, component_starts, cell_writes, component_writes, element_starts, filled_starts, in_steps, initial_bytes, length_at, preset_values, bytes_with_write, setting_write, setting_writes, settings_at, structure_writes, type_writes, write_of, writes_at, writes_from}
 use Rattle.block_layout.specs.Layouts.{layouts_of}
-use Rattle.block_layout.specs.Measures.{rounds, types_of}
-use Rattle.block_layout.specs.Paths.{cells_at, cells_in, elementary_at, folded_path, leaves_judged, setting_structure, shape_block, structure_of, walked_data, walked_or_rests, walked_setting}
-use Rattle.block_layout.specs.Rule41.{fits_kind, misfits, setting_misfits}
+use Rattle.block_layout.specs.Measures.{measuring_rounds, types_of_source}
+use Rattle.block_layout.specs.Paths.{cells_at, cells_in, elementary_at, folded_path, leaves_judged, setting_structure, shape_block, structure_of, path_end_in_data_block, path_end_or_rests, path_end_of_setting}
+use Rattle.block_layout.specs.Rule41.{fits_kind, misfits_component, setting_misfits}
 use Rattle.block_layout.specs.Rule42.{setting_is_outside}
 use Rattle.block_layout.specs.Rule56.{is_too_deep}
-use Rattle.block_layout.specs.Sizes.{alignment, array_bits, capped, cell_bits, element_bits, element_of, end_of, largest, plain_bits, stepped, structure_bits, up}
-use Rattle.block_layout.specs.Types.{Types, udt_of}
+use Rattle.block_layout.specs.Sizes.{alignment, array_bits, capped_size, cell_bits, element_bits, element_of, components_end, largest_size, plain_bits, end_behind_cell, structure_bits, next_multiple}
+use Rattle.block_layout.specs.Types.{Types, data_type_place}
 use Rattle.block_layout.specs.declared.blocks.BlockLayout.{BlockLayout}
 use Rattle.block_layout.specs.declared.cells.Cell.{Cell}
 use Rattle.block_layout.specs.declared.cells.Element.{Element}
@@ -55,7 +55,7 @@ use Rattle.block_layout.specs.declared.walks.PathEnd.TheVariants as walk
 use Rattle.stl_types.specs.Unknown.{leads_nowhere, sets_unknown}
 use Rattle.sem_kept.specs.Accepted.{IsAccepted}
 use Rattle.sem_kept.specs.Coded.{HasBytes}
-use Rattle.sem_kept.specs.Initial.{HasElements, HasRoom, InitialValuesAreWhole, IsSet, IsWhole, IsWritten, writes_of}
+use Rattle.sem_kept.specs.Initial.{HasElements, HasRoom, InitialValuesAreWhole, IsSettingWritten, IsWhole, IsMadeByWrites, writes_of}
 use Rattle.sem_kept.proofs.accepted.Accepted.{IsSound, IsSoundTree, all_both, each_passes, right_tree}
 use Rattle.sem_kept.proofs.accepted.CodedBits.{value_fits}
 use Rattle.sem_kept.proofs.accepted.CodedBytes.{DeclarationHas, InitsHave, SettingHas, ValuesHaveBytes, values_are_bytes}
@@ -116,22 +116,22 @@ abbrev AreValues : Declaration → Type 0
 AreValues d = AllByRecursion IsValue d.init
 
 presets_fit : (kind : Simple) (init : List Init) → AllByRecursion IsValue init
-    → list_all (λ i. fits i.value kind) init ≡ true
-    → AllByRecursion (λ p. p.value < 2 ^ plain_bits kind) (map preset init)
+    → list_all (λ i. fits_elementary_type i.value kind) init ≡ true
+    → AllByRecursion (λ p. p.value < 2 ^ plain_bits kind) (map preset_of init)
 presets_fit kind [] h e = tt
 presets_fit kind (i ∷ is) h e = (
   value_fits i.value kind h.0.0 h.0.1
-      (and_first (fits i.value kind) (list_all (λ i. fits i.value kind) is) e),
-  presets_fit kind is h.1 (and_second (fits i.value kind) (list_all (λ i. fits i.value kind) is) e),
+      (and_first (fits_elementary_type i.value kind) (list_all (λ i. fits_elementary_type i.value kind) is) e),
+  presets_fit kind is h.1 (and_second (fits_elementary_type i.value kind) (list_all (λ i. fits_elementary_type i.value kind) is) e),
 )
 
 plain_fits : (kind : Simple) (arrays : List Bounds) (init : List Init) → AllByRecursion IsValue init
     → fit_or_none init (fit_type arrays (element.Plain kind) init) ≡ true
-    → AllByRecursion (λ p. p.value < 2 ^ plain_bits kind) (map preset init)
+    → AllByRecursion (λ p. p.value < 2 ^ plain_bits kind) (map preset_of init)
 plain_fits kind arrays [] h e = tt
 plain_fits kind arrays (i ∷ is) h e =
     presets_fit kind (i ∷ is) h
-    (and_first (list_all (λ i. fits i.value kind) (i ∷ is)) (are_within (set_by (i ∷ is)) (room arrays)) e)
+    (and_first (list_all (λ i. fits_elementary_type i.value kind) (i ∷ is)) (are_within (elements_set_by (i ∷ is)) (settable_count arrays)) e)
 
 udt_fit : (bits : List ℕ) (o : Option ℕ) (presets : List Preset) → Fit (udt_element bits o) presets
 udt_fit bits None presets = tt
@@ -139,43 +139,43 @@ udt_fit bits (Some u) presets = tt
 
 -- as many values as the initial values set elements
 values_count : (i : Init) (is : List Init)
-    → length (preset_values (map preset (i ∷ is)))
-    ≡ times i.count + length (preset_values (map preset is))
+    → length (preset_values (map preset_of (i ∷ is)))
+    ≡ repetition_factor i.count + length (preset_values (map preset_of is))
 values_count i is =
-    length-append (replicate (times i.count) (bits_of i.value)) (preset_values (map preset is))
-    ∙ ap (λ (n : ℕ). n + length (preset_values (map preset is)))
-    (length-replicate (times i.count) (bits_of i.value))
+    length-append (replicate (repetition_factor i.count) (bits_of i.value)) (preset_values (map preset_of is))
+    ∙ ap (λ (n : ℕ). n + length (preset_values (map preset_of is)))
+    (length-replicate (repetition_factor i.count) (bits_of i.value))
 
 values_from : (n : ℕ) (init : List Init)
-    → n + length (preset_values (map preset init))
-    ≡ fold (λ (a : ℕ) (i : Init). a + times i.count) n init
+    → n + length (preset_values (map preset_of init))
+    ≡ fold (λ (a : ℕ) (i : Init). a + repetition_factor i.count) n init
 values_from n [] = none n
   where
     none : (n : ℕ) → n + 0 ≡ n
     none n = omega arith
 values_from n (i ∷ is) =
     ap (λ (k : ℕ). n + k) (values_count i is)
-    ∙ grouped n (times i.count) (length (preset_values (map preset is)))
-    ∙ values_from (n + times i.count) is
+    ∙ grouped n (repetition_factor i.count) (length (preset_values (map preset_of is)))
+    ∙ values_from (n + repetition_factor i.count) is
   where
     grouped : (a b c : ℕ) → a + (b + c) ≡ a + b + c
     grouped a b c = omega arith
 
-values_set : (init : List Init) → length (preset_values (map preset init)) ≡ set_by init
-values_set init = first (length (preset_values (map preset init))) ∙ values_from 0 init
+values_set : (init : List Init) → length (preset_values (map preset_of init)) ≡ elements_set_by init
+values_set init = first (length (preset_values (map preset_of init))) ∙ values_from 0 init
   where
     first : (n : ℕ) → n ≡ 0 + n
     first n = omega arith
 
 -- and as many elements as there is room for
-starts_room : (arrays : List Bounds) (n element start : ℕ) → are_within n (room arrays) ≡ true
+starts_room : (arrays : List Bounds) (n element start : ℕ) → are_within n (settable_count arrays) ≡ true
     → n ≤ length (element_starts arrays element (start ∷ []))
 starts_room [] n element start e = leb-true n 1 e
 starts_room (b ∷ []) n element start e =
     subst (λ (k : ℕ). n ≤ k)
-    (sym (ap length (append-nil (in_steps (array_bits [] element) (count b) start))
-    ∙ length-map-range_with_len (λ k. capped (start + capped (k * array_bits [] element))) 0 (count b)))
-    (leb-true n (count b) e)
+    (sym (ap length (append-nil (in_steps (array_bits [] element) (element_count b) start))
+    ∙ length-map-range_with_len (λ k. capped_size (start + capped_size (k * array_bits [] element))) 0 (element_count b)))
+    (leb-true n (element_count b) e)
 starts_room (b ∷ c ∷ bs) n element start e = absurd cc
 
 least : (n : ℕ) → 0 ≤ n
@@ -183,15 +183,15 @@ least n = omega arith
 
 plain_elements : (kind : Simple) (arrays : List Bounds) (init : List Init)
     → fit_or_none init (fit_type arrays (element.Plain kind) init) ≡ true
-    → HasElements arrays (map preset init) (Plain kind)
+    → HasElements arrays (map preset_of init) (Plain kind)
 plain_elements kind arrays [] e element start = least (length (element_starts arrays element (start ∷ [])))
 plain_elements kind arrays (i ∷ is) e element start =
     subst (λ (n : ℕ). n ≤ length (element_starts arrays element (start ∷ []))) (sym (values_set (i ∷ is)))
-    (starts_room arrays (set_by (i ∷ is)) element start
-    (and_second (list_all (λ i. fits i.value kind) (i ∷ is)) (are_within (set_by (i ∷ is)) (room arrays)) e))
+    (starts_room arrays (elements_set_by (i ∷ is)) element start
+    (and_second (list_all (λ i. fits_elementary_type i.value kind) (i ∷ is)) (are_within (elements_set_by (i ∷ is)) (settable_count arrays)) e))
 
 no_presets : (init : List Init) → fit_or_none init (nat_eq (length init) 0) ≡ true
-    → map preset init ≡ []
+    → map preset_of init ≡ []
 no_presets [] e = refl
 no_presets (i ∷ is) e =
     let none : suc (length is) ≡ 0 = eqb-true (suc (length is)) 0 e in absurd cc
@@ -203,20 +203,20 @@ udt_elements bits (Some u) arrays presets e = e
 
 laid_elements : (y : Types) (arrays : List Bounds) (of : ElementType) (init : List Init)
     → fit_or_none init (fit_type arrays of init) ≡ true
-    → HasElements arrays (map preset init) (laid y of)
+    → HasElements arrays (map preset_of init) (layout_element y of)
 laid_elements y arrays (element.Plain kind) init e = plain_elements kind arrays init e
 laid_elements y arrays element.Structure init e = no_presets init e
 laid_elements y arrays element.DateAndTime init e = no_presets init e
 laid_elements y arrays (element.Udt name) init e =
-    udt_elements y.bits (udt_of y name) arrays (map preset init) (no_presets init e)
+    udt_elements y.bits (data_type_place y name) arrays (map preset_of init) (no_presets init e)
 
 laid_fit : (y : Types) (arrays : List Bounds) (of : ElementType) (init : List Init)
     → AllByRecursion IsValue init → fit_or_none init (fit_type arrays of init) ≡ true
-    → Fit (laid y of) (map preset init)
+    → Fit (layout_element y of) (map preset_of init)
 laid_fit y arrays (element.Plain kind) init h e = plain_fits kind arrays init h e
 laid_fit y arrays element.Structure init h e = tt
 laid_fit y arrays element.DateAndTime init h e = tt
-laid_fit y arrays (element.Udt name) init h e = udt_fit y.bits (udt_of y name) (map preset init)
+laid_fit y arrays (element.Udt name) init h e = udt_fit y.bits (data_type_place y name) (map preset_of init)
 
 not_not : (b : Bool) → not b ≡ false → b ≡ true
 not_not true e = refl
@@ -242,12 +242,12 @@ cells_fit y o section before (d ∷ ds) h v = (
   cells_fit y o section (d ∷ before) ds h.1 v.1,
 )
 
-opened_fit : (cs : List Cell) → AllByRecursion IsFit cs → AllByRecursion IsFit (opened cs)
+opened_fit : (cs : List Cell) → AllByRecursion IsFit cs → AllByRecursion IsFit (with_first_cell_opening cs)
 opened_fit [] h = tt
 opened_fit (c ∷ cs) h = by (opened_fit cs h.1) c.sound
   where
-    by : AllByRecursion IsFit (opened cs) → (t : Bool)
-        → AllByRecursion IsFit (if t then record c { opens = true } ∷ cs else c ∷ opened cs)
+    by : AllByRecursion IsFit (with_first_cell_opening cs) → (t : Bool)
+        → AllByRecursion IsFit (if t then record c { opens = true } ∷ cs else c ∷ with_first_cell_opening cs)
     by more true = h
     by more false = (h.0, more)
 
@@ -258,14 +258,14 @@ sections_fit : (y : Types) (o : Outside) (wanted : PartKind → Bool) (before : 
 sections_fit y o wanted before [] h v = tt
 sections_fit y o wanted before (q ∷ ps) h v =
     all_append IsFit
-    (if wanted q.kind then opened (cells_of y o q.kind before q.items) else [])
-    (section_cells y o wanted (onto before q.items) ps)
+    (if wanted q.kind then with_first_cell_opening (cells_of y o q.kind before q.items) else [])
+    (section_cells y o wanted (declarations_before_next before q.items) ps)
     (by (wanted q.kind))
-    (sections_fit y o wanted (onto before q.items) ps
+    (sections_fit y o wanted (declarations_before_next before q.items) ps
     (unbroken_back y o before q.items (flat_map (λ p. p.items) ps) h) v.1)
   where
     by : (t : Bool) → AllByRecursion IsFit
-        (if t then opened (cells_of y o q.kind before q.items) else [])
+        (if t then with_first_cell_opening (cells_of y o q.kind before q.items) else [])
     by true = opened_fit (cells_of y o q.kind before q.items)
         (cells_fit y o q.kind before q.items
         (unbroken_front y o before q.items (flat_map (λ p. p.items) ps) h) v.0)
@@ -299,16 +299,16 @@ record Begins (limit element : ℕ) (of : Element) (bounds : List Bounds) (start
   even : Meets start bounds of
   within : start + array_bits bounds element ≤ limit
 
-module _ (limit element components : ℕ) (of : Element) (near : limit < largest)
+module _ (limit element components : ℕ) (of : Element) (near : limit < largest_size)
     (even : components % 16 ≡ 0) (parts : element ≡ element_bits of components) (whole : UdtEven of) where
   steps_begin : (b : Bounds) (bs : List Bounds) (start : ℕ) → Begins limit element of (b ∷ bs) start
-      → AllByRecursion (Begins limit element of bs) (in_steps (array_bits bs element) (count b) start)
+      → AllByRecursion (Begins limit element of bs) (in_steps (array_bits bs element) (element_count b) start)
   steps_begin b bs start h =
-      all_counted (Begins limit element of bs) (λ k. capped (start + capped (k * array_bits bs element)))
-      0 (count b) (count b) (omega arith) each
+      all_counted (Begins limit element of bs) (λ k. capped_size (start + capped_size (k * array_bits bs element)))
+      0 (element_count b) (element_count b) (omega arith) each
     where
-      each : (k : ℕ) → k < count b
-          → Begins limit element of bs (capped (start + capped (k * array_bits bs element)))
+      each : (k : ℕ) → k < element_count b
+          → Begins limit element of bs (capped_size (start + capped_size (k * array_bits bs element)))
       each k less =
           let sizes = element_within start limit k b bs element less near h.within in
           record {
@@ -323,9 +323,9 @@ module _ (limit element components : ℕ) (of : Element) (near : limit < largest
       → AllByRecursion (Begins limit element of []) (element_starts bounds element starts)
   elements_begin [] starts h = h
   elements_begin (b ∷ bs) starts h =
-      elements_begin bs (flat_map (in_steps (array_bits bs element) (count b)) starts)
+      elements_begin bs (flat_map (in_steps (array_bits bs element) (element_count b)) starts)
       (all_flat (Begins limit element of (b ∷ bs)) (Begins limit element of bs)
-      (in_steps (array_bits bs element) (count b)) (steps_begin b bs) starts h)
+      (in_steps (array_bits bs element) (element_count b)) (steps_begin b bs) starts h)
 
   filled_begin : (bounds : List Bounds) (starts : List ℕ)
       → AllByRecursion (Begins limit element of bounds) starts
@@ -379,36 +379,36 @@ record Holds (limit end start : ℕ) : Type 0 where
   even : start % 16 ≡ 0
   within : start + end ≤ limit
 
-module _ (l : List BlockLayout) (limit : ℕ) (near : limit < largest)
+module _ (l : List BlockLayout) (limit : ℕ) (near : limit < largest_size)
     (right : (u : ℕ) → AllByRecursion (IsRightCell l) (cells_at l u false))
     (fit : (u : ℕ) → AllByRecursion IsFit (cells_at l u false)) where
   abbrev Kept : List Write → Type 0
   Kept ws = AllByRecursion (IsKept limit) ws
 
   -- where a component begins in structures that begin at these places
-  begun_begins : (level at : ℕ) (c : Cell) (cs : List Cell) → at ≤ largest
+  begun_begins : (level at : ℕ) (c : Cell) (cs : List Cell) → at ≤ largest_size
       → nat_lt c.level level ≡ false → nat_eq c.level level ≡ true → c.sound ≡ true
-      → (starts : List ℕ) → AllByRecursion (Holds limit (end_of level at (c ∷ cs))) starts
-      → AllByRecursion (Begins limit (element_of c cs) c.of c.bounds) (begun at c starts)
+      → (starts : List ℕ) → AllByRecursion (Holds limit (components_end level at (c ∷ cs))) starts
+      → AllByRecursion (Begins limit (element_of c cs) c.of c.bounds) (component_starts at c starts)
   begun_begins level at c cs low stays here sound starts h =
-      all_images (Holds limit (end_of level at (c ∷ cs))) (Begins limit (element_of c cs) c.of c.bounds)
-      (λ s. capped (s + up at (alignment c))) each starts h
+      all_images (Holds limit (components_end level at (c ∷ cs))) (Begins limit (element_of c cs) c.of c.bounds)
+      (λ s. capped_size (s + next_multiple at (alignment c))) each starts h
     where
-      each : (s : ℕ) → Holds limit (end_of level at (c ∷ cs)) s
-          → Begins limit (element_of c cs) c.of c.bounds (capped (s + up at (alignment c)))
+      each : (s : ℕ) → Holds limit (components_end level at (c ∷ cs)) s
+          → Begins limit (element_of c cs) c.of c.bounds (capped_size (s + next_multiple at (alignment c)))
       each s k =
-          let short : end_of level at (c ∷ cs) < largest = let w = k.within in omega (arith, w, near) in
+          let short : components_end level at (c ∷ cs) < largest_size = let w = k.within in omega (arith, w, near) in
           let inside = here_within level at c cs low stays here sound short in
           let within = k.within in
-          let same : capped (s + up at (alignment c)) ≡ s + up at (alignment c)
-          = fit_sum s (up at (alignment c)) (cell_bits c cs) (end_of level at (c ∷ cs)) inside within in
+          let same : capped_size (s + next_multiple at (alignment c)) ≡ s + next_multiple at (alignment c)
+          = fit_sum s (next_multiple at (alignment c)) (cell_bits c cs) (components_end level at (c ∷ cs)) inside within in
           record {
             even = subst (λ (n : ℕ). Meets n c.bounds c.of) (sym same) (start_meets s at c k.even);
             within = subst (λ (n : ℕ). n + cell_bits c cs ≤ limit) (sym same)
-                (whole_sum s (up at (alignment c)) (cell_bits c cs) (end_of level at (c ∷ cs)) inside within);
+                (whole_sum s (next_multiple at (alignment c)) (cell_bits c cs) (components_end level at (c ∷ cs)) inside within);
           }
         where
-          fit_sum : (s first bits end : ℕ) → first + bits ≤ end → s + end ≤ limit → capped (s + first) ≡ s + first
+          fit_sum : (s first bits end : ℕ) → first + bits ≤ end → s + end ≤ limit → capped_size (s + first) ≡ s + first
           fit_sum s first bits end a b = omega (arith, near, a, b)
 
           whole_sum : (s first bits end : ℕ) → first + bits ≤ end → s + end ≤ limit → s + first + bits ≤ limit
@@ -422,7 +422,7 @@ module _ (l : List BlockLayout) (limit : ℕ) (near : limit < largest)
   Types_ of_type = (u : ℕ) → Inner (of_type u) (structure_bits (cells_at l u false))
 
   component_kept : (inside : List ℕ → List Write) (of_type : ℕ → List ℕ → List Write) (c : Cell)
-      (cs : List Cell) → Inner inside (end_of (c.level + 1) 0 cs) → Types_ of_type → IsRightCell l c
+      (cs : List Cell) → Inner inside (components_end (c.level + 1) 0 cs) → Types_ of_type → IsRightCell l c
       → IsFit c → (starts : List ℕ)
       → AllByRecursion (Begins limit (element_of c cs) c.of c.bounds) starts
       → Kept (component_writes inside of_type c (element_of c cs) starts c.of)
@@ -453,10 +453,10 @@ module _ (l : List BlockLayout) (limit : ℕ) (near : limit < largest)
           (subst (λ (of : Element). Fit of c.presets) e v.0))
 
       structure : c.of ≡ Structure → (s : ℕ) → Begins limit (element_of c cs) c.of [] s
-          → Holds limit (end_of (c.level + 1) 0 cs) s
+          → Holds limit (components_end (c.level + 1) 0 cs) s
       structure e s k = record {
         even = subst (λ (of : Element). Meets s [] of) e k.even;
-        within = structure_fits s (element_of c cs) (end_of (c.level + 1) 0 cs) limit k.within
+        within = structure_fits s (element_of c cs) (components_end (c.level + 1) 0 cs) limit k.within
             (element_structure c cs e ok.sound) near;
       }
 
@@ -477,7 +477,7 @@ module _ (l : List BlockLayout) (limit : ℕ) (near : limit < largest)
           (one kind e) starts h
       by Structure e =
           inner (filled_starts c.bounds (element_of c cs) starts)
-          (all_held (Begins limit (element_of c cs) c.of []) (Holds limit (end_of (c.level + 1) 0 cs))
+          (all_held (Begins limit (element_of c cs) c.of []) (Holds limit (components_end (c.level + 1) 0 cs))
           (structure e) (filled_starts c.bounds (element_of c cs) starts) filled)
       by (Udt u bits) e =
           types u (filled_starts c.bounds (element_of c cs) starts)
@@ -487,47 +487,47 @@ module _ (l : List BlockLayout) (limit : ℕ) (near : limit < largest)
       by Unknown e = tt
 
   cells_kept : (of_type : ℕ → List ℕ → List Write) → Types_ of_type → (level at : ℕ)
-      (starts : List ℕ) (cells : List Cell) → at ≤ largest → AllByRecursion (IsRightCell l) cells
-      → AllByRecursion IsFit cells → AllByRecursion (Holds limit (end_of level at cells)) starts
+      (starts : List ℕ) (cells : List Cell) → at ≤ largest_size → AllByRecursion (IsRightCell l) cells
+      → AllByRecursion IsFit cells → AllByRecursion (Holds limit (components_end level at cells)) starts
       → Kept (writes_from of_type level starts at cells)
   cells_kept of_type types level at starts [] low ok v h = tt
   cells_kept of_type types level at starts (c ∷ cs) low ok v h =
       by (nat_lt c.level level) refl
       (λ inner held. cells_kept of_type types (c.level + 1) 0 inner cs (omega arith) ok.1 v.1 held)
-      (λ held. cells_kept of_type types level (stepped level at c (cell_bits c cs)) starts cs
+      (λ held. cells_kept of_type types level (end_behind_cell level at c (cell_bits c cs)) starts cs
       (step_grows level at c (cell_bits c cs) low).near ok.1 v.1 held)
     where
-      here : Inner (λ inner. writes_from of_type (c.level + 1) inner 0 cs) (end_of (c.level + 1) 0 cs)
+      here : Inner (λ inner. writes_from of_type (c.level + 1) inner 0 cs) (components_end (c.level + 1) 0 cs)
           → nat_lt c.level level ≡ false → (sound same : Bool) → c.sound ≡ sound
           → nat_eq c.level level ≡ same
           → Kept (if sound && same
           then component_writes (λ inner. writes_from of_type (c.level + 1) inner 0 cs) of_type c
-          (element_of c cs) (begun at c starts) c.of else [])
+          (element_of c cs) (component_starts at c starts) c.of else [])
       here inner stays true true e f =
           component_kept (λ inner. writes_from of_type (c.level + 1) inner 0 cs) of_type c cs inner types
-          ok.0 v.0 (begun at c starts) (begun_begins level at c cs low stays f e starts h)
+          ok.0 v.0 (component_starts at c starts) (begun_begins level at c cs low stays f e starts h)
       here inner stays true false e f = tt
       here inner stays false same e f = tt
 
       by : (t : Bool) → nat_lt c.level level ≡ t
-          → Inner (λ inner. writes_from of_type (c.level + 1) inner 0 cs) (end_of (c.level + 1) 0 cs)
-          → (AllByRecursion (Holds limit (end_of level (stepped level at c (cell_bits c cs)) cs)) starts
-          → Kept (writes_from of_type level starts (stepped level at c (cell_bits c cs)) cs))
+          → Inner (λ inner. writes_from of_type (c.level + 1) inner 0 cs) (components_end (c.level + 1) 0 cs)
+          → (AllByRecursion (Holds limit (components_end level (end_behind_cell level at c (cell_bits c cs)) cs)) starts
+          → Kept (writes_from of_type level starts (end_behind_cell level at c (cell_bits c cs)) cs))
           → Kept (if t then []
           else cell_writes (λ inner. writes_from of_type (c.level + 1) inner 0 cs) of_type level at starts c
-          (element_of c cs) ++ writes_from of_type level starts (stepped level at c (cell_bits c cs)) cs)
+          (element_of c cs) ++ writes_from of_type level starts (end_behind_cell level at c (cell_bits c cs)) cs)
       by true stops inner behind = tt
       by false stays inner behind =
           all_append (IsKept limit)
           (cell_writes (λ inner. writes_from of_type (c.level + 1) inner 0 cs) of_type level at starts c
           (element_of c cs))
-          (writes_from of_type level starts (stepped level at c (cell_bits c cs)) cs)
+          (writes_from of_type level starts (end_behind_cell level at c (cell_bits c cs)) cs)
           (here inner stays c.sound (nat_eq c.level level) refl refl)
           (behind (subst (λ (n : ℕ). AllByRecursion (Holds limit n) starts) (end_step level at c cs stays) h))
 
-  end_within : (cells : List Cell) → structure_bits cells < largest → end_of 0 0 cells ≤ structure_bits cells
+  end_within : (cells : List Cell) → structure_bits cells < largest_size → components_end 0 0 cells ≤ structure_bits cells
   unfolding structure_bits
-  end_within cells short = structure_ends (end_of 0 0 cells) (capped (up (end_of 0 0 cells) 16)) refl short
+  end_within cells short = structure_ends (components_end 0 0 cells) (capped_size (next_multiple (components_end 0 0 cells) 16)) refl short
 
   types_kept : (depth : ℕ) → Types_ (type_writes l depth)
   unfolding type_writes
@@ -535,34 +535,34 @@ module _ (l : List BlockLayout) (limit : ℕ) (near : limit < largest)
   types_kept (suc depth) u starts h =
       cells_kept (type_writes l depth) (types_kept depth) 0 0 starts (cells_at l u false) (omega arith)
       (right u) (fit u)
-      (all_held (Holds limit (structure_bits (cells_at l u false))) (Holds limit (end_of 0 0 (cells_at l u false)))
+      (all_held (Holds limit (structure_bits (cells_at l u false))) (Holds limit (components_end 0 0 (cells_at l u false)))
       ends starts h)
     where
       ends : (s : ℕ) → Holds limit (structure_bits (cells_at l u false)) s
-          → Holds limit (end_of 0 0 (cells_at l u false)) s
+          → Holds limit (components_end 0 0 (cells_at l u false)) s
       ends s k =
           let w = k.within in
-          let short : structure_bits (cells_at l u false) < largest = omega (arith, w, near) in
+          let short : structure_bits (cells_at l u false) < largest_size = omega (arith, w, near) in
           let end = end_within (cells_at l u false) short in
           record { even = k.even; within = omega (arith, w, end) }
 
 -- ---- settings
 
-module _ (l : List BlockLayout) (limit k inside : ℕ) (right : AreRight l) (near : limit < largest)
+module _ (l : List BlockLayout) (limit k inside : ℕ) (right : AreRight l) (near : limit < largest_size)
     (is : structure_of l k ≡ Some inside) (same : setting_structure l k ≡ structure_of l k)
     (small : structure_bits (cells_at l inside false) ≤ limit) where
-  walks_as : (path : List PathStep) → walked_setting l k path ≡ walked_data l k path
-  unfolding walked_setting walked_data
-  walks_as path = ap (λ (o : Option ℕ). walked_or_rests l o path) same
+  walks_as : (path : List PathStep) → path_end_of_setting l k path ≡ path_end_in_data_block l k path
+  unfolding path_end_of_setting path_end_in_data_block
+  walks_as path = ap (λ (o : Option ℕ). path_end_or_rests l o path) same
 
   one_kept : (s : Setting) → IsLiteral s.value → HasBytes s.value → setting_misfits l k s ≡ false
       → setting_is_outside l k s ≡ false
-      → AllByRecursion (IsKept limit) (setting_write l s.value (walked_data l k (folded_path s.path)))
+      → AllByRecursion (IsKept limit) (setting_write l s.value (path_end_in_data_block l k (folded_path s.path)))
   one_kept s literal has fit stays =
-      by (walked_data l k (folded_path s.path))
+      by (path_end_in_data_block l k (folded_path s.path))
       (data_goes l limit right near k inside (folded_path s.path) is small
       (ap (λ (o : Option ℕ). leaves_judged l o (folded_path s.path)) (sym same) ∙ stays))
-      (ap (misfits l s.value) (sym (walks_as (folded_path s.path))) ∙ fit)
+      (ap (misfits_component l s.value) (sym (walks_as (folded_path s.path))) ∙ fit)
     where
       written : (spot : ComponentAt) → Lies l limit spot → (o : Option Simple) → elementary_at l spot ≡ o
           → not (fits_kind s.value o) ≡ false
@@ -573,12 +573,12 @@ module _ (l : List BlockLayout) (limit k inside : ℕ) (right : AreRight l) (nea
             record {
               within = place.within;
               begins = kind_begins spot.offset kind place.even;
-              fits = value_fits s.value kind literal has (not_not (fits s.value kind) f);
+              fits = value_fits s.value kind literal has (not_not (fits_elementary_type s.value kind) f);
             },
             tt,
           )
 
-      by : (w : PathEnd) → Goes l limit w → misfits l s.value w ≡ false
+      by : (w : PathEnd) → Goes l limit w → misfits_component l s.value w ≡ false
           → AllByRecursion (IsKept limit) (setting_write l s.value w)
       by (walk.Reaches spot) lies f = written spot lies (elementary_at l spot) refl f
       by walk.Unknown lies f = tt
@@ -590,17 +590,17 @@ module _ (l : List BlockLayout) (limit k inside : ℕ) (right : AreRight l) (nea
       → AllByRecursion (IsKept limit) (setting_writes l k ss)
   settings_kept [] a b c d = tt
   settings_kept (s ∷ ss) a b c d =
-      all_append (IsKept limit) (setting_write l s.value (walked_data l k (folded_path s.path)))
+      all_append (IsKept limit) (setting_write l s.value (path_end_in_data_block l k (folded_path s.path)))
       (setting_writes l k ss) (one_kept s a.0 b.0 c.0 d.0) (settings_kept ss a.1 b.1 c.1 d.1)
 
   one_set : (s : Setting) → setting_misfits l k s ≡ false → setting_is_outside l k s ≡ false
-      → sets_unknown l k s ≡ false → IsSet l k s
+      → sets_unknown l k s ≡ false → IsSettingWritten l k s
   one_set s fit stays known =
       let found =
-      by (walked_data l k (folded_path s.path))
+      by (path_end_in_data_block l k (folded_path s.path))
       (data_goes l limit right near k inside (folded_path s.path) is small
       (ap (λ (o : Option ℕ). leaves_judged l o (folded_path s.path)) (sym same) ∙ stays))
-      (ap (misfits l s.value) (sym (walks_as (folded_path s.path))) ∙ fit)
+      (ap (misfits_component l s.value) (sym (walks_as (folded_path s.path))) ∙ fit)
       known in
       record { write = found.0; alone = found.1 }
     where
@@ -610,7 +610,7 @@ module _ (l : List BlockLayout) (limit k inside : ℕ) (right : AreRight l) (nea
       written offset (Some kind) f =
           (record { offset = offset; width = plain_bits kind; value = bits_of s.value }, refl)
 
-      by : (w : PathEnd) → Goes l limit w → misfits l s.value w ≡ false → leads_nowhere w ≡ false
+      by : (w : PathEnd) → Goes l limit w → misfits_component l s.value w ≡ false → leads_nowhere w ≡ false
           → (x : Write) × (setting_write l s.value w ≡ x ∷ [])
       by (walk.Reaches spot) lies f e = written spot.offset (elementary_at l spot) f
       by walk.Unknown lies f e = absurd cc
@@ -618,7 +618,7 @@ module _ (l : List BlockLayout) (limit k inside : ℕ) (right : AreRight l) (nea
 
   settings_set : (ss : List Setting) → AllByRecursion (λ s. setting_misfits l k s ≡ false) ss
       → AllByRecursion (λ s. setting_is_outside l k s ≡ false) ss
-      → AllByRecursion (λ s. sets_unknown l k s ≡ false) ss → AllByRecursion (IsSet l k) ss
+      → AllByRecursion (λ s. sets_unknown l k s ≡ false) ss → AllByRecursion (IsSettingWritten l k) ss
   settings_set [] a b c = tt
   settings_set (s ∷ ss) a b c = (one_set s a.0 b.0 c.0, settings_set ss a.1 b.1 c.1)
 
@@ -712,8 +712,8 @@ module _ (source file : List ℕ) (symbols : List Symbol) (t : Tree)
           let laid = block_of_layout symbols t tree u l is in
           subst (λ (cs : List Cell). AllByRecursion IsFit cs)
           (sym (cells_are symbols t u laid.block l laid.sound false))
-          (components_fit (types_of symbols t.blocks) laid.block
-          (block_unbroken (types_of symbols t.blocks) laid.block laid.sound.declarations)
+          (components_fit (types_of_source symbols t.blocks) laid.block
+          (block_unbroken (types_of_source symbols t.blocks) laid.block laid.sound.declarations)
           (declares laid.block laid.sound.well_formed (has u laid.block l laid.sound)))
 
   -- a data block with its layout
@@ -751,7 +751,7 @@ module _ (source file : List ℕ) (symbols : List Symbol) (t : Tree)
   }
 
   writes_within : (k : ℕ) (d : IsData k) (s : IsStructured symbols t k) (limit : ℕ)
-      → structure_bits (cells_at ls s.inside false) ≤ limit → limit < largest
+      → structure_bits (cells_at ls s.inside false) ≤ limit → limit < largest_size
       → AllByRecursion (IsKept limit) (writes_of ls t.blocks k)
   writes_within k d s limit inside near =
       all_append (IsKept limit) (structure_writes ls (structure_of ls k))
@@ -760,7 +760,7 @@ module _ (source file : List ℕ) (symbols : List Symbol) (t : Tree)
       structure : AllByRecursion (IsKept limit) (structure_writes ls (structure_of ls k))
       structure =
           subst (λ (o : Option ℕ). AllByRecursion (IsKept limit) (structure_writes ls o)) (sym s.is)
-          (types_kept ls limit near all_right all_fit rounds s.inside (0 ∷ [])
+          (types_kept ls limit near all_right all_fit measuring_rounds s.inside (0 ∷ [])
           (record { even = refl; within = omega (arith, inside) }, tt))
 
       well : IsBlock d.block
@@ -790,10 +790,10 @@ module _ (source file : List ℕ) (symbols : List Symbol) (t : Tree)
       (all_both (IsRightCell ls) IsFit (cells_at ls u false) (all_right u) (all_fit u))
 
   all_set : (k : ℕ) (d : IsData k) (s : IsStructured symbols t k)
-      → AllByRecursion (IsSet ls k) (settings_at (slice_get t.blocks k))
+      → AllByRecursion (IsSettingWritten ls k) (settings_at (slice_get t.blocks k))
   all_set k d s =
       let small = s.small in
-      subst (λ (o : Option Block). AllByRecursion (IsSet ls k) (settings_at o)) (sym d.sound.block_there)
+      subst (λ (o : Option Block). AllByRecursion (IsSettingWritten ls k) (settings_at o)) (sym d.sound.block_there)
       (settings_set ls (structure_bits (cells_at ls s.inside false)) k s.inside (are_right symbols t tree)
       (omega (arith, small)) s.is (setting_same k d) (omega arith) d.block.settings
       (each_passes (setting_misfits ls k) (λ (x : Setting). x.line) 41 d.block.settings d.sound.settings.by_41)
@@ -801,7 +801,7 @@ module _ (source file : List ℕ) (symbols : List Symbol) (t : Tree)
       (each_passes (sets_unknown ls k) (λ (x : Setting). x.line) 20 d.block.settings d.sound.settings.by_20))
 
   written : (k : ℕ) (l : BlockLayout) (id : BlockId) → slice_get ls k ≡ Some l → l.id ≡ Some id
-      → is_data_block id.kind ≡ true → IsWritten ls t.blocks k l.length
+      → is_data_block id.kind ≡ true → IsMadeByWrites ls t.blocks k l.length
   unfolding initial_bytes
   written k l id there is kind =
       let d = data_of k l id there is kind in
@@ -809,7 +809,7 @@ module _ (source file : List ℕ) (symbols : List Symbol) (t : Tree)
       let long : l.length ≡ structure_bits (cells_at ls s.inside false) / 8
       = sym (ap (λ (o : Option BlockLayout). length_at o) there) ∙ s.long in
       record {
-        made = ap (λ (o : Option BlockLayout). fold put (replicate (length_at o) 0) (writes_of ls t.blocks k)) there;
+        made = ap (λ (o : Option BlockLayout). fold bytes_with_write (replicate (length_at o) 0) (writes_of ls t.blocks k)) there;
         whole = all_held (IsKept (structure_bits (cells_at ls s.inside false))) (IsWhole l.length)
             (kept_is_whole l.length (structure_bits (cells_at ls s.inside false))
             (eight l.length (structure_bits (cells_at ls s.inside false)) long

@@ -5,9 +5,9 @@ use Rattle.std.proofs.lemmas.Bool.{eq-eqb, ne_eqb}
 use Rattle.std.proofs.lemmas.List.{length-take-le}
 use Rattle.std.specs.List.{AllByRecursion}
 use Rattle.flat_code.specs.Blocks.{bracket_fault, zone_fault}
-use Rattle.flat_code.specs.Codes.{size}
+use Rattle.flat_code.specs.Codes.{size_of_op}
 use Rattle.flat_code.specs.Ops.{OpData}
-use Rattle.flat_code.specs.Placed.{Placed, StatementSpot, before_next, bracket_codes, few, outer_brackets, is_empty_list, open_behind, brackets_after, is_opening, ops_placed, spot_at, spots_from, zones_behind_op, zones_left}
+use Rattle.flat_code.specs.Placed.{PlacedOp, StatementSpot, before_next, bracket_codes, codes_of_few_brackets, outer_brackets, is_empty_list, open_behind, brackets_after, is_opening, ops_placed, spot_at, spots_from, zones_behind_op, zones_left}
 use Rattle.flat_code.specs.declared.image_fields.OpenBracket.{OpenBracket}
 use Rattle.sem_kept.specs.Back.{is_target}
 use Rattle.sem_kept.proofs.compiled.Runs.{total, Parted, IsPreparing, IsStatement, AreStatements, flat, bytes_of, bytes_long, extent}
@@ -62,7 +62,7 @@ codes_opened at code bs = by (is_opening code) (code == 0x1E)
     by false true = codes_inner bs
     by false false = refl
 
-pub few_is : (bs : List OpenBracket) → few bs ≡ few_codes (bracket_codes bs)
+pub few_is : (bs : List OpenBracket) → codes_of_few_brackets bs ≡ few_codes (bracket_codes bs)
 few_is bs =
     ap (λ (k : ℕ). if nat_le k 7 then Some (bracket_codes bs) else None) (sym (codes_count bs))
 
@@ -160,7 +160,7 @@ quiet_zones at op zones h = rw h.opens_zone (rw h.ends_zone refl)
 abbrev spots_past : (at : ℕ) → List OpenBracket → (zones : List ℕ) → OpData → (rest : List OpData)
     → List StatementSpot
 spots_past at bs zones op rest =
-    spots_from (at + size op) true (brackets_after at op.code bs) (zones_behind_op at op.code zones) rest
+    spots_from (at + size_of_op op) true (brackets_after at op.code bs) (zones_behind_op at op.code zones) rest
 
 spots_inside : (at : ℕ) (bs : List OpenBracket) (zones : List ℕ) (front : List OpData) (op : OpData)
     (rest : List OpData)
@@ -169,24 +169,24 @@ spots_inside : (at : ℕ) (bs : List OpenBracket) (zones : List ℕ) (front : Li
     ≡ spots_past (at + total front) bs zones op rest
 spots_inside at bs zones [] op rest quiet fs last =
     ap (λ (t : Bool).
-    spots_from (at + size op) t (brackets_after at op.code bs) (zones_behind_op at op.code zones) rest) last
+    spots_from (at + size_of_op op) t (brackets_after at op.code bs) (zones_behind_op at op.code zones) rest) last
     ∙ ap (λ (k : ℕ). spots_past k bs zones op rest) (omega arith)
 spots_inside at bs zones (x ∷ front) op rest quiet fs last =
     ap (λ (t : Bool). next t (brackets_after at x.code bs) (zones_behind_op at x.code zones)) fs.0
     ∙ ap (λ (z : List OpenBracket). next false z (zones_behind_op at x.code zones))
     (quiet_opens at x bs quiet.0)
     ∙ ap (next false bs) (quiet_zones at x zones quiet.0)
-    ∙ spots_inside (at + size x) bs zones front op rest quiet.1 fs.1 last
+    ∙ spots_inside (at + size_of_op x) bs zones front op rest quiet.1 fs.1 last
     ∙ ap (λ (k : ℕ). spots_past k bs zones op rest) (omega arith)
   where
     next : Bool → List OpenBracket → (zones : List ℕ) → List StatementSpot
-    next begin bs zones = spots_from (at + size x) begin bs zones (front ++ op ∷ rest)
+    next begin bs zones = spots_from (at + size_of_op x) begin bs zones (front ++ op ∷ rest)
 
 -- a statement, and those behind it
 spots_next : (at : ℕ) (bs : List OpenBracket) (zones : List ℕ) (p : Parted) (rest : List OpData)
     → AllByRecursion IsQuiet p.front → IsStatement p
     → spots_from at true bs zones (p.front ++ p.end ∷ rest)
-    ≡ record { at = at; codes = few bs; zones = length zones }
+    ≡ record { at = at; codes = codes_of_few_brackets bs; zones = length zones }
     ∷ spots_from (at + bytes_of p) true (brackets_after (at + total p.front) p.end.code bs)
     (zones_behind_op (at + total p.front) p.end.code zones) rest
 spots_next at bs zones p rest quiet h =
@@ -195,7 +195,7 @@ spots_next at bs zones p rest quiet h =
     (zones_behind_op (at + total p.front) p.end.code zones) rest) (omega arith)
   where
     here : StatementSpot
-    here = record { at = at; codes = few bs; zones = length zones }
+    here = record { at = at; codes = codes_of_few_brackets bs; zones = length zones }
 
     by : (front : List OpData) → AllByRecursion IsQuiet front → AllByRecursion IsPreparing front
         → spots_from at true bs zones (front ++ p.end ∷ rest)
@@ -239,7 +239,7 @@ pub spot_there : (at : ℕ) (bs : List OpenBracket) (zones : List ℕ) (ps : Lis
     → IsFound (spot_at (spots_from at true bs zones (flat (ps ++ p ∷ qs))) (at + extent ps))
     (few_codes (codes_after ps (bracket_codes bs))) (count_after ps (length zones))
 spot_there at bs zones [] p qs hs quiets quiet h = record {
-  spot = record { at = at; codes = few bs; zones = length zones };
+  spot = record { at = at; codes = codes_of_few_brackets bs; zones = length zones };
   is = rw (spots_next at bs zones p (flat qs) quiet h) (rw (eq-eqb at (at + 0) (omega arith)) refl);
   codes_are = few_is bs;
   zones_are = refl;
@@ -266,9 +266,9 @@ open_inside : (at : ℕ) (bs : List OpenBracket) (front rest : List OpData)
     → open_behind at bs (front ++ rest) ≡ open_behind (at + total front) bs rest
 open_inside at bs [] rest quiet = ap (λ (k : ℕ). open_behind k bs rest) (omega arith)
 open_inside at bs (x ∷ front) rest quiet =
-    ap (λ (z : List OpenBracket). open_behind (at + size x) z (front ++ rest))
+    ap (λ (z : List OpenBracket). open_behind (at + size_of_op x) z (front ++ rest))
     (quiet_opens at x bs quiet.0)
-    ∙ open_inside (at + size x) bs front rest quiet.1
+    ∙ open_inside (at + size_of_op x) bs front rest quiet.1
     ∙ ap (λ (k : ℕ). open_behind k bs rest) (omega arith)
 
 pub open_after : (at : ℕ) (bs : List OpenBracket) (ps : List Parted) → AreQuiet ps
@@ -276,15 +276,15 @@ pub open_after : (at : ℕ) (bs : List OpenBracket) (ps : List Parted) → AreQu
 open_after at bs [] quiets = refl
 open_after at bs (p ∷ ps) quiets =
     ap bracket_codes (open_inside at bs p.front (p.end ∷ flat ps) quiets.0)
-    ∙ open_after (at + total p.front + size p.end) (brackets_after (at + total p.front) p.end.code bs) ps quiets.1
+    ∙ open_after (at + total p.front + size_of_op p.end) (brackets_after (at + total p.front) p.end.code bs) ps quiets.1
     ∙ ap (codes_after ps) (codes_opened (at + total p.front) p.end.code bs)
 
 left_inside : (at : ℕ) (zones : List ℕ) (front rest : List OpData) → AllByRecursion IsQuiet front
     → zones_left at zones (front ++ rest) ≡ zones_left (at + total front) zones rest
 left_inside at zones [] rest quiet = ap (λ (k : ℕ). zones_left k zones rest) (omega arith)
 left_inside at zones (x ∷ front) rest quiet =
-    ap (λ (z : List ℕ). zones_left (at + size x) z (front ++ rest)) (quiet_zones at x zones quiet.0)
-    ∙ left_inside (at + size x) zones front rest quiet.1
+    ap (λ (z : List ℕ). zones_left (at + size_of_op x) z (front ++ rest)) (quiet_zones at x zones quiet.0)
+    ∙ left_inside (at + size_of_op x) zones front rest quiet.1
     ∙ ap (λ (k : ℕ). zones_left k zones rest) (omega arith)
 
 pub left_after : (at : ℕ) (zones : List ℕ) (ps : List Parted) → AreQuiet ps
@@ -292,7 +292,7 @@ pub left_after : (at : ℕ) (zones : List ℕ) (ps : List Parted) → AreQuiet p
 left_after at zones [] quiets = refl
 left_after at zones (p ∷ ps) quiets =
     ap (λ (z : List ℕ). length z) (left_inside at zones p.front (p.end ∷ flat ps) quiets.0)
-    ∙ left_after (at + total p.front + size p.end)
+    ∙ left_after (at + total p.front + size_of_op p.end)
     (zones_behind_op (at + total p.front) p.end.code zones) ps quiets.1
     ∙ ap (count_after ps) (count_is (at + total p.front) p.end.code zones)
 
@@ -300,15 +300,15 @@ left_after at zones (p ∷ ps) quiets =
 
 -- the ops behind one that ends its statement at an offset
 abbrev pub placed_past : (at : ℕ) → List OpenBracket → (zones : List ℕ) → OpData
-    → (rest : List OpData) → List Placed
+    → (rest : List OpData) → List PlacedOp
 placed_past at bs zones op rest =
-    ops_placed (at + size op) (brackets_after at op.code bs) (zones_behind_op at op.code zones) [] rest
+    ops_placed (at + size_of_op op) (brackets_after at op.code bs) (zones_behind_op at op.code zones) [] rest
 
 -- what holds of each op of a statement, and of those behind it
-pub placed_all : (P : Placed → Type 0) (at : ℕ) (bs : List OpenBracket) (zones : List ℕ)
+pub placed_all : (P : PlacedOp → Type 0) (at : ℕ) (bs : List OpenBracket) (zones : List ℕ)
     (before front : List OpData) (op : OpData) (rest : List OpData)
     → AllByRecursion IsQuiet front → AllByRecursion IsPreparing front → op.last ≡ true
-    → ((q : Placed) → IsQuiet q.op → P q)
+    → ((q : PlacedOp) → IsQuiet q.op → P q)
     → ((done : List OpData)
     → P (record { at = at + total front; brackets = bs; zones = zones; before = done; op = op; rest = rest }))
     → AllByRecursion P (placed_past (at + total front) bs zones op rest)
@@ -318,19 +318,19 @@ placed_all P at bs zones before [] op rest quiet fs last one end more =
     let none : [] ≡ before_next op before =
     ap (λ (t : Bool). if t then [] else before ++ op ∷ []) (sym last) in (
       subst (λ (k : ℕ). P (record { at = k; brackets = bs; zones = zones; before = before; op = op; rest = rest })) here (end before),
-      subst (λ (z : List OpData). AllByRecursion P (ops_placed (at + size op) (brackets_after at op.code bs) (zones_behind_op at op.code zones) z rest)) none
+      subst (λ (z : List OpData). AllByRecursion P (ops_placed (at + size_of_op op) (brackets_after at op.code bs) (zones_behind_op at op.code zones) z rest)) none
           (subst (λ (k : ℕ). AllByRecursion P (placed_past k bs zones op rest)) here more),
     )
 placed_all P at bs zones before (x ∷ front) op rest quiet fs last one end more =
-    let here : at + (size x + total front) ≡ at + size x + total front = omega arith in
+    let here : at + (size_of_op x + total front) ≡ at + size_of_op x + total front = omega arith in
     let same : bs ≡ brackets_after at x.code bs = sym (quiet_opens at x bs quiet.0) in
     let stay : zones ≡ zones_behind_op at x.code zones = sym (quiet_zones at x zones quiet.0) in (
       one (record { at = at; brackets = bs; zones = zones; before = before; op = x; rest = front ++ op ∷ rest }) quiet.0,
       subst (λ (z : List OpenBracket). AllByRecursion P
-          (ops_placed (at + size x) z (zones_behind_op at x.code zones) (before_next x before) (front ++ op ∷ rest))) same
+          (ops_placed (at + size_of_op x) z (zones_behind_op at x.code zones) (before_next x before) (front ++ op ∷ rest))) same
           (subst (λ (z : List ℕ). AllByRecursion P
-          (ops_placed (at + size x) bs z (before_next x before) (front ++ op ∷ rest))) stay
-          (placed_all P (at + size x) bs zones (before_next x before) front op rest quiet.1 fs.1 last one
+          (ops_placed (at + size_of_op x) bs z (before_next x before) (front ++ op ∷ rest))) stay
+          (placed_all P (at + size_of_op x) bs zones (before_next x before) front op rest quiet.1 fs.1 last one
           (λ done. subst (λ (k : ℕ). P (record { at = k; brackets = bs; zones = zones; before = done; op = op; rest = rest })) here (end done))
           (subst (λ (k : ℕ). AllByRecursion P (placed_past k bs zones op rest)) here more))),
     )

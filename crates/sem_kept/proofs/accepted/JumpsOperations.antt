@@ -24,22 +24,22 @@ use Rattle.stl_ast.specs.declared.mnemonics.Mnemonic.TheVariants as code
 use Rattle.stl_ast.specs.declared.operands.Operand.{Operand}
 use Rattle.stl_ast.specs.declared.operands.Operand.TheVariants as operand
 use Rattle.stl_ast.specs.declared.statements.Statement.{Statement}
-use Rattle.stl_types.specs.Brackets.{behind, closes, closes_none, is_eighth, opened, opening}
+use Rattle.stl_types.specs.Brackets.{brackets_behind, is_closing_bracket, closes_no_bracket, is_eighth_bracket, brackets_after_opening, bracket_function}
 use Rattle.stl_types.specs.Context.{Context}
 use Rattle.stl_types.specs.Forms.{form_of}
-use Rattle.stl_types.specs.Operands.{operand_rule, rule_of, takes}
-use Rattle.stl_types.specs.Resolved.{resolved, seen_view}
-use Rattle.stl_types.specs.Resolution.{seen}
-use Rattle.stl_types.specs.Zones.{ends_none, ends_zone, is_ninth, opens_zone, zones_behind}
+use Rattle.stl_types.specs.Operands.{operand_rule, rule_of_resolved_operand, takes_operand}
+use Rattle.stl_types.specs.Resolved.{resolved_operand, seen_view}
+use Rattle.stl_types.specs.Resolution.{resolution_of}
+use Rattle.stl_types.specs.Zones.{ends_no_zone, ends_zone, is_ninth_zone, opens_zone, zones_behind}
 use Rattle.stl_types.specs.declared.brackets.Bracket.{Bracket}
 use Rattle.stl_types.specs.declared.forms.OperandRule.{OperandRule}
 use Rattle.stl_types.specs.declared.forms.OperandRule.TheVariants as form
 use Rattle.stl_types.specs.declared.views.Register.TheVariants as register
 use Rattle.stl_types.specs.declared.views.ResolvedOperand.{ResolvedOperand}
 use Rattle.stl_types.specs.declared.views.ResolvedOperand.TheVariants as view
-use Rattle.stl_codegen.specs.Emitted.{opening as opening_op, passing}
+use Rattle.stl_codegen.specs.Emitted.{use_db_ops as opening_op, pass_ops}
 use Rattle.stl_codegen.specs.Instruction.{call_instr, end_instr, instr_by, instruction, jump_instr, resolved_instr, target_of, view_instr}
-use Rattle.stl_codegen.specs.Operations.{add_operation, call_of, end_of, jump_of, load_pointer_operation, load_operation, or_operation, store_pointer_operation, transfer_operation, operation_for}
+use Rattle.stl_codegen.specs.Operations.{add_operation, call_operation_of, end_operation_of, jump_operation_of, load_pointer_operation, load_operation, or_operation, store_pointer_operation, transfer_operation, operation_for}
 use Rattle.sem_kept.specs.Back.{is_target}
 use Rattle.sem_kept.proofs.compiled.Instructions.{no_target}
 use Rattle.sem_kept.proofs.compiled.Reading.{parted}
@@ -50,12 +50,12 @@ use Rattle.sem_kept.proofs.accepted.JumpsCode.{IsQuiet, codes_behind, codes_faul
 -- an instruction that opens or closes a bracket or a zone
 abbrev pub nests : Mnemonic → Bool
 nests m =
-    if is_some (opening m) then true else if closes m then true
+    if is_some (bracket_function m) then true else if is_closing_bracket m then true
     else if opens_zone m then true else ends_zone m
 
 -- a jump has a label, and a bracket or a zone nothing
 pub record TakesRight (s : Statement) : Type 0 where
-  pub jumps : (how : JumpOperation) → jump_of s.code ≡ Some how
+  pub jumps : (how : JumpOperation) → jump_operation_of s.code ≡ Some how
       → (name : List ℕ) × (s.operand ≡ operand.Label name)
   pub bare : nests s.code ≡ true → s.operand ≡ operand.Nothing
 
@@ -75,7 +75,7 @@ IsZoneCodeBy false false code = ((code == 0x07) ≡ false) × ((code == 0x08) �
 
 abbrev IsCodeOf : Mnemonic → (code : ℕ) → Type 0
 IsCodeOf m code =
-    IsCodeBy (opening m) (closes m) code × IsZoneCodeBy (opens_zone m) (ends_zone m) code
+    IsCodeBy (bracket_function m) (is_closing_bracket m) code × IsZoneCodeBy (opens_zone m) (ends_zone m) code
 
 -- that of an operation that has nothing to do with brackets and zones
 abbrev IsOtherCode : ℕ → Type 0
@@ -108,7 +108,7 @@ add_code (operand.Constant _) = ((refl, refl), (refl, refl))
 add_code _ = ((refl, refl), (refl, refl))
 
 operation_code : (m : Mnemonic) (o : Operand) (v : ResolvedOperand) → IsCodeOf m (op_code_of (operation_for m o v))
-unfolding operation_for opening closes opens_zone ends_zone
+unfolding operation_for bracket_function is_closing_bracket opens_zone ends_zone
 operation_code code.AOpen o v = ((refl, refl), (refl, refl))
 operation_code code.AnOpen o v = ((refl, refl), (refl, refl))
 operation_code code.OOpen o v = ((refl, refl), (refl, refl))
@@ -128,7 +128,7 @@ operation_code _ o v = ((refl, refl), (refl, refl))
 
 -- another code, of an instruction that is neither bracket nor zone
 other_code : (m : Mnemonic) (code : ℕ) → nests m ≡ false → IsOtherCode code → IsCodeOf m code
-other_code m code none other = by (opening m) (closes m) (opens_zone m) (ends_zone m) none
+other_code m code none other = by (bracket_function m) (is_closing_bracket m) (opens_zone m) (ends_zone m) none
   where
     by : (o : Option ℕ) (c opened ended : Bool)
         → (if is_some o then true else if c then true else if opened then true else ended) ≡ false
@@ -139,8 +139,8 @@ other_code m code none other = by (opening m) (closes m) (opens_zone m) (ends_zo
     by None false false true h = absurd cc
     by None false false false h = other
 
-no_jump : (m : Mnemonic) (how : JumpOperation) → jump_of m ≡ Some how → nests m ≡ false
-unfolding opening closes opens_zone ends_zone
+no_jump : (m : Mnemonic) (how : JumpOperation) → jump_operation_of m ≡ Some how → nests m ≡ false
+unfolding bracket_function is_closing_bracket opens_zone ends_zone
 no_jump code.AOpen how e = absurd cc
 no_jump code.AnOpen how e = absurd cc
 no_jump code.OOpen how e = absurd cc
@@ -152,8 +152,8 @@ no_jump code.McrOpen how e = absurd cc
 no_jump code.McrClose how e = absurd cc
 no_jump _ how e = refl
 
-no_call : (m : Mnemonic) (how : CallOperation) → call_of m ≡ Some how → nests m ≡ false
-unfolding opening closes opens_zone ends_zone
+no_call : (m : Mnemonic) (how : CallOperation) → call_operation_of m ≡ Some how → nests m ≡ false
+unfolding bracket_function is_closing_bracket opens_zone ends_zone
 no_call code.AOpen how e = absurd cc
 no_call code.AnOpen how e = absurd cc
 no_call code.OOpen how e = absurd cc
@@ -165,8 +165,8 @@ no_call code.McrOpen how e = absurd cc
 no_call code.McrClose how e = absurd cc
 no_call _ how e = refl
 
-no_end : (m : Mnemonic) (how : EndOperation) → end_of m ≡ Some how → nests m ≡ false
-unfolding opening closes opens_zone ends_zone
+no_end : (m : Mnemonic) (how : EndOperation) → end_operation_of m ≡ Some how → nests m ≡ false
+unfolding bracket_function is_closing_bracket opens_zone ends_zone
 no_end code.AOpen how e = absurd cc
 no_end code.AnOpen how e = absurd cc
 no_end code.OOpen how e = absurd cc
@@ -198,7 +198,7 @@ record IsLast (m : Mnemonic) (op : OpData) : Type 0 where
   code : IsCodeOf m op.code
   stays : is_target op.operand ≡ false
 
-last_end : (s : Statement) (v : ResolvedOperand) (e : Option EndOperation) → end_of s.code ≡ e
+last_end : (s : Statement) (v : ResolvedOperand) (e : Option EndOperation) → end_operation_of s.code ≡ e
     → IsLast s.code (last_op (end_instr s v e))
 last_end s v None is =
     record { code = operation_code s.code s.operand v; stays = no_target s.operand v }
@@ -207,7 +207,7 @@ last_end s v (Some how) is = record {
   stays = refl;
 }
 
-last_call : (c : Context) (s : Statement) (how : CallOperation) (v : ResolvedOperand) → call_of s.code ≡ Some how
+last_call : (c : Context) (s : Statement) (how : CallOperation) (v : ResolvedOperand) → call_operation_of s.code ≡ Some how
     → IsLast s.code (last_op (call_instr c s how v))
 last_call c s how (view.Called id instance) is = record {
   code = other_code s.code (op_code_of (operation.Call how)) (no_call s.code how is) (call_code how);
@@ -219,14 +219,14 @@ last_call c s how _ is = record {
   stays = refl;
 }
 
-last_view : (c : Context) (s : Statement) (v : ResolvedOperand) (call : Option CallOperation) → call_of s.code ≡ call
+last_view : (c : Context) (s : Statement) (v : ResolvedOperand) (call : Option CallOperation) → call_operation_of s.code ≡ call
     → IsLast s.code (last_op (view_instr c s v call))
-last_view c s v None is = last_end s v (end_of s.code) refl
+last_view c s v None is = last_end s v (end_operation_of s.code) refl
 last_view c s v (Some how) is = last_call c s how v is
 
 -- a bracket or a zone stands with nothing, and is taken
 pub nests_form : (m : Mnemonic) → nests m ≡ true → form_of m ≡ form.Bare
-unfolding opening closes opens_zone ends_zone form_of
+unfolding bracket_function is_closing_bracket opens_zone ends_zone form_of
 nests_form code.AOpen e = refl
 nests_form code.AnOpen e = refl
 nests_form code.OOpen e = refl
@@ -239,22 +239,22 @@ nests_form code.McrClose e = refl
 nests_form _ e = absurd cc
 
 abbrev resolved_by : Context → OperandRule → Operand → Option ResolvedOperand
-resolved_by c f o = if is_none (operand_rule c f o) then seen_view (seen c o) else None
+resolved_by c f o = if is_none (operand_rule c f o) then seen_view (resolution_of c o) else None
 
 bare_resolved : (c : Context) → resolved_by c form.Bare operand.Nothing ≡ Some view.Nothing
-unfolding seen rule_of takes
+unfolding resolution_of rule_of_resolved_operand takes_operand
 bare_resolved c = refl
 
 nests_resolved : (c : Context) (s : Statement) → TakesRight s → nests s.code ≡ true
-    → resolved c s ≡ Some view.Nothing
-unfolding resolved
+    → resolved_operand c s ≡ Some view.Nothing
+unfolding resolved_operand
 nests_resolved c s h is =
     ap (λ (f : OperandRule). resolved_by c f s.operand) (nests_form s.code is)
     ∙ ap (resolved_by c form.Bare) (h.bare is) ∙ bare_resolved c
 
-last_resolved : (c : Context) (s : Statement) (v : Option ResolvedOperand) → TakesRight s → resolved c s ≡ v
+last_resolved : (c : Context) (s : Statement) (v : Option ResolvedOperand) → TakesRight s → resolved_operand c s ≡ v
     → IsLast s.code (last_op (resolved_instr c s v))
-last_resolved c s (Some v) h is = last_view c s v (call_of s.code) refl
+last_resolved c s (Some v) h is = last_view c s v (call_operation_of s.code) refl
 last_resolved c s None h is = by (nests s.code) refl
   where
     by : (b : Bool) → nests s.code ≡ b → IsLast s.code (last_op (resolved_instr c s None))
@@ -275,7 +275,7 @@ jumps_to body s (Some how) o = o ≡ flat.Jump (jump_number how) (target_of body
 
 pub record IsLastOf (body : List Statement) (s : Statement) (op : OpData) : Type 0 where
   code : IsCodeOf s.code op.code
-  pub jumps : jumps_to body s (jump_of s.code) op.operand
+  pub jumps : jumps_to body s (jump_operation_of s.code) op.operand
 
 jump_operand : (how : JumpOperation) (n target : ℕ)
     → (last_op (jump_instr how n target)).operand ≡ flat.Jump (jump_number how) target
@@ -286,13 +286,13 @@ pub last_of : (c : Context) (body : List Statement) (n : ℕ) (s : Statement) �
     → IsLastOf body s (last_op (instruction c body n s))
 unfolding instruction
 last_of c body n s h =
-    let r = by (jump_of s.code) refl in record { code = r.0; jumps = r.1 }
+    let r = by (jump_operation_of s.code) refl in record { code = r.0; jumps = r.1 }
   where
-    by : (j : Option JumpOperation) → jump_of s.code ≡ j
+    by : (j : Option JumpOperation) → jump_operation_of s.code ≡ j
         → IsCodeOf s.code (last_op (instr_by c body n s j)).code
         × jumps_to body s j (last_op (instr_by c body n s j)).operand
     by None is =
-        let r = last_resolved c s (resolved c s) h refl in (r.code, r.stays)
+        let r = last_resolved c s (resolved_operand c s) h refl in (r.code, r.stays)
     by (Some how) is = (
       subst (IsCodeOf s.code) (sym (jump_code how n (target_of body s.operand)))
           (other_code s.code 0x6F (no_jump s.code how is) ((refl, refl), (refl, refl))),
@@ -324,17 +324,17 @@ behind_by bs line None c = if c then take (length bs - 1) bs else bs
 behind_by bs line (Some function) c = bs ++ record { function = function; line = line } ∷ []
 
 behind_is : (bs : List Bracket) (s : Statement)
-    → behind bs s ≡ behind_by bs s.line (opening s.code) (closes s.code)
-behind_is bs s = by (opening s.code)
+    → brackets_behind bs s ≡ behind_by bs s.line (bracket_function s.code) (is_closing_bracket s.code)
+behind_is bs s = by (bracket_function s.code)
   where
-    by : (o : Option ℕ) → opened bs s o ≡ behind_by bs s.line o (closes s.code)
+    by : (o : Option ℕ) → brackets_after_opening bs s o ≡ behind_by bs s.line o (is_closing_bracket s.code)
     by None = refl
     by (Some function) = refl
 
 pub behind_codes : (bs : List Bracket) (body : List Statement) (s : Statement) (op : OpData)
-    → IsLastOf body s op → codes_behind op.code (codes_of bs) ≡ codes_of (behind bs s)
+    → IsLastOf body s op → codes_behind op.code (codes_of bs) ≡ codes_of (brackets_behind bs s)
 behind_codes bs body s op h =
-    by (opening s.code) (closes s.code) h.code.0 ∙ ap codes_of (sym (behind_is bs s))
+    by (bracket_function s.code) (is_closing_bracket s.code) h.code.0 ∙ ap codes_of (sym (behind_is bs s))
   where
     by : (o : Option ℕ) (c : Bool) → IsCodeBy o c op.code
         → codes_behind op.code (codes_of bs) ≡ codes_of (behind_by bs s.line o c)
@@ -355,9 +355,9 @@ none_there [] e = absurd cc
 none_there (b ∷ bs) e = refl
 
 pub bracket_right : (bs : List Bracket) (body : List Statement) (s : Statement) (op : OpData)
-    → IsLastOf body s op → closes_none bs s ≡ false → is_eighth bs s ≡ false
+    → IsLastOf body s op → closes_no_bracket bs s ≡ false → is_eighth_bracket bs s ≡ false
     → codes_fault op.code (codes_of bs) ≡ None
-bracket_right bs body s op h shut eighth = by (opening s.code) (closes s.code) h.code.0 shut eighth
+bracket_right bs body s op h shut eighth = by (bracket_function s.code) (is_closing_bracket s.code) h.code.0 shut eighth
   where
     by : (o : Option ℕ) (c : Bool) → IsCodeBy o c op.code
         → (c && nat_eq (length bs) 0) ≡ false → (is_some o && nat_le 7 (length bs)) ≡ false
@@ -388,7 +388,7 @@ behind_count zones body s op h = by (opens_zone s.code) (ends_zone s.code) h.cod
     by false false g = rw g.0 (rw g.1 refl)
 
 pub zone_right : (zones : List ℕ) (body : List Statement) (s : Statement) (op : OpData)
-    → IsLastOf body s op → ends_none zones s ≡ false → is_ninth zones s ≡ false
+    → IsLastOf body s op → ends_no_zone zones s ≡ false → is_ninth_zone zones s ≡ false
     → count_fault op.code (length zones) ≡ None
 zone_right zones body s op h none ninth =
     by (opens_zone s.code) (ends_zone s.code) h.code.1 none ninth
@@ -406,7 +406,7 @@ zone_right zones body s op h none ninth =
 
 -- ---- ops that prepare
 
-passing_quiet : (ps : List Passing) → AllByRecursion IsQuiet (passing ps)
+passing_quiet : (ps : List Passing) → AllByRecursion IsQuiet (pass_ops ps)
 passing_quiet [] = tt
 passing_quiet (p ∷ ps) = (
   record { opens = refl; closes = refl; opens_zone = refl; ends_zone = refl; stays = refl },

@@ -1,20 +1,20 @@
 -- No code block of an accepted source has a fault in its jumps, brackets or zones.
 use Rattle.std.proofs.Common.{◌≡◌, ℕ, false, List, [], ◌∷◌, ◌++◌, Option, Some, None, refl, ap, ◌∙◌}
 use Rattle.std.specs.List.{AllByRecursion}
-use Rattle.stl_ast.specs.Statements.{is_called}
+use Rattle.stl_ast.specs.Statements.{names_called_block}
 use Rattle.stl_ast.specs.declared.blocks.Block.{Block}
 use Rattle.stl_ast.specs.declared.blocks.Tree.{Tree}
 use Rattle.stl_ast.specs.declared.statements.Statement.{Statement}
 use Rattle.stl_symbols.specs.Symbol.{Symbol}
-use Rattle.block_layout.specs.Measures.{types_of}
+use Rattle.block_layout.specs.Measures.{types_of_source}
 use Rattle.block_layout.specs.Types.{Types}
 use Rattle.block_layout.specs.declared.blocks.BlockLayout.{BlockLayout}
 use Rattle.stl_types.specs.Context.{Context}
-use Rattle.stl_types.specs.Resolution.{seen}
+use Rattle.stl_types.specs.Resolution.{resolution_of}
 use Rattle.stl_codegen.specs.Compiled.{code_in}
 use Rattle.stl_codegen.specs.Fitting.{IsStill}
-use Rattle.flat_code.specs.Blocks.{Around, block_faults, call_fault, faults_over, op_faults, operand_fault}
-use Rattle.flat_code.specs.Placed.{Placed, StatementSpot, code_places, spots}
+use Rattle.flat_code.specs.Blocks.{Environment, block_faults, call_fault, faults_over, op_faults, operand_fault}
+use Rattle.flat_code.specs.Placed.{PlacedOp, StatementSpot, code_places, statement_spots}
 use Rattle.flat_code.specs.declared.operands.Operand.{Operand as FlatOperand}
 use Rattle.flat_code.specs.declared.operands.Operand.TheVariants as flat
 use Rattle.sem_kept.specs.Jumps.{AllLandRight, FineIsFaultless, JumpsLandRight, LandsRight, jump_fault_of}
@@ -27,7 +27,7 @@ use Rattle.sem_kept.proofs.accepted.JumpsOperations.{TakesRight}
 
 all_take : (y : Types) (c : Context) (body : List Statement)
     → AllByRecursion (IsSoundStatement y c) body
-    → AllByRecursion (λ s. is_called s.operand ≡ false → Settles (seen c s.operand)) body
+    → AllByRecursion (λ s. names_called_block s.operand ≡ false → Settles (resolution_of c s.operand)) body
     → AllByRecursion TakesRight body
 all_take y c [] h k = tt
 all_take y c (s ∷ ss) h k = (takes_right y c s h.0 k.0, all_take y c ss h.1 k.1)
@@ -35,7 +35,7 @@ all_take y c (s ∷ ss) h k = (takes_right y c s h.0 k.0, all_take y c ss h.1 k.
 right_block : (symbols : List Symbol) (t : Tree) (k : ℕ) (b : Block) (l : BlockLayout)
     → IsSound symbols t k b l → AllByRecursion (Settle symbols t k) b.body → IsRightBody b.body
 right_block symbols t k b l h settle = record {
-  takes = all_take (types_of symbols t.blocks) (context_at symbols t k) b.body h.statements settle;
+  takes = all_take (types_of_source symbols t.blocks) (context_at symbols t k) b.body h.statements settle;
   by_26 = h.body.by_26;
   by_29 = h.body.by_29;
   by_30 = h.body.by_30;
@@ -58,13 +58,13 @@ jumps_land_right source file symbols t accepted =
 
 -- ---- with what operands, calls and marks leave
 
-all_operands : (a : Around) (ss : List StatementSpot) (p : Placed) (o : FlatOperand)
+all_operands : (a : Environment) (ss : List StatementSpot) (p : PlacedOp) (o : FlatOperand)
     → (IsStill o → operand_fault a ss p o ≡ None) → jump_fault_of ss p o ≡ None
     → operand_fault a ss p o ≡ None
 all_operands a ss p (flat.Jump kind target) still jump = jump
 all_operands a ss p _ still jump = still tt
 
-op_faultless : (a : Around) (lens : List (ℕ × ℕ)) (ss : List StatementSpot) (start : ℕ) (p : Placed)
+op_faultless : (a : Environment) (lens : List (ℕ × ℕ)) (ss : List StatementSpot) (start : ℕ) (p : PlacedOp)
     → a.data_lens ≡ Some lens → IsFine a lens ss p → LandsRight ss p → op_faults a ss start p ≡ []
 unfolding op_faults
 op_faultless a lens ss start p e fine lands =
@@ -73,7 +73,7 @@ op_faultless a lens ss start p e fine lands =
     rw (all_operands a ss p p.op.operand fine.operand lands.jump)
     (rw calls (rw fine.mark (rw lands.brackets (rw lands.zones refl))))
 
-all_faultless : (a : Around) (lens : List (ℕ × ℕ)) (ss : List StatementSpot) (start : ℕ) (ps : List Placed)
+all_faultless : (a : Environment) (lens : List (ℕ × ℕ)) (ss : List StatementSpot) (start : ℕ) (ps : List PlacedOp)
     → a.data_lens ≡ Some lens → AreFine a lens ss ps → AllByRecursion (LandsRight ss) ps
     → faults_over a ss start ps ≡ []
 all_faultless a lens ss start [] e fine lands = refl
@@ -85,5 +85,5 @@ all_faultless a lens ss start (p ∷ ps) e fine lands =
 pub fine_is_faultless : FineIsFaultless
 unfolding block_faults
 fine_is_faultless a lens start ops e fine lands =
-    rw (all_faultless a lens (spots ops) start (code_places ops) e fine lands.each)
+    rw (all_faultless a lens (statement_spots ops) start (code_places ops) e fine lands.each)
     (rw lands.closed (rw lands.ended refl))

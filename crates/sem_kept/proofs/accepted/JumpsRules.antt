@@ -14,23 +14,23 @@ use Rattle.stl_ast.specs.declared.operands.Operand.TheVariants as operand
 use Rattle.stl_ast.specs.declared.statements.Statement.{Statement}
 use Rattle.plc_base.specs.Gathered.{refusals_along}
 use Rattle.plc_base.specs.Least.{broken_if}
-use Rattle.stl_symbols.specs.Names.{place_of}
-use Rattle.stl_types.specs.Brackets.{behind, behind_all, closes, closes_none, is_eighth, opened, opening, with_brackets}
+use Rattle.stl_symbols.specs.Names.{name_place}
+use Rattle.stl_types.specs.Brackets.{brackets_behind, brackets_behind_all, is_closing_bracket, closes_no_bracket, is_eighth_bracket, brackets_after_opening, bracket_function, with_brackets}
 use Rattle.stl_types.specs.Labels.{is_unknown_label, label_of, labels_of, unknown_labels}
-use Rattle.stl_types.specs.Landings.{Landing, Nesting, are_unequal, crosses, differ, functions_of, landing_at, landing_here, landing_of, landings_at_labels, lands_elsewhere, nesting_behind, outside}
+use Rattle.stl_types.specs.Landings.{Landing, Nesting, are_unequal, crosses_nesting, landings_differ, functions_of, landing_at, landing_here, landing_of, landings_at_labels, lands_elsewhere, nesting_behind, empty_nesting}
 use Rattle.stl_types.specs.Lists.{has_label, is_list_jump, is_list_to, is_wrong_list, lacks_list, lists_from}
-use Rattle.stl_types.specs.Zones.{ends_none, is_ninth, with_zones, zones_behind, zones_behind_all}
+use Rattle.stl_types.specs.Zones.{ends_no_zone, is_ninth_zone, with_zones, zones_behind, zones_behind_all}
 use Rattle.stl_types.specs.declared.brackets.Bracket.{Bracket}
-use Rattle.stl_codegen.specs.Bodies.{count_of}
-use Rattle.stl_codegen.specs.Instruction.{counted, target_in}
+use Rattle.stl_codegen.specs.Bodies.{count_of_statements}
+use Rattle.stl_codegen.specs.Instruction.{count_of_statement, target_in}
 use Rattle.sem_kept.proofs.accepted.Accepted.{none_left, none_right, not_broken}
 
 -- ---- statements behind others
 
 pub behind_more : (bs : List Bracket) (xs ys : List Statement)
-    → behind_all bs (xs ++ ys) ≡ behind_all (behind_all bs xs) ys
+    → brackets_behind_all bs (xs ++ ys) ≡ brackets_behind_all (brackets_behind_all bs xs) ys
 behind_more bs [] ys = refl
-behind_more bs (x ∷ xs) ys = behind_more (behind bs x) xs ys
+behind_more bs (x ∷ xs) ys = behind_more (brackets_behind bs x) xs ys
 
 pub zones_more : (zones : List ℕ) (xs ys : List Statement)
     → zones_behind_all zones (xs ++ ys) ≡ zones_behind_all (zones_behind_all zones xs) ys
@@ -40,16 +40,16 @@ zones_more zones (x ∷ xs) ys = zones_more (zones_behind zones x) xs ys
 -- what is open behind statements
 abbrev pub nesting_after : Nesting → List Statement → Nesting
 nesting_after n ss = record {
-  brackets = behind_all n.brackets ss;
+  brackets = brackets_behind_all n.brackets ss;
   zones = zones_behind_all n.zones ss;
 }
 
 nesting_more : (pre : List Statement) (s : Statement)
-    → nesting_behind (nesting_after outside pre) s ≡ nesting_after outside (pre ++ s ∷ [])
+    → nesting_behind (nesting_after empty_nesting pre) s ≡ nesting_after empty_nesting (pre ++ s ∷ [])
 nesting_more pre s =
     ap (λ (z : List Bracket). nested z (zones_behind (zones_behind_all [] pre) s))
     (sym (behind_more [] pre (s ∷ [])))
-    ∙ ap (nested (behind_all [] (pre ++ s ∷ []))) (sym (zones_more [] pre (s ∷ [])))
+    ∙ ap (nested (brackets_behind_all [] (pre ++ s ∷ []))) (sym (zones_more [] pre (s ∷ [])))
   where
     nested : List Bracket → (zones : List ℕ) → Nesting
     nested brackets zones = record { brackets = brackets; zones = zones }
@@ -72,11 +72,11 @@ labels_one pre s =
 -- behind it
 pub record IsRightAt (body pre : List Statement) (s : Statement) (post : List Statement) : Type 0 where
   pub known : is_unknown_label (labels_of body) s.operand ≡ false
-  pub closes : closes_none (behind_all [] pre) s ≡ false
-  pub few : is_eighth (behind_all [] pre) s ≡ false
-  pub ends : ends_none (zones_behind_all [] pre) s ≡ false
-  pub ninth : is_ninth (zones_behind_all [] pre) s ≡ false
-  pub lands : crosses (labels_of body) (landings_at_labels outside body) (nesting_after outside pre)
+  pub closes : closes_no_bracket (brackets_behind_all [] pre) s ≡ false
+  pub few : is_eighth_bracket (brackets_behind_all [] pre) s ≡ false
+  pub ends : ends_no_zone (zones_behind_all [] pre) s ≡ false
+  pub ninth : is_ninth_zone (zones_behind_all [] pre) s ≡ false
+  pub lands : crosses_nesting (labels_of body) (landings_at_labels empty_nesting body) (nesting_after empty_nesting pre)
       s.operand ≡ false
   pub listed : is_wrong_list (labels_of (pre ++ s ∷ [])) s post ≡ false
 
@@ -85,29 +85,29 @@ AreRightFrom body pre [] = Unit {0}
 AreRightFrom body pre (s ∷ post) = IsRightAt body pre s post × AreRightFrom body (pre ++ s ∷ []) post
 
 abbrev pub by_29 : List Bracket → List Statement → List Refusal
-by_29 bs body = with_brackets (λ brackets s. broken_if (closes_none brackets s) s.line 29) bs body
+by_29 bs body = with_brackets (λ brackets s. broken_if (closes_no_bracket brackets s) s.line 29) bs body
 
 abbrev pub by_31 : List Bracket → List Statement → List Refusal
-by_31 bs body = with_brackets (λ brackets s. broken_if (is_eighth brackets s) s.line 31) bs body
+by_31 bs body = with_brackets (λ brackets s. broken_if (is_eighth_bracket brackets s) s.line 31) bs body
 
 abbrev pub by_47 : (zones : List ℕ) → List Statement → List Refusal
-by_47 zones body = with_zones (λ zones s. broken_if (ends_none zones s) s.line 47) zones body
+by_47 zones body = with_zones (λ zones s. broken_if (ends_no_zone zones s) s.line 47) zones body
 
 abbrev pub by_49 : (zones : List ℕ) → List Statement → List Refusal
-by_49 zones body = with_zones (λ zones s. broken_if (is_ninth zones s) s.line 49) zones body
+by_49 zones body = with_zones (λ zones s. broken_if (is_ninth_zone zones s) s.line 49) zones body
 
 abbrev pub by_33 : (labels : List (List ℕ)) → List Landing → Nesting → List Statement → List Refusal
 by_33 labels landings n body =
-    refusals_along (λ s. false) (λ n s. broken_if (crosses labels landings n s.operand) s.line 33)
+    refusals_along (λ s. false) (λ n s. broken_if (crosses_nesting labels landings n s.operand) s.line 33)
     nesting_behind n body
 
 -- the statements of a body from a place on break none of these rules
 pub record BreakNone (body pre post : List Statement) : Type 0 where
   pub by_26 : unknown_labels (labels_of body) post ≡ []
-  pub by_29 : by_29 (behind_all [] pre) post ≡ []
-  pub by_31 : by_31 (behind_all [] pre) post ≡ []
+  pub by_29 : by_29 (brackets_behind_all [] pre) post ≡ []
+  pub by_31 : by_31 (brackets_behind_all [] pre) post ≡ []
   pub by_32 : lists_from (labels_of pre) post ≡ []
-  pub by_33 : by_33 (labels_of body) (landings_at_labels outside body) (nesting_after outside pre)
+  pub by_33 : by_33 (labels_of body) (landings_at_labels empty_nesting body) (nesting_after empty_nesting pre)
       post ≡ []
   pub by_47 : by_47 (zones_behind_all [] pre) post ≡ []
   pub by_49 : by_49 (zones_behind_all [] pre) post ≡ []
@@ -117,27 +117,27 @@ first_right : (body pre : List Statement) (s : Statement) (post : List Statement
     → BreakNone body pre (s ∷ post) → IsRightAt body pre s post
 first_right body pre s post h =
     let labels = labels_of body in
-    let landings = landings_at_labels outside body in
-    let bs = behind_all [] pre in
+    let landings = landings_at_labels empty_nesting body in
+    let bs = brackets_behind_all [] pre in
     let zones = zones_behind_all [] pre in
-    let n = nesting_after outside pre in
+    let n = nesting_after empty_nesting pre in
     let before = labels_of pre ++ label_of s.label in
     record {
       known = not_broken _ s.line 26
           (none_left (broken_if (is_unknown_label labels s.operand) s.line 26)
           (unknown_labels labels post) h.by_26);
       closes = not_broken _ s.line 29
-          (none_left (broken_if (closes_none bs s) s.line 29) (by_29 (behind bs s) post) h.by_29);
+          (none_left (broken_if (closes_no_bracket bs s) s.line 29) (by_29 (brackets_behind bs s) post) h.by_29);
       few = not_broken _ s.line 31
-          (none_left (broken_if (is_eighth bs s) s.line 31) (by_31 (behind bs s) post) h.by_31);
+          (none_left (broken_if (is_eighth_bracket bs s) s.line 31) (by_31 (brackets_behind bs s) post) h.by_31);
       ends = not_broken _ s.line 47
-          (none_left (broken_if (ends_none zones s) s.line 47) (by_47 (zones_behind zones s) post)
+          (none_left (broken_if (ends_no_zone zones s) s.line 47) (by_47 (zones_behind zones s) post)
           h.by_47);
       ninth = not_broken _ s.line 49
-          (none_left (broken_if (is_ninth zones s) s.line 49) (by_49 (zones_behind zones s) post)
+          (none_left (broken_if (is_ninth_zone zones s) s.line 49) (by_49 (zones_behind zones s) post)
           h.by_49);
       lands = not_broken _ s.line 33
-          (none_left (broken_if (crosses labels landings n s.operand) s.line 33)
+          (none_left (broken_if (crosses_nesting labels landings n s.operand) s.line 33)
           (by_33 labels landings (nesting_behind n s) post) h.by_33);
       listed = ap (λ (z : List (List ℕ)). is_wrong_list z s post) (labels_one pre s)
           ∙ not_broken _ s.line 32
@@ -150,32 +150,32 @@ others_right : (body pre : List Statement) (s : Statement) (post : List Statemen
     → BreakNone body pre (s ∷ post) → BreakNone body (pre ++ s ∷ []) post
 others_right body pre s post h =
     let labels = labels_of body in
-    let landings = landings_at_labels outside body in
-    let bs = behind_all [] pre in
+    let landings = landings_at_labels empty_nesting body in
+    let bs = brackets_behind_all [] pre in
     let zones = zones_behind_all [] pre in
-    let n = nesting_after outside pre in
+    let n = nesting_after empty_nesting pre in
     let before = labels_of pre ++ label_of s.label in
-    let behind_s : behind_all [] (pre ++ s ∷ []) ≡ behind bs s = behind_more [] pre (s ∷ []) in
+    let behind_s : brackets_behind_all [] (pre ++ s ∷ []) ≡ brackets_behind bs s = behind_more [] pre (s ∷ []) in
     let zones_behind_s : zones_behind_all [] (pre ++ s ∷ []) ≡ zones_behind zones s =
     zones_more [] pre (s ∷ []) in
     record {
       by_26 = none_right (broken_if (is_unknown_label labels s.operand) s.line 26)
           (unknown_labels labels post) h.by_26;
       by_29 = ap (λ (z : List Bracket). by_29 z post) behind_s
-          ∙ none_right (broken_if (closes_none bs s) s.line 29) (by_29 (behind bs s) post) h.by_29;
+          ∙ none_right (broken_if (closes_no_bracket bs s) s.line 29) (by_29 (brackets_behind bs s) post) h.by_29;
       by_31 = ap (λ (z : List Bracket). by_31 z post) behind_s
-          ∙ none_right (broken_if (is_eighth bs s) s.line 31) (by_31 (behind bs s) post) h.by_31;
+          ∙ none_right (broken_if (is_eighth_bracket bs s) s.line 31) (by_31 (brackets_behind bs s) post) h.by_31;
       by_32 = ap (λ (z : List (List ℕ)). lists_from z post) (labels_one pre s)
           ∙ none_right (broken_if (is_wrong_list before s post) s.line 32) (lists_from before post)
           h.by_32;
       by_33 = ap (λ (z : Nesting). by_33 labels landings z post) (sym (nesting_more pre s))
-          ∙ none_right (broken_if (crosses labels landings n s.operand) s.line 33)
+          ∙ none_right (broken_if (crosses_nesting labels landings n s.operand) s.line 33)
           (by_33 labels landings (nesting_behind n s) post) h.by_33;
       by_47 = ap (λ (z : List ℕ). by_47 z post) zones_behind_s
-          ∙ none_right (broken_if (ends_none zones s) s.line 47) (by_47 (zones_behind zones s) post)
+          ∙ none_right (broken_if (ends_no_zone zones s) s.line 47) (by_47 (zones_behind zones s) post)
           h.by_47;
       by_49 = ap (λ (z : List ℕ). by_49 z post) zones_behind_s
-          ∙ none_right (broken_if (is_ninth zones s) s.line 49) (by_49 (zones_behind zones s) post)
+          ∙ none_right (broken_if (is_ninth_zone zones s) s.line 49) (by_49 (zones_behind zones s) post)
           h.by_49;
     }
 
@@ -196,32 +196,32 @@ few_closed bs few =
     let same = length-take-le (length bs - 1) bs (omega arith) in
     omega (arith, same, few)
 
-few_behind : (bs : List Bracket) (s : Statement) → length bs ≤ 7 → is_eighth bs s ≡ false
-    → length (behind bs s) ≤ 7
-few_behind bs s few e = by (opening s.code) e
+few_behind : (bs : List Bracket) (s : Statement) → length bs ≤ 7 → is_eighth_bracket bs s ≡ false
+    → length (brackets_behind bs s) ≤ 7
+few_behind bs s few e = by (bracket_function s.code) e
   where
     shut : (c : Bool) → length (if c then take (length bs - 1) bs else bs) ≤ 7
     shut true = few_closed bs few
     shut false = few
 
-    by : (o : Option ℕ) → (is_some o && nat_le 7 (length bs)) ≡ false → length (opened bs s o) ≤ 7
-    by None h = shut (closes s.code)
+    by : (o : Option ℕ) → (is_some o && nat_le 7 (length bs)) ≡ false → length (brackets_after_opening bs s o) ≤ 7
+    by None h = shut (is_closing_bracket s.code)
     by (Some function) h =
         let less : length bs < 7 = leb-false 7 (length bs) h in
         let same = length-append bs (record { function = function; line = s.line } ∷ []) in
         omega (arith, less, same)
 
 few_on : (bs : List Bracket) (xs ys : List Statement) → length bs ≤ 7 → by_31 bs (xs ++ ys) ≡ []
-    → length (behind_all bs xs) ≤ 7
+    → length (brackets_behind_all bs xs) ≤ 7
 few_on bs [] ys few e = few
 few_on bs (x ∷ xs) ys few e =
-    let one = broken_if (is_eighth bs x) x.line 31 in
-    few_on (behind bs x) xs ys
-    (few_behind bs x few (not_broken _ x.line 31 (none_left one (by_31 (behind bs x) (xs ++ ys)) e)))
-    (none_right one (by_31 (behind bs x) (xs ++ ys)) e)
+    let one = broken_if (is_eighth_bracket bs x) x.line 31 in
+    few_on (brackets_behind bs x) xs ys
+    (few_behind bs x few (not_broken _ x.line 31 (none_left one (by_31 (brackets_behind bs x) (xs ++ ys)) e)))
+    (none_right one (by_31 (brackets_behind bs x) (xs ++ ys)) e)
 
 pub few_open : (body pre post : List Statement) → body ≡ pre ++ post → by_31 [] body ≡ []
-    → length (behind_all [] pre) ≤ 7
+    → length (brackets_behind_all [] pre) ≤ 7
 few_open body pre post e by =
     few_on [] pre post (omega arith) (ap (by_31 []) (sym e) ∙ by)
 
@@ -232,7 +232,7 @@ pub record IsTarget (body : List Statement) (n : Nesting) (name : List ℕ) : Ty
   pub before : List Statement
   pub rest : List Statement
   pub whole : body ≡ before ++ rest
-  pub count : target_in name body ≡ count_of before
+  pub count : target_in name body ≡ count_of_statements before
   pub landing : landing_at (labels_of body) (landings_at_labels n body) name
       ≡ Some (landing_of (nesting_after n before))
 
@@ -242,7 +242,7 @@ record IsTargetBy (s : Statement) (ss : List Statement) (n : Nesting) (name : Li
   before : List Statement
   rest : List Statement
   whole : s ∷ ss ≡ before ++ rest
-  count : (if has_label name label then 0 else counted s + target_in name ss) ≡ count_of before
+  count : (if has_label name label then 0 else count_of_statement s + target_in name ss) ≡ count_of_statements before
   landing : landing_at (label_of label ++ labels_of ss)
       (landing_here n label ++ landings_at_labels (nesting_behind n s) ss) name
       ≡ Some (landing_of (nesting_after n before))
@@ -269,7 +269,7 @@ later s ss n name r = record {
   before = s ∷ r.before;
   rest = r.rest;
   whole = ap (λ (z : List Statement). s ∷ z) r.whole;
-  count = ap (λ (k : ℕ). counted s + k) r.count;
+  count = ap (λ (k : ℕ). count_of_statement s + k) r.count;
   landing = r.landing;
 }
 
@@ -279,14 +279,14 @@ record IsTargetIf (s : Statement) (ss : List Statement) (n : Nesting) (name : Li
   before : List Statement
   rest : List Statement
   whole : s ∷ ss ≡ before ++ rest
-  count : (if same then 0 else counted s + target_in name ss) ≡ count_of before
+  count : (if same then 0 else count_of_statement s + target_in name ss) ≡ count_of_statements before
   landing : option_and_then (slice_get (landing_of n ∷ landings_at_labels (nesting_behind n s) ss))
-      (if same then Some 0 else option_map (λ k. suc k) (place_of name (labels_of ss)))
+      (if same then Some 0 else option_map (λ k. suc k) (name_place name (labels_of ss)))
       ≡ Some (landing_of (nesting_after n before))
 
 by_label : (s : Statement) (ss : List Statement) (n : Nesting) (name l : List ℕ) (k : ℕ)
-    → ((j : ℕ) → place_of name (labels_of ss) ≡ Some j → IsTarget ss (nesting_behind n s) name)
-    → place_of name (l ∷ labels_of ss) ≡ Some k → IsTargetBy s ss n name (Some l)
+    → ((j : ℕ) → name_place name (labels_of ss) ≡ Some j → IsTarget ss (nesting_behind n s) name)
+    → name_place name (l ∷ labels_of ss) ≡ Some k → IsTargetBy s ss n name (Some l)
 by_label s ss n name l k more e =
     let r = by (bytes_eq name l) e in
     record {
@@ -298,12 +298,12 @@ by_label s ss n name l k more e =
     }
   where
     by : (same : Bool)
-        → (if same then Some 0 else option_map (λ k. suc k) (place_of name (labels_of ss))) ≡ Some k
+        → (if same then Some 0 else option_map (λ k. suc k) (name_place name (labels_of ss))) ≡ Some k
         → IsTargetIf s ss n name same
     by true h =
         record { before = []; rest = s ∷ ss; whole = refl; count = refl; landing = refl }
     by false h =
-        let there = further_place (place_of name (labels_of ss)) k h in
+        let there = further_place (name_place name (labels_of ss)) k h in
         let r = later s ss n name (more there.0 there.1) in
         record {
           before = r.before;
@@ -311,12 +311,12 @@ by_label s ss n name l k more e =
           whole = r.whole;
           count = r.count;
           landing = moved_landing (landing_of n) (landings_at_labels (nesting_behind n s) ss)
-              (place_of name (labels_of ss))
+              (name_place name (labels_of ss))
               ∙ r.landing;
         }
 
 target_from : (body : List Statement) (n : Nesting) (name : List ℕ) (k : ℕ)
-    → place_of name (labels_of body) ≡ Some k → IsTarget body n name
+    → name_place name (labels_of body) ≡ Some k → IsTarget body n name
 unfolding target_in
 target_from [] n name k e = absurd cc
 target_from (s ∷ ss) n name k e =
@@ -329,21 +329,21 @@ target_from (s ∷ ss) n name k e =
       landing = r.landing;
     }
   where
-    by : ((j : ℕ) → place_of name (labels_of ss) ≡ Some j → IsTarget ss (nesting_behind n s) name)
-        → (label : Option (List ℕ)) → place_of name (label_of label ++ labels_of ss) ≡ Some k
+    by : ((j : ℕ) → name_place name (labels_of ss) ≡ Some j → IsTarget ss (nesting_behind n s) name)
+        → (label : Option (List ℕ)) → name_place name (label_of label ++ labels_of ss) ≡ Some k
         → IsTargetBy s ss n name label
     by more None h = later s ss n name (more k h)
     by more (Some l) h = by_label s ss n name l k more h
 
 -- a label that is known
 pub target_is : (body : List Statement) (name : List ℕ)
-    → is_unknown_label (labels_of body) (operand.Label name) ≡ false → IsTarget body outside name
-target_is body name e = by (place_of name (labels_of body)) refl e
+    → is_unknown_label (labels_of body) (operand.Label name) ≡ false → IsTarget body empty_nesting name
+target_is body name e = by (name_place name (labels_of body)) refl e
   where
-    by : (place : Option ℕ) → place_of name (labels_of body) ≡ place → is_none place ≡ false
-        → IsTarget body outside name
+    by : (place : Option ℕ) → name_place name (labels_of body) ≡ place → is_none place ≡ false
+        → IsTarget body empty_nesting name
     by None is h = absurd cc
-    by (Some k) is h = target_from body outside name k is
+    by (Some k) is h = target_from body empty_nesting name k is
 
 -- ---- a label behind others
 
@@ -354,34 +354,34 @@ past_if : (same : Bool) (place : Option ℕ) (count more : ℕ)
 past_if true place count more e h = absurd cc
 past_if false place count more e h = h (no_further place e)
 
-pub target_past : (name : List ℕ) (xs ys : List Statement) → place_of name (labels_of xs) ≡ None
-    → target_in name (xs ++ ys) ≡ count_of xs + target_in name ys
+pub target_past : (name : List ℕ) (xs ys : List Statement) → name_place name (labels_of xs) ≡ None
+    → target_in name (xs ++ ys) ≡ count_of_statements xs + target_in name ys
 unfolding target_in
 target_past name [] ys e = omega arith
 target_past name (x ∷ xs) ys e = by (λ none. target_past name xs ys none) x.label e
   where
-    by : (place_of name (labels_of xs) ≡ None
-        → target_in name (xs ++ ys) ≡ count_of xs + target_in name ys)
-        → (label : Option (List ℕ)) → place_of name (label_of label ++ labels_of xs) ≡ None
-        → (if has_label name label then 0 else counted x + target_in name (xs ++ ys))
-        ≡ counted x + count_of xs + target_in name ys
-    by behind None h = let more = behind h in omega (arith, more)
-    by behind (Some l) h =
-        past_if (bytes_eq name l) (place_of name (labels_of xs)) (counted x + count_of xs + target_in name ys)
-        (counted x + target_in name (xs ++ ys)) h
-        (λ none. let more = behind none in omega (arith, more))
+    by : (name_place name (labels_of xs) ≡ None
+        → target_in name (xs ++ ys) ≡ count_of_statements xs + target_in name ys)
+        → (label : Option (List ℕ)) → name_place name (label_of label ++ labels_of xs) ≡ None
+        → (if has_label name label then 0 else count_of_statement x + target_in name (xs ++ ys))
+        ≡ count_of_statement x + count_of_statements xs + target_in name ys
+    by brackets_behind None h = let more = brackets_behind h in omega (arith, more)
+    by brackets_behind (Some l) h =
+        past_if (bytes_eq name l) (name_place name (labels_of xs)) (count_of_statement x + count_of_statements xs + target_in name ys)
+        (count_of_statement x + target_in name (xs ++ ys)) h
+        (λ none. let more = brackets_behind none in omega (arith, more))
 
 -- ---- the list of a JL
 
 pub record HasList (body pre : List Statement) (s : Statement) (name : List ℕ) (post : List Statement)
     : Type 0 where
-  pub new : place_of name (labels_of (pre ++ s ∷ [])) ≡ None
+  pub new : name_place name (labels_of (pre ++ s ∷ [])) ≡ None
   pub leads : is_list_to 255 name post ≡ true
 
 list_is : (before : List (List ℕ)) (name : List ℕ) (post : List Statement)
     → lacks_list before (operand.Label name) post ≡ false
-    → (place_of name before ≡ None) × (is_list_to 255 name post ≡ true)
-list_is before name post e = by (place_of name before) (is_list_to 255 name post) e
+    → (name_place name before ≡ None) × (is_list_to 255 name post ≡ true)
+list_is before name post e = by (name_place name before) (is_list_to 255 name post) e
   where
     by : (place : Option ℕ) (led : Bool) → not (not (is_some place) && led) ≡ false
         → (place ≡ None) × (led ≡ true)
@@ -419,7 +419,7 @@ functions_few : (bs : List Bracket) → length bs ≤ 7 → functions_of bs ≡ 
 functions_few bs few = ap functions (take_all 8 bs (omega (arith, few)))
 
 -- two landings that don't differ
-alike : (here there : Landing) → differ here there ≡ false
+alike : (here there : Landing) → landings_differ here there ≡ false
     → (are_unequal here.functions there.functions ≡ false) × (here.zones ≡ there.zones)
 alike here there e =
     by (are_unequal here.functions there.functions) refl (nat_eq here.zones there.zones) refl e
@@ -433,15 +433,15 @@ alike here there e =
 
 -- behind these statements and behind those the same brackets are open, and as many zones
 pub record AreAlike (pre before : List Statement) : Type 0 where
-  pub functions : functions (behind_all [] pre) ≡ functions (behind_all [] before)
+  pub functions : functions (brackets_behind_all [] pre) ≡ functions (brackets_behind_all [] before)
   pub zones : length (zones_behind_all [] pre) ≡ length (zones_behind_all [] before)
 
 pub same_landings : (body pre before : List Statement) (s : Statement) (post : List Statement)
     (name : List ℕ)
     → IsRightAt body pre s post → s.operand ≡ operand.Label name
-    → length (behind_all [] pre) ≤ 7 → length (behind_all [] before) ≤ 7
-    → landing_at (labels_of body) (landings_at_labels outside body) name
-    ≡ Some (landing_of (nesting_after outside before))
+    → length (brackets_behind_all [] pre) ≤ 7 → length (brackets_behind_all [] before) ≤ 7
+    → landing_at (labels_of body) (landings_at_labels empty_nesting body) name
+    ≡ Some (landing_of (nesting_after empty_nesting before))
     → AreAlike pre before
 same_landings body pre before s post name h label few few' there = record {
   functions = equal_lists (functions here) (functions there_open) (omega (arith, few, count))
@@ -452,20 +452,20 @@ same_landings body pre before s post name h label few few' there = record {
 }
   where
     here : List Bracket
-    here = behind_all [] pre
+    here = brackets_behind_all [] pre
 
     there_open : List Bracket
-    there_open = behind_all [] before
+    there_open = brackets_behind_all [] before
 
     count : length (functions here) ≡ length here
     count = length-map here (λ b. b.function)
 
     from : Nesting
-    from = nesting_after outside pre
+    from = nesting_after empty_nesting pre
 
     same : (are_unequal (functions_of here) (functions_of there_open) ≡ false)
         × (length (zones_behind_all [] pre) ≡ length (zones_behind_all [] before))
-    same = alike (landing_of from) (landing_of (nesting_after outside before))
+    same = alike (landing_of from) (landing_of (nesting_after empty_nesting before))
         (ap (lands_elsewhere (landing_of from)) (sym there)
-        ∙ ap (crosses (labels_of body) (landings_at_labels outside body) from) (sym label)
+        ∙ ap (crosses_nesting (labels_of body) (landings_at_labels empty_nesting body) from) (sym label)
         ∙ h.lands)

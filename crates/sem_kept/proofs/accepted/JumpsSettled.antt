@@ -2,18 +2,18 @@
 use Rattle.std.proofs.Common.{◌≡◌, ◌≤◌, ℕ, Bool, true, false, List, [], ◌∷◌, map, Some, None, refl, sym, ap, subst}
 use Rattle.std.specs.List.{AllByRecursion, slice_get}
 use Rattle.plc_base.specs.Kinds.{kind_number, is_code}
-use Rattle.flat_code.specs.Blocks.{Around}
+use Rattle.flat_code.specs.Blocks.{Environment}
 use Rattle.flat_code.specs.Image.{record_of_param}
-use Rattle.stl_ast.specs.Statements.{is_called}
+use Rattle.stl_ast.specs.Statements.{names_called_block}
 use Rattle.stl_ast.specs.declared.blocks.Block.{Block}
 use Rattle.stl_ast.specs.declared.blocks.Tree.{Tree}
 use Rattle.stl_ast.specs.declared.statements.Statement.{Statement}
 use Rattle.stl_symbols.specs.Symbol.{Symbol}
 use Rattle.block_layout.specs.Layouts.{block_layout}
-use Rattle.block_layout.specs.Lengths.{farthest, local_len}
-use Rattle.block_layout.specs.Measures.{types_of}
+use Rattle.block_layout.specs.Lengths.{farthest_operand_end, local_len}
+use Rattle.block_layout.specs.Measures.{types_of_source}
 use Rattle.block_layout.specs.declared.blocks.BlockLayout.{BlockLayout}
-use Rattle.stl_types.specs.Resolution.{seen}
+use Rattle.stl_types.specs.Resolution.{resolution_of}
 use Rattle.stl_types.specs.declared.views.Resolution.{Resolution}
 use Rattle.stl_codegen.specs.Generated.{params_of}
 use Rattle.sem_kept.specs.Accepted.{IsAccepted}
@@ -25,13 +25,13 @@ use Rattle.sem_kept.proofs.accepted.OperandsViews.{EndsBy, IsSeen, ends_by, hold
 
 -- the operand of a statement of the block at a place
 abbrev pub Settle : List Symbol → Tree → ℕ → Statement → Type 0
-Settle symbols t k s = is_called s.operand ≡ false → Settles (seen (context_at symbols t k) s.operand)
+Settle symbols t k s = names_called_block s.operand ≡ false → Settles (resolution_of (context_at symbols t k) s.operand)
 
-seen_settles : (a : Around) (x : Resolution) → IsSeen a x → Settles x
+seen_settles : (a : Environment) (x : Resolution) → IsSeen a x → Settles x
 seen_settles a x h = subst Settles (sym h.is) tt
 
 -- no other block has a part in it
-abbrev around_of : Block → BlockLayout → Around
+abbrev around_of : Block → BlockLayout → Environment
 around_of b l = record {
   kind = kind_number b.kind;
   local_len = l.local_len;
@@ -43,12 +43,12 @@ around_of b l = record {
 all_settle : (symbols : List Symbol) (t : Tree) → IsSoundTree symbols t
     → AllByRecursion SymbolFits symbols → (k : ℕ) (b : Block) (l : BlockLayout)
     → IsSound symbols t k b l → is_code b.kind ≡ true → (ss : List Statement)
-    → AllByRecursion (IsSoundStatement (types_of symbols t.blocks) (context_at symbols t k)) ss
+    → AllByRecursion (IsSoundStatement (types_of_source symbols t.blocks) (context_at symbols t k)) ss
     → AllByRecursion (EndsBy l.local_len) ss → AllByRecursion (Settle symbols t k) ss
 all_settle symbols t tree fit k b l block is [] h ends = tt
 all_settle symbols t tree fit k b l block is (s ∷ ss) h ends = (
   λ other.
-      seen_settles (around_of b l) (seen (context_at symbols t k) s.operand)
+      seen_settles (around_of b l) (resolution_of (context_at symbols t k) s.operand)
       (operand_seen symbols t tree fit k b l block is (around_of b l)
       (record { kind = refl; local = refl; params = refl }) s.operand (record {
         well_formed = h.0.well_formed.value;
@@ -60,7 +60,7 @@ all_settle symbols t tree fit k b l block is (s ∷ ss) h ends = (
 )
 
 local_is : (symbols : List Symbol) (t : Tree) (k : ℕ) (b : Block) (l : BlockLayout)
-    → IsSound symbols t k b l → l.local_len ≡ local_len (types_of symbols t.blocks) b
+    → IsSound symbols t k b l → l.local_len ≡ local_len (types_of_source symbols t.blocks) b
 unfolding block_layout
 local_is symbols t k b l block = ap (λ (z : BlockLayout). z.local_len) block.layout
 
@@ -73,8 +73,8 @@ block_settles symbols t tree fit k b l block = by (is_code b.kind) refl
     by true is =
         all_settle symbols t tree fit k b l block is b.body block.statements
         (ends_by l.local_len b.body
-        (subst (λ (n : ℕ). farthest b.body ≤ n) (sym (local_is symbols t k b l block))
-        (holds_locals (types_of symbols t.blocks) b is block.head.by_50).operands))
+        (subst (λ (n : ℕ). farthest_operand_end b.body ≤ n) (sym (local_is symbols t k b l block))
+        (holds_locals (types_of_source symbols t.blocks) b is block.head.by_50).operands))
     by false is =
         subst (AllByRecursion (Settle symbols t k))
         (sym (block.well_formed.runs.1 is)) tt

@@ -12,7 +12,7 @@ use Rattle.plc_base.specs.Kinds.{kind_number, is_code, is_data_block, is_functio
 use Rattle.plc_base.specs.declared.blocks.BlockId.{BlockId}
 use Rattle.plc_base.specs.declared.blocks.BlockKind.{BlockKind}
 use Rattle.plc_base.specs.declared.blocks.BlockKind.TheVariants as kinds
-use Rattle.flat_code.specs.Blocks.{Around, CalleeSeen as FlatCallee, BlockSignature, are_passed, block_with, callee as flat_callee, length_of_data, is_bad_call, is_bad_instance, is_index, is_passed, is_short, pass_index, signature_of, callee_of_system, system_params}
+use Rattle.flat_code.specs.Blocks.{Environment, CalleeSeen as FlatCallee, BlockSignature, are_all_passed, block_with, callee_among as flat_callee, length_of_data, is_bad_call, is_bad_instance, is_index, is_passed, is_short_instance, pass_index, signature_of, callee_of_system, system_params}
 use Rattle.flat_code.specs.Image.{record_of_block, record_of_param}
 use Rattle.flat_code.specs.Instr.{Passing, Calls}
 use Rattle.flat_code.specs.Loading.{lens_of}
@@ -26,7 +26,7 @@ use Rattle.flat_code.specs.declared.operations.CallOperation.{CallOperation}
 use Rattle.flat_code.specs.declared.operations.CallOperation.TheVariants as calls
 use Rattle.flat_code.specs.declared.operations.Operation.TheVariants as operation
 use Rattle.stl_ast.specs.Blocks.{is_parameter}
-use Rattle.stl_ast.specs.Statements.{IsActual, has_actuals, is_call, is_called}
+use Rattle.stl_ast.specs.Statements.{IsActual, has_actuals, is_call, names_called_block}
 use Rattle.stl_ast.specs.WellFormed.{IsBlock}
 use Rattle.stl_ast.specs.declared.blocks.Block.{Block}
 use Rattle.stl_ast.specs.declared.blocks.Tree.{Tree}
@@ -40,30 +40,30 @@ use Rattle.stl_ast.specs.declared.operands.Operand.TheVariants as operand
 use Rattle.stl_ast.specs.declared.statements.Actual.{Actual}
 use Rattle.stl_ast.specs.declared.statements.Statement.{Statement}
 use Rattle.plc_base.specs.Folding.{upper_case_name}
-use Rattle.stl_symbols.specs.Names.{place_of}
+use Rattle.stl_symbols.specs.Names.{name_place}
 use Rattle.stl_symbols.specs.Symbol.{Symbol}
 use Rattle.block_layout.specs.Blocks.{id_of, is_any, is_block_number, known_block, named_block}
 use Rattle.block_layout.specs.Cells.{components_of}
 use Rattle.block_layout.specs.Fits.{bits_of}
 use Rattle.block_layout.specs.Layouts.{block_layout, layouts_of}
-use Rattle.block_layout.specs.Lengths.{block_bits, length_of, local_end, shape_bits}
-use Rattle.block_layout.specs.Measures.{types_of}
+use Rattle.block_layout.specs.Lengths.{block_bits, length_of_block, local_end, shape_bits}
+use Rattle.block_layout.specs.Measures.{types_of_source}
 use Rattle.block_layout.specs.Offsets.{width_of}
 use Rattle.block_layout.specs.Paths.{cells_at, if_whole, whole_at}
 use Rattle.block_layout.specs.Rule23.{is_unknown_called, is_unknown_id, is_unknown_instance, names_unknown}
-use Rattle.block_layout.specs.Rule44.{is_beyond}
+use Rattle.block_layout.specs.Rule44.{is_number_beyond_limits}
 use Rattle.block_layout.specs.declared.blocks.BlockLayout.{BlockLayout}
 use Rattle.block_layout.specs.declared.blocks.Shape.{Shape}
 use Rattle.block_layout.specs.declared.blocks.Shape.TheVariants as shape
 use Rattle.block_layout.specs.declared.cells.Cell.{Cell}
 use Rattle.stl_types.specs.Actuals.{fits_operand, fits_seen, fits_view, formal_named}
-use Rattle.stl_types.specs.Calls.{calls_unknown, has_formals, has_no_instance, has_wrong_instance, is_instance, is_no_instance, is_of_block, is_supplied, is_unknown_function, misfits, names_none, supplied as supplied_names}
-use Rattle.stl_types.specs.Context.{Context, data_number, ids, whole_data_place, whole_place}
+use Rattle.stl_types.specs.Calls.{calls_unknown, has_formals, has_no_instance, has_wrong_instance, is_instance, is_no_instance, is_of_block, is_supplied, is_unknown_function, misfits_formal, names_no_formal, supplied_names}
+use Rattle.stl_types.specs.Context.{Context, data_number, source_block_ids, whole_data_place, whole_place}
 use Rattle.stl_types.specs.Forms.{form_of}
-use Rattle.stl_types.specs.Kinds.{is_called as is_called_view}
-use Rattle.stl_types.specs.Operands.{operand_rule, rule_of, rule_seen}
+use Rattle.stl_types.specs.Kinds.{is_operand_of_call as is_called_view}
+use Rattle.stl_types.specs.Operands.{operand_rule, rule_of_resolved_operand, rule_seen}
 use Rattle.stl_types.specs.Parameters.{Callee, callee_at, callee_by, callee_of, formals_of, is_sound_formal, source_callee, system_callee, system_formals}
-use Rattle.stl_types.specs.Resolution.{called_seen, id_at, instance_number as instance_of_name, seen, whole_block}
+use Rattle.stl_types.specs.Resolution.{called_seen, id_at, instance_number as instance_of_name, resolution_of, whole_called_block}
 use Rattle.stl_types.specs.declared.forms.OperandRule.{OperandRule}
 use Rattle.stl_types.specs.declared.forms.OperandRule.TheVariants as form
 use Rattle.stl_types.specs.declared.parameters.Formal.{Formal}
@@ -71,12 +71,12 @@ use Rattle.stl_types.specs.declared.views.Resolution.{Resolution}
 use Rattle.stl_types.specs.declared.views.Resolution.TheVariants.{Resolved}
 use Rattle.stl_types.specs.declared.views.ResolvedOperand.{ResolvedOperand}
 use Rattle.stl_types.specs.declared.views.ResolvedOperand.TheVariants as view
-use Rattle.stl_codegen.specs.Compiled.{compiled}
-use Rattle.stl_codegen.specs.Emitted.{instance_number, passing, preparing}
+use Rattle.stl_codegen.specs.Compiled.{compiled_block}
+use Rattle.stl_codegen.specs.Emitted.{instance_number_or_zero, pass_ops, preparing_op}
 use Rattle.stl_codegen.specs.Generated.{code_blocks_of, data_blocks_of, instance_len, params_of}
-use Rattle.stl_codegen.specs.Instruction.{block_at, in_order, passings_to, return_last}
-use Rattle.stl_codegen.specs.Passed.{passed_actual, passed_place, passed_seen, passed_view, passings_from, supplied, with_index}
-use Rattle.stl_codegen.specs.Operations.{call_of}
+use Rattle.stl_codegen.specs.Instruction.{source_block_at, in_parameter_order, passings_to, return_last}
+use Rattle.stl_codegen.specs.Passed.{passed_actual, passed_place, passed_seen, passed_view, passings_from, actual_of_formal, with_index}
+use Rattle.stl_codegen.specs.Operations.{call_operation_of}
 use Rattle.sem_kept.specs.Coded.{OperandHasBytes, StatementHasBytes}
 use Rattle.sem_kept.specs.Operands.{ArePassed, InstrFits, PassesAlone}
 use Rattle.sem_kept.specs.Settled.{HasPassed}
@@ -93,35 +93,35 @@ use Rattle.sem_kept.proofs.accepted.Shared.{callable_by, calls_called, or_first,
 -- ---- what is passed stands among the ops
 
 passed_here : (index : ℕ) (done : List OpData) (actual : Passed) (behind : List OpData)
-    → is_passed index (done ++ preparing operation.Pass (flat.Pass index actual) ∷ behind) ≡ true
+    → is_passed index (done ++ preparing_op operation.Pass (flat.Pass index actual) ∷ behind) ≡ true
 passed_here index [] actual behind =
     ap (λ (t : Bool). t || is_passed index behind) (eq-eqb index index refl)
 passed_here index (op ∷ done) actual behind =
     either (is_index index (pass_index op.operand)) (passed_here index done actual behind)
   where
-    either : (t : Bool) → is_passed index (done ++ preparing operation.Pass (flat.Pass index actual) ∷ behind) ≡ true
-        → (t || is_passed index (done ++ preparing operation.Pass (flat.Pass index actual) ∷ behind)) ≡ true
+    either : (t : Bool) → is_passed index (done ++ preparing_op operation.Pass (flat.Pass index actual) ∷ behind) ≡ true
+        → (t || is_passed index (done ++ preparing_op operation.Pass (flat.Pass index actual) ∷ behind)) ≡ true
     either true h = refl
     either false h = h
 
 -- each parameter is supplied
 abbrev AreSupplied : List Actual → List Formal → Type 0
-AreSupplied actuals fs = AllByRecursion (λ (f : Formal). (x : Actual) × (supplied actuals f ≡ Some x)) fs
+AreSupplied actuals fs = AllByRecursion (λ (f : Formal). (x : Actual) × (actual_of_formal actuals f ≡ Some x)) fs
 
-module _ (a : Around) (c : Context) (formals : List Formal) (actuals : List Actual)
+module _ (a : Environment) (c : Context) (formals : List Formal) (actuals : List Actual)
     (good : AllByRecursion (IsGoodActual a c formals) actuals) where
   all_passed : (i : ℕ) (fs : List Formal) (rs : List ParameterRecord) (done : List OpData)
       → Matched fs rs → AllByRecursion (IsFoundIn formals) fs → AreSupplied actuals fs
-      → are_passed i rs (done ++ passing (passings_from c actuals i fs)) ≡ true
+      → are_all_passed i rs (done ++ pass_ops (passings_from c actuals i fs)) ≡ true
   all_passed i [] [] done matched found given = refl
   all_passed i [] (r ∷ rs) done matched found given = absurd matched
   all_passed i (f ∷ fs) [] done matched found given = absurd matched
   all_passed i (f ∷ fs) (r ∷ rs) done matched found given =
-      subst (λ (ops : List OpData). are_passed i (r ∷ rs) ops ≡ true) (sym ops_are)
-      (ap (λ (t : Bool). t && are_passed (suc i) rs (done ++ op ∷ passing (passings_from c actuals (suc i) fs)))
-      (passed_here i done p.actual (passing (passings_from c actuals (suc i) fs)))
-      ∙ subst (λ (ops : List OpData). are_passed (suc i) rs ops ≡ true)
-      (append_assoc done (op ∷ []) (passing (passings_from c actuals (suc i) fs)))
+      subst (λ (ops : List OpData). are_all_passed i (r ∷ rs) ops ≡ true) (sym ops_are)
+      (ap (λ (t : Bool). t && are_all_passed (suc i) rs (done ++ op ∷ pass_ops (passings_from c actuals (suc i) fs)))
+      (passed_here i done p.actual (pass_ops (passings_from c actuals (suc i) fs)))
+      ∙ subst (λ (ops : List OpData). are_all_passed (suc i) rs ops ≡ true)
+      (append_assoc done (op ∷ []) (pass_ops (passings_from c actuals (suc i) fs)))
       (all_passed (suc i) fs rs (done ++ op ∷ []) matched.1 found.1 given.1))
     where
       x : Actual
@@ -131,13 +131,13 @@ module _ (a : Around) (c : Context) (formals : List Formal) (actuals : List Actu
       p = supplied_passes a c formals actuals f r given.0.0 good found.0 matched.0 given.0.1
 
       op : OpData
-      op = preparing operation.Pass (flat.Pass i p.actual)
+      op = preparing_op operation.Pass (flat.Pass i p.actual)
 
-      ops_are : done ++ passing (passings_from c actuals i (f ∷ fs))
-          ≡ done ++ preparing operation.Pass (flat.Pass i p.actual) ∷ passing (passings_from c actuals (suc i) fs)
+      ops_are : done ++ pass_ops (passings_from c actuals i (f ∷ fs))
+          ≡ done ++ preparing_op operation.Pass (flat.Pass i p.actual) ∷ pass_ops (passings_from c actuals (suc i) fs)
       ops_are =
-          ap (λ (o : Option Actual). done ++ passing (passed_actual c i o ++ passings_from c actuals (suc i) fs)) given.0.1
-          ∙ ap (λ (o : Option Passed). done ++ passing (with_index i o ++ passings_from c actuals (suc i) fs)) p.is
+          ap (λ (o : Option Actual). done ++ pass_ops (passed_actual c i o ++ passings_from c actuals (suc i) fs)) given.0.1
+          ∙ ap (λ (o : Option Passed). done ++ pass_ops (with_index i o ++ passings_from c actuals (suc i) fs)) p.is
 
 -- ---- what is supplied
 
@@ -150,8 +150,8 @@ swapped xs ys e = by (bytes_eq xs ys) (bytes_eq ys xs) (bytes_eq-Decides xs ys) 
     by false t h k e = absurd cc
 
 supplied_there : (actuals : List Actual) (f : Formal)
-    → is_some (place_of f.name (map (λ (x : Actual). upper_case_name x.name) actuals)) ≡ true
-    → (x : Actual) × (supplied actuals f ≡ Some x)
+    → is_some (name_place f.name (map (λ (x : Actual). upper_case_name x.name) actuals)) ≡ true
+    → (x : Actual) × (actual_of_formal actuals f ≡ Some x)
 supplied_there [] f e = absurd cc
 supplied_there (z ∷ zs) f e =
     by (bytes_eq (upper_case_name z.name) f.name) (bytes_eq f.name (upper_case_name z.name)) refl refl e (supplied_there zs f)
@@ -161,15 +161,15 @@ supplied_there (z ∷ zs) f e =
     some_suc (Some m) h = refl
 
     by : (s t : Bool) → bytes_eq (upper_case_name z.name) f.name ≡ s → bytes_eq f.name (upper_case_name z.name) ≡ t
-        → is_some (if t then Some 0 else option_map (λ k. suc k) (place_of f.name (map (λ (x : Actual). upper_case_name x.name) zs))) ≡ true
-        → (is_some (place_of f.name (map (λ (x : Actual). upper_case_name x.name) zs)) ≡ true → (x : Actual) × (supplied zs f ≡ Some x))
+        → is_some (if t then Some 0 else option_map (λ k. suc k) (name_place f.name (map (λ (x : Actual). upper_case_name x.name) zs))) ≡ true
+        → (is_some (name_place f.name (map (λ (x : Actual). upper_case_name x.name) zs)) ≡ true → (x : Actual) × (actual_of_formal zs f ≡ Some x))
         → (x : Actual) × ((if s then Some z else find (λ x. bytes_eq (upper_case_name x.name) f.name) zs) ≡ Some x)
     by true t g h e more = (z, refl)
     by false true g h e more =
         let other : bytes_eq (upper_case_name z.name) f.name ≡ true = swapped f.name (upper_case_name z.name) h in
         absurd cc
     by false false g h e more =
-        more (some_suc (place_of f.name (map (λ (x : Actual). upper_case_name x.name) zs)) e)
+        more (some_suc (name_place f.name (map (λ (x : Actual). upper_case_name x.name) zs)) e)
 
 all_supplied : (actuals : List Actual) (fs : List Formal)
     → list_all (is_supplied (supplied_names actuals)) fs ≡ true → AreSupplied actuals fs
@@ -214,9 +214,9 @@ instance_same : (a b : BlockId) (m n : Option ℕ) → Resolved (view.Called a m
 instance_same a b m n e = cc
 
 seen_call : (c : Context) (name : BlockName) (inst : Option BlockName) (id : BlockId)
-    (instance : Option ℕ) → seen c (operand.Called name inst) ≡ Resolved (view.Called id instance)
+    (instance : Option ℕ) → resolution_of c (operand.Called name inst) ≡ Resolved (view.Called id instance)
     → IsCall c name inst id instance
-unfolding seen
+unfolding resolution_of
 seen_call c name inst id instance e = by (named_block c.symbols name) refl e
   where
     given : (x : BlockId) (inst : Option BlockName)
@@ -263,7 +263,7 @@ seen_call c name inst id instance e = by (named_block c.symbols name) refl e
     whether x is false sys h = placed x is sys (whole_place c x) refl h
 
     by : (o : Option BlockId) → named_block c.symbols name ≡ o
-        → called_seen (whole_block c o) inst (instance_of_name c inst) ≡ Resolved (view.Called id instance)
+        → called_seen (whole_called_block c o) inst (instance_of_name c inst) ≡ Resolved (view.Called id instance)
         → IsCall c name inst id instance
     by None is h = absurd cc
     by (Some x) is h = whether x is (is_system_function x.kind) refl h
@@ -279,17 +279,17 @@ record IsCallee (symbols : List Symbol) (t : Tree) (k : ℕ) (blocks : List Bloc
   il : ℕ
   params : List ParameterRecord
   flat : flat_callee blocks (kind_number id.kind) id.number ≡ Some (kind_number id.kind, il, params)
-  matched : Matched (in_order (block_at t.blocks of_source.place) of_source.formals) params
+  matched : Matched (in_parameter_order (source_block_at t.blocks of_source.place) of_source.formals) params
   found : AllByRecursion (IsFoundIn of_source.formals)
-      (in_order (block_at t.blocks of_source.place) of_source.formals)
+      (in_parameter_order (source_block_at t.blocks of_source.place) of_source.formals)
   result : Option Simple
-  order : in_order (block_at t.blocks of_source.place) of_source.formals ≡ return_last result of_source.formals
+  order : in_parameter_order (source_block_at t.blocks of_source.place) of_source.formals ≡ return_last result of_source.formals
   long : is_function_block id.kind ≡ true → (p : ℕ) × (b : Block) × (of_source.place ≡ Some p)
       × (slice_get t.blocks p ≡ Some b) × (b.kind ≡ kinds.Fb)
-      × (il ≡ length_of (types_of symbols t.blocks) t.blocks b)
+      × (il ≡ length_of_block (types_of_source symbols t.blocks) t.blocks b)
 
 in_order_all : (b : Block) (P : Formal → Type 0) (fs : List Formal) → AllByRecursion P fs
-    → AllByRecursion P (in_order (Some b) fs)
+    → AllByRecursion P (in_parameter_order (Some b) fs)
 in_order_all b P fs h = return_all P b.result fs h
 
 system_kind : (k : BlockKind) → is_system_function k ≡ true → k ≡ kinds.Sfc
@@ -417,12 +417,12 @@ whole_known l (Some q) p e = by (is_some (whole_at l q)) e
     by false h = absurd cc
 
 components_same : (symbols : List Symbol) (t : Tree) (p : ℕ) (b : Block) (l : BlockLayout)
-    → IsSound symbols t p b l → l.components ≡ components_of (types_of symbols t.blocks) b
+    → IsSound symbols t p b l → l.components ≡ components_of (types_of_source symbols t.blocks) b
 unfolding block_layout
 components_same symbols t p b l h = ap (λ (z : BlockLayout). z.components) h.layout
 
 length_same : (symbols : List Symbol) (t : Tree) (p : ℕ) (b : Block) (l : BlockLayout)
-    → IsSound symbols t p b l → l.length ≡ length_of (types_of symbols t.blocks) t.blocks b
+    → IsSound symbols t p b l → l.length ≡ length_of_block (types_of_source symbols t.blocks) t.blocks b
 unfolding block_layout
 length_same symbols t p b l h = ap (λ (z : BlockLayout). z.length) h.layout
 
@@ -431,7 +431,7 @@ source_called : (symbols : List Symbol) (t : Tree) → IsSoundTree symbols t →
     → named_block symbols name ≡ Some id → (id.kind ≡ kinds.Fc) ⊎ (id.kind ≡ kinds.Fb)
     → whole_place (context_at symbols t k) id ≡ Some p
     → IsCallee symbols t k
-    (map signature_of (map record_of_block (map compiled (code_blocks_of t symbols (layouts_of t symbols)))))
+    (map signature_of (map record_of_block (map compiled_block (code_blocks_of t symbols (layouts_of t symbols)))))
     (operand.Called name inst) id
 source_called symbols t tree k name inst id p named kind whole = record {
   of_source = record { id = id; place = Some p; formals = formals_of (cells_at (layouts_of t symbols) p false) };
@@ -442,18 +442,18 @@ source_called symbols t tree k name inst id p named kind whole = record {
   il = instance_len there.block there.layout;
   params = map record_of_param (params_of there.block there.layout);
   flat =
-      source_flat (map signature_of (map record_of_block (map compiled (code_blocks_of t symbols (layouts_of t symbols))))) id.kind id.number kind
+      source_flat (map signature_of (map record_of_block (map compiled_block (code_blocks_of t symbols (layouts_of t symbols))))) id.kind id.number kind
       ∙ called_block symbols t tree p there.block there.layout id there.sound is_there (source_code id.kind kind);
-  matched = subst (λ (o : Option Block). Matched (in_order o (formals_of (cells_at (layouts_of t symbols) p false))) (map record_of_param (params_of there.block there.layout)))
+  matched = subst (λ (o : Option Block). Matched (in_parameter_order o (formals_of (cells_at (layouts_of t symbols) p false))) (map record_of_param (params_of there.block there.layout)))
       (sym there.sound.block_there)
       (source_matched there.block there.layout (cells_at (layouts_of t symbols) p false)
       (components_same symbols t p there.block there.layout there.sound ∙ sym cells));
-  found = subst (λ (o : Option Block). AllByRecursion (IsFoundIn (formals_of (cells_at (layouts_of t symbols) p false))) (in_order o (formals_of (cells_at (layouts_of t symbols) p false))))
+  found = subst (λ (o : Option Block). AllByRecursion (IsFoundIn (formals_of (cells_at (layouts_of t symbols) p false))) (in_parameter_order o (formals_of (cells_at (layouts_of t symbols) p false))))
       (sym there.sound.block_there)
       (in_order_all there.block (IsFoundIn (formals_of (cells_at (layouts_of t symbols) p false))) (formals_of (cells_at (layouts_of t symbols) p false))
       (found_each (formals_of (cells_at (layouts_of t symbols) p false)) distinct));
   result = there.block.result;
-  order = ap (λ (o : Option Block). in_order o (formals_of (cells_at (layouts_of t symbols) p false))) there.sound.block_there;
+  order = ap (λ (o : Option Block). in_parameter_order o (formals_of (cells_at (layouts_of t symbols) p false))) there.sound.block_there;
   long = λ e. (
     p,
     there.block,
@@ -465,11 +465,11 @@ source_called symbols t tree k name inst id p named kind whole = record {
   );
 }
   where
-    listed : slice_get (types_of symbols t.blocks).ids p ≡ Some (Some id)
+    listed : slice_get (types_of_source symbols t.blocks).ids p ≡ Some (Some id)
     listed =
         ap (λ (is : List (Option BlockId)). slice_get is p) (sym (ids_same symbols t))
-        ∙ known_there id (ids (context_at symbols t k)) p
-        (whole_known (layouts_of t symbols) (known_block id (ids (context_at symbols t k))) p whole)
+        ∙ known_there id (source_block_ids (context_at symbols t k)) p
+        (whole_known (layouts_of t symbols) (known_block id (source_block_ids (context_at symbols t k))) p whole)
 
     there : IsThere symbols t is_code p
     there = id_there symbols t tree is_code p id listed (source_code id.kind kind)
@@ -483,14 +483,14 @@ source_called symbols t tree k name inst id p named kind whole = record {
     own_kind : there.block.kind ≡ id.kind
     own_kind = there.same ∙ ap (λ (z : BlockId). z.kind) one
 
-    cells : cells_at (layouts_of t symbols) p false ≡ components_of (types_of symbols t.blocks) there.block
+    cells : cells_at (layouts_of t symbols) p false ≡ components_of (types_of_source symbols t.blocks) there.block
     cells = cells_are symbols t p there.block there.layout there.sound false
 
     distinct : Distinct (formals_of (cells_at (layouts_of t symbols) p false))
     distinct = subst (λ (cs : List Cell). Distinct (formals_of cs)) (sym cells)
-        (fresh_distinct [] (formals_of (components_of (types_of symbols t.blocks) there.block))
-        (block_formals (types_of symbols t.blocks) there.block there.sound.well_formed
-        (block_unbroken (types_of symbols t.blocks) there.block there.sound.declarations)))
+        (fresh_distinct [] (formals_of (components_of (types_of_source symbols t.blocks) there.block))
+        (block_formals (types_of_source symbols t.blocks) there.block there.sound.well_formed
+        (block_unbroken (types_of_source symbols t.blocks) there.block there.sound.declarations)))
 
     fb_kind : (j : BlockKind) → is_function_block j ≡ true → j ≡ kinds.Fb
     fb_kind kinds.Fb e = refl
@@ -521,13 +521,13 @@ callee_there : (symbols : List Symbol) (t : Tree) → IsSoundTree symbols t → 
     → IsCall (context_at symbols t k) name inst id instance → is_callable id.kind ≡ true
     → is_unknown_function (named_block symbols name) ≡ false
     → IsCallee symbols t k
-    (map signature_of (map record_of_block (map compiled (code_blocks_of t symbols (layouts_of t symbols)))))
+    (map signature_of (map record_of_block (map compiled_block (code_blocks_of t symbols (layouts_of t symbols)))))
     (operand.Called name inst) id
 callee_there symbols t tree k name inst id instance call callable known = by (call_kind id.kind callable)
   where
     source : (id.kind ≡ kinds.Fc) ⊎ (id.kind ≡ kinds.Fb) → is_system_function id.kind ≡ false
         → IsCallee symbols t k
-        (map signature_of (map record_of_block (map compiled (code_blocks_of t symbols (layouts_of t symbols)))))
+        (map signature_of (map record_of_block (map compiled_block (code_blocks_of t symbols (layouts_of t symbols)))))
         (operand.Called name inst) id
     source kind other =
         let at = call.whole other in
@@ -535,24 +535,24 @@ callee_there symbols t tree k name inst id instance call callable known = by (ca
 
     by : CallKind id.kind
         → IsCallee symbols t k
-        (map signature_of (map record_of_block (map compiled (code_blocks_of t symbols (layouts_of t symbols)))))
+        (map signature_of (map record_of_block (map compiled_block (code_blocks_of t symbols (layouts_of t symbols)))))
         (operand.Called name inst) id
     by (OfSystem sys no_block) =
         system_called symbols t k
-        (map signature_of (map record_of_block (map compiled (code_blocks_of t symbols (layouts_of t symbols)))))
+        (map signature_of (map record_of_block (map compiled_block (code_blocks_of t symbols (layouts_of t symbols)))))
         name inst id call.named sys known
     by (OfFunction is) = source (inl is) (ap is_system_function is)
     by (OfBlock is) = source (inr is) (ap is_system_function is)
 
 -- the words of calls
-calls_form : (m : Mnemonic) (how : CallOperation) → call_of m ≡ Some how → form_of m ≡ form.Calls
+calls_form : (m : Mnemonic) (how : CallOperation) → call_operation_of m ≡ Some how → form_of m ≡ form.Calls
 unfolding form_of
 calls_form code.Call how e = refl
 calls_form code.Uc how e = refl
 calls_form code.Cc how e = refl
 calls_form _ how e = absurd cc
 
-calls_alone : (m : Mnemonic) (how : CallOperation) (ps : List Passing) → call_of m ≡ Some how
+calls_alone : (m : Mnemonic) (how : CallOperation) (ps : List Passing) → call_operation_of m ≡ Some how
     → (has_actuals m ≡ false → ps ≡ []) → PassesAlone how ps
 calls_alone code.Call how ps e none =
     subst (λ (h : CallOperation). PassesAlone h ps) (let same : calls.Call ≡ how = cc in same) tt
@@ -562,7 +562,7 @@ calls_alone code.Cc how ps e none =
     subst (λ (h : CallOperation). PassesAlone h ps) (let same : calls.Cc ≡ how = cc in same) (none refl)
 calls_alone _ how ps e none = absurd cc
 
-calls_are : (m : Mnemonic) (how : CallOperation) → call_of m ≡ Some how → is_call m ≡ true
+calls_are : (m : Mnemonic) (how : CallOperation) → call_operation_of m ≡ Some how → is_call m ≡ true
 calls_are code.Call how e = refl
 calls_are code.Uc how e = refl
 calls_are code.Cc how e = refl
@@ -598,7 +598,7 @@ lacking false fb all e f g = absurd cc
 no_instance_right : (lens : List (ℕ × ℕ)) (kind il : ℕ) (params : List ParameterRecord)
     → (kind == 3) ≡ false → is_bad_instance lens (kind, il, params) 0 ≡ false
 no_instance_right lens kind il params e =
-    ap (λ (t' : Bool). if t' then (if true then not (is_nothing_in params) else is_short il (length_of_data 0 lens)) else not true) e
+    ap (λ (t' : Bool). if t' then (if true then not (is_nothing_in params) else is_short_instance il (length_of_data 0 lens)) else not true) e
 
 bare_right : (lens : List (ℕ × ℕ)) (il : ℕ) (params : List ParameterRecord) → params ≡ []
     → is_bad_instance lens (3, il, params) 0 ≡ false
@@ -608,12 +608,12 @@ given_right : (lens : List (ℕ × ℕ)) (il n len : ℕ) (params : List Paramet
     → (n == 0) ≡ false → length_of_data n lens ≡ Some len → nat_lt len il ≡ false
     → is_bad_instance lens (3, il, params) n ≡ false
 given_right lens il n len params e f g =
-    ap (λ (t' : Bool). if t' then not (is_nothing_in params) else is_short il (length_of_data n lens)) e
-    ∙ ap (λ (o : Option ℕ). is_short il o) f ∙ g
+    ap (λ (t' : Bool). if t' then not (is_nothing_in params) else is_short_instance il (length_of_data n lens)) e
+    ∙ ap (λ (o : Option ℕ). is_short_instance il o) f ∙ g
 
 -- a call of another block than a function block passes all, and has no instance
 call_right : (lens : List (ℕ × ℕ)) (kind il : ℕ) (params : List ParameterRecord) (ops : List OpData)
-    → (kind == 3) ≡ false → are_passed 0 params ops ≡ true
+    → (kind == 3) ≡ false → are_all_passed 0 params ops ≡ true
     → is_bad_call lens (Some (kind, il, params)) 0 ops ≡ false
 call_right lens kind il params ops e f =
     ap (λ (t' : Bool). (not (kind == 3) && not t') || is_bad_instance lens (kind, il, params) 0) f
@@ -632,14 +632,14 @@ instance_number_right : (symbols : List Symbol) (t : Tree) (q : ℕ) (d : IsTher
 instance_number_right symbols t q d =
     ne_eqb d.id.number 0 (λ e. let least = some in omega (arith, e, least))
   where
-    named : id_of (types_of symbols t.blocks).symbols d.block ≡ Some d.id
+    named : id_of (types_of_source symbols t.blocks).symbols d.block ≡ Some d.id
     named =
         ap (λ (ss : List Symbol). id_of ss d.block) (measured_symbols symbols t.blocks)
         ∙ sym (layout_id symbols t q d.block d.layout d.sound) ∙ d.is
 
     number : is_block_number d.id.kind d.id.number ≡ true
     number = not-false (is_block_number d.id.kind d.id.number)
-        (ap is_beyond (sym named) ∙ d.sound.head.by_44)
+        (ap is_number_beyond_limits (sym named) ∙ d.sound.head.by_44)
 
     first : (x y : Bool) → (x && y) ≡ true → x ≡ true
     first true y e = refl
@@ -660,19 +660,19 @@ shape_is_of p shape.Unknown e = absurd cc
 instance_long : (symbols : List Symbol) (t : Tree) → (q p : ℕ) (d : IsThere symbols t is_data_block q)
     (b : Block) → slice_get t.blocks p ≡ Some b → b.kind ≡ kinds.Fb → IsBlock b
     → is_of_block (Some p) d.layout.shape ≡ true
-    → d.layout.length ≡ length_of (types_of symbols t.blocks) t.blocks b
+    → d.layout.length ≡ length_of_block (types_of_source symbols t.blocks) t.blocks b
 instance_long symbols t q p d b there is well of_block =
     length_same symbols t q d.block d.layout d.sound
-    ∙ data_length (types_of symbols t.blocks) t.blocks d.block (d.same ∙ data_block_kind d.id.kind d.kind)
-    ∙ ap (λ (s : Shape). shape_bits (types_of symbols t.blocks) t.blocks d.block s / 8)
+    ∙ data_length (types_of_source symbols t.blocks) t.blocks d.block (d.same ∙ data_block_kind d.id.kind d.kind)
+    ∙ ap (λ (s : Shape). shape_bits (types_of_source symbols t.blocks) t.blocks d.block s / 8)
     (sym (layout_shape symbols t q d.block d.layout d.sound) ∙ shape_is_of p d.layout.shape of_block)
-    ∙ ap (λ (o : Option Block). block_bits (types_of symbols t.blocks) o / 8) there
-    ∙ sym (instance_length (types_of symbols t.blocks) t.blocks b is
-    (block_own (types_of symbols t.blocks) b well is))
+    ∙ ap (λ (o : Option Block). block_bits (types_of_source symbols t.blocks) o / 8) there
+    ∙ sym (instance_length (types_of_source symbols t.blocks) t.blocks b is
+    (block_own (types_of_source symbols t.blocks) b well is))
 
 -- ---- the call of a statement
 
-operand_called : (o : Operand) → is_called o ≡ true
+operand_called : (o : Operand) → names_called_block o ≡ true
     → (name : BlockName) × (inst : Option BlockName) × (o ≡ operand.Called name inst)
 operand_called (operand.Called name inst) e = (name, inst, refl)
 operand_called operand.Nothing e = absurd cc
@@ -692,13 +692,13 @@ operand_called (operand.OpenBlock d n) e = absurd cc
 
 good_actuals : (symbols : List Symbol) (t : Tree) → IsSoundTree symbols t
     → AllByRecursion SymbolFits symbols → (k : ℕ) (b : Block) (l : BlockLayout)
-    → IsSound symbols t k b l → is_code b.kind ≡ true → (a : Around) → Surrounds symbols t b l a
+    → IsSound symbols t k b l → is_code b.kind ≡ true → (a : Environment) → Surrounds symbols t b l a
     → (formals : List Formal) (xs : List Actual)
     → AllByRecursion IsActual xs
-    → AllByRecursion (IsSoundActual (types_of symbols t.blocks) (context_at symbols t k)) xs
+    → AllByRecursion (IsSoundActual (types_of_source symbols t.blocks) (context_at symbols t k)) xs
     → AllByRecursion (λ (x : Actual). local_end x.value ≤ a.local_len) xs
     → AllByRecursion (λ (x : Actual). OperandHasBytes x.value) xs
-    → AllByRecursion (λ (x : Actual). misfits (context_at symbols t k) x (formal_named formals x.name) ≡ false) xs
+    → AllByRecursion (λ (x : Actual). misfits_formal (context_at symbols t k) x (formal_named formals x.name) ≡ false) xs
     → AllByRecursion (IsGoodActual a (context_at symbols t k) formals) xs
 good_actuals symbols t tree fit k b l block code a around formals [] well sound ends bytes fits = tt
 good_actuals symbols t tree fit k b l block code a around formals (x ∷ xs) well sound ends bytes fits = (
@@ -758,30 +758,30 @@ block_three kinds.Udt e = absurd cc
 -- ---- a call names what it calls
 
 seen_called : (c : Context) (name : BlockName) (inst : Option BlockName)
-    → seen c (operand.Called name inst)
-    ≡ called_seen (whole_block c (named_block c.symbols name)) inst (instance_of_name c inst)
-unfolding seen
+    → resolution_of c (operand.Called name inst)
+    ≡ called_seen (whole_called_block c (named_block c.symbols name)) inst (instance_of_name c inst)
+unfolding resolution_of
 seen_called c name inst = refl
 
 -- a block that is known is whole
 block_whole : (symbols : List Symbol) (t : Tree) → IsSoundTree symbols t → (k : ℕ)
-    (o : Option BlockId) → is_unknown_id (types_of symbols t.blocks) o ≡ false
-    → (id : BlockId) × (whole_block (context_at symbols t k) o ≡ Some id)
+    (o : Option BlockId) → is_unknown_id (types_of_source symbols t.blocks) o ≡ false
+    → (id : BlockId) × (whole_called_block (context_at symbols t k) o ≡ Some id)
 block_whole symbols t tree k None e = absurd cc
 block_whole symbols t tree k (Some id) e = by (is_system_function id.kind) e
   where
     by : (sys : Bool)
-        → (if sys then false else is_none (known_block id (types_of symbols t.blocks).ids)) ≡ false
+        → (if sys then false else is_none (known_block id (types_of_source symbols t.blocks).ids)) ≡ false
         → (i : BlockId) × ((if sys then Some id else id_at id (whole_place (context_at symbols t k) id)) ≡ Some i)
     by true h = (id, refl)
     by false h = (id, ap (id_at id) place)
       where
-        found : (p : ℕ) × (known_block id (types_of symbols t.blocks).ids ≡ Some p)
-        found = not_none (known_block id (types_of symbols t.blocks).ids) h
+        found : (p : ℕ) × (known_block id (types_of_source symbols t.blocks).ids ≡ Some p)
+        found = not_none (known_block id (types_of_source symbols t.blocks).ids) h
 
         there : IsThere symbols t is_any found.0
         there = id_there symbols t tree is_any found.0 id
-            (known_there id (types_of symbols t.blocks).ids found.0 found.1) refl
+            (known_there id (types_of_source symbols t.blocks).ids found.0 found.1) refl
 
         place : whole_place (context_at symbols t k) id ≡ Some found.0
         place =
@@ -793,7 +793,7 @@ block_whole symbols t tree k (Some id) e = by (is_system_function id.kind) e
 
 -- and so is the instance that is named
 instance_known : (symbols : List Symbol) (t : Tree) → IsSoundTree symbols t → (k : ℕ) (id : BlockId)
-    (inst : Option BlockName) → is_unknown_instance (types_of symbols t.blocks) inst ≡ false
+    (inst : Option BlockName) → is_unknown_instance (types_of_source symbols t.blocks) inst ≡ false
     → (n : Option ℕ)
     × (called_seen (Some id) inst (instance_of_name (context_at symbols t k) inst) ≡ Resolved (view.Called id n))
 instance_known symbols t tree k id None e = (None, refl)
@@ -824,18 +824,18 @@ view_passed f o (view.Parameter index own declared) e = (passed.Parameter index 
 view_passed f o _ e = absurd cc
 
 constant_passed : (c : Context) (value : Literal)
-    → (p : Passed) × (passed_seen (operand.Constant value) (seen c (operand.Constant value)) ≡ Some p)
-unfolding seen
+    → (p : Passed) × (passed_seen (operand.Constant value) (resolution_of c (operand.Constant value)) ≡ Some p)
+unfolding resolution_of
 constant_passed c value = (passed.Literal (bits_of value), refl)
 
-other_passed : (c : Context) (f : Formal) (o : Operand) (v : ResolvedOperand) → seen c o ≡ Resolved v
-    → fits_seen f (seen c o) ≡ true → (p : Passed) × (passed_seen o (seen c o) ≡ Some p)
+other_passed : (c : Context) (f : Formal) (o : Operand) (v : ResolvedOperand) → resolution_of c o ≡ Resolved v
+    → fits_seen f (resolution_of c o) ≡ true → (p : Passed) × (passed_seen o (resolution_of c o) ≡ Some p)
 other_passed c f o v is e =
     let one = view_passed f o v (ap (fits_seen f) (sym is) ∙ e) in
     (one.0, ap (passed_seen o) is ∙ one.1)
 
-operand_passed : (c : Context) (f : Formal) (o : Operand) (v : ResolvedOperand) → seen c o ≡ Resolved v
-    → fits_operand c f o ≡ true → (p : Passed) × (passed_seen o (seen c o) ≡ Some p)
+operand_passed : (c : Context) (f : Formal) (o : Operand) (v : ResolvedOperand) → resolution_of c o ≡ Resolved v
+    → fits_operand c f o ≡ true → (p : Passed) × (passed_seen o (resolution_of c o) ≡ Some p)
 unfolding fits_operand
 operand_passed c f (operand.Constant value) v is e = constant_passed c value
 operand_passed c f operand.Nothing v is e = other_passed c f operand.Nothing v is e
@@ -853,17 +853,17 @@ operand_passed c f (operand.Other n) v is e = other_passed c f (operand.Other n)
 operand_passed c f (operand.OpenBlock d n) v is e = other_passed c f (operand.OpenBlock d n) v is e
 operand_passed c f (operand.Called n i) v is e = other_passed c f (operand.Called n i) v is e
 
-good_passed : (a : Around) (c : Context) (formals : List Formal) (x : Actual)
-    → IsGoodActual a c formals x → names_none formals x ≡ false → HasPassed c x
+good_passed : (a : Environment) (c : Context) (formals : List Formal) (x : Actual)
+    → IsGoodActual a c formals x → names_no_formal formals x ≡ false → HasPassed c x
 good_passed a c formals x good named =
     let f = formal_there formals (upper_case_name x.name)
     (not-false (list_any (λ (f : Formal). bytes_eq (upper_case_name x.name) f.name) formals) named) in
     operand_passed c f.0 x.value good.seen.view good.seen.is
-    (not-false (fits_operand c f.0 x.value) (ap (misfits c x) (sym f.1) ∙ good.fits))
+    (not-false (fits_operand c f.0 x.value) (ap (misfits_formal c x) (sym f.1) ∙ good.fits))
 
-all_passed_on : (a : Around) (c : Context) (formals : List Formal) (xs : List Actual)
+all_passed_on : (a : Environment) (c : Context) (formals : List Formal) (xs : List Actual)
     → AllByRecursion (IsGoodActual a c formals) xs
-    → AllByRecursion (λ (x : Actual). names_none formals x ≡ false) xs
+    → AllByRecursion (λ (x : Actual). names_no_formal formals x ≡ false) xs
     → AllByRecursion (HasPassed c) xs
 all_passed_on a c formals [] good named = tt
 all_passed_on a c formals (x ∷ xs) good named =
@@ -872,9 +872,9 @@ all_passed_on a c formals (x ∷ xs) good named =
 module _ (symbols : List Symbol) (t : Tree) (tree : IsSoundTree symbols t)
     (fit : AllByRecursion SymbolFits symbols) (k : ℕ) (b : Block) (l : BlockLayout)
     (block : IsSound symbols t k b l) (code : is_code b.kind ≡ true)
-    (a : Around) (around : Surrounds symbols t b l a)
-    (blocks : a.blocks ≡ map signature_of (map record_of_block (map compiled (code_blocks_of t symbols (layouts_of t symbols)))))
-    (s : Statement) (sound : IsSoundStatement (types_of symbols t.blocks) (context_at symbols t k) s)
+    (a : Environment) (around : Surrounds symbols t b l a)
+    (blocks : a.blocks ≡ map signature_of (map record_of_block (map compiled_block (code_blocks_of t symbols (layouts_of t symbols)))))
+    (s : Statement) (sound : IsSoundStatement (types_of_source symbols t.blocks) (context_at symbols t k) s)
     (ends : EndsBy a.local_len s) (bytes : StatementHasBytes s) where
   -- what is known of the call
   record IsMade (how : CallOperation) (id : BlockId) (instance : Option ℕ) : Type 0 where
@@ -883,12 +883,12 @@ module _ (symbols : List Symbol) (t : Tree) (tree : IsSoundTree symbols t)
     operand_is : s.operand ≡ operand.Called name inst
     call : IsCall (context_at symbols t k) name inst id instance
     by_view : is_called_view (view.Called id instance) ≡ true
-    word : call_of s.code ≡ Some how
-    cal : IsCallee symbols t k (map signature_of (map record_of_block (map compiled (code_blocks_of t symbols (layouts_of t symbols))))) (operand.Called name inst) id
+    word : call_operation_of s.code ≡ Some how
+    cal : IsCallee symbols t k (map signature_of (map record_of_block (map compiled_block (code_blocks_of t symbols (layouts_of t symbols))))) (operand.Called name inst) id
     rules : IsSoundCall (context_at symbols t k) cal.of_source s
 
-  made : (how : CallOperation) (id : BlockId) (instance : Option ℕ) → call_of s.code ≡ Some how
-      → seen (context_at symbols t k) s.operand ≡ Resolved (view.Called id instance)
+  made : (how : CallOperation) (id : BlockId) (instance : Option ℕ) → call_operation_of s.code ≡ Some how
+      → resolution_of (context_at symbols t k) s.operand ≡ Resolved (view.Called id instance)
       → IsMade how id instance
   made how id instance word e = record {
     name = o.0;
@@ -904,15 +904,15 @@ module _ (symbols : List Symbol) (t : Tree) (tree : IsSoundTree symbols t)
       o : (name : BlockName) × (inst : Option BlockName) × (s.operand ≡ operand.Called name inst)
       o = operand_called s.operand (sound.well_formed.called ∙ calls_are s.code how word)
 
-      seen_is : seen (context_at symbols t k) (operand.Called o.0 o.1) ≡ Resolved (view.Called id instance)
-      seen_is = ap (seen (context_at symbols t k)) (sym o.2) ∙ e
+      seen_is : resolution_of (context_at symbols t k) (operand.Called o.0 o.1) ≡ Resolved (view.Called id instance)
+      seen_is = ap (resolution_of (context_at symbols t k)) (sym o.2) ∙ e
 
       call : IsCall (context_at symbols t k) o.0 o.1 id instance
       call = seen_call (context_at symbols t k) o.0 o.1 id instance seen_is
 
-      rule : rule_of form.Calls (view.Called id instance) ≡ None
+      rule : rule_of_resolved_operand form.Calls (view.Called id instance) ≡ None
       rule =
-          ap (λ (f : OperandRule). rule_of f (view.Called id instance)) (sym (calls_form s.code how word))
+          ap (λ (f : OperandRule). rule_of_resolved_operand f (view.Called id instance)) (sym (calls_form s.code how word))
           ∙ ap (λ (x : Resolution). rule_seen (form_of s.code) x) (sym seen_is)
           ∙ ap (λ (x : Operand). operand_rule (context_at symbols t k) (form_of s.code) x) (sym o.2)
           ∙ sound.allowed
@@ -920,14 +920,14 @@ module _ (symbols : List Symbol) (t : Tree) (tree : IsSoundTree symbols t)
       by_view : is_called_view (view.Called id instance) ≡ true
       by_view = calls_called (view.Called id instance) rule
 
-      cal : IsCallee symbols t k (map signature_of (map record_of_block (map compiled (code_blocks_of t symbols (layouts_of t symbols))))) (operand.Called o.0 o.1) id
+      cal : IsCallee symbols t k (map signature_of (map record_of_block (map compiled_block (code_blocks_of t symbols (layouts_of t symbols))))) (operand.Called o.0 o.1) id
       cal = callee_there symbols t tree k o.0 o.1 id instance call (callable_by id instance by_view)
           (ap (calls_unknown (context_at symbols t k)) (sym o.2) ∙ sound.one_of_nine)
 
   -- what it passes
   passings_are : (how : CallOperation) (id : BlockId) (instance : Option ℕ) (m : IsMade how id instance)
       → passings_to (context_at symbols t k) s (callee_of (context_at symbols t k) s.operand)
-      ≡ passings_from (context_at symbols t k) s.actuals 0 (in_order (block_at t.blocks m.cal.of_source.place) m.cal.of_source.formals)
+      ≡ passings_from (context_at symbols t k) s.actuals 0 (in_parameter_order (source_block_at t.blocks m.cal.of_source.place) m.cal.of_source.formals)
   passings_are how id instance m =
       ap (passings_to (context_at symbols t k) s) (ap (callee_of (context_at symbols t k)) m.operand_is ∙ m.cal.is)
 
@@ -939,18 +939,18 @@ module _ (symbols : List Symbol) (t : Tree) (tree : IsSoundTree symbols t)
 
   passes_right : (how : CallOperation) (id : BlockId) (instance : Option ℕ) (m : IsMade how id instance)
       → ArePassed a (Some (kind_number id.kind, m.cal.il, m.cal.params)) None
-      (passings_from (context_at symbols t k) s.actuals 0 (in_order (block_at t.blocks m.cal.of_source.place) m.cal.of_source.formals))
+      (passings_from (context_at symbols t k) s.actuals 0 (in_parameter_order (source_block_at t.blocks m.cal.of_source.place) m.cal.of_source.formals))
   passes_right how id instance m =
       passed_from a (context_at symbols t k) m.cal.of_source.formals s.actuals (goods how id instance m)
       (kind_number id.kind) m.cal.il m.cal.params None 0
-      (in_order (block_at t.blocks m.cal.of_source.place) m.cal.of_source.formals) [] m.cal.params
+      (in_parameter_order (source_block_at t.blocks m.cal.of_source.place) m.cal.of_source.formals) [] m.cal.params
       (λ n e. refl) m.cal.matched m.cal.found refl refl
 
   -- UC and CC call blocks without parameters
   nothing_owed : (how : CallOperation) (id : BlockId) (instance : Option ℕ) (m : IsMade how id instance)
       → has_actuals s.code ≡ false → m.cal.params ≡ []
   nothing_owed how id instance m e =
-      no_params (in_order (block_at t.blocks m.cal.of_source.place) m.cal.of_source.formals) m.cal.params
+      no_params (in_parameter_order (source_block_at t.blocks m.cal.of_source.place) m.cal.of_source.formals) m.cal.params
       (m.cal.order ∙ no_order m.cal.result m.cal.of_source.formals
       (no_formals m.cal.of_source.formals
       (none_owed (has_actuals s.code) (has_formals m.cal.of_source.formals) e
@@ -960,23 +960,23 @@ module _ (symbols : List Symbol) (t : Tree) (tree : IsSoundTree symbols t)
 
   all_owed : (how : CallOperation) (id : BlockId) (instance : Option ℕ) (m : IsMade how id instance)
       → is_function_block id.kind ≡ false
-      → are_passed 0 m.cal.params (passing (passings_from (context_at symbols t k) s.actuals 0
-      (in_order (block_at t.blocks m.cal.of_source.place) m.cal.of_source.formals))) ≡ true
+      → are_all_passed 0 m.cal.params (pass_ops (passings_from (context_at symbols t k) s.actuals 0
+      (in_parameter_order (source_block_at t.blocks m.cal.of_source.place) m.cal.of_source.formals))) ≡ true
   all_owed how id instance m other = by (has_actuals s.code) refl
     where
       by : (call : Bool) → has_actuals s.code ≡ call
-          → are_passed 0 m.cal.params (passing (passings_from (context_at symbols t k) s.actuals 0
-          (in_order (block_at t.blocks m.cal.of_source.place) m.cal.of_source.formals))) ≡ true
+          → are_all_passed 0 m.cal.params (pass_ops (passings_from (context_at symbols t k) s.actuals 0
+          (in_parameter_order (source_block_at t.blocks m.cal.of_source.place) m.cal.of_source.formals))) ≡ true
       by false e =
-          ap (λ (ps : List ParameterRecord). are_passed 0 ps (passing (passings_from (context_at symbols t k) s.actuals 0
-          (in_order (block_at t.blocks m.cal.of_source.place) m.cal.of_source.formals))))
+          ap (λ (ps : List ParameterRecord). are_all_passed 0 ps (pass_ops (passings_from (context_at symbols t k) s.actuals 0
+          (in_parameter_order (source_block_at t.blocks m.cal.of_source.place) m.cal.of_source.formals))))
           (nothing_owed how id instance m e)
       by true e =
           all_passed a (context_at symbols t k) m.cal.of_source.formals s.actuals (goods how id instance m) 0
-          (in_order (block_at t.blocks m.cal.of_source.place) m.cal.of_source.formals) m.cal.params []
+          (in_parameter_order (source_block_at t.blocks m.cal.of_source.place) m.cal.of_source.formals) m.cal.params []
           m.cal.matched m.cal.found
           (subst (AreSupplied s.actuals) (sym m.cal.order)
-          (return_all (λ (f : Formal). (x : Actual) × (supplied s.actuals f ≡ Some x)) m.cal.result m.cal.of_source.formals
+          (return_all (λ (f : Formal). (x : Actual) × (actual_of_formal s.actuals f ≡ Some x)) m.cal.result m.cal.of_source.formals
           (all_supplied s.actuals m.cal.of_source.formals
           (lacking (has_actuals s.code) (is_function_block m.cal.of_source.id.kind)
           (list_all (is_supplied (supplied_names s.actuals)) m.cal.of_source.formals) m.rules.complete e
@@ -1001,15 +1001,15 @@ module _ (symbols : List Symbol) (t : Tree) (tree : IsSoundTree symbols t)
 
       d : IsData symbols t k at.0
       d = data_there symbols t tree k at.0
-          (or_second (is_unknown_called (types_of symbols t.blocks) m.name)
-          (is_unknown_instance (types_of symbols t.blocks) (Some at.0))
-          (ap (names_unknown (types_of symbols t.blocks)) (sym operand_is) ∙ sound.there))
+          (or_second (is_unknown_called (types_of_source symbols t.blocks) m.name)
+          (is_unknown_instance (types_of_source symbols t.blocks) (Some at.0))
+          (ap (names_unknown (types_of_source symbols t.blocks)) (sym operand_is) ∙ sound.there))
 
       number : n ≡ d.block.id.number
       number = same_Some n d.block.id.number (sym at.2 ∙ d.number)
 
       fb_at : (p : ℕ) × (c : Block) × (m.cal.of_source.place ≡ Some p) × (slice_get t.blocks p ≡ Some c)
-          × (c.kind ≡ kinds.Fb) × (m.cal.il ≡ length_of (types_of symbols t.blocks) t.blocks c)
+          × (c.kind ≡ kinds.Fb) × (m.cal.il ≡ length_of_block (types_of_source symbols t.blocks) t.blocks c)
       fb_at = m.cal.long fb
 
       place : whole_data_place (context_at symbols t k) at.0 ≡ Some d.place
@@ -1059,34 +1059,34 @@ module _ (symbols : List Symbol) (t : Tree) (tree : IsSoundTree symbols t)
 
   call_bad : (how : CallOperation) (id : BlockId) (instance : Option ℕ) (m : IsMade how id instance)
       → is_bad_call (lens_of (data_blocks_of t symbols (layouts_of t symbols)))
-      (Some (kind_number id.kind, m.cal.il, m.cal.params)) (instance_number instance)
-      (passing (passings_from (context_at symbols t k) s.actuals 0
-      (in_order (block_at t.blocks m.cal.of_source.place) m.cal.of_source.formals))) ≡ false
+      (Some (kind_number id.kind, m.cal.il, m.cal.params)) (instance_number_or_zero instance)
+      (pass_ops (passings_from (context_at symbols t k) s.actuals 0
+      (in_parameter_order (source_block_at t.blocks m.cal.of_source.place) m.cal.of_source.formals))) ≡ false
   call_bad how id instance m = by instance m (is_function_block id.kind) refl
     where
       by : (instance : Option ℕ) (m : IsMade how id instance) (fb : Bool) → is_function_block id.kind ≡ fb
           → is_bad_call (lens_of (data_blocks_of t symbols (layouts_of t symbols)))
-          (Some (kind_number id.kind, m.cal.il, m.cal.params)) (instance_number instance)
-          (passing (passings_from (context_at symbols t k) s.actuals 0
-          (in_order (block_at t.blocks m.cal.of_source.place) m.cal.of_source.formals))) ≡ false
+          (Some (kind_number id.kind, m.cal.il, m.cal.params)) (instance_number_or_zero instance)
+          (pass_ops (passings_from (context_at symbols t k) s.actuals 0
+          (in_parameter_order (source_block_at t.blocks m.cal.of_source.place) m.cal.of_source.formals))) ≡ false
       by None m false e =
           call_right (lens_of (data_blocks_of t symbols (layouts_of t symbols))) (kind_number id.kind) m.cal.il m.cal.params
-          (passing (passings_from (context_at symbols t k) s.actuals 0
-          (in_order (block_at t.blocks m.cal.of_source.place) m.cal.of_source.formals)))
+          (pass_ops (passings_from (context_at symbols t k) s.actuals 0
+          (in_parameter_order (source_block_at t.blocks m.cal.of_source.place) m.cal.of_source.formals)))
           (other_than_three id.kind (callable_by id None m.by_view) e) (all_owed how id None m e)
       by (Some n) m false e = let given = m.by_view in absurd cc
       by None m true e =
           subst (λ (n : ℕ). is_bad_call (lens_of (data_blocks_of t symbols (layouts_of t symbols)))
           (Some (n, m.cal.il, m.cal.params)) 0
-          (passing (passings_from (context_at symbols t k) s.actuals 0
-          (in_order (block_at t.blocks m.cal.of_source.place) m.cal.of_source.formals))) ≡ false)
+          (pass_ops (passings_from (context_at symbols t k) s.actuals 0
+          (in_parameter_order (source_block_at t.blocks m.cal.of_source.place) m.cal.of_source.formals))) ≡ false)
           (sym (block_three id.kind e))
           (bare_right (lens_of (data_blocks_of t symbols (layouts_of t symbols))) m.cal.il m.cal.params (bare_owed how id m e))
       by (Some n) m true e =
           subst (λ (i : ℕ). is_bad_call (lens_of (data_blocks_of t symbols (layouts_of t symbols)))
           (Some (i, m.cal.il, m.cal.params)) n
-          (passing (passings_from (context_at symbols t k) s.actuals 0
-          (in_order (block_at t.blocks m.cal.of_source.place) m.cal.of_source.formals))) ≡ false)
+          (pass_ops (passings_from (context_at symbols t k) s.actuals 0
+          (in_parameter_order (source_block_at t.blocks m.cal.of_source.place) m.cal.of_source.formals))) ≡ false)
           (sym (block_three id.kind e)) (instance_right how id n m e)
 
   pub call_fits : CallFits a (lens_of (data_blocks_of t symbols (layouts_of t symbols))) (context_at symbols t k) s
@@ -1095,7 +1095,7 @@ module _ (symbols : List Symbol) (t : Tree) (tree : IsSoundTree symbols t)
       (sym (passings_are how id instance m)) (
         alone,
         subst (λ (o : Option FlatCallee). ArePassed a o None ps) (sym flat_is) (passes_right how id instance m),
-        subst (λ (o : Option FlatCallee). is_bad_call (lens_of (data_blocks_of t symbols (layouts_of t symbols))) o (instance_number instance) (passing ps) ≡ false)
+        subst (λ (o : Option FlatCallee). is_bad_call (lens_of (data_blocks_of t symbols (layouts_of t symbols))) o (instance_number_or_zero instance) (pass_ops ps) ≡ false)
             (sym flat_is) (call_bad how id instance m),
       )
     where
@@ -1103,25 +1103,25 @@ module _ (symbols : List Symbol) (t : Tree) (tree : IsSoundTree symbols t)
       m = made how id instance word e
 
       ps : List Passing
-      ps = passings_from (context_at symbols t k) s.actuals 0 (in_order (block_at t.blocks m.cal.of_source.place) m.cal.of_source.formals)
+      ps = passings_from (context_at symbols t k) s.actuals 0 (in_parameter_order (source_block_at t.blocks m.cal.of_source.place) m.cal.of_source.formals)
 
       alone : PassesAlone how ps
       alone = calls_alone s.code how ps word
-          (λ none. ap (λ (xs : List Actual). passings_from (context_at symbols t k) xs 0 (in_order (block_at t.blocks m.cal.of_source.place) m.cal.of_source.formals))
+          (λ none. ap (λ (xs : List Actual). passings_from (context_at symbols t k) xs 0 (in_parameter_order (source_block_at t.blocks m.cal.of_source.place) m.cal.of_source.formals))
           (sound.well_formed.no_actuals none)
-          ∙ none_passed (context_at symbols t k) 0 (in_order (block_at t.blocks m.cal.of_source.place) m.cal.of_source.formals))
+          ∙ none_passed (context_at symbols t k) 0 (in_parameter_order (source_block_at t.blocks m.cal.of_source.place) m.cal.of_source.formals))
 
       flat_is : flat_callee a.blocks (kind_number id.kind) id.number ≡ Some (kind_number id.kind, m.cal.il, m.cal.params)
       flat_is = ap (λ (sg : List BlockSignature). flat_callee sg (kind_number id.kind) id.number) blocks ∙ m.cal.flat
 
   -- it names what it calls
-  pub called_is : (how : CallOperation) → call_of s.code ≡ Some how
+  pub called_is : (how : CallOperation) → call_operation_of s.code ≡ Some how
       → (id : BlockId) × (instance : Option ℕ)
-      × (seen (context_at symbols t k) s.operand ≡ Resolved (view.Called id instance))
+      × (resolution_of (context_at symbols t k) s.operand ≡ Resolved (view.Called id instance))
   called_is how word = (
     whole.0,
     given.0,
-    ap (seen (context_at symbols t k)) o.2 ∙ seen_called (context_at symbols t k) o.0 o.1
+    ap (resolution_of (context_at symbols t k)) o.2 ∙ seen_called (context_at symbols t k) o.0 o.1
         ∙ ap (λ (z : Option BlockId). called_seen z o.1 (instance_of_name (context_at symbols t k) o.1)) whole.1
         ∙ given.1,
   )
@@ -1129,29 +1129,29 @@ module _ (symbols : List Symbol) (t : Tree) (tree : IsSoundTree symbols t)
       o : (name : BlockName) × (inst : Option BlockName) × (s.operand ≡ operand.Called name inst)
       o = operand_called s.operand (sound.well_formed.called ∙ calls_are s.code how word)
 
-      there : (is_unknown_called (types_of symbols t.blocks) o.0 || is_unknown_instance (types_of symbols t.blocks) o.1) ≡ false
-      there = ap (names_unknown (types_of symbols t.blocks)) (sym o.2) ∙ sound.there
+      there : (is_unknown_called (types_of_source symbols t.blocks) o.0 || is_unknown_instance (types_of_source symbols t.blocks) o.1) ≡ false
+      there = ap (names_unknown (types_of_source symbols t.blocks)) (sym o.2) ∙ sound.there
 
-      whole : (id : BlockId) × (whole_block (context_at symbols t k) (named_block symbols o.0) ≡ Some id)
+      whole : (id : BlockId) × (whole_called_block (context_at symbols t k) (named_block symbols o.0) ≡ Some id)
       whole = block_whole symbols t tree k (named_block symbols o.0)
-          (ap (λ (ss : List Symbol). is_unknown_id (types_of symbols t.blocks) (named_block ss o.0))
+          (ap (λ (ss : List Symbol). is_unknown_id (types_of_source symbols t.blocks) (named_block ss o.0))
           (sym (measured_symbols symbols t.blocks))
-          ∙ or_first (is_unknown_called (types_of symbols t.blocks) o.0)
-          (is_unknown_instance (types_of symbols t.blocks) o.1) there)
+          ∙ or_first (is_unknown_called (types_of_source symbols t.blocks) o.0)
+          (is_unknown_instance (types_of_source symbols t.blocks) o.1) there)
 
       given : (n : Option ℕ)
           × (called_seen (Some whole.0) o.1 (instance_of_name (context_at symbols t k) o.1) ≡ Resolved (view.Called whole.0 n))
       given = instance_known symbols t tree k whole.0 o.1
-          (or_second (is_unknown_called (types_of symbols t.blocks) o.0)
-          (is_unknown_instance (types_of symbols t.blocks) o.1) there)
+          (or_second (is_unknown_called (types_of_source symbols t.blocks) o.0)
+          (is_unknown_instance (types_of_source symbols t.blocks) o.1) there)
 
-  called_made : (how : CallOperation) (word : call_of s.code ≡ Some how)
+  called_made : (how : CallOperation) (word : call_operation_of s.code ≡ Some how)
       → IsMade how (called_is how word).0 (called_is how word).1
   called_made how word =
       made how (called_is how word).0 (called_is how word).1 word (called_is how word).2
 
   -- that block is found
-  pub callee_found : (how : CallOperation) (word : call_of s.code ≡ Some how)
+  pub callee_found : (how : CallOperation) (word : call_operation_of s.code ≡ Some how)
       → (callee : Callee) × (callee_of (context_at symbols t k) s.operand ≡ Some callee)
       × (callee.id ≡ (called_is how word).0) × IsSoundCall (context_at symbols t k) callee s
   callee_found how word =
@@ -1163,7 +1163,7 @@ module _ (symbols : List Symbol) (t : Tree) (tree : IsSoundTree symbols t)
       )
 
   -- and each of its actual parameters what is passed
-  pub actuals_pass : (how : CallOperation) → call_of s.code ≡ Some how
+  pub actuals_pass : (how : CallOperation) → call_operation_of s.code ≡ Some how
       → AllByRecursion (HasPassed (context_at symbols t k)) s.actuals
   actuals_pass how word =
       let m = called_made how word in

@@ -4,22 +4,22 @@ use Rattle.std.specs.List.{AllByRecursion}
 use Rattle.plc_base.specs.Kinds.{kind_number, is_code}
 use Rattle.plc_base.specs.declared.blocks.BlockId.{BlockId}
 use Rattle.plc_base.proofs.ListLemmas.{all_append}
-use Rattle.flat_code.specs.Blocks.{Around}
+use Rattle.flat_code.specs.Blocks.{Environment}
 use Rattle.flat_code.specs.Image.{record_of_block}
-use Rattle.flat_code.specs.Loading.{around_block, lens_of}
-use Rattle.flat_code.specs.Placed.{spots}
+use Rattle.flat_code.specs.Loading.{environment_of_block, lens_of}
+use Rattle.flat_code.specs.Placed.{statement_spots}
 use Rattle.flat_code.specs.Programs.{Program}
-use Rattle.stl_ast.specs.Statements.{is_empty}
+use Rattle.stl_ast.specs.Statements.{is_empty_statement}
 use Rattle.stl_ast.specs.declared.blocks.Block.{Block}
 use Rattle.stl_ast.specs.declared.blocks.Tree.{Tree}
 use Rattle.stl_ast.specs.declared.statements.Statement.{Statement}
 use Rattle.stl_symbols.specs.Symbol.{Symbol}
 use Rattle.block_layout.specs.Layouts.{block_layout, layouts_of}
-use Rattle.block_layout.specs.Lengths.{farthest, local_len}
-use Rattle.block_layout.specs.Measures.{types_of}
+use Rattle.block_layout.specs.Lengths.{farthest_operand_end, local_len}
+use Rattle.block_layout.specs.Measures.{types_of_source}
 use Rattle.block_layout.specs.declared.blocks.BlockLayout.{BlockLayout}
-use Rattle.stl_codegen.specs.Compiled.{Stated, StatedBlock, compiled}
-use Rattle.stl_codegen.specs.Generated.{code_block, code_blocks_of, returning, stated_from, statements_of}
+use Rattle.stl_codegen.specs.Compiled.{SourceInstruction, StatedBlock, compiled_block}
+use Rattle.stl_codegen.specs.Generated.{code_block, code_blocks_of, return_statement, stated_from, statements_of}
 use Rattle.stl_codegen.specs.Instruction.{instruction}
 use Rattle.sem_kept.specs.Accepted.{program_in}
 use Rattle.sem_kept.specs.Coded.{StatementHasBytes}
@@ -37,7 +37,7 @@ use Rattle.sem_kept.proofs.accepted.Shared.{kind_there}
 -- ---- a block
 
 local_is : (symbols : List Symbol) (t : Tree) (k : ℕ) (b : Block) (l : BlockLayout)
-    → IsSound symbols t k b l → l.local_len ≡ local_len (types_of symbols t.blocks) b
+    → IsSound symbols t k b l → l.local_len ≡ local_len (types_of_source symbols t.blocks) b
 unfolding block_layout
 local_is symbols t k b l h = ap (λ (z : BlockLayout). z.local_len) h.layout
 
@@ -46,10 +46,10 @@ module _ (symbols : List Symbol) (t : Tree) (tree : IsSoundTree symbols t)
     (block : IsSound symbols t k b l) (named : l.id ≡ Some id) (code : is_code id.kind ≡ true)
     (bytes : AllByRecursion StatementHasBytes b.body) where
   -- what surrounds it
-  abbrev here : Around
-  here = around_block (Some (lens_of (program_in symbols t).data_blocks))
+  abbrev here : Environment
+  here = environment_of_block (Some (lens_of (program_in symbols t).data_blocks))
       (map record_of_block (program_in symbols t).code_blocks)
-      (record_of_block (compiled (code_block (context_at symbols t k) b l id)))
+      (record_of_block (compiled_block (code_block (context_at symbols t k) b l id)))
 
   kind_is : b.kind ≡ id.kind
   kind_is = kind_there symbols b id (sym (layout_id symbols t k b l block) ∙ named)
@@ -62,11 +62,11 @@ module _ (symbols : List Symbol) (t : Tree) (tree : IsSoundTree symbols t)
 
   ends : AllByRecursion (EndsBy here.local_len) b.body
   ends = ends_by l.local_len b.body
-      (subst (λ (n : ℕ). farthest b.body ≤ n) (sym (local_is symbols t k b l block))
-      (holds_locals (types_of symbols t.blocks) b is_code_here block.head.by_50).operands)
+      (subst (λ (n : ℕ). farthest_operand_end b.body ≤ n) (sym (local_is symbols t k b l block))
+      (holds_locals (types_of_source symbols t.blocks) b is_code_here block.head.by_50).operands)
 
   statement_fits : (n : ℕ) (s : Statement)
-      → IsSoundStatement (types_of symbols t.blocks) (context_at symbols t k) s
+      → IsSoundStatement (types_of_source symbols t.blocks) (context_at symbols t k) s
       → EndsBy here.local_len s → StatementHasBytes s
       → InstrFits here (lens_of (program_in symbols t).data_blocks) (instruction (context_at symbols t k) b.body n s)
   statement_fits n s sound end has =
@@ -82,47 +82,47 @@ module _ (symbols : List Symbol) (t : Tree) (tree : IsSoundTree symbols t)
       (call_fits symbols t tree fit k b l block is_code_here here surrounded refl s sound end has)
 
   stated_fits : (n : ℕ) (ss : List Statement)
-      → AllByRecursion (IsSoundStatement (types_of symbols t.blocks) (context_at symbols t k)) ss
+      → AllByRecursion (IsSoundStatement (types_of_source symbols t.blocks) (context_at symbols t k)) ss
       → AllByRecursion (EndsBy here.local_len) ss → AllByRecursion StatementHasBytes ss
-      → AllByRecursion (λ (s : Stated). InstrFits here (lens_of (program_in symbols t).data_blocks) s.instr)
+      → AllByRecursion (λ (s : SourceInstruction). InstrFits here (lens_of (program_in symbols t).data_blocks) s.instr)
       (stated_from (context_at symbols t k) b.body n ss)
   stated_fits n [] sound end has = tt
   stated_fits n (s ∷ ss) sound end has =
-      by (is_empty s.code) (stated_fits n ss sound.1 end.1 has.1) (stated_fits (suc n) ss sound.1 end.1 has.1)
+      by (is_empty_statement s.code) (stated_fits n ss sound.1 end.1 has.1) (stated_fits (suc n) ss sound.1 end.1 has.1)
     where
       by : (empty : Bool)
-          → AllByRecursion (λ (s : Stated). InstrFits here (lens_of (program_in symbols t).data_blocks) s.instr)
+          → AllByRecursion (λ (s : SourceInstruction). InstrFits here (lens_of (program_in symbols t).data_blocks) s.instr)
           (stated_from (context_at symbols t k) b.body n ss)
-          → AllByRecursion (λ (s : Stated). InstrFits here (lens_of (program_in symbols t).data_blocks) s.instr)
+          → AllByRecursion (λ (s : SourceInstruction). InstrFits here (lens_of (program_in symbols t).data_blocks) s.instr)
           (stated_from (context_at symbols t k) b.body (suc n) ss)
-          → AllByRecursion (λ (s : Stated). InstrFits here (lens_of (program_in symbols t).data_blocks) s.instr)
+          → AllByRecursion (λ (s : SourceInstruction). InstrFits here (lens_of (program_in symbols t).data_blocks) s.instr)
           (if empty then stated_from (context_at symbols t k) b.body n ss
           else record { instr = instruction (context_at symbols t k) b.body n s; line = s.line }
           ∷ stated_from (context_at symbols t k) b.body (suc n) ss)
       by true same next = same
       by false same next = (statement_fits n s sound.0 end.0 has.0, next)
 
-  block_fine : BlockIsFine (program_in symbols t) (compiled (code_block (context_at symbols t k) b l id))
+  block_fine : BlockIsFine (program_in symbols t) (compiled_block (code_block (context_at symbols t k) b l id))
   unfolding statements_of
   block_fine =
       code_fine here (lens_of (program_in symbols t).data_blocks)
-      (spots (compiled (code_block (context_at symbols t k) b l id)).code)
+      (statement_spots (compiled_block (code_block (context_at symbols t k) b l id)).code)
       (statements_of (context_at symbols t k) b)
-      (all_append (λ (s : Stated). InstrFits here (lens_of (program_in symbols t).data_blocks) s.instr)
-      (stated_from (context_at symbols t k) b.body 0 b.body) (returning b ∷ [])
+      (all_append (λ (s : SourceInstruction). InstrFits here (lens_of (program_in symbols t).data_blocks) s.instr)
+      (stated_from (context_at symbols t k) b.body 0 b.body) (return_statement b ∷ [])
       (stated_fits 0 b.body block.statements ends bytes) (tt, tt))
 
 -- ---- the program
 
-mapped_fine : (p : Program) (bs : List StatedBlock) → AllByRecursion (λ b. BlockIsFine p (compiled b)) bs
-    → AllByRecursion (BlockIsFine p) (map compiled bs)
+mapped_fine : (p : Program) (bs : List StatedBlock) → AllByRecursion (λ b. BlockIsFine p (compiled_block b)) bs
+    → AllByRecursion (BlockIsFine p) (map compiled_block bs)
 mapped_fine p [] h = tt
 mapped_fine p (b ∷ bs) h = (h.0, mapped_fine p bs h.1)
 
 pub operands_are_fine : OperandsAreFine
 operands_are_fine source file symbols t accepted bytes =
     mapped_fine (program_in symbols t) (code_blocks_of t symbols (layouts_of t symbols))
-    (sound_code_blocks symbols t (λ b. BlockIsFine (program_in symbols t) (compiled b)) tree
+    (sound_code_blocks symbols t (λ b. BlockIsFine (program_in symbols t) (compiled_block b)) tree
     (λ k b l id sound named code.
     block_fine symbols t tree (symbols_fit accepted.language file symbols accepted.named) k b l id sound named code
     (all_there (λ (b : Block). AllByRecursion StatementHasBytes b.body) t.blocks k b has sound.block_there)))

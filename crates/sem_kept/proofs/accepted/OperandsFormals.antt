@@ -16,7 +16,7 @@ use Rattle.flat_code.specs.Image.{record_of_param}
 use Rattle.flat_code.specs.declared.image_fields.ParameterRecord.{ParameterRecord}
 use Rattle.flat_code.specs.declared.programs.Param.{Param}
 use Rattle.stl_ast.specs.Blocks.{is_parameter}
-use Rattle.stl_ast.specs.Declarations.{is_plain}
+use Rattle.stl_ast.specs.Declarations.{is_elementary_type}
 use Rattle.stl_ast.specs.Outline.{IsOutline, level_behind}
 use Rattle.stl_ast.specs.WellFormed.{AreDeclaredIn, IsBlock, IsSection}
 use Rattle.stl_ast.specs.declared.blocks.Block.{Block}
@@ -31,20 +31,20 @@ use Rattle.stl_ast.specs.declared.declarations.Simple.{Simple}
 use Rattle.stl_ast.specs.declared.declarations.Simple.TheVariants as simple
 use Rattle.plc_base.specs.Folding.{upper_case_name}
 use Rattle.plc_base.proofs.ListLemmas.{all_append}
-use Rattle.stl_symbols.specs.Names.{place_of}
-use Rattle.block_layout.specs.Around.{Outside, of_sections, of_structure, onto, returned_names}
-use Rattle.block_layout.specs.Cells.{breaks_rule, cell_of, cells_of, components_of, is_temp, laid, opened, returned_cells, section_cells}
+use Rattle.stl_symbols.specs.Names.{name_place}
+use Rattle.block_layout.specs.Around.{Outside, of_sections, of_structure, declarations_before_next, returned_names}
+use Rattle.block_layout.specs.Cells.{breaks_rule, cell_of, cells_of, components_of, is_temp, layout_element, with_first_cell_opening, returned_cells, section_cells}
 use Rattle.block_layout.specs.Offsets.{width_of}
-use Rattle.block_layout.specs.Rule21.{is_twice, name_here, names_before}
+use Rattle.block_layout.specs.Rule21.{is_twice, declaration_name_here, names_before}
 use Rattle.block_layout.specs.Types.{Types}
 use Rattle.block_layout.specs.declared.blocks.BlockLayout.{BlockLayout}
 use Rattle.block_layout.specs.declared.cells.Cell.{Cell}
 use Rattle.block_layout.specs.declared.cells.Element.{Element}
 use Rattle.block_layout.specs.declared.cells.Element.TheVariants.{Plain, Structure, DateAndTime, Udt, Unknown}
-use Rattle.stl_types.specs.Parameters.{dtime, formal, formal_here, formal_of, formals_of, mode, ob_nr, returns, sign, system_formals}
+use Rattle.stl_types.specs.Parameters.{dtime_formal, formal, formal_here, formal_of, formals_of, mode_formal, ob_nr_formal, return_value_formal, sign_formal, system_formals}
 use Rattle.stl_types.specs.declared.parameters.Formal.{Formal}
 use Rattle.stl_codegen.specs.Generated.{param_here, param_of, params_of, section_number}
-use Rattle.stl_codegen.specs.Instruction.{in_order, return_last}
+use Rattle.stl_codegen.specs.Instruction.{in_parameter_order, return_last}
 use Rattle.sem_kept.proofs.accepted.Accepted.{all_both, all_mapped}
 use Rattle.sem_kept.proofs.accepted.OperandsCells.{IsUnbroken, Unbroken}
 use Rattle.sem_kept.proofs.accepted.Shared.{or_first}
@@ -113,7 +113,7 @@ return_mapped (Some kind) [] = refl
 return_mapped (Some kind) (p ∷ ps) = map-append record_of_param ps (p ∷ [])
 
 pub source_matched : (b : Block) (l : BlockLayout) (cells : List Cell) → l.components ≡ cells
-    → Matched (in_order (Some b) (formals_of cells)) (map record_of_param (params_of b l))
+    → Matched (in_parameter_order (Some b) (formals_of cells)) (map record_of_param (params_of b l))
 unfolding params_of
 source_matched b l cells same =
     subst (λ (cs : List Cell). Matched (return_last b.result (formals_of cells))
@@ -129,17 +129,17 @@ source_matched b l cells same =
 -- each name stands neither among these nor among those before it
 abbrev pub FreshFrom : List (List ℕ) → List Formal → Type 0
 FreshFrom names [] = Unit {0}
-FreshFrom names (f ∷ fs) = (place_of f.name names ≡ None) × FreshFrom (names ++ f.name ∷ []) fs
+FreshFrom names (f ∷ fs) = (name_place f.name names ≡ None) × FreshFrom (names ++ f.name ∷ []) fs
 
 abbrev pub Distinct : List Formal → Type 0
 Distinct [] = Unit {0}
 Distinct (g ∷ gs) = AllByRecursion (λ (h : Formal). bytes_eq h.name g.name ≡ false) gs × Distinct gs
 
-absent : (name x : List ℕ) (pre post : List (List ℕ)) → place_of name (pre ++ x ∷ post) ≡ None
+absent : (name x : List ℕ) (pre post : List (List ℕ)) → name_place name (pre ++ x ∷ post) ≡ None
     → bytes_eq name x ≡ false
 absent name x [] post e = by (bytes_eq name x) e
   where
-    by : (t : Bool) → (if t then Some 0 else option_map (λ k. suc k) (place_of name post)) ≡ None
+    by : (t : Bool) → (if t then Some 0 else option_map (λ k. suc k) (name_place name post)) ≡ None
         → t ≡ false
     by true h = absurd cc
     by false h = refl
@@ -150,10 +150,10 @@ absent name x (p ∷ pre) post e = by (bytes_eq name p) e (absent name x pre pos
     none (Some m) h = absurd cc
 
     by : (t : Bool)
-        → (if t then Some 0 else option_map (λ k. suc k) (place_of name (pre ++ x ∷ post))) ≡ None
-        → (place_of name (pre ++ x ∷ post) ≡ None → bytes_eq name x ≡ false) → bytes_eq name x ≡ false
+        → (if t then Some 0 else option_map (λ k. suc k) (name_place name (pre ++ x ∷ post))) ≡ None
+        → (name_place name (pre ++ x ∷ post) ≡ None → bytes_eq name x ≡ false) → bytes_eq name x ≡ false
     by true h more = absurd cc
-    by false h more = more (none (place_of name (pre ++ x ∷ post)) h)
+    by false h more = more (none (name_place name (pre ++ x ∷ post)) h)
 
 fresh_all : (x : List ℕ) (pre post : List (List ℕ)) (fs : List Formal) → FreshFrom (pre ++ x ∷ post) fs
     → AllByRecursion (λ (h : Formal). bytes_eq h.name x ≡ false) fs
@@ -218,49 +218,49 @@ return_all P (Some kind) (f ∷ fs) h = all_append P fs (f ∷ []) h.1 (h.0, tt)
 
 -- what isn't among the names of the list isn't among the names so far
 abbrev Within : (names outer : List (List ℕ)) → Type 0
-Within names outer = (n : List ℕ) → place_of n outer ≡ None → place_of n names ≡ None
+Within names outer = (n : List ℕ) → name_place n outer ≡ None → name_place n names ≡ None
 
 none_suc : (o : Option ℕ) → option_map (λ k. suc k) o ≡ None → o ≡ None
 none_suc None h = refl
 none_suc (Some m) h = absurd cc
 
-absent_front : (n : List ℕ) (xs ys : List (List ℕ)) → place_of n (xs ++ ys) ≡ None
-    → place_of n xs ≡ None
+absent_front : (n : List ℕ) (xs ys : List (List ℕ)) → name_place n (xs ++ ys) ≡ None
+    → name_place n xs ≡ None
 absent_front n [] ys e = refl
 absent_front n (x ∷ xs) ys e = by (bytes_eq n x) e (absent_front n xs ys)
   where
-    by : (t : Bool) → (if t then Some 0 else option_map (λ k. suc k) (place_of n (xs ++ ys))) ≡ None
-        → (place_of n (xs ++ ys) ≡ None → place_of n xs ≡ None)
-        → (if t then Some 0 else option_map (λ k. suc k) (place_of n xs)) ≡ None
+    by : (t : Bool) → (if t then Some 0 else option_map (λ k. suc k) (name_place n (xs ++ ys))) ≡ None
+        → (name_place n (xs ++ ys) ≡ None → name_place n xs ≡ None)
+        → (if t then Some 0 else option_map (λ k. suc k) (name_place n xs)) ≡ None
     by true h more = absurd cc
-    by false h more = ap (λ (o : Option ℕ). option_map (λ k. suc k) o) (more (none_suc (place_of n (xs ++ ys)) h))
+    by false h more = ap (λ (o : Option ℕ). option_map (λ k. suc k) o) (more (none_suc (name_place n (xs ++ ys)) h))
 
-absent_both : (n : List ℕ) (xs : List (List ℕ)) (y : List ℕ) → place_of n xs ≡ None
-    → bytes_eq n y ≡ false → place_of n (xs ++ y ∷ []) ≡ None
+absent_both : (n : List ℕ) (xs : List (List ℕ)) (y : List ℕ) → name_place n xs ≡ None
+    → bytes_eq n y ≡ false → name_place n (xs ++ y ∷ []) ≡ None
 absent_both n [] y e f =
-    ap (λ (t : Bool). if t then Some 0 else option_map (λ k. suc k) (place_of n [])) f
+    ap (λ (t : Bool). if t then Some 0 else option_map (λ k. suc k) (name_place n [])) f
 absent_both n (x ∷ xs) y e f = by (bytes_eq n x) e (λ h. absent_both n xs y h f)
   where
-    by : (t : Bool) → (if t then Some 0 else option_map (λ k. suc k) (place_of n xs)) ≡ None
-        → (place_of n xs ≡ None → place_of n (xs ++ y ∷ []) ≡ None)
-        → (if t then Some 0 else option_map (λ k. suc k) (place_of n (xs ++ y ∷ []))) ≡ None
+    by : (t : Bool) → (if t then Some 0 else option_map (λ k. suc k) (name_place n xs)) ≡ None
+        → (name_place n xs ≡ None → name_place n (xs ++ y ∷ []) ≡ None)
+        → (if t then Some 0 else option_map (λ k. suc k) (name_place n (xs ++ y ∷ []))) ≡ None
     by true h more = absurd cc
-    by false h more = ap (λ (o : Option ℕ). option_map (λ k. suc k) o) (more (none_suc (place_of n xs) h))
+    by false h more = ap (λ (o : Option ℕ). option_map (λ k. suc k) o) (more (none_suc (name_place n xs) h))
 
 names_more : (outer : List (List ℕ)) (d : Declaration) (ds : List Declaration)
-    → names_before outer 0 (d ∷ ds) ≡ names_before outer 0 ds ++ name_here 0 d
+    → names_before outer 0 (d ∷ ds) ≡ names_before outer 0 ds ++ declaration_name_here 0 d
 names_more outer d ds =
-    ap (λ (t : Bool). if t then [] else names_before outer 0 ds ++ name_here 0 d)
+    ap (λ (t : Bool). if t then [] else names_before outer 0 ds ++ declaration_name_here 0 d)
     (le-ltb d.level 0 (omega arith))
 
 within_more : (names outer : List (List ℕ)) (d : Declaration) (before : List Declaration)
     → Within names (names_before outer 0 before) → Within names (names_before outer 0 (d ∷ before))
 within_more names outer d before h n e =
-    h n (absent_front n (names_before outer 0 before) (name_here 0 d)
-    (ap (λ (ns : List (List ℕ)). place_of n ns) (sym (names_more outer d before)) ∙ e))
+    h n (absent_front n (names_before outer 0 before) (declaration_name_here 0 d)
+    (ap (λ (ns : List (List ℕ)). name_place n ns) (sym (names_more outer d before)) ∙ e))
 
 within_onto : (names outer : List (List ℕ)) (before ds : List Declaration)
-    → Within names (names_before outer 0 before) → Within names (names_before outer 0 (onto before ds))
+    → Within names (names_before outer 0 before) → Within names (names_before outer 0 (declarations_before_next before ds))
 within_onto names outer before [] h = h
 within_onto names outer before (d ∷ ds) h =
     within_onto names outer (d ∷ before) ds (within_more names outer d before h)
@@ -273,18 +273,18 @@ within_here names outer d before lowest h n e =
     (h n (absent_front n (names_before outer 0 before) (upper_case_name d.name ∷ []) there))
     (absent n (upper_case_name d.name) (names_before outer 0 before) [] there)
   where
-    here : name_here 0 d ≡ upper_case_name d.name ∷ []
+    here : declaration_name_here 0 d ≡ upper_case_name d.name ∷ []
     here = ap (λ (t : Bool). if t then upper_case_name d.name ∷ [] else []) (eq-eqb d.level 0 lowest)
 
-    there : place_of n (names_before outer 0 before ++ upper_case_name d.name ∷ []) ≡ None
+    there : name_place n (names_before outer 0 before ++ upper_case_name d.name ∷ []) ≡ None
     there =
-        ap (λ (ns : List (List ℕ)). place_of n ns)
+        ap (λ (ns : List (List ℕ)). name_place n ns)
         (ap (λ (z : List (List ℕ)). names_before outer 0 before ++ z) (sym here) ∙ sym (names_more outer d before))
         ∙ e
 
 -- ---- the parameters of a section
 
-elementary_type : (arrays : List Bounds) (of : ElementType) → is_plain arrays of ≡ true
+elementary_type : (arrays : List Bounds) (of : ElementType) → is_elementary_type arrays of ≡ true
     → (kind : Simple) × (of ≡ element.Plain kind)
 elementary_type [] (element.Plain kind) e = (kind, refl)
 elementary_type [] element.Structure e = absurd cc
@@ -312,14 +312,14 @@ parameter_formal : (y : Types) (o : Outside) (section : PartKind) (before : List
     → formal_here (cell_of y o section before d) ≡ formal (upper_case_name d.name) section kind ∷ []
 unfolding cell_of
 parameter_formal y o section before d kind is plain =
-    ap (λ (t : Bool). if t then formal_of (cell_of y o section before d) (laid y d.of.of) else []) is
-    ∙ ap (λ (e : ElementType). formal_of (cell_of y o section before d) (laid y e)) plain
+    ap (λ (t : Bool). if t then formal_of (cell_of y o section before d) (layout_element y d.of.of) else []) is
+    ∙ ap (λ (e : ElementType). formal_of (cell_of y o section before d) (layout_element y e)) plain
 
 fresh_section : (y : Types) (o : Outside) (k : BlockKind) (section : PartKind)
     (names : List (List ℕ)) (before ds : List Declaration) → is_parameter section ≡ true
     → AreDeclaredIn k section ds → IsOutline 0 ds → Unbroken y o before ds
     → Within names (names_before o.names 0 before)
-    → AreFresh names o.names (onto before ds) (flat_map formal_here (cells_of y o section before ds))
+    → AreFresh names o.names (declarations_before_next before ds) (flat_map formal_here (cells_of y o section before ds))
 fresh_section y o k section names before [] is declared outline h within =
     record { fresh = tt; behind = names; named = sym (nothing names); within = within }
   where
@@ -327,7 +327,7 @@ fresh_section y o k section names before [] is declared outline h within =
     nothing [] = refl
     nothing (x ∷ xs) = ap (λ (zs : List (List ℕ)). x ∷ zs) (nothing xs)
 fresh_section y o k section names before (d ∷ ds) is declared outline h within =
-    subst (λ (fs : List Formal). AreFresh names o.names (onto (d ∷ before) ds) (fs ++ flat_map formal_here (cells_of y o section (d ∷ before) ds)))
+    subst (λ (fs : List Formal). AreFresh names o.names (declarations_before_next (d ∷ before) ds) (fs ++ flat_map formal_here (cells_of y o section (d ∷ before) ds)))
     (sym (parameter_formal y o section before d type.0 is type.1))
     (joined (fresh_section y o k section (names ++ upper_case_name d.name ∷ []) (d ∷ before) ds is declared.1
     (subst (λ (n : ℕ). IsOutline n ds) behind outline.1) h.1 (within_here names o.names d before lowest within)))
@@ -341,14 +341,14 @@ fresh_section y o k section names before (d ∷ ds) is declared outline h within
     behind : level_behind d.level d.of.of ≡ 0
     behind = ap (λ (e : ElementType). level_behind d.level e) type.1 ∙ lowest
 
-    new : place_of (upper_case_name d.name) names ≡ None
+    new : name_place (upper_case_name d.name) names ≡ None
     new = within (upper_case_name d.name)
-        (not_there (place_of (upper_case_name d.name) (names_before o.names 0 before))
-        (ap (λ (n : ℕ). is_some (place_of (upper_case_name d.name) (names_before o.names n before))) (sym lowest)
+        (not_there (name_place (upper_case_name d.name) (names_before o.names 0 before))
+        (ap (λ (n : ℕ). is_some (name_place (upper_case_name d.name) (names_before o.names n before))) (sym lowest)
         ∙ untwice y o before d h.0))
 
-    joined : AreFresh (names ++ upper_case_name d.name ∷ []) o.names (onto (d ∷ before) ds) (flat_map formal_here (cells_of y o section (d ∷ before) ds))
-        → AreFresh names o.names (onto (d ∷ before) ds) (formal (upper_case_name d.name) section type.0 ∷ flat_map formal_here (cells_of y o section (d ∷ before) ds))
+    joined : AreFresh (names ++ upper_case_name d.name ∷ []) o.names (declarations_before_next (d ∷ before) ds) (flat_map formal_here (cells_of y o section (d ∷ before) ds))
+        → AreFresh names o.names (declarations_before_next (d ∷ before) ds) (formal (upper_case_name d.name) section type.0 ∷ flat_map formal_here (cells_of y o section (d ∷ before) ds))
     joined r = record {
       fresh = (new, r.fresh);
       behind = r.behind;
@@ -358,12 +358,12 @@ fresh_section y o k section names before (d ∷ ds) is declared outline h within
 
 -- ---- the parameters of a block
 
-opened_formals : (cs : List Cell) → flat_map formal_here (opened cs) ≡ flat_map formal_here cs
+opened_formals : (cs : List Cell) → flat_map formal_here (with_first_cell_opening cs) ≡ flat_map formal_here cs
 opened_formals [] = refl
 opened_formals (c ∷ cs) = by c.sound (opened_formals cs)
   where
-    by : (t : Bool) → flat_map formal_here (opened cs) ≡ flat_map formal_here cs
-        → flat_map formal_here (if t then record c { opens = true } ∷ cs else c ∷ opened cs)
+    by : (t : Bool) → flat_map formal_here (with_first_cell_opening cs) ≡ flat_map formal_here cs
+        → flat_map formal_here (if t then record c { opens = true } ∷ cs else c ∷ with_first_cell_opening cs)
         ≡ formal_here c ++ flat_map formal_here cs
     by true same = refl
     by false same = ap (λ (fs : List Formal). formal_here c ++ fs) same
@@ -374,7 +374,7 @@ none_here : (y : Types) (o : Outside) (section : PartKind) (before ds : List Dec
 unfolding cell_of
 none_here y o section before [] is = refl
 none_here y o section before (d ∷ ds) is =
-    ap (λ (t : Bool). (if t then formal_of (cell_of y o section before d) (laid y d.of.of) else []) ++ flat_map formal_here (cells_of y o section (d ∷ before) ds)) is
+    ap (λ (t : Bool). (if t then formal_of (cell_of y o section before d) (layout_element y d.of.of) else []) ++ flat_map formal_here (cells_of y o section (d ∷ before) ds)) is
     ∙ none_here y o section (d ∷ before) ds is
 
 temp_is_none : (p : PartKind) → not (is_temp p) ≡ false → is_parameter p ≡ false
@@ -390,7 +390,7 @@ unbroken_first y o before [] ys h = tt
 unbroken_first y o before (x ∷ xs) ys h = (h.0, unbroken_first y o (x ∷ before) xs ys h.1)
 
 unbroken_rest : (y : Types) (o : Outside) (before xs ys : List Declaration)
-    → Unbroken y o before (xs ++ ys) → Unbroken y o (onto before xs) ys
+    → Unbroken y o before (xs ++ ys) → Unbroken y o (declarations_before_next before xs) ys
 unbroken_rest y o before [] ys h = h
 unbroken_rest y o before (x ∷ xs) ys h = unbroken_rest y o (x ∷ before) xs ys h.1
 
@@ -398,8 +398,8 @@ unbroken_rest y o before (x ∷ xs) ys h = unbroken_rest y o (x ∷ before) xs y
 part_formals : (y : Types) (o : Outside) (k : BlockKind) (names : List (List ℕ))
     (before : List Declaration) (p : Part) → IsSection k p → Unbroken y o before p.items
     → Within names (names_before o.names 0 before)
-    → AreFresh names o.names (onto before p.items)
-    (flat_map formal_here (if not (is_temp p.kind) then opened (cells_of y o p.kind before p.items) else []))
+    → AreFresh names o.names (declarations_before_next before p.items)
+    (flat_map formal_here (if not (is_temp p.kind) then with_first_cell_opening (cells_of y o p.kind before p.items) else []))
 part_formals y o k names before p section h within =
     wanted (not (is_temp p.kind)) refl
   where
@@ -407,7 +407,7 @@ part_formals y o k names before p section h within =
     nothing [] = refl
     nothing (x ∷ xs) = ap (λ (zs : List (List ℕ)). x ∷ zs) (nothing xs)
 
-    empty : AreFresh names o.names (onto before p.items) []
+    empty : AreFresh names o.names (declarations_before_next before p.items) []
     empty = record {
       fresh = tt;
       behind = names;
@@ -416,17 +416,17 @@ part_formals y o k names before p section h within =
     }
 
     held : (t : Bool) → is_parameter p.kind ≡ t
-        → AreFresh names o.names (onto before p.items) (flat_map formal_here (cells_of y o p.kind before p.items))
+        → AreFresh names o.names (declarations_before_next before p.items) (flat_map formal_here (cells_of y o p.kind before p.items))
     held true is = fresh_section y o k p.kind names before p.items is section.2 section.1 h within
     held false is =
-        subst (λ (fs : List Formal). AreFresh names o.names (onto before p.items) fs)
+        subst (λ (fs : List Formal). AreFresh names o.names (declarations_before_next before p.items) fs)
         (sym (none_here y o p.kind before p.items is)) empty
 
     wanted : (t : Bool) → not (is_temp p.kind) ≡ t
-        → AreFresh names o.names (onto before p.items)
-        (flat_map formal_here (if t then opened (cells_of y o p.kind before p.items) else []))
+        → AreFresh names o.names (declarations_before_next before p.items)
+        (flat_map formal_here (if t then with_first_cell_opening (cells_of y o p.kind before p.items) else []))
     wanted true is =
-        subst (λ (fs : List Formal). AreFresh names o.names (onto before p.items) fs)
+        subst (λ (fs : List Formal). AreFresh names o.names (declarations_before_next before p.items) fs)
         (sym (opened_formals (cells_of y o p.kind before p.items))) (held (is_parameter p.kind) refl)
     wanted false is = empty
 
@@ -452,18 +452,18 @@ sections_fresh : (y : Types) (o : Outside) (k : BlockKind) (names : List (List �
 sections_fresh y o k names before [] sections h within = tt
 sections_fresh y o k names before (p ∷ ps) sections h within =
     subst (λ (fs : List Formal). FreshFrom names fs)
-    (sym (flat_map-append formal_here (if not (is_temp p.kind) then opened (cells_of y o p.kind before p.items) else [])
-    (section_cells y o (λ k. not (is_temp k)) (onto before p.items) ps)))
+    (sym (flat_map-append formal_here (if not (is_temp p.kind) then with_first_cell_opening (cells_of y o p.kind before p.items) else [])
+    (section_cells y o (λ k. not (is_temp k)) (declarations_before_next before p.items) ps)))
     (fresh_append names
-    (flat_map formal_here (if not (is_temp p.kind) then opened (cells_of y o p.kind before p.items) else []))
-    (flat_map formal_here (section_cells y o (λ k. not (is_temp k)) (onto before p.items) ps)) one.fresh
-    (subst (λ (ns : List (List ℕ)). FreshFrom ns (flat_map formal_here (section_cells y o (λ k. not (is_temp k)) (onto before p.items) ps)))
+    (flat_map formal_here (if not (is_temp p.kind) then with_first_cell_opening (cells_of y o p.kind before p.items) else []))
+    (flat_map formal_here (section_cells y o (λ k. not (is_temp k)) (declarations_before_next before p.items) ps)) one.fresh
+    (subst (λ (ns : List (List ℕ)). FreshFrom ns (flat_map formal_here (section_cells y o (λ k. not (is_temp k)) (declarations_before_next before p.items) ps)))
     one.named
-    (sections_fresh y o k one.behind (onto before p.items) ps sections.1
+    (sections_fresh y o k one.behind (declarations_before_next before p.items) ps sections.1
     (unbroken_rest y o before p.items (flat_map (λ p. p.items) ps) h) one.within)))
   where
-    one : AreFresh names o.names (onto before p.items)
-        (flat_map formal_here (if not (is_temp p.kind) then opened (cells_of y o p.kind before p.items) else []))
+    one : AreFresh names o.names (declarations_before_next before p.items)
+        (flat_map formal_here (if not (is_temp p.kind) then with_first_cell_opening (cells_of y o p.kind before p.items) else []))
     one = part_formals y o k names before p sections.0
         (unbroken_first y o before p.items (flat_map (λ p. p.items) ps) h) within
 
@@ -503,12 +503,12 @@ pub record IsSystem (n : ℕ) (formals : List Formal) : Type 0 where
 
 abbrev formals_by : (a b c d e f g h i : Bool) → Option (List Formal)
 formals_by a b c d e f g h i =
-    if a then Some (ob_nr ∷ dtime ∷ sign ∷ returns simple.Int ∷ [])
-    else if b then Some (ob_nr ∷ returns simple.Int ∷ [])
-    else if (if c then true else if d then true else false) then Some (mode ∷ ob_nr ∷ returns simple.Int ∷ [])
-    else if (if e then true else if f then true else false) then Some (returns simple.Int ∷ [])
+    if a then Some (ob_nr_formal ∷ dtime_formal ∷ sign_formal ∷ return_value_formal simple.Int ∷ [])
+    else if b then Some (ob_nr_formal ∷ return_value_formal simple.Int ∷ [])
+    else if (if c then true else if d then true else false) then Some (mode_formal ∷ ob_nr_formal ∷ return_value_formal simple.Int ∷ [])
+    else if (if e then true else if f then true else false) then Some (return_value_formal simple.Int ∷ [])
     else if (if g then true else if h then true else false) then Some []
-    else if i then Some (returns simple.Time ∷ [])
+    else if i then Some (return_value_formal simple.Time ∷ [])
     else None
 
 abbrev params_by : (a b c d e f g h i : Bool) → Option (List ParameterRecord)
@@ -534,22 +534,22 @@ system_by : (a b c d e f g h i : Bool) (formals : List Formal)
     → formals_by a b c d e f g h i ≡ Some formals
     → IsSystemBy (params_by a b c d e f g h i) formals
 system_by true b c d e f g h i formals s =
-    subst (λ (fs : List Formal). IsSystemBy (params_by true b c d e f g h i) fs) (some_list (ob_nr ∷ dtime ∷ sign ∷ returns simple.Int ∷ []) formals s)
+    subst (λ (fs : List Formal). IsSystemBy (params_by true b c d e f g h i) fs) (some_list (ob_nr_formal ∷ dtime_formal ∷ sign_formal ∷ return_value_formal simple.Int ∷ []) formals s)
     (record { params = in_record width.Word ∷ in_record width.Dword ∷ in_record width.Word ∷ out_record width.Word ∷ []; is = refl; matched = ((refl, refl, refl), ((refl, refl, refl), ((refl, refl, refl), ((refl, refl, refl), tt)))); fresh = (refl, (refl, (refl, (refl, tt)))) })
 system_by false true c d e f g h i formals s =
-    subst (λ (fs : List Formal). IsSystemBy (params_by false true c d e f g h i) fs) (some_list (ob_nr ∷ returns simple.Int ∷ []) formals s)
+    subst (λ (fs : List Formal). IsSystemBy (params_by false true c d e f g h i) fs) (some_list (ob_nr_formal ∷ return_value_formal simple.Int ∷ []) formals s)
     (record { params = in_record width.Word ∷ out_record width.Word ∷ []; is = refl; matched = ((refl, refl, refl), ((refl, refl, refl), tt)); fresh = (refl, (refl, tt)) })
 system_by false false true d e f g h i formals s =
-    subst (λ (fs : List Formal). IsSystemBy (params_by false false true d e f g h i) fs) (some_list (mode ∷ ob_nr ∷ returns simple.Int ∷ []) formals s)
+    subst (λ (fs : List Formal). IsSystemBy (params_by false false true d e f g h i) fs) (some_list (mode_formal ∷ ob_nr_formal ∷ return_value_formal simple.Int ∷ []) formals s)
     (record { params = in_record width.Byte ∷ in_record width.Word ∷ out_record width.Word ∷ []; is = refl; matched = ((refl, refl, refl), ((refl, refl, refl), ((refl, refl, refl), tt))); fresh = (refl, (refl, (refl, tt))) })
 system_by false false false true e f g h i formals s =
-    subst (λ (fs : List Formal). IsSystemBy (params_by false false false true e f g h i) fs) (some_list (mode ∷ ob_nr ∷ returns simple.Int ∷ []) formals s)
+    subst (λ (fs : List Formal). IsSystemBy (params_by false false false true e f g h i) fs) (some_list (mode_formal ∷ ob_nr_formal ∷ return_value_formal simple.Int ∷ []) formals s)
     (record { params = in_record width.Byte ∷ in_record width.Word ∷ out_record width.Word ∷ []; is = refl; matched = ((refl, refl, refl), ((refl, refl, refl), ((refl, refl, refl), tt))); fresh = (refl, (refl, (refl, tt))) })
 system_by false false false false true f g h i formals s =
-    subst (λ (fs : List Formal). IsSystemBy (params_by false false false false true f g h i) fs) (some_list (returns simple.Int ∷ []) formals s)
+    subst (λ (fs : List Formal). IsSystemBy (params_by false false false false true f g h i) fs) (some_list (return_value_formal simple.Int ∷ []) formals s)
     (record { params = out_record width.Word ∷ []; is = refl; matched = ((refl, refl, refl), tt); fresh = (refl, tt) })
 system_by false false false false false true g h i formals s =
-    subst (λ (fs : List Formal). IsSystemBy (params_by false false false false false true g h i) fs) (some_list (returns simple.Int ∷ []) formals s)
+    subst (λ (fs : List Formal). IsSystemBy (params_by false false false false false true g h i) fs) (some_list (return_value_formal simple.Int ∷ []) formals s)
     (record { params = out_record width.Word ∷ []; is = refl; matched = ((refl, refl, refl), tt); fresh = (refl, tt) })
 system_by false false false false false false true h i formals s =
     subst (λ (fs : List Formal). IsSystemBy (params_by false false false false false false true h i) fs) (some_list [] formals s)
@@ -558,7 +558,7 @@ system_by false false false false false false false true i formals s =
     subst (λ (fs : List Formal). IsSystemBy (params_by false false false false false false false true i) fs) (some_list [] formals s)
     (record { params = []; is = refl; matched = tt; fresh = tt })
 system_by false false false false false false false false true formals s =
-    subst (λ (fs : List Formal). IsSystemBy (params_by false false false false false false false false true) fs) (some_list (returns simple.Time ∷ []) formals s)
+    subst (λ (fs : List Formal). IsSystemBy (params_by false false false false false false false false true) fs) (some_list (return_value_formal simple.Time ∷ []) formals s)
     (record { params = out_record width.Dword ∷ []; is = refl; matched = ((refl, refl, refl), tt); fresh = (refl, tt) })
 system_by false false false false false false false false false formals s = absurd cc
 

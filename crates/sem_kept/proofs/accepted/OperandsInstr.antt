@@ -2,7 +2,7 @@
 use Rattle.std.proofs.Common.{ℕ, ◌≡◌, false, List, Option, Some, None, refl, sym, ◌∙◌, ap, subst, if◌then◌else◌}
 use Rattle.std.specs.Option.{is_none}
 use Rattle.plc_base.specs.declared.blocks.BlockId.{BlockId}
-use Rattle.flat_code.specs.Blocks.{Around}
+use Rattle.flat_code.specs.Blocks.{Environment}
 use Rattle.flat_code.specs.Instr.{Calls}
 use Rattle.flat_code.specs.declared.kinds.JumpOperation.{JumpOperation}
 use Rattle.flat_code.specs.declared.kinds.JumpOperation.TheVariants as jump
@@ -17,62 +17,62 @@ use Rattle.stl_ast.specs.declared.operands.Operand.TheVariants as operand
 use Rattle.stl_ast.specs.declared.statements.Statement.{Statement}
 use Rattle.stl_types.specs.Context.{Context}
 use Rattle.stl_types.specs.Forms.{form_of}
-use Rattle.stl_types.specs.Operands.{operand_rule, rule_of, rule_seen, statement_rule}
+use Rattle.stl_types.specs.Operands.{operand_rule, rule_of_resolved_operand, rule_seen, statement_rule}
 use Rattle.stl_types.specs.Parameters.{callee_of}
-use Rattle.stl_types.specs.Resolved.{resolved, seen_view}
-use Rattle.stl_types.specs.Resolution.{seen}
+use Rattle.stl_types.specs.Resolved.{resolved_operand, seen_view}
+use Rattle.stl_types.specs.Resolution.{resolution_of}
 use Rattle.stl_types.specs.declared.forms.OperandRule.{OperandRule}
 use Rattle.stl_types.specs.declared.views.Resolution.{Resolution}
 use Rattle.stl_types.specs.declared.views.Resolution.TheVariants.{Resolved, Unknown, Unjudged}
 use Rattle.stl_types.specs.declared.views.ResolvedOperand.{ResolvedOperand}
 use Rattle.stl_types.specs.declared.views.ResolvedOperand.TheVariants as view
-use Rattle.stl_codegen.specs.Emitted.{ending}
-use Rattle.stl_codegen.specs.Instruction.{call_instr, end_instr, filler, instr_by, instruction, jump_instr, passings_to, resolved_instr, target_of, view_instr}
-use Rattle.stl_codegen.specs.Operands.{operand_of}
-use Rattle.stl_codegen.specs.Operations.{call_of, end_of, jump_of, operation_for}
-use Rattle.sem_kept.specs.Operands.{InstrFits, IsRightOperand}
+use Rattle.stl_codegen.specs.Emitted.{op_with_end_mark}
+use Rattle.stl_codegen.specs.Instruction.{call_instr, end_instr, filler_instruction, instr_by, instruction, jump_instr, passings_to, resolved_instr, target_of, view_instr}
+use Rattle.stl_codegen.specs.Operands.{flat_operand_of}
+use Rattle.stl_codegen.specs.Operations.{call_operation_of, end_operation_of, jump_operation_of, operation_for}
+use Rattle.sem_kept.specs.Operands.{InstrFits, IsOperandRightFor}
 use Rattle.sem_kept.proofs.accepted.OperandsViews.{IsSeen}
 use Rattle.sem_kept.proofs.accepted.OperandsOperations.{ViewFits, allowed, opened_fits, operand_fits, ordinary}
 
-jump_fits : (a : Around) (lens : List (ℕ × ℕ)) (how : JumpOperation) (n target : ℕ)
+jump_fits : (a : Environment) (lens : List (ℕ × ℕ)) (how : JumpOperation) (n target : ℕ)
     → InstrFits a lens (jump_instr how n target)
 jump_fits a lens jump.Jl n target = tt
 jump_fits a lens _ n target = tt
 
-filler_fits : (a : Around) (lens : List (ℕ × ℕ)) → InstrFits a lens filler
+filler_fits : (a : Environment) (lens : List (ℕ × ℕ)) → InstrFits a lens filler_instruction
 filler_fits a lens = (refl, tt, tt)
 
 -- what isn't called by a word isn't a call
-pub no_call : (m : Mnemonic) → call_of m ≡ None → is_call m ≡ false
+pub no_call : (m : Mnemonic) → call_operation_of m ≡ None → is_call m ≡ false
 no_call code.Call e = absurd cc
 no_call code.Uc e = absurd cc
 no_call code.Cc e = absurd cc
 no_call _ e = refl
 
-seen_rule : (c : Context) (f : OperandRule) (o : Operand) (v : ResolvedOperand) → seen c o ≡ Resolved v
-    → rule_seen f (seen c o) ≡ None → rule_of f v ≡ None
+seen_rule : (c : Context) (f : OperandRule) (o : Operand) (v : ResolvedOperand) → resolution_of c o ≡ Resolved v
+    → rule_seen f (resolution_of c o) ≡ None → rule_of_resolved_operand f v ≡ None
 seen_rule c f o v e h = ap (λ (s : Resolution). rule_seen f s) (sym e) ∙ h
 
-constant_seen : (c : Context) (value : Literal) → seen c (operand.Constant value) ≡ Resolved view.Constant
-unfolding seen
+constant_seen : (c : Context) (value : Literal) → resolution_of c (operand.Constant value) ≡ Resolved view.Constant
+unfolding resolution_of
 constant_seen c value = refl
 
 sees_same : (v w : ResolvedOperand) → Resolved v ≡ Resolved w → v ≡ w
 sees_same v w e = cc
 
-constant_right : (a : Around) (m : Mnemonic) (value : Literal)
-    → IsRightOperand a
-    (ending (operation_for m (operand.Constant value) view.Constant) (operand_of (operand.Constant value) view.Constant))
-    (operand_of (operand.Constant value) view.Constant)
-unfolding operand_of
+constant_right : (a : Environment) (m : Mnemonic) (value : Literal)
+    → IsOperandRightFor a
+    (op_with_end_mark (operation_for m (operand.Constant value) view.Constant) (flat_operand_of (operand.Constant value) view.Constant))
+    (flat_operand_of (operand.Constant value) view.Constant)
+unfolding flat_operand_of
 constant_right a m value = tt
 
 -- the operand that a statement does its instruction on
-right_for : (a : Around) (c : Context) (m : Mnemonic) (o : Operand) (v : ResolvedOperand)
-    → seen c o ≡ Resolved v → operand_rule c (form_of m) o ≡ None → ViewFits a v
-    → IsRightOperand a (ending (operation_for m o v) (operand_of o v)) (operand_of o v)
+right_for : (a : Environment) (c : Context) (m : Mnemonic) (o : Operand) (v : ResolvedOperand)
+    → resolution_of c o ≡ Resolved v → operand_rule c (form_of m) o ≡ None → ViewFits a v
+    → IsOperandRightFor a (op_with_end_mark (operation_for m o v) (flat_operand_of o v)) (flat_operand_of o v)
 right_for a c m (operand.Constant value) v e h fits =
-    subst (λ (w : ResolvedOperand). IsRightOperand a (ending (operation_for m (operand.Constant value) w) (operand_of (operand.Constant value) w)) (operand_of (operand.Constant value) w))
+    subst (λ (w : ResolvedOperand). IsOperandRightFor a (op_with_end_mark (operation_for m (operand.Constant value) w) (flat_operand_of (operand.Constant value) w)) (flat_operand_of (operand.Constant value) w))
     (sees_same view.Constant v (sym (constant_seen c value) ∙ e)) (constant_right a m value)
 right_for a c m operand.Nothing v e h fits = operand_fits a m operand.Nothing v (allowed (form_of m) v (seen_rule c (form_of m) operand.Nothing v e h)) fits
 right_for a c m (operand.Direct n r w y i) v e h fits = operand_fits a m (operand.Direct n r w y i) v (allowed (form_of m) v (seen_rule c (form_of m) (operand.Direct n r w y i) v e h)) fits
@@ -89,8 +89,8 @@ right_for a c m (operand.Other n) v e h fits = operand_fits a m (operand.Other n
 right_for a c m (operand.OpenBlock d n) v e h fits = operand_fits a m (operand.OpenBlock d n) v (allowed (form_of m) v (seen_rule c (form_of m) (operand.OpenBlock d n) v e h)) fits
 right_for a c m (operand.Called n i) v e h fits = operand_fits a m (operand.Called n i) v (allowed (form_of m) v (seen_rule c (form_of m) (operand.Called n i) v e h)) fits
 
-does_fits : (a : Around) (lens : List (ℕ × ℕ)) (c : Context) (s : Statement) (v : ResolvedOperand)
-    → seen c s.operand ≡ Resolved v → statement_rule c s ≡ None → ViewFits a v
+does_fits : (a : Environment) (lens : List (ℕ × ℕ)) (c : Context) (s : Statement) (v : ResolvedOperand)
+    → resolution_of c s.operand ≡ Resolved v → statement_rule c s ≡ None → ViewFits a v
     → (how : Option EndOperation) → InstrFits a lens (end_instr s v how)
 does_fits a lens c s v e h fits None = (
   ordinary s.code s.operand v,
@@ -100,32 +100,32 @@ does_fits a lens c s v e h fits None = (
 does_fits a lens c s v e h fits (Some how) = tt
 
 pub resolved_is : (c : Context) (s : Statement) → statement_rule c s ≡ None
-    → resolved c s ≡ seen_view (seen c s.operand)
-unfolding resolved
+    → resolved_operand c s ≡ seen_view (resolution_of c s.operand)
+unfolding resolved_operand
 resolved_is c s h =
-    ap (λ (o : Option ℕ). if is_none o then seen_view (seen c s.operand) else None) h
+    ap (λ (o : Option ℕ). if is_none o then seen_view (resolution_of c s.operand) else None) h
 
 -- what is owed of a call
-abbrev pub CallFits : Around → List (ℕ × ℕ) → Context → Statement → Type 0
+abbrev pub CallFits : Environment → List (ℕ × ℕ) → Context → Statement → Type 0
 CallFits a lens c s =
-    (how : CallOperation) (id : BlockId) (instance : Option ℕ) → call_of s.code ≡ Some how
-    → seen c s.operand ≡ Resolved (view.Called id instance)
+    (how : CallOperation) (id : BlockId) (instance : Option ℕ) → call_operation_of s.code ≡ Some how
+    → resolution_of c s.operand ≡ Resolved (view.Called id instance)
     → InstrFits a lens (Calls how id instance (passings_to c s (callee_of c s.operand)))
 
-call_view_fits : (a : Around) (lens : List (ℕ × ℕ)) (c : Context) (s : Statement) (how : CallOperation)
-    → CallFits a lens c s → call_of s.code ≡ Some how
-    → (v : ResolvedOperand) → seen c s.operand ≡ Resolved v → InstrFits a lens (call_instr c s how v)
+call_view_fits : (a : Environment) (lens : List (ℕ × ℕ)) (c : Context) (s : Statement) (how : CallOperation)
+    → CallFits a lens c s → call_operation_of s.code ≡ Some how
+    → (v : ResolvedOperand) → resolution_of c s.operand ≡ Resolved v → InstrFits a lens (call_instr c s how v)
 call_view_fits a lens c s how calls is (view.Called id instance) e = calls how id instance is e
 call_view_fits a lens c s how calls is _ e = filler_fits a lens
 
-pub instr_fits : (a : Around) (lens : List (ℕ × ℕ)) (c : Context) (body : List Statement) (n : ℕ)
+pub instr_fits : (a : Environment) (lens : List (ℕ × ℕ)) (c : Context) (body : List Statement) (n : ℕ)
     (s : Statement) → statement_rule c s ≡ None
-    → (is_call s.code ≡ false → IsSeen a (seen c s.operand)) → CallFits a lens c s
+    → (is_call s.code ≡ false → IsSeen a (resolution_of c s.operand)) → CallFits a lens c s
     → InstrFits a lens (instruction c body n s)
 unfolding instruction
-instr_fits a lens c body n s allowed seen_fits calls = by (jump_of s.code)
+instr_fits a lens c body n s allowed seen_fits calls = by (jump_operation_of s.code)
   where
-    called : (how : CallOperation) → call_of s.code ≡ Some how → (x : Resolution) → seen c s.operand ≡ x
+    called : (how : CallOperation) → call_operation_of s.code ≡ Some how → (x : Resolution) → resolution_of c s.operand ≡ x
         → InstrFits a lens (resolved_instr c s (seen_view x))
     called how is (Resolved v) e =
         subst (λ (o : Option CallOperation). InstrFits a lens (view_instr c s v o)) (sym is)
@@ -133,19 +133,19 @@ instr_fits a lens c body n s allowed seen_fits calls = by (jump_of s.code)
     called how is Unknown e = filler_fits a lens
     called how is Unjudged e = filler_fits a lens
 
-    whether : (o : Option CallOperation) → call_of s.code ≡ o
-        → InstrFits a lens (resolved_instr c s (seen_view (seen c s.operand)))
+    whether : (o : Option CallOperation) → call_operation_of s.code ≡ o
+        → InstrFits a lens (resolved_instr c s (seen_view (resolution_of c s.operand)))
     whether None is =
         subst (λ (x : Resolution). InstrFits a lens (resolved_instr c s (seen_view x))) (sym found.is)
         (subst (λ (o : Option CallOperation). InstrFits a lens (view_instr c s found.view o)) (sym is)
-        (does_fits a lens c s found.view found.is allowed found.fits (end_of s.code)))
+        (does_fits a lens c s found.view found.is allowed found.fits (end_operation_of s.code)))
       where
-        found : IsSeen a (seen c s.operand)
+        found : IsSeen a (resolution_of c s.operand)
         found = seen_fits (no_call s.code is)
-    whether (Some how) is = called how is (seen c s.operand) refl
+    whether (Some how) is = called how is (resolution_of c s.operand) refl
 
     by : (o : Option JumpOperation) → InstrFits a lens (instr_by c body n s o)
     by (Some how) = jump_fits a lens how n (target_of body s.operand)
     by None =
         subst (λ (o : Option ResolvedOperand). InstrFits a lens (resolved_instr c s o)) (sym (resolved_is c s allowed))
-        (whether (call_of s.code) refl)
+        (whether (call_operation_of s.code) refl)

@@ -18,16 +18,16 @@ use Rattle.flat_code.specs.declared.image_fields.ParameterRecord.{ParameterRecor
 use Rattle.stl_ast.specs.declared.blocks.Block.{Block}
 use Rattle.stl_ast.specs.declared.blocks.Tree.{Tree}
 use Rattle.stl_symbols.specs.Symbol.{Symbol}
-use Rattle.block_layout.specs.Blocks.{block_place, id_of, is_id}
-use Rattle.block_layout.specs.InitialBytes.{Write, bytes_of, initial_bytes, length_at, put, setting_writes, settings_at, structure_writes, with_bit, with_bytes}
+use Rattle.block_layout.specs.Blocks.{place_of_block, id_of, is_id}
+use Rattle.block_layout.specs.InitialBytes.{Write, big_endian_bytes, initial_bytes, length_at, bytes_with_write, setting_writes, settings_at, structure_writes, with_bit, with_bytes}
 use Rattle.block_layout.specs.Layouts.{layouts_of}
-use Rattle.block_layout.specs.Measures.{types_of}
+use Rattle.block_layout.specs.Measures.{types_of_source}
 use Rattle.block_layout.specs.Paths.{structure_of}
 use Rattle.block_layout.specs.Rule22.{is_block_twice, is_earlier}
 use Rattle.block_layout.specs.declared.blocks.BlockLayout.{BlockLayout}
 use Rattle.stl_types.specs.Context.{Context}
-use Rattle.stl_codegen.specs.Compiled.{StatedBlock, compiled}
-use Rattle.stl_codegen.specs.Generated.{code_block, code_block_of, code_blocks_of, data_block, data_block_of, data_blocks_of, each_block, instance_len, params_of}
+use Rattle.stl_codegen.specs.Compiled.{StatedBlock, compiled_block}
+use Rattle.stl_codegen.specs.Generated.{code_block, code_block_of, code_blocks_of, generated_data_block, data_block_of, data_blocks_of, each_block, instance_len, params_of}
 use Rattle.stl_codegen.specs.Order.{is_code_before, is_data_before}
 use Rattle.stl_codegen.proofs.ProgramLemmas.{all_before}
 use Rattle.sem_kept.proofs.accepted.Accepted.{IsSound, IsSoundTree, context_at, sound_code_blocks, sound_data_blocks}
@@ -82,7 +82,7 @@ code_block_there symbols t P h k b l id sound is code =
 pub data_block_there : (symbols : List Symbol) (t : Tree) (P : DataBlock → Type 0)
     → AllByRecursion P (data_blocks_of t symbols (layouts_of t symbols))
     → (k : ℕ) (b : Block) (l : BlockLayout) (id : BlockId) → IsSound symbols t k b l
-    → l.id ≡ Some id → is_data_block id.kind ≡ true → P (data_block (context_at symbols t k) l id)
+    → l.id ≡ Some id → is_data_block id.kind ≡ true → P (generated_data_block (context_at symbols t k) l id)
 unfolding data_blocks_of
 data_block_there symbols t P h k b l id sound is kind =
     one (subst (λ (n : ℕ). AllByRecursion P (data_block_of (context_at symbols t n) l l.id))
@@ -93,9 +93,9 @@ data_block_there symbols t P h k b l id sound is kind =
     k b l sound.block_there sound.layout_there))
   where
     one : AllByRecursion P (data_block_of (context_at symbols t k) l l.id)
-        → P (data_block (context_at symbols t k) l id)
+        → P (generated_data_block (context_at symbols t k) l id)
     one h =
-        (subst (λ (t' : Bool). AllByRecursion P (if t' then data_block (context_at symbols t k) l id ∷ [] else []))
+        (subst (λ (t' : Bool). AllByRecursion P (if t' then generated_data_block (context_at symbols t k) l id ∷ [] else []))
         kind
         (subst (λ (o : Option BlockId). AllByRecursion P (data_block_of (context_at symbols t k) l o)) is h)).0
 
@@ -116,24 +116,24 @@ block_itself id =
 
 -- the first place of an id is no later than any other
 place_first : (id : BlockId) (ids : List (Option BlockId)) (j : ℕ)
-    → slice_get ids j ≡ Some (Some id) → (m : ℕ) × (block_place id ids ≡ Some m) × (m ≤ j)
+    → slice_get ids j ≡ Some (Some id) → (m : ℕ) × (place_of_block id ids ≡ Some m) × (m ≤ j)
 place_first id [] j e = absurd cc
 place_first id (i ∷ is) zero e = (
   0,
-  ap (λ (t : Bool). if t then Some 0 else option_map (λ k. suc k) (block_place id is))
+  ap (λ (t : Bool). if t then Some 0 else option_map (λ k. suc k) (place_of_block id is))
       (ap (is_id id) (let same : i ≡ Some id = cc in same) ∙ block_itself id),
   omega arith,
 )
 place_first id (i ∷ is) (suc j) e = by (is_id id i) (place_first id is j e)
   where
-    by : (t : Bool) → ((m : ℕ) × (block_place id is ≡ Some m) × (m ≤ j))
-        → (m : ℕ) × ((if t then Some 0 else option_map (λ k. suc k) (block_place id is)) ≡ Some m) × (m ≤ suc j)
+    by : (t : Bool) → ((m : ℕ) × (place_of_block id is ≡ Some m) × (m ≤ j))
+        → (m : ℕ) × ((if t then Some 0 else option_map (λ k. suc k) (place_of_block id is)) ≡ Some m) × (m ≤ suc j)
     by true more = (0, refl, omega arith)
     by false more = (suc more.0, ap (λ (o : Option ℕ). option_map (λ k. suc k) o) more.1, let few = more.2 in omega (arith, few))
 
 id_listed : (symbols : List Symbol) (t : Tree) (k : ℕ) (b : Block) (l : BlockLayout) (id : BlockId)
     → IsSound symbols t k b l → l.id ≡ Some id
-    → slice_get (types_of symbols t.blocks).ids k ≡ Some (Some id)
+    → slice_get (types_of_source symbols t.blocks).ids k ≡ Some (Some id)
 id_listed symbols t k b l id h is =
     ap (λ (ids : List (Option BlockId)). slice_get ids k) (measured_ids symbols t.blocks)
     ∙ mapped (λ b. id_of symbols b) t.blocks k b h.block_there
@@ -148,14 +148,14 @@ id_listed symbols t k b l id h is =
 -- a block is the first one with its number
 is_first : (symbols : List Symbol) (t : Tree) (k : ℕ) (b : Block) (l : BlockLayout) (id : BlockId)
     (m : ℕ) → IsSound symbols t k b l → l.id ≡ Some id
-    → block_place id (types_of symbols t.blocks).ids ≡ Some m → k ≤ m
+    → place_of_block id (types_of_source symbols t.blocks).ids ≡ Some m → k ≤ m
 is_first symbols t k b l id m h is found =
     subst (λ (n : ℕ). n ≤ m) h.count
     (ltb-false m (length h.before) (sym earlier ∙ h.head.by_22))
   where
-    earlier : is_block_twice (types_of symbols t.blocks) h.before b ≡ nat_lt m (length h.before)
+    earlier : is_block_twice (types_of_source symbols t.blocks) h.before b ≡ nat_lt m (length h.before)
     earlier =
-        ap (λ (o : Option BlockId). is_earlier (option_and_then (λ id. block_place id (types_of symbols t.blocks).ids) o) (length h.before))
+        ap (λ (o : Option BlockId). is_earlier (option_and_then (λ id. place_of_block id (types_of_source symbols t.blocks).ids) o) (length h.before))
         (ap (λ (s : List Symbol). id_of s b) (measured_symbols symbols t.blocks) ∙ sym (layout_id symbols t k b l h) ∙ is)
         ∙ ap (λ (o : Option ℕ). is_earlier o (length h.before)) found
 
@@ -163,8 +163,8 @@ pub one_block : (symbols : List Symbol) (t : Tree) (id : BlockId) (j k : ℕ) (b
     (l m : BlockLayout) → IsSound symbols t j b l → IsSound symbols t k c m → l.id ≡ Some id
     → m.id ≡ Some id → j ≡ k
 one_block symbols t id j k b c l m h g e f =
-    let one = place_first id (types_of symbols t.blocks).ids j (id_listed symbols t j b l id h e) in
-    let two = place_first id (types_of symbols t.blocks).ids k (id_listed symbols t k c m id g f) in
+    let one = place_first id (types_of_source symbols t.blocks).ids j (id_listed symbols t j b l id h e) in
+    let two = place_first id (types_of_source symbols t.blocks).ids k (id_listed symbols t k c m id g f) in
     let a = is_first symbols t j b l id two.0 h e two.1 in
     let d = is_first symbols t k c m id one.0 g f one.1 in
     let p = one.2 in
@@ -182,7 +182,7 @@ same_there xs j k x z e f g =
 -- ---- the code block that a call means
 
 abbrev sig_of : StatedBlock → BlockSignature
-sig_of b = signature_of (record_of_block (compiled b))
+sig_of b = signature_of (record_of_block (compiled_block b))
 
 abbrev matches : (kind number : ℕ) → StatedBlock → Bool
 matches kind number b = (sig_of b).kind == kind && (sig_of b).number == number
@@ -192,7 +192,7 @@ finds : (kind number il : ℕ) (ps : List ParameterRecord) (bs : List StatedBloc
     → AllByRecursion (λ b. matches kind number b ≡ true
     → ((sig_of b).instance_len ≡ il) × ((sig_of b).params ≡ ps)) bs
     → (AllByRecursion (λ b. matches kind number b ≡ false) bs → ⊥)
-    → block_with kind number (map signature_of (map record_of_block (map compiled bs)))
+    → block_with kind number (map signature_of (map record_of_block (map compiled_block bs)))
     ≡ Some (kind, il, ps)
 finds kind number il ps [] h some = absurd (some tt)
 finds kind number il ps (b ∷ bs) h some =
@@ -204,9 +204,9 @@ finds kind number il ps (b ∷ bs) h some =
 
     by : (t : Bool) → matches kind number b ≡ t
         → ((AllByRecursion (λ b. matches kind number b ≡ false) bs → ⊥)
-        → block_with kind number (map signature_of (map record_of_block (map compiled bs))) ≡ Some (kind, il, ps))
+        → block_with kind number (map signature_of (map record_of_block (map compiled_block bs))) ≡ Some (kind, il, ps))
         → (if t then Some ((sig_of b).kind, (sig_of b).instance_len, (sig_of b).params)
-        else block_with kind number (map signature_of (map record_of_block (map compiled bs))))
+        else block_with kind number (map signature_of (map record_of_block (map compiled_block bs))))
         ≡ Some (kind, il, ps)
     by true is more =
         let kinds_same : (sig_of b).kind ≡ kind
@@ -250,7 +250,7 @@ pub called_block : (symbols : List Symbol) (t : Tree) → IsSoundTree symbols t 
     (l : BlockLayout) (id : BlockId) → IsSound symbols t p b l → l.id ≡ Some id
     → is_code id.kind ≡ true
     → block_with (kind_number id.kind) id.number
-    (map signature_of (map record_of_block (map compiled (code_blocks_of t symbols (layouts_of t symbols)))))
+    (map signature_of (map record_of_block (map compiled_block (code_blocks_of t symbols (layouts_of t symbols)))))
     ≡ Some (kind_number id.kind, instance_len b l, map record_of_param (params_of b l))
 called_block symbols t tree p b l id h is code =
     finds (kind_number id.kind) id.number (instance_len b l) (map record_of_param (params_of b l))
@@ -304,18 +304,18 @@ put_long : (bytes : List ℕ) (at : ℕ) (new : List ℕ) → length (with_bytes
 put_long bytes at [] = refl
 put_long bytes at (b ∷ bs) = put_long (slice_set bytes at b) (at + 1) bs ∙ length-set bytes at b
 
-write_long : (bytes : List ℕ) (w : Write) → length (put bytes w) ≡ length bytes
+write_long : (bytes : List ℕ) (w : Write) → length (bytes_with_write bytes w) ≡ length bytes
 write_long bytes w = by (nat_eq w.width 1)
   where
     by : (t : Bool) → length (if t then slice_set bytes (w.offset / 8)
         (with_bit (w.offset % 8) w.value (slice_index bytes (w.offset / 8)))
-        else with_bytes bytes (w.offset / 8) (bytes_of (w.width / 8) w.value)) ≡ length bytes
+        else with_bytes bytes (w.offset / 8) (big_endian_bytes (w.width / 8) w.value)) ≡ length bytes
     by true = length-set bytes (w.offset / 8) (with_bit (w.offset % 8) w.value (slice_index bytes (w.offset / 8)))
-    by false = put_long bytes (w.offset / 8) (bytes_of (w.width / 8) w.value)
+    by false = put_long bytes (w.offset / 8) (big_endian_bytes (w.width / 8) w.value)
 
-written_long : (bytes : List ℕ) (ws : List Write) → length (fold put bytes ws) ≡ length bytes
+written_long : (bytes : List ℕ) (ws : List Write) → length (fold bytes_with_write bytes ws) ≡ length bytes
 written_long bytes [] = refl
-written_long bytes (w ∷ ws) = written_long (put bytes w) ws ∙ write_long bytes w
+written_long bytes (w ∷ ws) = written_long (bytes_with_write bytes w) ws ∙ write_long bytes w
 
 zeros_long : (n : ℕ) → length {A = ℕ} (replicate n 0) ≡ n
 zeros_long zero = refl
@@ -371,7 +371,7 @@ instance_found symbols t tree q b l id h is kind =
 
     each : (k : ℕ) (c : Block) (m : BlockLayout) (other : BlockId) → IsSound symbols t k c m
         → m.id ≡ Some other → is_data_block other.kind ≡ true → (other.number == id.number) ≡ true
-        → length (data_block (context_at symbols t k) m other).bytes ≡ l.length
+        → length (generated_data_block (context_at symbols t k) m other).bytes ≡ l.length
     each k c m other g e f fits =
         initial_long (layouts_of t symbols) t.blocks k ∙ ap length_at g.layout_there
         ∙ ap (λ (x : BlockLayout). x.length) layouts

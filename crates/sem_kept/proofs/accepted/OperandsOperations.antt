@@ -5,7 +5,7 @@ use Rattle.plc_base.specs.declared.places.Area.{Area}
 use Rattle.plc_base.specs.declared.places.Area.TheVariants as area
 use Rattle.plc_base.specs.declared.places.Width.{Width}
 use Rattle.plc_base.specs.declared.places.Width.TheVariants as width
-use Rattle.flat_code.specs.Blocks.{Around, is_bad_place, is_in_parameter as is_input_parameter, lacks_own, lacks_width, parameter_meant, prepares, writes_operand as writes_code}
+use Rattle.flat_code.specs.Blocks.{Environment, is_bad_place, is_in_parameter as is_input_parameter, lacks_own_parameter, lacks_width, parameter_meant, prepares_statement, writes_operand as writes_code}
 use Rattle.flat_code.specs.OpCodes.{op_code_of}
 use Rattle.flat_code.specs.Table.{has_memory_width as has_width_of, takes_of}
 use Rattle.flat_code.specs.Operations.{operation_of as operation_of_code}
@@ -26,7 +26,7 @@ use Rattle.block_layout.specs.Offsets.{width_of}
 use Rattle.stl_types.specs.Actuals.{is_input_section}
 use Rattle.stl_types.specs.Forms.{form_of}
 use Rattle.stl_types.specs.Kinds.{is_bit, is_composite, is_double_word, is_in_memory, width_in}
-use Rattle.stl_types.specs.Operands.{composite_rule, has_width, is_input, is_on_wrong_side, rule_of, takes, takes_width, writes}
+use Rattle.stl_types.specs.Operands.{composite_rule, has_width, is_input, is_on_wrong_side, rule_of_resolved_operand, takes_operand, takes_width, form_writes_operand}
 use Rattle.stl_types.specs.declared.forms.OperandRule.{OperandRule}
 use Rattle.stl_types.specs.declared.forms.OperandRule.TheVariants as form
 use Rattle.stl_types.specs.declared.views.Register.{Register}
@@ -34,20 +34,20 @@ use Rattle.stl_types.specs.declared.views.Register.TheVariants as register
 use Rattle.stl_types.specs.declared.views.Side.TheVariants as side
 use Rattle.stl_types.specs.declared.views.ResolvedOperand.{ResolvedOperand}
 use Rattle.stl_types.specs.declared.views.ResolvedOperand.TheVariants as view
-use Rattle.stl_codegen.specs.Emitted.{ending}
-use Rattle.stl_codegen.specs.Operands.{is_db, numbered_operand, opened_by, operand_of, register_operand}
+use Rattle.stl_codegen.specs.Emitted.{op_with_end_mark}
+use Rattle.stl_codegen.specs.Operands.{is_db, numbered_operand, block_opened_by_operand, flat_operand_of, register_operand}
 use Rattle.stl_codegen.specs.Operations.{add_operation, load_pointer_operation, load_operation, or_operation, store_pointer_operation, transfer_operation, operation_for}
-use Rattle.sem_kept.specs.Operands.{IsOpenedFor, IsRightOperand}
+use Rattle.sem_kept.specs.Operands.{IsOpenedFor, IsOperandRightFor}
 
 -- ---- what the rules of operands leave
 
 -- an operand that its instruction takes
 pub record IsAllowed (f : OperandRule) (v : ResolvedOperand) : Type 0 where
   pub single : is_composite v ≡ false
-  pub taken : takes f v ≡ true
+  pub taken : takes_operand f v ≡ true
   pub wide : has_width f (width_in v) ≡ true
   pub side : is_on_wrong_side f v ≡ false
-  pub unwritten : (writes f && is_input v) ≡ false
+  pub unwritten : (form_writes_operand f && is_input v) ≡ false
 
 abbrev rule_by : (composite : ℕ) → (a b c d e : Bool) → Option ℕ
 rule_by composite a b c d e =
@@ -58,11 +58,11 @@ rule_by composite a b c d e =
     else if e then Some 39
     else None
 
-pub allowed : (f : OperandRule) (v : ResolvedOperand) → rule_of f v ≡ None → IsAllowed f v
-unfolding rule_of
+pub allowed : (f : OperandRule) (v : ResolvedOperand) → rule_of_resolved_operand f v ≡ None → IsAllowed f v
+unfolding rule_of_resolved_operand
 allowed f v e =
-    let all = chosen (composite_rule f v) (is_composite v) (takes f v) (has_width f (width_in v))
-    (is_on_wrong_side f v) (writes f && is_input v) e in
+    let all = chosen (composite_rule f v) (is_composite v) (takes_operand f v) (has_width f (width_in v))
+    (is_on_wrong_side f v) (form_writes_operand f && is_input v) e in
     record { single = all.0; taken = all.1; wide = all.2; side = all.3; unwritten = all.4 }
   where
     chosen : (composite : ℕ) (a b c d e : Bool) → rule_by composite a b c d e ≡ None
@@ -76,32 +76,32 @@ allowed f v e =
 
 -- ---- operations
 
-load_ordinary : (v : ResolvedOperand) → prepares (op_code_of (load_operation v)) ≡ false
+load_ordinary : (v : ResolvedOperand) → prepares_statement (op_code_of (load_operation v)) ≡ false
 load_ordinary (view.Register register.Stw) = refl
 load_ordinary (view.Register which) = refl
 load_ordinary _ = refl
 
-transfer_ordinary : (v : ResolvedOperand) → prepares (op_code_of (transfer_operation v)) ≡ false
+transfer_ordinary : (v : ResolvedOperand) → prepares_statement (op_code_of (transfer_operation v)) ≡ false
 transfer_ordinary (view.Register which) = refl
 transfer_ordinary _ = refl
 
-or_ordinary : (v : ResolvedOperand) → prepares (op_code_of (or_operation v)) ≡ false
+or_ordinary : (v : ResolvedOperand) → prepares_statement (op_code_of (or_operation v)) ≡ false
 or_ordinary view.Nothing = refl
 or_ordinary _ = refl
 
-load_pointer_ordinary : (v : ResolvedOperand) → prepares (op_code_of (load_pointer_operation v)) ≡ false
+load_pointer_ordinary : (v : ResolvedOperand) → prepares_statement (op_code_of (load_pointer_operation v)) ≡ false
 load_pointer_ordinary (view.Register which) = refl
 load_pointer_ordinary _ = refl
 
-store_pointer_ordinary : (v : ResolvedOperand) → prepares (op_code_of (store_pointer_operation v)) ≡ false
+store_pointer_ordinary : (v : ResolvedOperand) → prepares_statement (op_code_of (store_pointer_operation v)) ≡ false
 store_pointer_ordinary (view.Register which) = refl
 store_pointer_ordinary _ = refl
 
-add_ordinary : (o : Operand) → prepares (op_code_of (add_operation o)) ≡ false
+add_ordinary : (o : Operand) → prepares_statement (op_code_of (add_operation o)) ≡ false
 add_ordinary (operand.Constant (literal.Long value)) = refl
 add_ordinary _ = refl
 
-pub ordinary : (m : Mnemonic) (o : Operand) (v : ResolvedOperand) → prepares (op_code_of (operation_for m o v)) ≡ false
+pub ordinary : (m : Mnemonic) (o : Operand) (v : ResolvedOperand) → prepares_statement (op_code_of (operation_for m o v)) ≡ false
 unfolding operation_for
 ordinary code.O o v = or_ordinary v
 ordinary code.L o v = load_ordinary v
@@ -155,17 +155,17 @@ or_true false false true d h k l e = l refl
 or_true false false false d h k l e = absurd cc
 
 -- what takes a place takes one with an address of its own
-memory_form : (f : OperandRule) (v : ResolvedOperand) → is_in_memory v ≡ true → takes f v ≡ true
-    → takes f in_memory ≡ true
-unfolding takes
+memory_form : (f : OperandRule) (v : ResolvedOperand) → is_in_memory v ≡ true → takes_operand f v ≡ true
+    → takes_operand f in_memory ≡ true
+unfolding takes_operand
 memory_form f (view.Direct place w s declared) h k = direct f k
   where
-    direct : (f : OperandRule) → takes f (view.Direct place w s declared) ≡ true → takes f in_memory ≡ true
+    direct : (f : OperandRule) → takes_operand f (view.Direct place w s declared) ≡ true → takes_operand f in_memory ≡ true
     direct form.Bare k = absurd cc
     direct _ k = k
 memory_form f (view.Parameter index section declared) h k = other f k
   where
-    other : (f : OperandRule) → takes f (view.Parameter index section declared) ≡ true → takes f in_memory ≡ true
+    other : (f : OperandRule) → takes_operand f (view.Parameter index section declared) ≡ true → takes_operand f in_memory ≡ true
     other form.LoadsAr1 k = refl
     other form.LoadsAr2 k = refl
     other form.StoresAr1 k = refl
@@ -173,7 +173,7 @@ memory_form f (view.Parameter index section declared) h k = other f k
     other _ k = k
 memory_form f (view.ByMemory a w from byte) h k = other f k
   where
-    other : (f : OperandRule) → takes f (view.ByMemory a w from byte) ≡ true → takes f in_memory ≡ true
+    other : (f : OperandRule) → takes_operand f (view.ByMemory a w from byte) ≡ true → takes_operand f in_memory ≡ true
     other form.LoadsAr1 k = refl
     other form.LoadsAr2 k = refl
     other form.StoresAr1 k = refl
@@ -181,7 +181,7 @@ memory_form f (view.ByMemory a w from byte) h k = other f k
     other _ k = k
 memory_form f (view.ByRegister a w r bits) h k = other f k
   where
-    other : (f : OperandRule) → takes f (view.ByRegister a w r bits) ≡ true → takes f in_memory ≡ true
+    other : (f : OperandRule) → takes_operand f (view.ByRegister a w r bits) ≡ true → takes_operand f in_memory ≡ true
     other form.LoadsAr1 k = refl
     other form.LoadsAr2 k = refl
     other form.StoresAr1 k = refl
@@ -211,9 +211,9 @@ dword_only t e _ k = absurd cc
 abbrev operation_takes : Mnemonic → Operand → Takes
 operation_takes m o = takes_of (op_code_of (operation_for m o in_memory))
 
-widths : (m : Mnemonic) (o : Operand) (w : Width) → takes (form_of m) in_memory ≡ true
+widths : (m : Mnemonic) (o : Operand) (w : Width) → takes_operand (form_of m) in_memory ≡ true
     → takes_width (form_of m) (Some w) ≡ true → has_width_of (operation_takes m o) w ≡ true
-unfolding takes takes_width form_of takes_of operation_for operation_of_code
+unfolding takes_operand takes_width form_of takes_of operation_for operation_of_code
 widths code.A o w h k = bit_only (operation_takes code.A o) refl w k
 widths code.An o w h k = bit_only (operation_takes code.An o) refl w k
 widths code.O o w h k = bit_only (operation_takes code.O o) refl w k
@@ -235,7 +235,7 @@ widths _ o w h k = absurd cc
 
 no_lack : (m : Mnemonic) (o : Operand) (v : ResolvedOperand) (w : Width) → is_in_memory v ≡ true
     → width_in v ≡ Some w → IsAllowed (form_of m) v
-    → lacks_width (ending (operation_for m o v) (operand_of o v)) w ≡ false
+    → lacks_width (op_with_end_mark (operation_for m o v) (flat_operand_of o v)) w ≡ false
 no_lack m o v w mem is h =
     ap (λ (x : Operation). not (has_width_of (takes_of (op_code_of x)) w)) (memory_word m o v mem)
     ∙ ap not (widths m o w (memory_form (form_of m) v mem h.taken)
@@ -243,7 +243,7 @@ no_lack m o v w mem is h =
 
 -- what writes has a form that writes
 unwritten : (m : Mnemonic) (o : Operand) (index : ℕ) (section : PartKind) (declared : Simple) (b : Bool)
-    → (writes (form_of m) && b) ≡ false
+    → (form_writes_operand (form_of m) && b) ≡ false
     → (writes_code (op_code_of (operation_for m o (view.Parameter index section declared))) && b) ≡ false
 unfolding form_of operation_for
 unwritten code.T o index section declared b h = h
@@ -272,40 +272,40 @@ abbrev pub HasWidth : Width → Option Simple → Type 0
 HasWidth w None = Unit {0}
 HasWidth w (Some kind) = w ≡ width_of kind
 
-abbrev pub ViewFits : Around → ResolvedOperand → Type 0
+abbrev pub ViewFits : Environment → ResolvedOperand → Type 0
 ViewFits a (view.Direct place w s declared) =
     (is_bad_place a place.area w place.byte place.bit ≡ false) × HasWidth w declared
 ViewFits a (view.Parameter index section declared) =
-    (lacks_own (parameter_meant a index) (width_of declared) ≡ false)
+    (lacks_own_parameter (parameter_meant a index) (width_of declared) ≡ false)
     × (is_input_parameter (parameter_meant a index) ≡ is_input_section section)
 ViewFits a _ = Unit {0}
 
-numbered_fits : (a : Around) (w : Operation) (what : Numbered) (from : Area) (byte : ℕ)
-    → IsRightOperand a (ending w (numbered_operand what from byte)) (numbered_operand what from byte)
+numbered_fits : (a : Environment) (w : Operation) (what : Numbered) (from : Area) (byte : ℕ)
+    → IsOperandRightFor a (op_with_end_mark w (numbered_operand what from byte)) (numbered_operand what from byte)
 numbered_fits a w numbered.Timer from byte = tt
 numbered_fits a w numbered.Counter from byte = tt
 numbered_fits a w numbered.Db from byte = tt
 numbered_fits a w numbered.Di from byte = tt
 
-register_fits : (a : Around) (w : Operation) (which : Register)
-    → IsRightOperand a (ending w (register_operand which)) (register_operand which)
+register_fits : (a : Environment) (w : Operation) (which : Register)
+    → IsOperandRightFor a (op_with_end_mark w (register_operand which)) (register_operand which)
 register_fits a w register.Dblg = tt
 register_fits a w register.Dbno = tt
 register_fits a w register.Dilg = tt
 register_fits a w register.Dino = tt
 register_fits a w _ = tt
 
-pub operand_fits : (a : Around) (m : Mnemonic) (o : Operand) (v : ResolvedOperand) → IsAllowed (form_of m) v
+pub operand_fits : (a : Environment) (m : Mnemonic) (o : Operand) (v : ResolvedOperand) → IsAllowed (form_of m) v
     → ViewFits a v
-    → IsRightOperand a (ending (operation_for m o v) (operand_of o v)) (operand_of o v)
-unfolding operand_of
+    → IsOperandRightFor a (op_with_end_mark (operation_for m o v) (flat_operand_of o v)) (flat_operand_of o v)
+unfolding flat_operand_of
 operand_fits a m o (view.Direct place w s declared) h fits =
     (no_lack m o (view.Direct place w s declared) w refl refl h, fits.0)
 operand_fits a m o (view.Parameter index section declared) h fits = (
   no_lack m o (view.Parameter index section declared) (width_of declared) refl refl h,
   fits.0,
   unwritten m o index section declared (is_input_parameter (parameter_meant a index))
-      (ap (λ (b : Bool). writes (form_of m) && b)
+      (ap (λ (b : Bool). form_writes_operand (form_of m) && b)
       (fits.1 ∙ sym (input_section index section declared)) ∙ h.unwritten),
 )
 operand_fits a m o (view.ByMemory ar w from byte) h fits =
@@ -329,8 +329,8 @@ opened_for area.Db w number byte bit = by (nat_eq number 0)
     by false = refl
 opened_for _ w number byte bit = tt
 
-pub opened_fits : (o : Operand) (v : ResolvedOperand) → IsOpenedFor (operand_of o v) (opened_by v)
-unfolding operand_of
+pub opened_fits : (o : Operand) (v : ResolvedOperand) → IsOpenedFor (flat_operand_of o v) (block_opened_by_operand v)
+unfolding flat_operand_of
 opened_fits o (view.Direct place w s declared) =
     opened_for place.area w place.number place.byte place.bit
 opened_fits o _ = tt

@@ -8,7 +8,7 @@ use Rattle.plc_base.specs.declared.places.Area.{Area}
 use Rattle.plc_base.specs.declared.places.Area.TheVariants as area
 use Rattle.plc_base.specs.declared.places.Width.{Width}
 use Rattle.plc_base.specs.declared.places.Width.TheVariants as width
-use Rattle.flat_code.specs.Blocks.{Around, is_above, is_bad_actual, is_bad_place, is_in_parameter as is_input_parameter, is_odd_bit, is_past_locals, literal_fits, misfits_index, misfits_parameter, parameter_meant}
+use Rattle.flat_code.specs.Blocks.{Environment, is_above, is_bad_actual, is_bad_place, is_in_parameter as is_input_parameter, is_odd_bit, is_past_locals, literal_fits, misfits_index, misfits_parameter, parameter_meant}
 use Rattle.flat_code.specs.declared.image_fields.ParameterRecord.{ParameterRecord}
 use Rattle.flat_code.specs.declared.operands.Passed.{Passed}
 use Rattle.flat_code.specs.declared.operands.Passed.TheVariants as passed
@@ -28,20 +28,20 @@ use Rattle.stl_ast.specs.declared.operands.Operand.TheVariants as operand
 use Rattle.stl_ast.specs.declared.statements.Actual.{Actual}
 use Rattle.plc_base.specs.Folding.{upper_case_name}
 use Rattle.plc_base.proofs.TruthLemmas.{and_first, and_second}
-use Rattle.block_layout.specs.Fits.{bits_of, fits}
+use Rattle.block_layout.specs.Fits.{bits_of, fits_elementary_type}
 use Rattle.block_layout.specs.Offsets.{width_of}
 use Rattle.stl_types.specs.Actuals.{fits_operand, fits_seen, fits_type, fits_view, formal_named, is_input_section, is_same_type, is_same_width, takes_section, takes_side, type_number}
-use Rattle.stl_types.specs.Calls.{misfits}
+use Rattle.stl_types.specs.Calls.{misfits_formal}
 use Rattle.stl_types.specs.Constants.{takes_constant}
 use Rattle.stl_types.specs.Context.{Context}
 use Rattle.stl_types.specs.Forms.{form_of}
-use Rattle.stl_types.specs.Resolution.{seen}
+use Rattle.stl_types.specs.Resolution.{resolution_of}
 use Rattle.stl_types.specs.declared.parameters.Formal.{Formal}
 use Rattle.stl_types.specs.declared.views.Resolution.TheVariants.{Resolved}
 use Rattle.stl_types.specs.declared.views.ResolvedOperand.{ResolvedOperand}
 use Rattle.stl_types.specs.declared.views.ResolvedOperand.TheVariants as view
 use Rattle.stl_codegen.specs.Generated.{section_number}
-use Rattle.stl_codegen.specs.Passed.{passed_actual, passed_place, passed_seen, passings_from, supplied, with_index}
+use Rattle.stl_codegen.specs.Passed.{passed_actual, passed_place, passed_seen, passings_from, actual_of_formal, with_index}
 use Rattle.stl_codegen.specs.Operations.{operation_for}
 use Rattle.sem_kept.specs.Coded.{HasBytes, OperandHasBytes}
 use Rattle.sem_kept.specs.Operands.{ArePassed}
@@ -62,22 +62,22 @@ one_byte (b ∷ []) e h = le-leb (256 * 0 + b) 255 (let few = h.0 in omega (arit
 one_byte (b ∷ c ∷ bs) e h =
     let never = eqb-true (length (b ∷ c ∷ bs)) 1 e in absurd (omega (arith, never))
 
-word_fits : (value : Literal) → IsLiteral value → HasBytes value → fits value simple.Word ≡ true
+word_fits : (value : Literal) → IsLiteral value → HasBytes value → fits_elementary_type value simple.Word ≡ true
     → nat_le (bits_of value) 65535 ≡ true
 unfolding form_of takes_constant admits operation_for
 word_fits value is has h = constant_taken code.Aw value is has h
 
-truth_fits : (value : Literal) → fits value simple.Bool ≡ true → nat_le (bits_of value) 1 ≡ true
-unfolding bits_of fits
+truth_fits : (value : Literal) → fits_elementary_type value simple.Bool ≡ true → nat_le (bits_of value) 1 ≡ true
+unfolding bits_of fits_elementary_type
 truth_fits (literal.Truth true) h = refl
 truth_fits (literal.Truth false) h = refl
 truth_fits (literal.Number (pos n)) h = absurd cc
 truth_fits (literal.Number (negsuc n)) h = absurd cc
 truth_fits _ h = absurd cc
 
-byte_fits : (value : Literal) → IsLiteral value → fits value simple.Byte ≡ true
+byte_fits : (value : Literal) → IsLiteral value → fits_elementary_type value simple.Byte ≡ true
     → nat_le (bits_of value) 255 ≡ true
-unfolding bits_of fits
+unfolding bits_of fits_elementary_type
 byte_fits (literal.Number (pos n)) is h = h
 byte_fits (literal.Number (negsuc n)) is h = absurd cc
 byte_fits (literal.Binary n) is h = h
@@ -85,32 +85,32 @@ byte_fits (literal.Byte n) is h = le-leb n 255 is
 byte_fits (literal.Word n) is h = h
 byte_fits _ is h = absurd cc
 
-char_fits : (value : Literal) → HasBytes value → fits value simple.Char ≡ true
+char_fits : (value : Literal) → HasBytes value → fits_elementary_type value simple.Char ≡ true
     → nat_le (bits_of value) 255 ≡ true
-unfolding fits
+unfolding fits_elementary_type
 char_fits (literal.Characters bytes) has h = one_byte bytes h has
 char_fits (literal.Number (pos n)) has h = absurd cc
 char_fits (literal.Number (negsuc n)) has h = absurd cc
 char_fits _ has h = absurd cc
 
-int_fits : (value : Literal) → IsLiteral value → fits value simple.Int ≡ true
+int_fits : (value : Literal) → IsLiteral value → fits_elementary_type value simple.Int ≡ true
     → nat_le (bits_of value) 65535 ≡ true
-unfolding bits_of fits
+unfolding bits_of fits_elementary_type
 int_fits (literal.Number (pos n)) is h =
     let few = leb-true n 32767 h in le-leb n 65535 (omega (arith, few))
 int_fits (literal.Number (negsuc n)) is h = le-leb (65536 - (n + 1)) 65535 (omega arith)
 int_fits _ is h = absurd cc
 
-time_fits : (value : Literal) → IsLiteral value → HasBytes value → fits value simple.S5time ≡ true
+time_fits : (value : Literal) → IsLiteral value → HasBytes value → fits_elementary_type value simple.S5time ≡ true
     → nat_le (bits_of value) 65535 ≡ true
-unfolding fits
+unfolding fits_elementary_type
 time_fits (literal.S5time ms) is has h = word_fits (literal.S5time ms) is has refl
 time_fits (literal.Number (pos n)) is has h = absurd cc
 time_fits (literal.Number (negsuc n)) is has h = absurd cc
 time_fits _ is has h = absurd cc
 
 literal_width : (value : Literal) (kind : Simple) → IsLiteral value → HasBytes value
-    → fits value kind ≡ true → literal_fits (width_number (width_of kind)) (bits_of value) ≡ true
+    → fits_elementary_type value kind ≡ true → literal_fits (width_number (width_of kind)) (bits_of value) ≡ true
 literal_width value simple.Dword is has h = refl
 literal_width value simple.Dint is has h = refl
 literal_width value simple.Time is has h = refl
@@ -124,9 +124,9 @@ literal_width value simple.S5time is has h = time_fits value is has h
 -- ---- what is passed for a parameter
 
 -- an actual parameter that a parameter's record is passed
-pub record Passes (a : Around) (c : Context) (r : ParameterRecord) (o : Operand) : Type 0 where
+pub record Passes (a : Environment) (c : Context) (r : ParameterRecord) (o : Operand) : Type 0 where
   pub actual : Passed
-  pub is : passed_seen o (seen c o) ≡ Some actual
+  pub is : passed_seen o (resolution_of c o) ≡ Some actual
   pub right : is_bad_actual a actual ≡ false
   pub fits : misfits_parameter a r actual ≡ false
 
@@ -173,7 +173,7 @@ width_same : (r : ParameterRecord) (f : Formal) (w : Width) → IsRecordOf f r �
 width_same r f w h e = ap not (eq-eqb r.width (width_number w) (h.1 ∙ ap width_number (sym e)))
 
 -- a place
-place_passes : (a : Around) (r : ParameterRecord) (ar : Area) (number byte bit : ℕ) (w : Width)
+place_passes : (a : Environment) (r : ParameterRecord) (ar : Area) (number byte bit : ℕ) (w : Width)
     → is_bad_place a ar w byte bit ≡ false → not (r.width == width_number w) ≡ false
     → (is_bad_actual a (passed_place (record { area = ar; number = number; byte = byte; bit = bit }) w) ≡ false)
     × (misfits_parameter a r (passed_place (record { area = ar; number = number; byte = byte; bit = bit }) w) ≡ false)
@@ -207,8 +207,8 @@ own_section true own e = refl
 own_section false true e = absurd cc
 own_section false false e = refl
 
-view_passes : (a : Around) (c : Context) (f : Formal) (r : ParameterRecord) (o : Operand) (v : ResolvedOperand)
-    → seen c o ≡ Resolved v → ViewFits a v → IsRecordOf f r → fits_view f v ≡ true → Passes a c r o
+view_passes : (a : Environment) (c : Context) (f : Formal) (r : ParameterRecord) (o : Operand) (v : ResolvedOperand)
+    → resolution_of c o ≡ Resolved v → ViewFits a v → IsRecordOf f r → fits_view f v ≡ true → Passes a c r o
 unfolding fits_view
 view_passes a c f r o (view.Direct place w side declared) e fits h taken = record {
   actual = passed_place place w;
@@ -219,7 +219,7 @@ view_passes a c f r o (view.Direct place w side declared) e fits h taken = recor
   where
     same : not (r.width == width_number w) ≡ false
     same = width_same r f w h (typed_width f w declared
-        (and_first (fits_type f w declared) (takes_side f.section side) taken) fits.1)
+        (and_first (fits_type f w declared) (takes_side f.section side) taken) fits_elementary_type.1)
 view_passes a c f r o (view.Parameter index own declared) e fits h taken = record {
   actual = passed.Parameter index (width_of declared);
   is = ap (passed_seen o) e;
@@ -235,33 +235,33 @@ view_passes a c f r o (view.Parameter index own declared) e fits h taken = recor
 }
 view_passes a c f r o _ e fits h taken = absurd cc
 
-other_passes : (a : Around) (c : Context) (f : Formal) (r : ParameterRecord) (o : Operand)
-    → IsSeen a (seen c o) → IsRecordOf f r → fits_seen f (seen c o) ≡ true → Passes a c r o
+other_passes : (a : Environment) (c : Context) (f : Formal) (r : ParameterRecord) (o : Operand)
+    → IsSeen a (resolution_of c o) → IsRecordOf f r → fits_seen f (resolution_of c o) ≡ true → Passes a c r o
 other_passes a c f r o s h taken =
     view_passes a c f r o s.view s.is s.fits h (ap (fits_seen f) (sym s.is) ∙ taken)
 
 constant_is : (c : Context) (value : Literal)
-    → passed_seen (operand.Constant value) (seen c (operand.Constant value))
+    → passed_seen (operand.Constant value) (resolution_of c (operand.Constant value))
     ≡ Some (passed.Literal (bits_of value))
-unfolding seen
+unfolding resolution_of
 constant_is c value = refl
 
-constant_passes : (a : Around) (c : Context) (f : Formal) (r : ParameterRecord) (value : Literal)
+constant_passes : (a : Environment) (c : Context) (f : Formal) (r : ParameterRecord) (value : Literal)
     → IsLiteral value → HasBytes value → IsRecordOf f r
-    → (is_input_section f.section && fits value f.kind) ≡ true
+    → (is_input_section f.section && fits_elementary_type value f.kind) ≡ true
     → Passes a c r (operand.Constant value)
 constant_passes a c f r value is has h taken = record {
   actual = passed.Literal (bits_of value);
   is = constant_is c value;
   right = refl;
   fits = or_from (not (r.section == 1)) (not (literal_fits r.width (bits_of value)))
-      (ap not (section_input f r h ∙ and_first (is_input_section f.section) (fits value f.kind) taken))
+      (ap not (section_input f r h ∙ and_first (is_input_section f.section) (fits_elementary_type value f.kind) taken))
       (ap not (ap (λ (n : ℕ). literal_fits n (bits_of value)) h.1
-      ∙ literal_width value f.kind is has (and_second (is_input_section f.section) (fits value f.kind) taken)));
+      ∙ literal_width value f.kind is has (and_second (is_input_section f.section) (fits_elementary_type value f.kind) taken)));
 }
 
-pub passes : (a : Around) (c : Context) (f : Formal) (r : ParameterRecord) (o : Operand)
-    → IsSeen a (seen c o) → IsOperand o → OperandHasBytes o → IsRecordOf f r
+pub passes : (a : Environment) (c : Context) (f : Formal) (r : ParameterRecord) (o : Operand)
+    → IsSeen a (resolution_of c o) → IsOperand o → OperandHasBytes o → IsRecordOf f r
     → fits_operand c f o ≡ true → Passes a c r o
 unfolding fits_operand
 passes a c f r (operand.Constant value) s is has h taken = constant_passes a c f r value is has h taken
@@ -283,11 +283,11 @@ passes a c f r (operand.Called n i) s is has h taken = other_passes a c f r (ope
 -- ---- the actual parameters of a call
 
 -- an actual parameter of a call, by the parameters of what is called
-pub record IsGoodActual (a : Around) (c : Context) (formals : List Formal) (x : Actual) : Type 0 where
-  pub seen : IsSeen a (seen c x.value)
+pub record IsGoodActual (a : Environment) (c : Context) (formals : List Formal) (x : Actual) : Type 0 where
+  pub seen : IsSeen a (resolution_of c x.value)
   pub well : IsOperand x.value
   pub bytes : OperandHasBytes x.value
-  pub fits : misfits c x (formal_named formals x.name) ≡ false
+  pub fits : misfits_formal c x (formal_named formals x.name) ≡ false
 
 found_holds : {A : Type 0} (P : A → Type 0) (test : A → Bool) (xs : List A) (x : A)
     → AllByRecursion P xs → find test xs ≡ Some x → P x × (test x ≡ true)
@@ -305,14 +305,14 @@ found_holds P test (z ∷ zs) x h e = by (test z) refl e (found_holds P test zs 
     by false is k more = more k
 
 -- what is supplied for a parameter is passed
-pub supplied_passes : (a : Around) (c : Context) (formals : List Formal) (actuals : List Actual)
+pub supplied_passes : (a : Environment) (c : Context) (formals : List Formal) (actuals : List Actual)
     (f : Formal) (r : ParameterRecord) (x : Actual)
     → AllByRecursion (IsGoodActual a c formals) actuals → IsFoundIn formals f → IsRecordOf f r
-    → supplied actuals f ≡ Some x → Passes a c r x.value
+    → actual_of_formal actuals f ≡ Some x → Passes a c r x.value
 supplied_passes a c formals actuals f r x good found h e =
     passes a c f r x.value one.0.seen one.0.well one.0.bytes h
     (not-false (fits_operand c f x.value)
-    (ap (misfits c x) (sym (found (upper_case_name x.name) one.1)) ∙ one.0.fits))
+    (ap (misfits_formal c x) (sym (found (upper_case_name x.name) one.1)) ∙ one.0.fits))
   where
     one : IsGoodActual a c formals x × (bytes_eq (upper_case_name x.name) f.name ≡ true)
     one = found_holds (IsGoodActual a c formals) (λ x. bytes_eq (upper_case_name x.name) f.name) actuals x good e
@@ -334,7 +334,7 @@ there_at front r rs i e n =
     ap (λ (z : List ParameterRecord). slice_get z i) e
     ∙ ap (λ (k : ℕ). slice_get (front ++ r ∷ rs) k) (sym n) ∙ there front r rs
 
-module _ (a : Around) (c : Context) (formals : List Formal) (actuals : List Actual)
+module _ (a : Environment) (c : Context) (formals : List Formal) (actuals : List Actual)
     (good : AllByRecursion (IsGoodActual a c formals) actuals) (kind il : ℕ)
     (all : List ParameterRecord) where
   pub passed_from : (before : Option ℕ) (i : ℕ) (fs : List Formal) (front rs : List ParameterRecord)
@@ -344,7 +344,7 @@ module _ (a : Around) (c : Context) (formals : List Formal) (actuals : List Actu
   passed_from before i [] front rs under matched found e n = tt
   passed_from before i (f ∷ fs) front [] under matched found e n = absurd matched
   passed_from before i (f ∷ fs) front (r ∷ rs) under matched found e n =
-      by (supplied actuals f) refl
+      by (actual_of_formal actuals f) refl
       (λ last under. passed_from last (suc i) fs (front ++ r ∷ []) rs under matched.1 found.1
       (e ∙ sym (append_assoc front (r ∷ []) rs)) (longer front ∙ ap suc n))
     where
@@ -355,7 +355,7 @@ module _ (a : Around) (c : Context) (formals : List Formal) (actuals : List Actu
       one : (x : Actual) → Passes a c r x.value
           → ((last : Option ℕ) → Under last (suc i) → ArePassed a (Some (kind, il, all)) last (passings_from c actuals (suc i) fs))
           → ArePassed a (Some (kind, il, all)) before
-          (with_index i (passed_seen x.value (seen c x.value)) ++ passings_from c actuals (suc i) fs)
+          (with_index i (passed_seen x.value (resolution_of c x.value)) ++ passings_from c actuals (suc i) fs)
       one x p more =
           subst (λ (o : Option Passed). ArePassed a (Some (kind, il, all)) before (with_index i o ++ passings_from c actuals (suc i) fs))
           (sym p.is) (
@@ -365,7 +365,7 @@ module _ (a : Around) (c : Context) (formals : List Formal) (actuals : List Actu
             more (Some i) (under_some i),
           )
 
-      by : (o : Option Actual) → supplied actuals f ≡ o
+      by : (o : Option Actual) → actual_of_formal actuals f ≡ o
           → ((last : Option ℕ) → Under last (suc i) → ArePassed a (Some (kind, il, all)) last (passings_from c actuals (suc i) fs))
           → ArePassed a (Some (kind, il, all)) before (passed_actual c i o ++ passings_from c actuals (suc i) fs)
       by None is more = more before (under_next before i under)

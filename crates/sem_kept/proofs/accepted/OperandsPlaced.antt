@@ -7,13 +7,13 @@ use Rattle.std.proofs.lemmas.List.{map-append}
 use Rattle.std.proofs.lemmas.Bool.{or_from}
 use Rattle.plc_base.specs.declared.blocks.BlockId.{BlockId}
 use Rattle.plc_base.specs.Kinds.{kind_number}
-use Rattle.flat_code.specs.Blocks.{Around, callee, call_fault_among, is_above, is_bad_actual, is_bad_call, is_bad_place, is_in_db, is_stray_pass, is_stray_use_db, lacks_width, mark_fault, misfits_call, misfits_callee, operand_fault, pass_before, pass_index, prepares, seven_if}
-use Rattle.flat_code.specs.Codes.{first_found, size}
+use Rattle.flat_code.specs.Blocks.{Environment, callee_among, call_fault_among, is_above, is_bad_actual, is_bad_call, is_bad_place, is_in_db, is_stray_pass, is_stray_use_db, lacks_width, mark_fault, misfits_call, misfits_callee, operand_fault, pass_before, pass_index, prepares_statement, seven_if}
+use Rattle.flat_code.specs.Codes.{first_found, size_of_op}
 use Rattle.flat_code.specs.Instr.{Instr, Passing, Does, Jumps, JumpsByList, Calls, Returns}
 use Rattle.flat_code.specs.Kinds.{jump_number}
 use Rattle.flat_code.specs.OpCodes.{op_code_of}
 use Rattle.flat_code.specs.Ops.{OpData}
-use Rattle.flat_code.specs.Placed.{Placed, StatementSpot, before_next, ending_op, last_op, brackets_after, ops_placed, zones_behind_op}
+use Rattle.flat_code.specs.Placed.{PlacedOp, StatementSpot, before_next, ending_op, last_op, brackets_after, ops_placed, zones_behind_op}
 use Rattle.flat_code.specs.declared.image_fields.OpenBracket.{OpenBracket}
 use Rattle.flat_code.specs.declared.operands.Operand.{Operand}
 use Rattle.flat_code.specs.declared.operands.Operand.TheVariants as operand
@@ -23,9 +23,9 @@ use Rattle.flat_code.specs.declared.operations.EndOperation.{EndOperation}
 use Rattle.flat_code.specs.declared.operations.EndOperation.TheVariants as ends
 use Rattle.flat_code.specs.declared.operations.Operation.{Operation}
 use Rattle.flat_code.specs.declared.operations.Operation.TheVariants as operation
-use Rattle.stl_codegen.specs.Compiled.{Stated, aimed, aimed_op, ops_in, placed_ops}
-use Rattle.stl_codegen.specs.Emitted.{call_op, end_op, ending, instance_number, ops_of, passing, preparing}
-use Rattle.sem_kept.specs.Operands.{ArePassed, AreFine, InstrFits, IsFine, IsRightOperand}
+use Rattle.stl_codegen.specs.Compiled.{SourceInstruction, operand_with_target, op_with_target, ops_in, placed_ops}
+use Rattle.stl_codegen.specs.Emitted.{call_op, end_op, op_with_end_mark, instance_number_or_zero, ops_of, pass_ops, preparing_op}
+use Rattle.sem_kept.specs.Operands.{ArePassed, AreFine, InstrFits, IsFine, IsOperandRightFor}
 
 seven_none : (b : Bool) → b ≡ false → seven_if b ≡ None
 seven_none b e = ap seven_if e
@@ -38,12 +38,12 @@ ends_here : (op : OpData) (rest : List OpData) → op.last ≡ true → ending_o
 ends_here op [] e = refl
 ends_here op (next ∷ ops) e = rw e refl
 
-marked : (w : Operation) (o : Operand) → prepares (op_code_of w) ≡ false → mark_fault (ending w o) ≡ None
+marked : (w : Operation) (o : Operand) → prepares_statement (op_code_of w) ≡ false → mark_fault (op_with_end_mark w o) ≡ None
 marked w o e = rw e refl
 
 -- an operand that isn't a jump's stays as it is
-aimed_still : (f : ℕ → ℕ) (a : Around) (op : OpData) (o : Operand) → IsRightOperand a op o
-    → aimed f o ≡ o
+aimed_still : (f : ℕ → ℕ) (a : Environment) (op : OpData) (o : Operand) → IsOperandRightFor a op o
+    → operand_with_target f o ≡ o
 aimed_still f a op (operand.Jump kind target) h = absurd h
 aimed_still f a op operand.Nothing h = refl
 aimed_still f a op (operand.Literal value) h = refl
@@ -60,7 +60,7 @@ aimed_still f a op (operand.Called kind number instance) h = refl
 aimed_still f a op (operand.OpenBlock register number) h = refl
 aimed_still f a op (operand.OpenBy register from byte) h = refl
 
-right_operand : (a : Around) (ss : List StatementSpot) (p : Placed) (o : Operand) → IsRightOperand a p.op o
+right_operand : (a : Environment) (ss : List StatementSpot) (p : PlacedOp) (o : Operand) → IsOperandRightFor a p.op o
     → operand_fault a ss p o ≡ None
 right_operand a ss p (operand.Direct area w byte bit) h =
     seven_none (lacks_width p.op w || is_bad_place a area w byte bit)
@@ -81,7 +81,7 @@ right_operand a ss p (operand.OfStatus condition) h = refl
 right_operand a ss p (operand.OpenBlock register number) h = refl
 right_operand a ss p (operand.OpenBy register from byte) h = refl
 
-right_call : (a : Around) (lens : List (ℕ × ℕ)) (p : Placed) (o : Operand) → IsRightOperand a p.op o
+right_call : (a : Environment) (lens : List (ℕ × ℕ)) (p : PlacedOp) (o : Operand) → IsOperandRightFor a p.op o
     → call_fault_among a lens p o ≡ None
 right_call a lens p (operand.Direct area w byte bit) h = refl
 right_call a lens p (operand.ByMemory area w from byte) h = refl
@@ -100,41 +100,41 @@ right_call a lens p (operand.OpenBlock register number) h = refl
 right_call a lens p (operand.OpenBy register from byte) h = refl
 
 -- the ops behind a statement are fine wherever they stand
-abbrev FineBehind : Around → List (ℕ × ℕ) → List StatementSpot → List OpData → Type 0
+abbrev FineBehind : Environment → List (ℕ × ℕ) → List StatementSpot → List OpData → Type 0
 FineBehind a lens ss rest = (at : ℕ) (brackets : List OpenBracket) (zones : List ℕ)
     → AreFine a lens ss (ops_placed at brackets zones [] rest)
 
 -- an op that ends a statement, and those behind it
-last_fine : (a : Around) (lens : List (ℕ × ℕ)) (ss : List StatementSpot) (at : ℕ)
+last_fine : (a : Environment) (lens : List (ℕ × ℕ)) (ss : List StatementSpot) (at : ℕ)
     (brackets : List OpenBracket) (zones : List ℕ) (before : List OpData) (op : OpData) (rest : List OpData)
     → op.last ≡ true
     → IsFine a lens ss (record { at = at; brackets = brackets; zones = zones; before = before; op = op; rest = rest })
     → FineBehind a lens ss rest → AreFine a lens ss (ops_placed at brackets zones before (op ∷ rest))
 last_fine a lens ss at brackets zones before op rest last fine behind = (
   fine,
-  subst (λ (z : List OpData). AreFine a lens ss (ops_placed (at + size op) (brackets_after at op.code brackets) (zones_behind_op at op.code zones) z rest))
-      (sym next) (behind (at + size op) (brackets_after at op.code brackets) (zones_behind_op at op.code zones)),
+  subst (λ (z : List OpData). AreFine a lens ss (ops_placed (at + size_of_op op) (brackets_after at op.code brackets) (zones_behind_op at op.code zones) z rest))
+      (sym next) (behind (at + size_of_op op) (brackets_after at op.code brackets) (zones_behind_op at op.code zones)),
 )
   where
     next : before_next op before ≡ []
     next = rw last refl
 
-does_fine : (a : Around) (lens : List (ℕ × ℕ)) (ss : List StatementSpot) (at : ℕ)
+does_fine : (a : Environment) (lens : List (ℕ × ℕ)) (ss : List StatementSpot) (at : ℕ)
     (brackets : List OpenBracket) (zones : List ℕ) (before : List OpData) (w : Operation) (o : Operand) (rest : List OpData)
-    → prepares (op_code_of w) ≡ false → IsRightOperand a (ending w o) o → FineBehind a lens ss rest
-    → AreFine a lens ss (ops_placed at brackets zones before (ending w o ∷ rest))
+    → prepares_statement (op_code_of w) ≡ false → IsOperandRightFor a (op_with_end_mark w o) o → FineBehind a lens ss rest
+    → AreFine a lens ss (ops_placed at brackets zones before (op_with_end_mark w o ∷ rest))
 does_fine a lens ss at brackets zones before w o rest own right behind =
-    last_fine a lens ss at brackets zones before (ending w o) rest refl
+    last_fine a lens ss at brackets zones before (op_with_end_mark w o) rest refl
     (record {
       operand = λ still. right_operand a ss
-          (record { at = at; brackets = brackets; zones = zones; before = before; op = ending w o; rest = rest }) o right;
+          (record { at = at; brackets = brackets; zones = zones; before = before; op = op_with_end_mark w o; rest = rest }) o right;
       call = right_call a lens
-          (record { at = at; brackets = brackets; zones = zones; before = before; op = ending w o; rest = rest }) o right;
+          (record { at = at; brackets = brackets; zones = zones; before = before; op = op_with_end_mark w o; rest = rest }) o right;
       mark = marked w o own;
     })
     behind
 
-use_db_fine : (a : Around) (lens : List (ℕ × ℕ)) (ss : List StatementSpot) (at number : ℕ)
+use_db_fine : (a : Environment) (lens : List (ℕ × ℕ)) (ss : List StatementSpot) (at number : ℕ)
     (brackets : List OpenBracket) (zones : List ℕ) (w : Operation) (o : Operand) (rest : List OpData)
     → is_in_db o ≡ true
     → IsFine a lens ss (record {
@@ -142,8 +142,8 @@ use_db_fine : (a : Around) (lens : List (ℕ × ℕ)) (ss : List StatementSpot) 
       brackets = brackets;
       zones = zones;
       before = [];
-      op = preparing operation.UseDb (operand.UseDb number);
-      rest = ending w o ∷ rest;
+      op = preparing_op operation.UseDb (operand.UseDb number);
+      rest = op_with_end_mark w o ∷ rest;
     })
 use_db_fine a lens ss at number brackets zones w o rest db = record {
   operand = λ still. seven_none _ stray;
@@ -157,22 +157,22 @@ use_db_fine a lens ss at number brackets zones w o rest db = record {
       brackets = brackets;
       zones = zones;
       before = [];
-      op = preparing operation.UseDb (operand.UseDb number);
-      rest = ending w o ∷ rest;
+      op = preparing_op operation.UseDb (operand.UseDb number);
+      rest = op_with_end_mark w o ∷ rest;
     }
 
-    last : last_op here ≡ ending w o
-    last = ends_here (ending w o) rest refl
+    last : last_op here ≡ op_with_end_mark w o
+    last = ends_here (op_with_end_mark w o) rest refl
 
     stray : is_stray_use_db here ≡ false
     stray = ap (λ (op : OpData). not (is_in_db op.operand)) last ∙ not_true (is_in_db o) db
 
 -- ---- calls
 
-passing_still : (f : ℕ → ℕ) (ps : List Passing) → map (aimed_op f) (passing ps) ≡ passing ps
+passing_still : (f : ℕ → ℕ) (ps : List Passing) → map (op_with_target f) (pass_ops ps) ≡ pass_ops ps
 passing_still f [] = refl
 passing_still f (p ∷ ps) =
-    ap (λ (z : List OpData). preparing operation.Pass (operand.Pass p.index p.actual) ∷ z)
+    ap (λ (z : List OpData). preparing_op operation.Pass (operand.Pass p.index p.actual) ∷ z)
     (passing_still f ps)
 
 pass_last : (found : Option ℕ) (ops : List OpData) (op : OpData)
@@ -182,23 +182,23 @@ pass_last found (x ∷ ops) op = pass_last (first_found (pass_index x.operand) f
 
 -- the statement of a PASS is ended by its CALL
 ends_calls : (op : OpData) (ps : List Passing) (call : OpData) (rest : List OpData)
-    → op.last ≡ false → call.last ≡ true → ending_op op (passing ps ++ call ∷ rest) ≡ call
+    → op.last ≡ false → call.last ≡ true → ending_op op (pass_ops ps ++ call ∷ rest) ≡ call
 ends_calls op [] call rest going closed = rw going (ends_here call rest closed)
 ends_calls op (p ∷ ps) call rest going closed =
-    rw going (ends_calls (preparing operation.Pass (operand.Pass p.index p.actual)) ps call rest refl closed)
+    rw going (ends_calls (preparing_op operation.Pass (operand.Pass p.index p.actual)) ps call rest refl closed)
 
-pass_fine : (a : Around) (lens : List (ℕ × ℕ)) (ss : List StatementSpot) (at : ℕ)
+pass_fine : (a : Environment) (lens : List (ℕ × ℕ)) (ss : List StatementSpot) (at : ℕ)
     (brackets : List OpenBracket) (zones : List ℕ) (before : List OpData) (p : Passing) (ps : List Passing)
     (block : BlockId) (instance : Option ℕ) (rest : List OpData)
     → is_above p.index (pass_before None before) ≡ true → is_bad_actual a p.actual ≡ false
-    → misfits_callee a (callee a.blocks (kind_number block.kind) block.number) p.index p.actual ≡ false
+    → misfits_callee a (callee_among a.blocks (kind_number block.kind) block.number) p.index p.actual ≡ false
     → IsFine a lens ss (record {
       at = at;
       brackets = brackets;
       zones = zones;
       before = before;
-      op = preparing operation.Pass (operand.Pass p.index p.actual);
-      rest = passing ps ++ call_op calls.Call block instance ∷ rest;
+      op = preparing_op operation.Pass (operand.Pass p.index p.actual);
+      rest = pass_ops ps ++ call_op calls.Call block instance ∷ rest;
     })
 pass_fine a lens ss at brackets zones before p ps block instance rest above bad misfits = record {
   operand = λ still. seven_none _ (or_from (is_stray_pass here p.index) (is_bad_actual a p.actual) stray bad);
@@ -212,12 +212,12 @@ pass_fine a lens ss at brackets zones before p ps block instance rest above bad 
       brackets = brackets;
       zones = zones;
       before = before;
-      op = preparing operation.Pass (operand.Pass p.index p.actual);
-      rest = passing ps ++ call_op calls.Call block instance ∷ rest;
+      op = preparing_op operation.Pass (operand.Pass p.index p.actual);
+      rest = pass_ops ps ++ call_op calls.Call block instance ∷ rest;
     }
 
     last : last_op here ≡ call_op calls.Call block instance
-    last = ends_calls (preparing operation.Pass (operand.Pass p.index p.actual)) ps
+    last = ends_calls (preparing_op operation.Pass (operand.Pass p.index p.actual)) ps
         (call_op calls.Call block instance) rest refl refl
 
     stray : is_stray_pass here p.index ≡ false
@@ -230,11 +230,11 @@ pass_fine a lens ss at brackets zones before p ps block instance rest above bad 
         ap (λ (op : OpData). op.code == 0x78 && misfits_call a op.operand p.index p.actual) last
         ∙ misfits
 
-call_fine : (a : Around) (lens : List (ℕ × ℕ)) (ss : List StatementSpot) (at : ℕ)
+call_fine : (a : Environment) (lens : List (ℕ × ℕ)) (ss : List StatementSpot) (at : ℕ)
     (brackets : List OpenBracket) (zones : List ℕ) (before : List OpData) (how : CallOperation) (block : BlockId)
     (instance : Option ℕ) (rest : List OpData)
-    → is_bad_call lens (callee a.blocks (kind_number block.kind) block.number)
-    (instance_number instance) before ≡ false
+    → is_bad_call lens (callee_among a.blocks (kind_number block.kind) block.number)
+    (instance_number_or_zero instance) before ≡ false
     → FineBehind a lens ss rest
     → AreFine a lens ss (ops_placed at brackets zones before (call_op how block instance ∷ rest))
 call_fine a lens ss at brackets zones before how block instance rest bad behind =
@@ -246,46 +246,46 @@ call_fine a lens ss at brackets zones before how block instance rest bad behind 
     by calls.Uc = refl
     by calls.Cc = refl
 
-calls_fine : (a : Around) (lens : List (ℕ × ℕ)) (ss : List StatementSpot) (at : ℕ)
+calls_fine : (a : Environment) (lens : List (ℕ × ℕ)) (ss : List StatementSpot) (at : ℕ)
     (brackets : List OpenBracket) (zones : List ℕ) (done : List OpData) (block : BlockId)
     (instance : Option ℕ) (left : List Passing) (rest : List OpData)
-    → ArePassed a (callee a.blocks (kind_number block.kind) block.number) (pass_before None done) left
-    → is_bad_call lens (callee a.blocks (kind_number block.kind) block.number)
-    (instance_number instance) (done ++ passing left) ≡ false
+    → ArePassed a (callee_among a.blocks (kind_number block.kind) block.number) (pass_before None done) left
+    → is_bad_call lens (callee_among a.blocks (kind_number block.kind) block.number)
+    (instance_number_or_zero instance) (done ++ pass_ops left) ≡ false
     → FineBehind a lens ss rest
-    → AreFine a lens ss (ops_placed at brackets zones done (passing left ++ call_op calls.Call block instance ∷ rest))
+    → AreFine a lens ss (ops_placed at brackets zones done (pass_ops left ++ call_op calls.Call block instance ∷ rest))
 calls_fine a lens ss at brackets zones done block instance [] rest passed bad behind =
     call_fine a lens ss at brackets zones done calls.Call block instance rest
-    (subst (λ (z : List OpData). is_bad_call lens (callee a.blocks (kind_number block.kind) block.number)
-    (instance_number instance) z ≡ false) (append_nothing done) bad) behind
+    (subst (λ (z : List OpData). is_bad_call lens (callee_among a.blocks (kind_number block.kind) block.number)
+    (instance_number_or_zero instance) z ≡ false) (append_nothing done) bad) behind
   where
     append_nothing : (ops : List OpData) → ops ++ [] ≡ ops
     append_nothing [] = refl
     append_nothing (op ∷ ops) = ap (λ (z : List OpData). op ∷ z) (append_nothing ops)
 calls_fine a lens ss at brackets zones done block instance (p ∷ ps) rest passed bad behind = (
   pass_fine a lens ss at brackets zones done p ps block instance rest passed.0 passed.1 passed.2,
-  calls_fine a lens ss (at + size op) (brackets_after at op.code brackets) (zones_behind_op at op.code zones) (done ++ op ∷ []) block instance ps rest
-      (subst (λ (o : Option ℕ). ArePassed a (callee a.blocks (kind_number block.kind) block.number) o ps)
+  calls_fine a lens ss (at + size_of_op op) (brackets_after at op.code brackets) (zones_behind_op at op.code zones) (done ++ op ∷ []) block instance ps rest
+      (subst (λ (o : Option ℕ). ArePassed a (callee_among a.blocks (kind_number block.kind) block.number) o ps)
       (sym (pass_last None done op)) passed.3)
-      (subst (λ (z : List OpData). is_bad_call lens (callee a.blocks (kind_number block.kind) block.number)
-      (instance_number instance) z ≡ false) (sym (append_assoc done (op ∷ []) (passing ps))) bad)
+      (subst (λ (z : List OpData). is_bad_call lens (callee_among a.blocks (kind_number block.kind) block.number)
+      (instance_number_or_zero instance) z ≡ false) (sym (append_assoc done (op ∷ []) (pass_ops ps))) bad)
       behind,
 )
   where
     op : OpData
-    op = preparing operation.Pass (operand.Pass p.index p.actual)
+    op = preparing_op operation.Pass (operand.Pass p.index p.actual)
 
 -- ---- statements
 
-jump_fine : (a : Around) (lens : List (ℕ × ℕ)) (ss : List StatementSpot) (at kind target : ℕ)
+jump_fine : (a : Environment) (lens : List (ℕ × ℕ)) (ss : List StatementSpot) (at kind target : ℕ)
     (brackets : List OpenBracket) (zones : List ℕ) (rest : List OpData)
     → FineBehind a lens ss rest
-    → AreFine a lens ss (ops_placed at brackets zones [] (ending operation.Jump (operand.Jump kind target) ∷ rest))
+    → AreFine a lens ss (ops_placed at brackets zones [] (op_with_end_mark operation.Jump (operand.Jump kind target) ∷ rest))
 jump_fine a lens ss at kind target brackets zones rest behind =
-    last_fine a lens ss at brackets zones [] (ending operation.Jump (operand.Jump kind target)) rest refl
+    last_fine a lens ss at brackets zones [] (op_with_end_mark operation.Jump (operand.Jump kind target)) rest refl
     (record { operand = λ still. absurd still; call = refl; mark = refl }) behind
 
-end_fine : (a : Around) (lens : List (ℕ × ℕ)) (ss : List StatementSpot) (at : ℕ)
+end_fine : (a : Environment) (lens : List (ℕ × ℕ)) (ss : List StatementSpot) (at : ℕ)
     (brackets : List OpenBracket) (zones : List ℕ) (how : EndOperation) (rest : List OpData) → FineBehind a lens ss rest
     → AreFine a lens ss (ops_placed at brackets zones [] (end_op how ∷ rest))
 end_fine a lens ss at brackets zones how rest behind =
@@ -297,22 +297,22 @@ end_fine a lens ss at brackets zones how rest behind =
     by ends.Bec = refl
     by ends.Beu = refl
 
-instr_fine : (a : Around) (lens : List (ℕ × ℕ)) (ss : List StatementSpot) (f : ℕ → ℕ) (at : ℕ)
+instr_fine : (a : Environment) (lens : List (ℕ × ℕ)) (ss : List StatementSpot) (f : ℕ → ℕ) (at : ℕ)
     (brackets : List OpenBracket) (zones : List ℕ) (i : Instr) (rest : List OpData) → InstrFits a lens i
     → FineBehind a lens ss rest
-    → AreFine a lens ss (ops_placed at brackets zones [] (map (aimed_op f) (ops_of i) ++ rest))
+    → AreFine a lens ss (ops_placed at brackets zones [] (map (op_with_target f) (ops_of i) ++ rest))
 unfolding ops_of
 instr_fine a lens ss f at brackets zones (Does None w o) rest h behind =
-    subst (λ (x : Operand). AreFine a lens ss (ops_placed at brackets zones [] (ending w x ∷ rest)))
-    (sym (aimed_still f a (ending w o) o h.1))
+    subst (λ (x : Operand). AreFine a lens ss (ops_placed at brackets zones [] (op_with_end_mark w x ∷ rest)))
+    (sym (aimed_still f a (op_with_end_mark w o) o h.1))
     (does_fine a lens ss at brackets zones [] w o rest h.0 h.1 behind)
 instr_fine a lens ss f at brackets zones (Does (Some number) w o) rest h behind =
     subst (λ (x : Operand). AreFine a lens ss (ops_placed at brackets zones []
-    (preparing operation.UseDb (operand.UseDb number) ∷ ending w x ∷ rest)))
-    (sym (aimed_still f a (ending w o) o h.1)) (
+    (preparing_op operation.UseDb (operand.UseDb number) ∷ op_with_end_mark w x ∷ rest)))
+    (sym (aimed_still f a (op_with_end_mark w o) o h.1)) (
       use_db_fine a lens ss at number brackets zones w o rest h.2,
-      does_fine a lens ss (at + size (preparing operation.UseDb (operand.UseDb number))) brackets zones
-          (preparing operation.UseDb (operand.UseDb number) ∷ []) w o rest h.0 h.1 behind,
+      does_fine a lens ss (at + size_of_op (preparing_op operation.UseDb (operand.UseDb number))) brackets zones
+          (preparing_op operation.UseDb (operand.UseDb number) ∷ []) w o rest h.0 h.1 behind,
     )
 instr_fine a lens ss f at brackets zones (Jumps how target) rest h behind =
     jump_fine a lens ss at (jump_number how) (f target) brackets zones rest behind
@@ -327,11 +327,11 @@ instr_fine a lens ss f at brackets zones (Calls calls.Call block instance ps) re
     call : OpData
     call = call_op calls.Call block instance
 
-    same : map (aimed_op f) (passing ps ++ call ∷ []) ++ rest ≡ passing ps ++ call ∷ rest
+    same : map (op_with_target f) (pass_ops ps ++ call ∷ []) ++ rest ≡ pass_ops ps ++ call ∷ rest
     same =
-        ap (λ (z : List OpData). z ++ rest) (map-append (aimed_op f) (passing ps) (call ∷ [])
+        ap (λ (z : List OpData). z ++ rest) (map-append (op_with_target f) (pass_ops ps) (call ∷ [])
         ∙ ap (λ (z : List OpData). z ++ call ∷ []) (passing_still f ps))
-        ∙ append_assoc (passing ps) (call ∷ []) rest
+        ∙ append_assoc (pass_ops ps) (call ∷ []) rest
 instr_fine a lens ss f at brackets zones (Calls calls.Uc block instance []) rest h behind =
     call_fine a lens ss at brackets zones [] calls.Uc block instance rest h.2 behind
 instr_fine a lens ss f at brackets zones (Calls calls.Cc block instance []) rest h behind =
@@ -343,17 +343,17 @@ instr_fine a lens ss f at brackets zones (Calls calls.Cc block instance (p ∷ p
 
 -- ---- a block
 
-statements_fine : (a : Around) (lens : List (ℕ × ℕ)) (ss : List StatementSpot) (f : ℕ → ℕ)
-    (statements : List Stated) → AllByRecursion (λ s. InstrFits a lens s.instr) statements
-    → FineBehind a lens ss (map (aimed_op f) (ops_in statements))
+statements_fine : (a : Environment) (lens : List (ℕ × ℕ)) (ss : List StatementSpot) (f : ℕ → ℕ)
+    (statements : List SourceInstruction) → AllByRecursion (λ s. InstrFits a lens s.instr) statements
+    → FineBehind a lens ss (map (op_with_target f) (ops_in statements))
 statements_fine a lens ss f [] h at brackets zones = tt
 statements_fine a lens ss f (s ∷ more) h at brackets zones =
     subst (λ (z : List OpData). AreFine a lens ss (ops_placed at brackets zones [] z))
-    (sym (map-append (aimed_op f) (ops_of s.instr) (ops_in more)))
-    (instr_fine a lens ss f at brackets zones s.instr (map (aimed_op f) (ops_in more)) h.0
+    (sym (map-append (op_with_target f) (ops_of s.instr) (ops_in more)))
+    (instr_fine a lens ss f at brackets zones s.instr (map (op_with_target f) (ops_in more)) h.0
     (statements_fine a lens ss f more h.1))
 
-pub code_fine : (a : Around) (lens : List (ℕ × ℕ)) (ss : List StatementSpot) (statements : List Stated)
+pub code_fine : (a : Environment) (lens : List (ℕ × ℕ)) (ss : List StatementSpot) (statements : List SourceInstruction)
     → AllByRecursion (λ s. InstrFits a lens s.instr) statements
     → AreFine a lens ss (ops_placed 0 [] [] [] (placed_ops (ops_in statements)))
 unfolding placed_ops

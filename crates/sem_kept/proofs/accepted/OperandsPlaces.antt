@@ -10,9 +10,9 @@ use Rattle.plc_base.specs.declared.blocks.BlockKind.TheVariants as kinds
 use Rattle.plc_base.specs.declared.places.Area.{Area}
 use Rattle.plc_base.specs.declared.places.Area.TheVariants as area
 use Rattle.plc_base.proofs.ListLemmas.{all_append}
-use Rattle.flat_code.specs.Blocks.{Around, is_bad_place, is_odd_bit}
-use Rattle.stl_ast.specs.Blocks.{is_parameter, may_have}
-use Rattle.stl_ast.specs.Declarations.{is_plain}
+use Rattle.flat_code.specs.Blocks.{Environment, is_bad_place, is_odd_bit}
+use Rattle.stl_ast.specs.Blocks.{is_parameter, may_have_section}
+use Rattle.stl_ast.specs.Declarations.{is_elementary_type}
 use Rattle.stl_ast.specs.WellFormed.{AreDeclaredIn, AreSections, IsBlock, IsSection, IsShapeOf}
 use Rattle.stl_ast.specs.declared.blocks.Block.{Block}
 use Rattle.stl_ast.specs.declared.blocks.Part.{Part}
@@ -27,12 +27,12 @@ use Rattle.stl_ast.specs.declared.declarations.ElementType.TheVariants as elemen
 use Rattle.stl_ast.specs.declared.declarations.Simple.{Simple}
 use Rattle.stl_ast.specs.declared.declarations.Simple.TheVariants as simple
 use Rattle.stl_ast.specs.declared.declarations.TypeTree.{TypeTree}
-use Rattle.block_layout.specs.Around.{Outside, of_sections, of_structure, onto}
-use Rattle.block_layout.specs.Cells.{cell_of, cells_of, components_of, is_temp, laid, opened, returned_cells, section_cells}
-use Rattle.block_layout.specs.Members.{component}
-use Rattle.block_layout.specs.Offsets.{place_at, placed, width_of}
-use Rattle.block_layout.specs.Paths.{cells_at, elementary_at, entered, found_at, goes_on, in_sections, indexed, indexed_behind, is_beyond, kind_of, named, named_behind, named_in, outermost, plain_kind, step_of, walked, walked_local, whole_at, within}
-use Rattle.block_layout.specs.Sizes.{array_bits, capped, element_of, plain_bits}
+use Rattle.block_layout.specs.Around.{Outside, of_sections, of_structure, declarations_before_next}
+use Rattle.block_layout.specs.Cells.{cell_of, cells_of, components_of, is_temp, layout_element, with_first_cell_opening, returned_cells, section_cells}
+use Rattle.block_layout.specs.Members.{component_of_name}
+use Rattle.block_layout.specs.Offsets.{place_at, elementary_place, width_of}
+use Rattle.block_layout.specs.Paths.{cells_at, elementary_at, path_end_at_cell, path_end_at_member, path_end_and_then, in_sections, path_end_by_index, indexed_behind, is_beyond, kind_of, path_end_by_name, named_behind, named_in, outermost_path_end, plain_kind, path_end_by_step, path_end_behind, walked_local, whole_at, path_end_in_bounds}
+use Rattle.block_layout.specs.Sizes.{array_bits, capped_size, element_of, plain_bits}
 use Rattle.block_layout.specs.Types.{Types}
 use Rattle.block_layout.specs.declared.blocks.BlockLayout.{BlockLayout}
 use Rattle.block_layout.specs.declared.cells.Cell.{Cell}
@@ -42,7 +42,7 @@ use Rattle.block_layout.specs.declared.members.Member.{Member}
 use Rattle.block_layout.specs.declared.walks.ComponentAt.{ComponentAt}
 use Rattle.block_layout.specs.declared.walks.PathEnd.{PathEnd}
 use Rattle.block_layout.specs.declared.walks.PathEnd.TheVariants as walk
-use Rattle.stl_types.specs.Variables.{behind_others, in_area}
+use Rattle.stl_types.specs.Variables.{behind_others, variable_in_area}
 use Rattle.stl_types.specs.declared.views.Resolution.TheVariants.{Resolved}
 use Rattle.stl_types.specs.declared.views.Side.TheVariants as side
 use Rattle.stl_types.specs.declared.views.ResolvedOperand.TheVariants as view
@@ -100,10 +100,10 @@ reached_place l limit s kind h e = record {
 
 pub placed_sees : (a : Area) (number offset limit : ℕ) (kind : Simple) → IsPlaced limit offset kind
     → limit ≤ 524280
-    → in_area kind (placed a number offset (Some kind))
+    → variable_in_area kind (elementary_place a number offset (Some kind))
     ≡ Resolved (view.Direct (place_at a number offset) (width_of kind) side.Both (Some kind))
 placed_sees a number offset limit kind h few =
-    ap (λ (t : Bool). in_area kind (if t then Some (place_at a number offset, width_of kind) else None))
+    ap (λ (t : Bool). variable_in_area kind (if t then Some (place_at a number offset, width_of kind) else None))
     (le-leb (offset / 8) 65535 (small offset (plain_bits kind) limit h.within few))
   where
     small : (offset bits limit : ℕ) → offset + bits ≤ limit → limit ≤ 524280 → offset / 8 ≤ 65535
@@ -138,7 +138,7 @@ place_within offset limit local simple.Dint h e f = le-ltb local (offset / 8 + 4
 place_within offset limit local simple.Time h e f = le-ltb local (offset / 8 + 4) (omega (arith, h, e, f))
 
 -- a variable in the local data
-pub local_fits : (a : Around) (offset limit : ℕ) (kind : Simple) → IsPlaced limit offset kind
+pub local_fits : (a : Environment) (offset limit : ℕ) (kind : Simple) → IsPlaced limit offset kind
     → limit % 16 ≡ 0 → limit / 8 ≤ a.local_len
     → is_bad_place a area.L (width_of kind) (offset / 8) (offset % 8) ≡ false
 local_fits a offset limit kind h e f =
@@ -147,12 +147,12 @@ local_fits a offset limit kind h e f =
     (place_even offset kind h.even) (place_within offset limit a.local_len kind h.within e f)
 
 -- and in a data block
-pub data_fits : (a : Around) (offset limit : ℕ) (kind : Simple) → IsPlaced limit offset kind
+pub data_fits : (a : Environment) (offset limit : ℕ) (kind : Simple) → IsPlaced limit offset kind
     → is_bad_place a area.Db (width_of kind) (offset / 8) (offset % 8) ≡ false
 data_fits a offset limit kind h =
     or_from (is_odd_bit (width_of kind) (offset % 8)) false (place_even offset kind h.even) refl
 
-pub instance_fits : (a : Around) (offset limit : ℕ) (kind : Simple) → IsPlaced limit offset kind
+pub instance_fits : (a : Environment) (offset limit : ℕ) (kind : Simple) → IsPlaced limit offset kind
     → is_bad_place a area.Di (width_of kind) (offset / 8) (offset % 8) ≡ false
 instance_fits a offset limit kind h =
     or_from (is_odd_bit (width_of kind) (offset % 8)) false (place_even offset kind h.even) refl
@@ -174,7 +174,7 @@ record IsElementaryType (t : TypeTree) : Type 0 where
   single : t.arrays ≡ []
   plain : t.of ≡ element.Plain kind
 
-elementary_type : (arrays : List Bounds) (of : ElementType) → is_plain arrays of ≡ true
+elementary_type : (arrays : List Bounds) (of : ElementType) → is_elementary_type arrays of ≡ true
     → (kind : Simple) × (arrays ≡ []) × (of ≡ element.Plain kind)
 elementary_type [] (element.Plain kind) e = (kind, refl, refl)
 elementary_type [] element.Structure e = absurd cc
@@ -191,7 +191,7 @@ parameter_cells y o k section before (d ∷ ds) is h = (
   record {
     single = type.1;
     kind = type.0;
-    plain = ap (λ (e : ElementType). laid y e) type.2;
+    plain = ap (λ (e : ElementType). layout_element y e) type.2;
     section = is;
   },
   parameter_cells y o k section (d ∷ before) ds is h.1,
@@ -200,12 +200,12 @@ parameter_cells y o k section before (d ∷ ds) is h = (
     type : (kind : Simple) × (d.of.arrays ≡ []) × (d.of.of ≡ element.Plain kind)
     type = elementary_type d.of.arrays d.of.of (h.0.2 is)
 
-opened_parameters : (cs : List Cell) → AreParameters cs → AreParameters (opened cs)
+opened_parameters : (cs : List Cell) → AreParameters cs → AreParameters (with_first_cell_opening cs)
 opened_parameters [] h = tt
 opened_parameters (c ∷ cs) h = by (opened_parameters cs h.1) c.sound
   where
-    by : AreParameters (opened cs) → (t : Bool)
-        → AreParameters (if t then record c { opens = true } ∷ cs else c ∷ opened cs)
+    by : AreParameters (with_first_cell_opening cs) → (t : Bool)
+        → AreParameters (if t then record c { opens = true } ∷ cs else c ∷ with_first_cell_opening cs)
     by more true = (
       record {
         single = h.0.single;
@@ -218,9 +218,9 @@ opened_parameters (c ∷ cs) h = by (opened_parameters cs h.1) c.sound
     by more false = (h.0, more)
 
 -- of a function, the sections that aren't temporary hold parameters
-function_section : (p : PartKind) → may_have kinds.Fc p ≡ true → not (is_temp p) ≡ true
+function_section : (p : PartKind) → may_have_section kinds.Fc p ≡ true → not (is_temp p) ≡ true
     → is_parameter p ≡ true
-unfolding may_have
+unfolding may_have_section
 function_section part.Input e f = refl
 function_section part.Output e f = refl
 function_section part.InOut e f = refl
@@ -233,12 +233,12 @@ function_sections : (y : Types) (o : Outside) (before : List Declaration) (ps : 
 function_sections y o before [] h = tt
 function_sections y o before (p ∷ ps) h =
     all_append IsParameterCell
-    (if not (is_temp p.kind) then opened (cells_of y o p.kind before p.items) else [])
-    (section_cells y o (λ k. not (is_temp k)) (onto before p.items) ps)
-    (by (not (is_temp p.kind)) refl) (function_sections y o (onto before p.items) ps h.1)
+    (if not (is_temp p.kind) then with_first_cell_opening (cells_of y o p.kind before p.items) else [])
+    (section_cells y o (λ k. not (is_temp k)) (declarations_before_next before p.items) ps)
+    (by (not (is_temp p.kind)) refl) (function_sections y o (declarations_before_next before p.items) ps h.1)
   where
     by : (t : Bool) → not (is_temp p.kind) ≡ t
-        → AreParameters (if t then opened (cells_of y o p.kind before p.items) else [])
+        → AreParameters (if t then with_first_cell_opening (cells_of y o p.kind before p.items) else [])
     by true e = opened_parameters (cells_of y o p.kind before p.items)
         (parameter_cells y o kinds.Fc p.kind before p.items (function_section p.kind h.0.0 e) h.0.2)
     by false e = tt
@@ -320,19 +320,19 @@ sound_stays k true s e f = (e, f)
 sound_stays k false s e f = tt
 
 found_stays : (cells : List Cell) (k first offset : ℕ) (found : Option Member)
-    → Stays k (found_at cells k false first offset found)
+    → Stays k (path_end_at_member cells k false first offset found)
 found_stays cells k first offset None = tt
 found_stays cells k first offset (Some m) = by (slice_get cells (first + m.place))
   where
     by : (o : Option Cell)
-        → Stays k (entered k false (first + m.place) (capped (offset + capped m.offset)) o)
+        → Stays k (path_end_at_cell k false (first + m.place) (capped_size (offset + capped_size m.offset)) o)
     by None = tt
     by (Some c) = sound_stays k c.sound (record {
       block = k;
       temporary = false;
       place = first + m.place;
       depth = 0;
-      offset = capped (offset + capped m.offset);
+      offset = capped_size (offset + capped_size m.offset);
     }) refl refl
 
 -- each cell there is elementary
@@ -353,14 +353,14 @@ plain_named l k s name c (Udt block bits) kind e = absurd cc
 plain_named l k s name c Unknown kind e = absurd cc
 
 within_stays : (k : ℕ) (s : ComponentAt) (c : Cell) (behind : List Cell) (at : ℤ) (o : Option Bounds)
-    → s.block ≡ k → s.temporary ≡ false → Stays k (within s c behind at o)
+    → s.block ≡ k → s.temporary ≡ false → Stays k (path_end_in_bounds s c behind at o)
 within_stays k s c behind at None e f = tt
 within_stays k s c behind at (Some b) e f = by (is_beyond b at)
   where
     by : (t : Bool) → Stays k (if t then walk.Reaches (record s { depth = s.depth + 1 })
         else walk.Reaches (record s {
           depth = s.depth + 1;
-          offset = capped (s.offset + capped
+          offset = capped_size (s.offset + capped_size
               (unsigned_abs (at -ℤ b.low) * array_bits (drop (s.depth + 1) c.bounds)
               (element_of c behind)));
         }))
@@ -368,8 +368,8 @@ within_stays k s c behind at (Some b) e f = by (is_beyond b at)
     by false = (e, f)
 
 step_stays : (l : List BlockLayout) (k : ℕ) → ArePlain l k → (s : ComponentAt) (p : PathStep)
-    → s.block ≡ k → s.temporary ≡ false → Stays k (step_of l s p)
-unfolding step_of named indexed
+    → s.block ≡ k → s.temporary ≡ false → Stays k (path_end_by_step l s p)
+unfolding path_end_by_step path_end_by_name path_end_by_index
 step_stays l k plain s (step.Named name) e f =
     by (slice_get (cells_at l s.block s.temporary) s.place)
     (subst (λ (t : Bool). slice_get (cells_at l s.block s.temporary) s.place ≡ slice_get (cells_at l s.block t) s.place) f refl
@@ -390,32 +390,32 @@ step_stays l k plain s (step.Index at) e f =
 
 on_stays : (k : ℕ) (w : PathEnd) (next : ComponentAt → PathEnd) → Stays k w
     → ((s : ComponentAt) → s.block ≡ k → s.temporary ≡ false → Stays k (next s))
-    → Stays k (goes_on w next)
+    → Stays k (path_end_and_then w next)
 on_stays k (walk.Reaches s) next h g = g s h.0 h.1
 on_stays k walk.Unknown next h g = tt
 on_stays k walk.Rests next h g = tt
 
 walked_stays : (l : List BlockLayout) (k : ℕ) → ArePlain l k → (ps : List PathStep) (s : ComponentAt)
-    → s.block ≡ k → s.temporary ≡ false → Stays k (walked l s ps)
+    → s.block ≡ k → s.temporary ≡ false → Stays k (path_end_behind l s ps)
 walked_stays l k plain [] s e f = (e, f)
 walked_stays l k plain (p ∷ ps) s e f =
-    on_stays k (step_of l s p) (λ next. walked l next ps) (step_stays l k plain s p e f)
+    on_stays k (path_end_by_step l s p) (λ next. path_end_behind l next ps) (step_stays l k plain s p e f)
     (λ next g h. walked_stays l k plain ps next g h)
 
 outermost_stays : (l : List BlockLayout) (k offset : ℕ) (name : List ℕ)
-    → Stays k (outermost l k false offset name)
-unfolding outermost
+    → Stays k (outermost_path_end l k false offset name)
+unfolding outermost_path_end
 outermost_stays l k offset name =
-    found_stays (cells_at l k false) k 0 offset (component 0 0 0 name (cells_at l k false))
+    found_stays (cells_at l k false) k 0 offset (component_of_name 0 0 0 name (cells_at l k false))
 
 pub local_stays : (l : List BlockLayout) (k : ℕ) → ArePlain l k → (name : List ℕ)
-    (ps : List PathStep) → is_some (component 0 0 0 name (cells_at l k false)) ≡ true
+    (ps : List PathStep) → is_some (component_of_name 0 0 0 name (cells_at l k false)) ≡ true
     → is_some (whole_at l k) ≡ true → Stays k (walked_local l k name ps)
 unfolding walked_local
 local_stays l k plain name ps own whole =
-    subst (λ (t : Bool). Stays k (if t then goes_on (in_sections l k name) (λ s. walked l s ps) else walk.Rests))
+    subst (λ (t : Bool). Stays k (if t then path_end_and_then (in_sections l k name) (λ s. path_end_behind l s ps) else walk.Rests))
     (sym whole)
-    (subst (λ (t : Bool). Stays k (goes_on (if t then outermost l k false 0 name else outermost l k true 0 name)
-    (λ s. walked l s ps))) (sym own)
-    (on_stays k (outermost l k false 0 name) (λ s. walked l s ps) (outermost_stays l k 0 name)
+    (subst (λ (t : Bool). Stays k (path_end_and_then (if t then outermost_path_end l k false 0 name else outermost_path_end l k true 0 name)
+    (λ s. path_end_behind l s ps))) (sym own)
+    (on_stays k (outermost_path_end l k false 0 name) (λ s. path_end_behind l s ps) (outermost_stays l k 0 name)
     (λ s e f. walked_stays l k plain ps s e f)))

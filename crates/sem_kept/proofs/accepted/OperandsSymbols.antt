@@ -6,7 +6,7 @@ use Rattle.plc_base.specs.Folding.{is_same_name}
 use Rattle.plc_base.specs.declared.places.Width.{Width}
 use Rattle.plc_base.specs.declared.places.Width.TheVariants.{Bit, Byte, Word, Dword}
 use Rattle.flat_code.specs.Blocks.{is_odd_bit}
-use Rattle.stl_symbols.specs.Symbol.{IsFirstBit, IsSymbol, IsTarget, Symbol, has_symbols, symbol_named}
+use Rattle.stl_symbols.specs.Symbol.{IsFirstBit, IsSymbol, IsSymbolTarget, Symbol, has_symbols, symbol_named}
 use Rattle.stl_symbols.specs.Symbols.{symbols_in}
 use Rattle.stl_symbols.specs.declared.languages.Language.{Language}
 use Rattle.stl_symbols.specs.declared.targets.Target.{Target}
@@ -32,7 +32,7 @@ bit_fits Byte bit h = ap not (eq-eqb bit 0 h)
 bit_fits Word bit h = ap not (eq-eqb bit 0 h)
 bit_fits Dword bit h = ap not (eq-eqb bit 0 h)
 
-target_fits : (t : Target) → IsTarget t → TargetFits t
+target_fits : (t : Target) → IsSymbolTarget t → TargetFits t
 target_fits (target.Variable place w) h = (bit_fits w place.bit h.bit, h.area)
 target_fits (target.Timer n) h = tt
 target_fits (target.Counter n) h = tt

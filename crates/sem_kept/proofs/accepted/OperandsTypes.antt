@@ -10,14 +10,14 @@ use Rattle.stl_ast.specs.declared.declarations.Declaration.{Declaration}
 use Rattle.stl_ast.specs.declared.declarations.ElementType.{ElementType}
 use Rattle.stl_ast.specs.declared.declarations.ElementType.TheVariants as element
 use Rattle.plc_base.specs.Folding.{upper_case_name}
-use Rattle.block_layout.specs.Around.{Holder, Outside, around, of_structure}
-use Rattle.block_layout.specs.Cells.{breaks_rule, cell_of, cells_of, is_oversized, is_sound, laid, preset, udt_element, uses_oversized}
+use Rattle.block_layout.specs.Around.{Holder, Outside, structures_around, of_structure}
+use Rattle.block_layout.specs.Cells.{breaks_rule, cell_of, cells_of, is_oversized, is_sound, layout_element, preset_of, udt_element, uses_oversized}
 use Rattle.block_layout.specs.Declarations.{has_upside_down, init_fits, is_unknown_type}
-use Rattle.block_layout.specs.Measures.{bits_after, deep, deepest, depths_after, type_bits, type_depth, with_bits, with_depths}
+use Rattle.block_layout.specs.Measures.{bits_after, capped_depth, deepest_nesting, depths_after, type_bits, type_depth, with_bits, with_depths}
 use Rattle.block_layout.specs.Rule21.{is_twice}
-use Rattle.block_layout.specs.Rule56.{element_depth, is_too_deep, opened_by, own_depth, udt_depth}
+use Rattle.block_layout.specs.Rule56.{element_depth, is_too_deep, depth_of_holders, own_depth, udt_depth}
 use Rattle.block_layout.specs.Sizes.{structure_bits}
-use Rattle.block_layout.specs.Types.{Types, udt_of}
+use Rattle.block_layout.specs.Types.{Types, data_type_place}
 use Rattle.block_layout.specs.declared.cells.Cell.{Cell}
 use Rattle.block_layout.specs.declared.cells.Element.{Element}
 use Rattle.block_layout.specs.declared.cells.Element.TheVariants.{Udt}
@@ -37,7 +37,7 @@ own_depth_same y a b d =
     ap (λ (n : ℕ). length d.of.arrays + n) (element_depth_same y a b d.of.of)
 
 opened_same : (y : Types) (a b : List ℕ) (hs : List Holder)
-    → opened_by (with_bits y a) hs ≡ opened_by (with_bits y b) hs
+    → depth_of_holders (with_bits y a) hs ≡ depth_of_holders (with_bits y b) hs
 opened_same y a b [] = refl
 opened_same y a b (h ∷ hs) =
     ap₂ (λ (m n : ℕ). m + n) (own_depth_same y a b h.declaration) (opened_same y a b hs)
@@ -53,7 +53,7 @@ deep_same : (y : Types) (a b : List ℕ) (o : Outside) (before : List Declaratio
     → is_too_deep (with_bits y a) o before d ≡ is_too_deep (with_bits y b) o before d
 deep_same y a b o before d =
     ap₂ (λ (m n : ℕ). nat_le m 8 && nat_lt 8 (m + n))
-    (ap (λ (n : ℕ). o.depth + n) (opened_same y a b (around d.level before)))
+    (ap (λ (n : ℕ). o.depth + n) (opened_same y a b (structures_around d.level before)))
     (own_depth_same y a b d)
 
 breaks_same : (y : Types) (a b : List ℕ) (o : Outside) (before : List Declaration) (d : Declaration)
@@ -73,7 +73,7 @@ holders_same y a b o (h ∷ hs) =
 -- ---- cells by types of which the used ones have the same bits
 
 abbrev Agree : Types → (a b : List ℕ) → ElementType → Type 0
-Agree y a b (element.Udt name) = (v : ℕ) → udt_of y name ≡ Some v → get_or a v 0 ≡ get_or b v 0
+Agree y a b (element.Udt name) = (v : ℕ) → data_type_place y name ≡ Some v → get_or a v 0 ≡ get_or b v 0
 Agree y a b _ = Unit {0}
 
 oversized_by : (a b : List ℕ) (o : Option ℕ) → ((v : ℕ) → o ≡ Some v → get_or a v 0 ≡ get_or b v 0)
@@ -83,7 +83,7 @@ oversized_by a b (Some v) h = ap (λ (n : ℕ). nat_lt 131072 n) (h v refl)
 
 oversized_same : (y : Types) (a b : List ℕ) (e : ElementType) → Agree y a b e
     → uses_oversized (with_bits y a) e ≡ uses_oversized (with_bits y b) e
-oversized_same y a b (element.Udt name) h = oversized_by a b (udt_of y name) h
+oversized_same y a b (element.Udt name) h = oversized_by a b (data_type_place y name) h
 oversized_same y a b element.Structure h = refl
 oversized_same y a b (element.Plain kind) h = refl
 oversized_same y a b element.DateAndTime h = refl
@@ -94,8 +94,8 @@ laid_by a b None h = refl
 laid_by a b (Some v) h = ap (λ (n : ℕ). Udt v n) (h v refl)
 
 laid_same : (y : Types) (a b : List ℕ) (e : ElementType) → Agree y a b e
-    → laid (with_bits y a) e ≡ laid (with_bits y b) e
-laid_same y a b (element.Udt name) h = laid_by a b (udt_of y name) h
+    → layout_element (with_bits y a) e ≡ layout_element (with_bits y b) e
+laid_same y a b (element.Udt name) h = laid_by a b (data_type_place y name) h
 laid_same y a b element.Structure h = refl
 laid_same y a b (element.Plain kind) h = refl
 laid_same y a b element.DateAndTime h = refl
@@ -110,11 +110,11 @@ cell_with section d sound of = record {
   sound = sound;
   bounds = d.of.arrays;
   of = of;
-  presets = map preset d.init;
+  presets = map preset_of d.init;
 }
 
 cell_is : (y : Types) (o : Outside) (section : PartKind) (before : List Declaration) (d : Declaration)
-    → cell_of y o section before d ≡ cell_with section d (is_sound y o before d) (laid y d.of.of)
+    → cell_of y o section before d ≡ cell_with section d (is_sound y o before d) (layout_element y d.of.of)
 unfolding cell_of
 cell_is y o section before d = refl
 
@@ -123,11 +123,11 @@ sound_same : (y : Types) (a b : List ℕ) (o : Outside) (before : List Declarati
     → is_sound (with_bits y a) o before d ≡ is_sound (with_bits y b) o before d
 sound_same y a b o before d h =
     ap₂ (λ (s t : Bool). not s && not t
-    && list_all (λ h. not (breaks_rule (with_bits y a) o h.before h.declaration)) (around d.level before))
+    && list_all (λ h. not (breaks_rule (with_bits y a) o h.before h.declaration)) (structures_around d.level before))
     (breaks_same y a b o before d) (oversized_same y a b d.of.of h)
     ∙ ap (λ (t : Bool). not (breaks_rule (with_bits y b) o before d)
     && not (uses_oversized (with_bits y b) d.of.of) && t)
-    (holders_same y a b o (around d.level before))
+    (holders_same y a b o (structures_around d.level before))
 
 cells_same : (y : Types) (a b : List ℕ) (o : Outside) (section : PartKind) (before ds : List Declaration)
     → AllByRecursion (λ d. Agree y a b d.of.of) ds
@@ -157,15 +157,15 @@ got_none f (y ∷ ys) (suc i) e = got_none f ys i e
 
 -- what a structure uses is less deep than the structure
 used_less : (y : Types) (before ds : List Declaration) (n : ℕ)
-    → deepest y of_structure before ds ≤ n
+    → deepest_nesting y of_structure before ds ≤ n
     → AllByRecursion (λ d. suc (element_depth y d.of.of) ≤ n) ds
 used_less y before [] n h = tt
 used_less y before (d ∷ ds) n h = (
-  first (opened_by y (around d.level before)) (length d.of.arrays) (element_depth y d.of.of)
-      (deepest y of_structure (d ∷ before) ds) h,
+  first (depth_of_holders y (structures_around d.level before)) (length d.of.arrays) (element_depth y d.of.of)
+      (deepest_nesting y of_structure (d ∷ before) ds) h,
   used_less y (d ∷ before) ds n
-      (rest (1 + opened_by y (around d.level before)) (length d.of.arrays + element_depth y d.of.of)
-      (deepest y of_structure (d ∷ before) ds) h),
+      (rest (1 + depth_of_holders y (structures_around d.level before)) (length d.of.arrays + element_depth y d.of.of)
+      (deepest_nesting y of_structure (d ∷ before) ds) h),
 )
   where
     first : (opened arrays depth more : ℕ) → max (1 + opened + (arrays + depth)) more ≤ n → suc depth ≤ n
@@ -202,7 +202,7 @@ unfolding type_depth type_bits
 type_same y depths a b n block less few same all = by (is_data_type block.kind) less
   where
     by : (t : Bool)
-        → (if t then deep (deepest (with_depths y depths) of_structure [] block.components) else 0) < suc n
+        → (if t then capped_depth (deepest_nesting (with_depths y depths) of_structure [] block.components) else 0) < suc n
         → (if t then structure_bits (cells_of (with_bits (with_depths y all) a) of_structure part.Static [] block.components) else 0)
         ≡ (if t then structure_bits (cells_of (with_bits (with_depths y all) b) of_structure part.Static [] block.components) else 0)
     by false h = refl

@@ -13,12 +13,12 @@ use Rattle.plc_base.specs.declared.places.Area.{Area}
 use Rattle.plc_base.specs.declared.places.Area.TheVariants as area
 use Rattle.plc_base.specs.declared.places.Width.{Width}
 use Rattle.plc_base.specs.declared.places.Width.TheVariants as width
-use Rattle.flat_code.specs.Blocks.{Around, is_bad_place, is_in_parameter as is_input_parameter, is_odd_bit, is_past_locals, lacks_own, parameter_meant}
+use Rattle.flat_code.specs.Blocks.{Environment, is_bad_place, is_in_parameter as is_input_parameter, is_odd_bit, is_past_locals, lacks_own_parameter, parameter_meant}
 use Rattle.flat_code.specs.Image.{record_of_param}
 use Rattle.flat_code.specs.declared.image_fields.ParameterRecord.{ParameterRecord}
-use Rattle.stl_ast.specs.Blocks.{is_parameter, may_have}
+use Rattle.stl_ast.specs.Blocks.{is_parameter, may_have_section}
 use Rattle.stl_ast.specs.Operands.{IsBitOf, IsOperand}
-use Rattle.stl_ast.specs.Statements.{is_called}
+use Rattle.stl_ast.specs.Statements.{names_called_block}
 use Rattle.stl_ast.specs.WellFormed.{AreSections, IsBlock, IsSection, IsShapeOf, MayReturn}
 use Rattle.stl_ast.specs.declared.blocks.Block.{Block}
 use Rattle.stl_ast.specs.declared.blocks.Part.{Part}
@@ -42,20 +42,20 @@ use Rattle.plc_base.specs.Folding.{upper_case_name}
 use Rattle.stl_symbols.specs.Symbol.{Symbol, has_symbols, symbol_named}
 use Rattle.stl_symbols.specs.declared.targets.Target.{Target}
 use Rattle.stl_symbols.specs.declared.targets.Target.TheVariants as target
-use Rattle.block_layout.specs.Around.{Outside, of_sections, of_structure, onto}
+use Rattle.block_layout.specs.Around.{Outside, of_sections, of_structure, declarations_before_next}
 use Rattle.block_layout.specs.Blocks.{found_block, has_structure, id_of}
 use Rattle.block_layout.specs.Cells.{cells_of, components_of, is_temp, returned_cells, section_cells, temps_of}
 use Rattle.block_layout.specs.Layouts.{block_layout, layouts_by, layouts_from, layouts_of}
 use Rattle.block_layout.specs.InitialBytes.{length_at}
-use Rattle.block_layout.specs.Lengths.{actuals_end, block_bits, farthest, is_local, least_local, length_of, local_end, local_len, named_type, referred, shape_at, shape_bits, shape_named, shape_of}
-use Rattle.block_layout.specs.Measures.{types_of}
-use Rattle.block_layout.specs.Members.{component}
-use Rattle.block_layout.specs.Offsets.{place_at, placed, width_of}
-use Rattle.block_layout.specs.Paths.{cells_at, elementary_at, folded_path, kind_of, leaves_local, shape_block, structure_of, walked_data, walked_local, whole_at, whole_block}
+use Rattle.block_layout.specs.Lengths.{farthest_actual_end, block_bits, farthest_operand_end, is_local_data_letter, least_local, length_of_block, local_end, local_len, named_type, structure_block_name, shape_at, shape_bits, shape_named, shape_of}
+use Rattle.block_layout.specs.Measures.{types_of_source}
+use Rattle.block_layout.specs.Members.{component_of_name}
+use Rattle.block_layout.specs.Offsets.{place_at, elementary_place, width_of}
+use Rattle.block_layout.specs.Paths.{cells_at, elementary_at, folded_path, kind_of, leaves_local, shape_block, structure_of, path_end_in_data_block, walked_local, whole_at, whole_block}
 use Rattle.block_layout.specs.Rule23.{is_unknown_data, is_unknown_path, is_unknown_shape, names_unknown}
 use Rattle.block_layout.specs.Rule42.{leaves_found, leaves_path, operand_is_outside}
 use Rattle.block_layout.specs.Rule50.{has_too_much_local}
-use Rattle.block_layout.specs.Sizes.{structure_bits, up}
+use Rattle.block_layout.specs.Sizes.{structure_bits, next_multiple}
 use Rattle.block_layout.specs.Types.{Types}
 use Rattle.block_layout.specs.declared.blocks.BlockLayout.{BlockLayout}
 use Rattle.block_layout.specs.declared.blocks.Shape.{Shape}
@@ -68,17 +68,17 @@ use Rattle.block_layout.specs.declared.walks.ComponentAt.{ComponentAt}
 use Rattle.block_layout.specs.declared.walks.PathEnd.{PathEnd}
 use Rattle.block_layout.specs.declared.walks.PathEnd.TheVariants as walk
 use Rattle.stl_types.specs.Actuals.{is_input_section}
-use Rattle.stl_types.specs.Addresses.{address, address_in, area_left, area_of}
-use Rattle.stl_types.specs.Context.{data_number, data_place, in_function, is_of_function, number_of}
-use Rattle.stl_types.specs.Resolution.{opened_seen, path_seen, register_of, seen, symbol_seen, target_view}
+use Rattle.stl_types.specs.Addresses.{resolved_address, address_in_block, area_left, area_for_letters}
+use Rattle.stl_types.specs.Context.{data_number, data_place, in_function, is_of_function, number_of_block}
+use Rattle.stl_types.specs.Resolution.{opened_seen, path_seen, register_for_word, resolution_of, symbol_seen, target_view}
 use Rattle.stl_types.specs.Unknown.{is_unknown}
-use Rattle.stl_types.specs.Variables.{composite, data_at, date_or_composite, data_path, data_variable, data_walked, in_area, own_at, own_elementary, own_variable, own_walked, parameter, parameter_at, parameter_index}
+use Rattle.stl_types.specs.Variables.{composite_operand, data_at, date_or_composite, data_path, data_variable, data_walked, variable_in_area, own_at, own_elementary, own_variable, own_walked, parameter_resolution, parameter_at, parameter_index}
 use Rattle.stl_types.specs.declared.views.Resolution.{Resolution}
 use Rattle.stl_types.specs.declared.views.Resolution.TheVariants.{Resolved}
 use Rattle.stl_types.specs.declared.views.Side.TheVariants as side
 use Rattle.stl_types.specs.declared.views.ResolvedOperand.{ResolvedOperand}
 use Rattle.stl_types.specs.declared.views.ResolvedOperand.TheVariants as view
-use Rattle.stl_codegen.specs.Generated.{param, param_here, param_of, params_of, section_number}
+use Rattle.stl_codegen.specs.Generated.{param_at_bits, param_here, param_of, params_of, section_number}
 use Rattle.stl_codegen.specs.Instruction.{return_last}
 use Rattle.sem_kept.proofs.accepted.Accepted.{IsSound, IsSoundTree, context_at}
 use Rattle.sem_kept.proofs.accepted.OperandsCells.{IsFoundBlock, IsOrigin, all_there, are_right, cells_are, found_there, layout_of_block, measured_ids, measured_symbols, origin}
@@ -92,7 +92,7 @@ use Rattle.sem_kept.proofs.accepted.Shared.{or_second, kind_there}
 -- ---- what surrounds a block
 
 -- what surrounds the code block of a block of the source
-pub record Surrounds (symbols : List Symbol) (t : Tree) (b : Block) (l : BlockLayout) (a : Around)
+pub record Surrounds (symbols : List Symbol) (t : Tree) (b : Block) (l : BlockLayout) (a : Environment)
     : Type 0 where
   pub kind : a.kind ≡ kind_number b.kind
   pub local : a.local_len ≡ l.local_len
@@ -104,12 +104,12 @@ pub record Surrounds (symbols : List Symbol) (t : Tree) (b : Block) (l : BlockLa
 abbrev pub EndsBy : ℕ → Statement → Type 0
 EndsBy n s = (local_end s.operand ≤ n) × AllByRecursion (λ (a : Actual). local_end a.value ≤ n) s.actuals
 
-actuals_by : (n : ℕ) (actuals : List Actual) → actuals_end actuals ≤ n
+actuals_by : (n : ℕ) (actuals : List Actual) → farthest_actual_end actuals ≤ n
     → AllByRecursion (λ (a : Actual). local_end a.value ≤ n) actuals
 actuals_by n [] h = tt
 actuals_by n (a ∷ more) h = (
-  first (local_end a.value) (actuals_end more) h,
-  actuals_by n more (rest (local_end a.value) (actuals_end more) h),
+  first (local_end a.value) (farthest_actual_end more) h,
+  actuals_by n more (rest (local_end a.value) (farthest_actual_end more) h),
 )
   where
     first : (x y : ℕ) → max x y ≤ n → x ≤ n
@@ -118,15 +118,15 @@ actuals_by n (a ∷ more) h = (
     rest : (x y : ℕ) → max x y ≤ n → y ≤ n
     rest x y h = omega (arith, h)
 
-pub ends_by : (n : ℕ) (body : List Statement) → farthest body ≤ n
+pub ends_by : (n : ℕ) (body : List Statement) → farthest_operand_end body ≤ n
     → AllByRecursion (EndsBy n) body
 ends_by n [] h = tt
 ends_by n (s ∷ ss) h = (
   (
-    own (local_end s.operand) (actuals_end s.actuals) (farthest ss) h,
-    actuals_by n s.actuals (given (local_end s.operand) (actuals_end s.actuals) (farthest ss) h),
+    own (local_end s.operand) (farthest_actual_end s.actuals) (farthest_operand_end ss) h,
+    actuals_by n s.actuals (given (local_end s.operand) (farthest_actual_end s.actuals) (farthest_operand_end ss) h),
   ),
-  ends_by n ss (rest (local_end s.operand) (actuals_end s.actuals) (farthest ss) h),
+  ends_by n ss (rest (local_end s.operand) (farthest_actual_end s.actuals) (farthest_operand_end ss) h),
 )
   where
     own : (x y z : ℕ) → max (max x y) z ≤ n → x ≤ n
@@ -141,35 +141,35 @@ ends_by n (s ∷ ss) h = (
 -- the local data of a code block hold its temporary variables and its farthest operand
 pub record HoldsLocals (y : Types) (b : Block) (local : ℕ) : Type 0 where
   pub temps : structure_bits (temps_of y b) / 8 ≤ local
-  pub operands : farthest b.body ≤ local
+  pub operands : farthest_operand_end b.body ≤ local
   pub short : local ≤ 1024
 
-up_2_behind : (n : ℕ) → n ≤ up n 2
-unfolding up
+up_2_behind : (n : ℕ) → n ≤ next_multiple n 2
+unfolding next_multiple
 up_2_behind n = omega arith
 
 code_len : (y : Types) (b : Block) → is_code b.kind ≡ true
     → local_len y b
-    ≡ max (least_local b.kind) (up (max (structure_bits (temps_of y b) / 8) (farthest b.body)) 2)
+    ≡ max (least_local b.kind) (next_multiple (max (structure_bits (temps_of y b) / 8) (farthest_operand_end b.body)) 2)
 unfolding local_len
 code_len y b code =
-    ap (λ (t : Bool). if t then max (least_local b.kind) (up (max (structure_bits (temps_of y b) / 8) (farthest b.body)) 2) else 0) code
+    ap (λ (t : Bool). if t then max (least_local b.kind) (next_multiple (max (structure_bits (temps_of y b) / 8) (farthest_operand_end b.body)) 2) else 0) code
 
 pub holds_locals : (y : Types) (b : Block) → is_code b.kind ≡ true → has_too_much_local y b ≡ false
     → HoldsLocals y b (local_len y b)
 holds_locals y b code few = record {
   temps = subst (λ (n : ℕ). structure_bits (temps_of y b) / 8 ≤ n) (sym is)
-      (first (least_local b.kind) (structure_bits (temps_of y b) / 8) (farthest b.body)
-      (up (max (structure_bits (temps_of y b) / 8) (farthest b.body)) 2)
-      (up_2_behind (max (structure_bits (temps_of y b) / 8) (farthest b.body))));
-  operands = subst (λ (n : ℕ). farthest b.body ≤ n) (sym is)
-      (second (least_local b.kind) (structure_bits (temps_of y b) / 8) (farthest b.body)
-      (up (max (structure_bits (temps_of y b) / 8) (farthest b.body)) 2)
-      (up_2_behind (max (structure_bits (temps_of y b) / 8) (farthest b.body))));
+      (first (least_local b.kind) (structure_bits (temps_of y b) / 8) (farthest_operand_end b.body)
+      (next_multiple (max (structure_bits (temps_of y b) / 8) (farthest_operand_end b.body)) 2)
+      (up_2_behind (max (structure_bits (temps_of y b) / 8) (farthest_operand_end b.body))));
+  operands = subst (λ (n : ℕ). farthest_operand_end b.body ≤ n) (sym is)
+      (second (least_local b.kind) (structure_bits (temps_of y b) / 8) (farthest_operand_end b.body)
+      (next_multiple (max (structure_bits (temps_of y b) / 8) (farthest_operand_end b.body)) 2)
+      (up_2_behind (max (structure_bits (temps_of y b) / 8) (farthest_operand_end b.body))));
   short = ltb-false 1024 (local_len y b) few;
 }
   where
-    is : local_len y b ≡ max (least_local b.kind) (up (max (structure_bits (temps_of y b) / 8) (farthest b.body)) 2)
+    is : local_len y b ≡ max (least_local b.kind) (next_multiple (max (structure_bits (temps_of y b) / 8) (farthest_operand_end b.body)) 2)
     is = code_len y b code
 
     first : (least x z whole : ℕ) → max x z ≤ whole → x ≤ max least whole
@@ -181,23 +181,23 @@ holds_locals y b code few = record {
 -- the structure of a function block is as long as its instances
 pub block_own : (y : Types) (b : Block) → IsBlock b → b.kind ≡ kinds.Fb → shape_of y b ≡ shape.Own
 block_own y b h is =
-    ap (λ (n : Option BlockName). shape_named y (referred n b.shape)) none.1
+    ap (λ (n : Option BlockName). shape_named y (structure_block_name n b.shape)) none.1
     ∙ ap (λ (s : Option TypeTree). shape_named y (named_type s)) none.0
   where
     none : IsShapeOf kinds.Fb b.shape b.instance_of b.components
     none = subst (λ (k : BlockKind). IsShapeOf k b.shape b.instance_of b.components) is h.shaped
 
 pub instance_length : (y : Types) (blocks : List Block) (b : Block) → b.kind ≡ kinds.Fb
-    → shape_of y b ≡ shape.Own → length_of y blocks b ≡ structure_bits (components_of y b) / 8
-unfolding length_of
+    → shape_of y b ≡ shape.Own → length_of_block y blocks b ≡ structure_bits (components_of y b) / 8
+unfolding length_of_block
 instance_length y blocks b is own = rw is (rw own refl)
 
 short_bits : (n bits : ℕ) → n ≤ 16384 → n ≡ bits / 8 → bits % 16 ≡ 0 → bits ≤ 131072
 short_bits n bits few same even = omega (arith, few, same, even)
 
 -- an organization block has temporary variables alone
-only_temps : (p : PartKind) → may_have kinds.Ob p ≡ true → not (is_temp p) ≡ false
-unfolding may_have
+only_temps : (p : PartKind) → may_have_section kinds.Ob p ≡ true → not (is_temp p) ≡ false
+unfolding may_have_section
 only_temps part.Temp e = refl
 only_temps part.Input e = absurd cc
 only_temps part.Output e = absurd cc
@@ -209,7 +209,7 @@ no_sections : (y : Types) (o : Outside) (before : List Declaration) (ps : List P
 no_sections y o before [] h = refl
 no_sections y o before (p ∷ ps) h =
     let none = only_temps p.kind h.0.0 in
-    rw none (no_sections y o (onto before p.items) ps h.1)
+    rw none (no_sections y o (declarations_before_next before p.items) ps h.1)
 
 no_components : (y : Types) (b : Block) → IsBlock b → b.kind ≡ kinds.Ob → components_of y b ≡ []
 no_components y b h is =
@@ -230,12 +230,12 @@ no_components y b h is =
 -- ---- what is seen
 
 -- an operand is seen, and what it names fits
-pub record IsSeen (a : Around) (s : Resolution) : Type 0 where
+pub record IsSeen (a : Environment) (s : Resolution) : Type 0 where
   pub view : ResolvedOperand
   pub is : s ≡ Resolved view
   pub fits : ViewFits a view
 
-composite_fits : (a : Around) (o : Option Cell) → ViewFits a (composite o)
+composite_fits : (a : Environment) (o : Option Cell) → ViewFits a (composite_operand o)
 composite_fits a None = tt
 composite_fits a (Some c) = by c.of
   where
@@ -256,7 +256,7 @@ mapped_there f (z ∷ zs) (suc k) x e = mapped_there f zs k x e
 
 param_here_is : (cells : List Cell) (c : Cell) (kind : Simple) → is_parameter c.section ≡ true
     → c.of ≡ Plain kind
-    → param_here false cells c ≡ param (section_number c.section) (width_of kind) 0 ∷ []
+    → param_here false cells c ≡ param_at_bits (section_number c.section) (width_of kind) 0 ∷ []
 param_here_is cells c kind is plain =
     ap (λ (t : Bool). if t then param_of false cells c c.of else []) is
     ∙ ap (λ (e : Element). param_of false cells c e) plain
@@ -266,7 +266,7 @@ params_each : (cells all : List Cell) → AreParameters cells
 params_each [] all h = tt
 params_each (c ∷ cs) all h = (
   record {
-    one = param (section_number c.section) (width_of h.0.kind) 0;
+    one = param_at_bits (section_number c.section) (width_of h.0.kind) 0;
     is = param_here_is all c h.0.kind h.0.section h.0.plain;
   },
   params_each cs all h.1,
@@ -277,20 +277,20 @@ param_there : (b : Block) (l : BlockLayout) (cells : List Cell) (place : ℕ) (c
     → b.kind ≡ kinds.Fc → l.components ≡ cells → AreParameters cells
     → slice_get cells place ≡ Some c → c.of ≡ Plain kind → is_parameter c.section ≡ true
     → slice_get (params_of b l) (parameter_index (length cells) place (Some b))
-    ≡ Some (param (section_number c.section) (width_of kind) 0)
+    ≡ Some (param_at_bits (section_number c.section) (width_of kind) 0)
 unfolding params_of
 param_there b l cells place c kind is same each there plain section =
     subst (λ (cs : List Cell). slice_get (return_last b.result (flat_map (λ c. param_here (is_function_block b.kind) cs c) cs))
-    (parameter_index (length cells) place (Some b)) ≡ Some (param (section_number c.section) (width_of kind) 0))
+    (parameter_index (length cells) place (Some b)) ≡ Some (param_at_bits (section_number c.section) (width_of kind) 0))
     (sym same)
     (subst (λ (k : BlockKind). slice_get (return_last b.result (flat_map (λ c. param_here (is_function_block k) cells c) cells))
-    (parameter_index (length cells) place (Some b)) ≡ Some (param (section_number c.section) (width_of kind) 0))
+    (parameter_index (length cells) place (Some b)) ≡ Some (param_at_bits (section_number c.section) (width_of kind) 0))
     (sym is)
     (ap (λ (n : ℕ). slice_get (return_last b.result (flat_map (λ c. param_here false cells c) cells)) (parameter_index n place (Some b)))
     (sym (count_each (λ c. param_here false cells c) cells (params_each cells cells each)))
     ∙ in_its_order b.result (flat_map (λ c. param_here false cells c) cells) place
-    (param (section_number c.section) (width_of kind) 0)
-    (one_each (λ c. param_here false cells c) cells place c (param (section_number c.section) (width_of kind) 0)
+    (param_at_bits (section_number c.section) (width_of kind) 0)
+    (one_each (λ c. param_here false cells c) cells place c (param_at_bits (section_number c.section) (width_of kind) 0)
     (params_each cells cells each) there (param_here_is cells c kind section plain))))
 
 section_is_input : (p : PartKind) → is_parameter p ≡ true
@@ -301,7 +301,7 @@ section_is_input part.InOut e = refl
 section_is_input part.Static e = absurd cc
 section_is_input part.Temp e = absurd cc
 
-own_there : (a : Around) (index : ℕ) (q : ParameterRecord) → a.kind ≡ 2
+own_there : (a : Environment) (index : ℕ) (q : ParameterRecord) → a.kind ≡ 2
     → slice_get a.params index ≡ Some q → parameter_meant a index ≡ Some q
 own_there a index q is there =
     ap (λ (t : Bool). if t then slice_get a.params index else None) (eq-eqb a.kind 2 is) ∙ there
@@ -314,9 +314,9 @@ no_odd_bit width.Byte bit h = ap not (eq-eqb bit 0 h)
 no_odd_bit width.Word bit h = ap not (eq-eqb bit 0 h)
 no_odd_bit width.Dword bit h = ap not (eq-eqb bit 0 h)
 
-no_past : (a : Around) (ar : Letters) (w : Width) (byte : ℕ)
-    → (if is_local ar then byte + byte_count w else 0) ≤ a.local_len
-    → is_past_locals a (area_of ar) w byte ≡ false
+no_past : (a : Environment) (ar : Letters) (w : Width) (byte : ℕ)
+    → (if is_local_data_letter ar then byte + byte_count w else 0) ≤ a.local_len
+    → is_past_locals a (area_for_letters ar) w byte ≡ false
 no_past a letters.L w byte h = le-ltb a.local_len (byte + byte_count w) h
 no_past a letters.I w byte h = refl
 no_past a letters.Q w byte h = refl
@@ -326,14 +326,14 @@ no_past a letters.Di w byte h = refl
 no_past a letters.Pi w byte h = refl
 no_past a letters.Pq w byte h = refl
 
-address_fits : (a : Around) (ar : Letters) (w : Width) (byte bit : ℕ) → IsBitOf w bit
-    → (if is_local ar then byte + byte_count w else 0) ≤ a.local_len
-    → is_bad_place a (area_of ar) w byte bit ≡ false
+address_fits : (a : Environment) (ar : Letters) (w : Width) (byte bit : ℕ) → IsBitOf w bit
+    → (if is_local_data_letter ar then byte + byte_count w else 0) ≤ a.local_len
+    → is_bad_place a (area_for_letters ar) w byte bit ≡ false
 address_fits a ar w byte bit h ends =
-    or_from (is_odd_bit w bit) (is_past_locals a (area_of ar) w byte) (no_odd_bit w bit h)
+    or_from (is_odd_bit w bit) (is_past_locals a (area_for_letters ar) w byte) (no_odd_bit w bit h)
     (no_past a ar w byte ends)
 
-outside_locals : (a : Around) (ar : Area) (w : Width) (byte : ℕ) → has_symbols ar ≡ true
+outside_locals : (a : Environment) (ar : Area) (w : Width) (byte : ℕ) → has_symbols ar ≡ true
     → is_past_locals a ar w byte ≡ false
 outside_locals a area.L w byte h = absurd cc
 outside_locals a area.I w byte h = refl
@@ -343,7 +343,7 @@ outside_locals a area.P w byte h = refl
 outside_locals a area.Db w byte h = refl
 outside_locals a area.Di w byte h = refl
 
-target_fits : (a : Around) (x : Target) → TargetFits x → ViewFits a (target_view x)
+target_fits : (a : Environment) (x : Target) → TargetFits x → ViewFits a (target_view x)
 target_fits a (target.Variable place w) h = (
   or_from (is_odd_bit w place.bit) (is_past_locals a place.area w place.byte) h.0
       (outside_locals a place.area w place.byte h.1),
@@ -396,34 +396,34 @@ whole_is l p at there whole =
     ap (λ (o : Option BlockLayout). whole_block o) there
     ∙ ap (λ (t : Bool). if t then None else Some at) whole
 
-no_component : (name : List ℕ) → is_some (component 0 0 0 name []) ≡ true → ⊥
-unfolding component
+no_component : (name : List ℕ) → is_some (component_of_name 0 0 0 name []) ≡ true → ⊥
+unfolding component_of_name
 no_component name e = absurd cc
 
 -- ---- the block's own variables
 
 module _ (symbols : List Symbol) (t : Tree) (tree : IsSoundTree symbols t) (k : ℕ) (b : Block)
     (l : BlockLayout) (block : IsSound symbols t k b l) (code : is_code b.kind ≡ true)
-    (a : Around) (around : Surrounds symbols t b l a) where
+    (a : Environment) (around : Surrounds symbols t b l a) where
   whole_here : is_some (whole_at (layouts_of t symbols) k) ≡ true
   whole_here = ap is_some (whole_is (layouts_of t symbols) k l block.layout_there block.whole)
 
-  components_here : cells_at (layouts_of t symbols) k false ≡ components_of (types_of symbols t.blocks) b
+  components_here : cells_at (layouts_of t symbols) k false ≡ components_of (types_of_source symbols t.blocks) b
   components_here = cells_are symbols t k b l block false
 
-  temps_here : cells_at (layouts_of t symbols) k true ≡ temps_of (types_of symbols t.blocks) b
+  temps_here : cells_at (layouts_of t symbols) k true ≡ temps_of (types_of_source symbols t.blocks) b
   temps_here = cells_are symbols t k b l block true
 
-  local_is : l.local_len ≡ local_len (types_of symbols t.blocks) b
+  local_is : l.local_len ≡ local_len (types_of_source symbols t.blocks) b
   unfolding block_layout
   local_is = ap (λ (z : BlockLayout). z.local_len) block.layout
 
-  components_are : l.components ≡ components_of (types_of symbols t.blocks) b
+  components_are : l.components ≡ components_of (types_of_source symbols t.blocks) b
   unfolding block_layout
   components_are = ap (λ (z : BlockLayout). z.components) block.layout
 
-  locals_here : HoldsLocals (types_of symbols t.blocks) b (local_len (types_of symbols t.blocks) b)
-  locals_here = holds_locals (types_of symbols t.blocks) b code block.head.by_50
+  locals_here : HoldsLocals (types_of_source symbols t.blocks) b (local_len (types_of_source symbols t.blocks) b)
+  locals_here = holds_locals (types_of_source symbols t.blocks) b code block.head.by_50
 
   function_here : in_function (context_at symbols t k) ≡ is_function b.kind
   function_here = ap (λ (o : Option Block). is_of_function o) block.block_there
@@ -433,7 +433,7 @@ module _ (symbols : List Symbol) (t : Tree) (tree : IsSoundTree symbols t) (k : 
       → (o : Option Simple) → elementary_at (layouts_of t symbols) s ≡ o
       → IsSeen a (own_at (context_at symbols t k) true s o)
   temporary_seen s h None e = record {
-    view = composite (slice_get (cells_at (layouts_of t symbols) s.block s.temporary) s.place);
+    view = composite_operand (slice_get (cells_at (layouts_of t symbols) s.block s.temporary) s.place);
     is = refl;
     fits = composite_fits a (slice_get (cells_at (layouts_of t symbols) s.block s.temporary) s.place);
   }
@@ -451,12 +451,12 @@ module _ (symbols : List Symbol) (t : Tree) (tree : IsSoundTree symbols t) (k : 
       at : IsPlaced (structure_bits (cells_at (layouts_of t symbols) k true)) s.offset kind
       at = reached_place (layouts_of t symbols) (structure_bits (cells_at (layouts_of t symbols) k true)) s kind h e
 
-      is_local_len : a.local_len ≡ local_len (types_of symbols t.blocks) b
+      is_local_len : a.local_len ≡ local_len (types_of_source symbols t.blocks) b
       is_local_len = around.local ∙ local_is
 
       within : structure_bits (cells_at (layouts_of t symbols) k true) / 8 ≤ a.local_len
       within = subst (λ (n : ℕ). structure_bits (cells_at (layouts_of t symbols) k true) / 8 ≤ n) (sym is_local_len)
-          (subst (λ (cs : List Cell). structure_bits cs / 8 ≤ local_len (types_of symbols t.blocks) b) (sym temps_here)
+          (subst (λ (cs : List Cell). structure_bits cs / 8 ≤ local_len (types_of_source symbols t.blocks) b) (sym temps_here)
           locals_here.temps)
 
       short : a.local_len ≤ 1024
@@ -471,7 +471,7 @@ module _ (symbols : List Symbol) (t : Tree) (tree : IsSoundTree symbols t) (k : 
       → (o : Option Simple) → elementary_at (layouts_of t symbols) s ≡ o
       → IsSeen a (own_at (context_at symbols t k) false s o)
   instance_seen limit few other s h None e = record {
-    view = composite (slice_get (cells_at (layouts_of t symbols) s.block s.temporary) s.place);
+    view = composite_operand (slice_get (cells_at (layouts_of t symbols) s.block s.temporary) s.place);
     is = refl;
     fits = composite_fits a (slice_get (cells_at (layouts_of t symbols) s.block s.temporary) s.place);
   }
@@ -479,7 +479,7 @@ module _ (symbols : List Symbol) (t : Tree) (tree : IsSoundTree symbols t) (k : 
     view = view.Direct (place_at area.Di 0 s.offset) (width_of kind) side.Both (Some kind);
     is =
         ap (λ (t' : Bool). if t' then parameter_at (context_at symbols t k) s kind
-        else in_area kind (placed area.Di 0 s.offset (Some kind))) (function_here ∙ other)
+        else variable_in_area kind (elementary_place area.Di 0 s.offset (Some kind))) (function_here ∙ other)
         ∙ placed_sees area.Di 0 s.offset limit kind at (omega (arith, few));
     fits = (instance_fits a s.offset limit kind at, refl);
   }
@@ -492,7 +492,7 @@ module _ (symbols : List Symbol) (t : Tree) (tree : IsSoundTree symbols t) (k : 
       → (o : Option Simple) → elementary_at (layouts_of t symbols) s ≡ o
       → IsSeen a (own_at (context_at symbols t k) false s o)
   parameter_seen is s at own None e = record {
-    view = composite (slice_get (cells_at (layouts_of t symbols) s.block s.temporary) s.place);
+    view = composite_operand (slice_get (cells_at (layouts_of t symbols) s.block s.temporary) s.place);
     is = refl;
     fits = composite_fits a (slice_get (cells_at (layouts_of t symbols) s.block s.temporary) s.place);
   }
@@ -507,7 +507,7 @@ module _ (symbols : List Symbol) (t : Tree) (tree : IsSoundTree symbols t) (k : 
 
       parameters : AreParameters (cells_at (layouts_of t symbols) k false)
       parameters = subst AreParameters (sym components_here)
-          (function_components (types_of symbols t.blocks) b block.well_formed is)
+          (function_components (types_of_source symbols t.blocks) b block.well_formed is)
 
       found : (c : Cell) → slice_get (cells_at (layouts_of t symbols) k false) s.place ≡ Some c
           → IsElementary s c kind → IsSeen a (own_elementary (context_at symbols t k) false s kind)
@@ -515,11 +515,11 @@ module _ (symbols : List Symbol) (t : Tree) (tree : IsSoundTree symbols t) (k : 
         view = view.Parameter index c.section kind;
         is =
             ap (λ (t' : Bool). if t' then parameter_at (context_at symbols t k) s kind
-            else in_area kind (placed area.Di 0 s.offset (Some kind)))
+            else variable_in_area kind (elementary_place area.Di 0 s.offset (Some kind)))
             (function_here ∙ ap is_function is)
-            ∙ ap (λ (o : Option Cell). parameter index kind o) there;
+            ∙ ap (λ (o : Option Cell). parameter_resolution index kind o) there;
         fits = (
-          ap (λ (o : Option ParameterRecord). lacks_own o (width_of kind)) given
+          ap (λ (o : Option ParameterRecord). lacks_own_parameter o (width_of kind)) given
               ∙ ap not (eq-eqb (width_number (width_of kind)) (width_number (width_of kind)) refl),
           ap (λ (o : Option ParameterRecord). is_input_parameter o) given
               ∙ section_is_input c.section cell.section,
@@ -529,12 +529,12 @@ module _ (symbols : List Symbol) (t : Tree) (tree : IsSoundTree symbols t) (k : 
           cell : IsParameterCell c
           cell = all_there IsParameterCell (cells_at (layouts_of t symbols) k false) s.place c parameters there
 
-          given : parameter_meant a index ≡ Some (record_of_param (param (section_number c.section) (width_of kind) 0))
+          given : parameter_meant a index ≡ Some (record_of_param (param_at_bits (section_number c.section) (width_of kind) 0))
           given =
-              own_there a index (record_of_param (param (section_number c.section) (width_of kind) 0))
+              own_there a index (record_of_param (param_at_bits (section_number c.section) (width_of kind) 0))
               (around.kind ∙ ap kind_number is)
               (ap (λ (ps : List ParameterRecord). slice_get ps index) around.params
-              ∙ mapped_there record_of_param (params_of b l) index (param (section_number c.section) (width_of kind) 0)
+              ∙ mapped_there record_of_param (params_of b l) index (param_at_bits (section_number c.section) (width_of kind) 0)
               (ap (λ (o : Option Block). slice_get (params_of b l) (parameter_index (length (cells_at (layouts_of t symbols) k false)) s.place o)) block.block_there
               ∙ param_there b l (cells_at (layouts_of t symbols) k false) s.place c kind is
               (components_are ∙ sym components_here) parameters there elem.plain cell.section))
@@ -551,7 +551,7 @@ module _ (symbols : List Symbol) (t : Tree) (tree : IsSoundTree symbols t) (k : 
       → leaves_local (layouts_of t symbols) k name steps ≡ false
       → IsSeen a (own_variable (context_at symbols t k) name steps)
   own_seen name steps known stays =
-      by (is_some (component 0 0 0 name (cells_at (layouts_of t symbols) k false))) refl known
+      by (is_some (component_of_name 0 0 0 name (cells_at (layouts_of t symbols) k false))) refl known
     where
       right : AreRight (layouts_of t symbols)
       right = are_right symbols t tree
@@ -573,14 +573,14 @@ module _ (symbols : List Symbol) (t : Tree) (tree : IsSoundTree symbols t) (k : 
 
       temps_small : structure_bits (cells_at (layouts_of t symbols) k true) < 2147483648
       temps_small =
-          let h = subst (λ (cs : List Cell). structure_bits cs / 8 ≤ local_len (types_of symbols t.blocks) b) (sym temps_here) locals_here.temps in
+          let h = subst (λ (cs : List Cell). structure_bits cs / 8 ≤ local_len (types_of_source symbols t.blocks) b) (sym temps_here) locals_here.temps in
           let s = locals_here.short in
-          small (structure_bits (cells_at (layouts_of t symbols) k true)) (local_len (types_of symbols t.blocks) b) h s
+          small (structure_bits (cells_at (layouts_of t symbols) k true)) (local_len (types_of_source symbols t.blocks) b) h s
         where
           small : (limit local : ℕ) → limit / 8 ≤ local → local ≤ 1024 → limit < 2147483648
           small limit local h k = omega (arith, h, k)
 
-      temporary : is_some (component 0 0 0 name (cells_at (layouts_of t symbols) k false)) ≡ false
+      temporary : is_some (component_of_name 0 0 0 name (cells_at (layouts_of t symbols) k false)) ≡ false
           → is_unknown (own_walked (context_at symbols t k) true (walked_local (layouts_of t symbols) k name steps)) ≡ false
           → IsSeen a (own_walked (context_at symbols t k) true (walked_local (layouts_of t symbols) k name steps))
       temporary e known =
@@ -593,7 +593,7 @@ module _ (symbols : List Symbol) (t : Tree) (tree : IsSoundTree symbols t) (k : 
           moves known
 
       of_function : b.kind ≡ kinds.Fc
-          → is_some (component 0 0 0 name (cells_at (layouts_of t symbols) k false)) ≡ true
+          → is_some (component_of_name 0 0 0 name (cells_at (layouts_of t symbols) k false)) ≡ true
           → is_unknown (own_walked (context_at symbols t k) false (walked_local (layouts_of t symbols) k name steps)) ≡ false
           → IsSeen a (own_walked (context_at symbols t k) false (walked_local (layouts_of t symbols) k name steps))
       of_function is e known =
@@ -609,10 +609,10 @@ module _ (symbols : List Symbol) (t : Tree) (tree : IsSoundTree symbols t) (k : 
           plain place c there =
               all_there IsParameterCell (cells_at (layouts_of t symbols) k false) place c
               (subst AreParameters (sym components_here)
-              (function_components (types_of symbols t.blocks) b block.well_formed is)) there
+              (function_components (types_of_source symbols t.blocks) b block.well_formed is)) there
 
       of_block : b.kind ≡ kinds.Fb
-          → is_some (component 0 0 0 name (cells_at (layouts_of t symbols) k false)) ≡ true
+          → is_some (component_of_name 0 0 0 name (cells_at (layouts_of t symbols) k false)) ≡ true
           → is_unknown (own_walked (context_at symbols t k) false (walked_local (layouts_of t symbols) k name steps)) ≡ false
           → IsSeen a (own_walked (context_at symbols t k) false (walked_local (layouts_of t symbols) k name steps))
       of_block is e known =
@@ -627,24 +627,24 @@ module _ (symbols : List Symbol) (t : Tree) (tree : IsSoundTree symbols t) (k : 
         where
           small : structure_bits (cells_at (layouts_of t symbols) k false) ≤ 131072
           small = subst (λ (cs : List Cell). structure_bits cs ≤ 131072) (sym components_here)
-              (short_bits (length_of (types_of symbols t.blocks) t.blocks b)
-              (structure_bits (components_of (types_of symbols t.blocks) b))
-              (ltb-false 16384 (length_of (types_of symbols t.blocks) t.blocks b) block.head.by_51)
-              (instance_length (types_of symbols t.blocks) t.blocks b is
-              (block_own (types_of symbols t.blocks) b block.well_formed is))
-              (structure_even (components_of (types_of symbols t.blocks) b)))
+              (short_bits (length_of_block (types_of_source symbols t.blocks) t.blocks b)
+              (structure_bits (components_of (types_of_source symbols t.blocks) b))
+              (ltb-false 16384 (length_of_block (types_of_source symbols t.blocks) t.blocks b) block.head.by_51)
+              (instance_length (types_of_source symbols t.blocks) t.blocks b is
+              (block_own (types_of_source symbols t.blocks) b block.well_formed is))
+              (structure_even (components_of (types_of_source symbols t.blocks) b)))
 
       of_organization : b.kind ≡ kinds.Ob
-          → is_some (component 0 0 0 name (cells_at (layouts_of t symbols) k false)) ≡ true
+          → is_some (component_of_name 0 0 0 name (cells_at (layouts_of t symbols) k false)) ≡ true
           → IsSeen a (own_walked (context_at symbols t k) false (walked_local (layouts_of t symbols) k name steps))
       of_organization is e =
-          absurd (never (ap (λ (cs : List Cell). is_some (component 0 0 0 name cs))
-          (sym (components_here ∙ no_components (types_of symbols t.blocks) b block.well_formed is)) ∙ e))
+          absurd (never (ap (λ (cs : List Cell). is_some (component_of_name 0 0 0 name cs))
+          (sym (components_here ∙ no_components (types_of_source symbols t.blocks) b block.well_formed is)) ∙ e))
         where
-          never : is_some (component 0 0 0 name []) ≡ true → ⊥
+          never : is_some (component_of_name 0 0 0 name []) ≡ true → ⊥
           never e = no_component name e
 
-      own : is_some (component 0 0 0 name (cells_at (layouts_of t symbols) k false)) ≡ true
+      own : is_some (component_of_name 0 0 0 name (cells_at (layouts_of t symbols) k false)) ≡ true
           → is_unknown (own_walked (context_at symbols t k) false (walked_local (layouts_of t symbols) k name steps)) ≡ false
           → IsSeen a (own_walked (context_at symbols t k) false (walked_local (layouts_of t symbols) k name steps))
       own e known = function (is_function b.kind) refl
@@ -659,7 +659,7 @@ module _ (symbols : List Symbol) (t : Tree) (tree : IsSoundTree symbols t) (k : 
           function true f = of_function (function_kind b.kind f) e known
           function false f = instance (is_function_block b.kind) refl f
 
-      by : (t' : Bool) → is_some (component 0 0 0 name (cells_at (layouts_of t symbols) k false)) ≡ t'
+      by : (t' : Bool) → is_some (component_of_name 0 0 0 name (cells_at (layouts_of t symbols) k false)) ≡ t'
           → is_unknown (own_variable (context_at symbols t k) name steps) ≡ false
           → IsSeen a (own_variable (context_at symbols t k) name steps)
       by true e known =
@@ -680,10 +680,10 @@ ids_laid y blocks before (b ∷ bs) =
     ap (λ (is : List (Option BlockId)). id_of y.symbols b ∷ is) (ids_laid y blocks (b ∷ before) bs)
 
 pub ids_same : (symbols : List Symbol) (t : Tree)
-    → map (λ (b : BlockLayout). b.id) (layouts_of t symbols) ≡ (types_of symbols t.blocks).ids
+    → map (λ (b : BlockLayout). b.id) (layouts_of t symbols) ≡ (types_of_source symbols t.blocks).ids
 unfolding layouts_of layouts_by
 ids_same symbols t =
-    ids_laid (types_of symbols t.blocks) t.blocks [] t.blocks
+    ids_laid (types_of_source symbols t.blocks) t.blocks [] t.blocks
     ∙ ap (λ (s : List Symbol). map (λ b. id_of s b) t.blocks) (measured_symbols symbols t.blocks)
     ∙ sym (measured_ids symbols t.blocks)
 
@@ -707,7 +707,7 @@ layout_id symbols t p b l h =
 
 pub id_there : (symbols : List Symbol) (t : Tree) → IsSoundTree symbols t
     → (kinds : BlockKind → Bool) (p : ℕ) (id : BlockId)
-    → slice_get (types_of symbols t.blocks).ids p ≡ Some (Some id) → kinds id.kind ≡ true
+    → slice_get (types_of_source symbols t.blocks).ids p ≡ Some (Some id) → kinds id.kind ≡ true
     → IsThere symbols t kinds p
 id_there symbols t tree kinds p id there kind = record {
   id = id;
@@ -729,39 +729,39 @@ id_there symbols t tree kinds p id there kind = record {
 
 pub id_there_is : (symbols : List Symbol) (t : Tree) (tree : IsSoundTree symbols t)
     (kinds : BlockKind → Bool) (p : ℕ) (id : BlockId)
-    (there : slice_get (types_of symbols t.blocks).ids p ≡ Some (Some id)) (kind : kinds id.kind ≡ true)
+    (there : slice_get (types_of_source symbols t.blocks).ids p ≡ Some (Some id)) (kind : kinds id.kind ≡ true)
     → (id_there symbols t tree kinds p id there kind).id ≡ id
 unfolding id_there
 id_there_is symbols t tree kinds p id there kind = refl
 
 pub block_there : (symbols : List Symbol) (t : Tree) → IsSoundTree symbols t
     → (kinds : BlockKind → Bool) (name : BlockName) (p : ℕ)
-    → found_block (types_of symbols t.blocks).symbols (types_of symbols t.blocks).ids kinds name ≡ Some p
+    → found_block (types_of_source symbols t.blocks).symbols (types_of_source symbols t.blocks).ids kinds name ≡ Some p
     → IsThere symbols t kinds p
 block_there symbols t tree kinds name p e =
     id_there symbols t tree kinds p found.id found.there found.kind
   where
-    found : IsFoundBlock (types_of symbols t.blocks).ids kinds p
-    found = found_there (types_of symbols t.blocks).symbols (types_of symbols t.blocks).ids kinds name p e
+    found : IsFoundBlock (types_of_source symbols t.blocks).ids kinds p
+    found = found_there (types_of_source symbols t.blocks).symbols (types_of_source symbols t.blocks).ids kinds name p e
 
 place_same : (symbols : List Symbol) (t : Tree) (k : ℕ) (name : BlockName)
     → data_place (context_at symbols t k) name
-    ≡ found_block (types_of symbols t.blocks).symbols (types_of symbols t.blocks).ids is_data_block name
+    ≡ found_block (types_of_source symbols t.blocks).symbols (types_of_source symbols t.blocks).ids is_data_block name
 place_same symbols t k name =
     ap (λ (is : List (Option BlockId)). found_block symbols is is_data_block name) (ids_same symbols t)
-    ∙ ap (λ (s : List Symbol). found_block s (types_of symbols t.blocks).ids is_data_block name)
+    ∙ ap (λ (s : List Symbol). found_block s (types_of_source symbols t.blocks).ids is_data_block name)
     (sym (measured_symbols symbols t.blocks))
 
 -- the data block of a name that is known
 pub record IsData (symbols : List Symbol) (t : Tree) (k : ℕ) (name : BlockName) : Type 0 where
   pub place : ℕ
   pub found : data_place (context_at symbols t k) name ≡ Some place
-  pub listed : found_block (types_of symbols t.blocks).symbols (types_of symbols t.blocks).ids is_data_block name ≡ Some place
+  pub listed : found_block (types_of_source symbols t.blocks).symbols (types_of_source symbols t.blocks).ids is_data_block name ≡ Some place
   pub block : IsThere symbols t is_data_block place
   pub number : data_number (context_at symbols t k) name ≡ Some block.id.number
 
 pub data_there : (symbols : List Symbol) (t : Tree) → IsSoundTree symbols t → (k : ℕ)
-    (name : BlockName) → is_unknown_data (types_of symbols t.blocks) name ≡ false
+    (name : BlockName) → is_unknown_data (types_of_source symbols t.blocks) name ≡ false
     → IsData symbols t k name
 data_there symbols t tree k name e = record {
   place = place.0;
@@ -769,14 +769,14 @@ data_there symbols t tree k name e = record {
   listed = place.1;
   block = found_block_there;
   number =
-      ap (λ (o : Option ℕ). option_and_then (λ (b : BlockLayout). number_of b.id) (option_and_then (whole_at (layouts_of t symbols)) o)) found
-      ∙ ap (λ (o : Option BlockLayout). option_and_then (λ (b : BlockLayout). number_of b.id) o)
+      ap (λ (o : Option ℕ). option_and_then (λ (b : BlockLayout). number_of_block b.id) (option_and_then (whole_at (layouts_of t symbols)) o)) found
+      ∙ ap (λ (o : Option BlockLayout). option_and_then (λ (b : BlockLayout). number_of_block b.id) o)
       (whole_is (layouts_of t symbols) place.0 found_block_there.layout found_block_there.laid found_block_there.sound.whole)
-      ∙ ap (λ (o : Option BlockId). number_of o) found_block_there.is;
+      ∙ ap (λ (o : Option BlockId). number_of_block o) found_block_there.is;
 }
   where
-    place : (p : ℕ) × (found_block (types_of symbols t.blocks).symbols (types_of symbols t.blocks).ids is_data_block name ≡ Some p)
-    place = not_none (found_block (types_of symbols t.blocks).symbols (types_of symbols t.blocks).ids is_data_block name) e
+    place : (p : ℕ) × (found_block (types_of_source symbols t.blocks).symbols (types_of_source symbols t.blocks).ids is_data_block name ≡ Some p)
+    place = not_none (found_block (types_of_source symbols t.blocks).symbols (types_of_source symbols t.blocks).ids is_data_block name) e
 
     found : data_place (context_at symbols t k) name ≡ Some place.0
     found = place_same symbols t k name ∙ place.1
@@ -793,8 +793,8 @@ pub record IsStructured (symbols : List Symbol) (t : Tree) (p : ℕ) : Type 0 wh
       ≡ structure_bits (cells_at (layouts_of t symbols) inside false) / 8
 
 pub data_length : (y : Types) (blocks : List Block) (b : Block) → b.kind ≡ kinds.Db
-    → length_of y blocks b ≡ shape_bits y blocks b (shape_of y b) / 8
-unfolding length_of
+    → length_of_block y blocks b ≡ shape_bits y blocks b (shape_of y b) / 8
+unfolding length_of_block
 data_length y blocks b is = rw is refl
 
 -- what a shape refers to was found
@@ -809,18 +809,18 @@ shape_found y (Some n) other e = (n, by (found_block y.symbols y.ids has_structu
     by (Some m) e = ap (λ (i : ℕ). Some i) (let same : m ≡ other = cc in same)
 
 pub layout_shape : (symbols : List Symbol) (t : Tree) (p : ℕ) (b : Block) (l : BlockLayout)
-    → IsSound symbols t p b l → l.shape ≡ shape_of (types_of symbols t.blocks) b
+    → IsSound symbols t p b l → l.shape ≡ shape_of (types_of_source symbols t.blocks) b
 unfolding block_layout
 layout_shape symbols t p b l h = ap (λ (z : BlockLayout). z.shape) h.layout
 
 layout_length : (symbols : List Symbol) (t : Tree) (p : ℕ) (b : Block) (l : BlockLayout)
-    → IsSound symbols t p b l → l.length ≡ length_of (types_of symbols t.blocks) t.blocks b
+    → IsSound symbols t p b l → l.length ≡ length_of_block (types_of_source symbols t.blocks) t.blocks b
 unfolding block_layout
 layout_length symbols t p b l h = ap (λ (z : BlockLayout). z.length) h.layout
 
 pub structured : (symbols : List Symbol) (t : Tree) → IsSoundTree symbols t → (p : ℕ)
     → IsThere symbols t is_data_block p → IsStructured symbols t p
-structured symbols t tree p d = by (shape_of (types_of symbols t.blocks) d.block) refl
+structured symbols t tree p d = by (shape_of (types_of_source symbols t.blocks) d.block) refl
   where
     kind : d.block.kind ≡ kinds.Db
     kind = d.same ∙ data_block_kind d.id.kind d.kind
@@ -828,40 +828,40 @@ structured symbols t tree p d = by (shape_of (types_of symbols t.blocks) d.block
     whole : whole_at (layouts_of t symbols) p ≡ Some d.layout
     whole = whole_is (layouts_of t symbols) p d.layout d.laid d.sound.whole
 
-    shape_is : d.layout.shape ≡ shape_of (types_of symbols t.blocks) d.block
+    shape_is : d.layout.shape ≡ shape_of (types_of_source symbols t.blocks) d.block
     shape_is = layout_shape symbols t p d.block d.layout d.sound
 
-    structure : (sh : Shape) → shape_of (types_of symbols t.blocks) d.block ≡ sh
+    structure : (sh : Shape) → shape_of (types_of_source symbols t.blocks) d.block ≡ sh
         → structure_of (layouts_of t symbols) p ≡ shape_block (layouts_of t symbols) p sh
     structure sh e =
         ap (λ (o : Option BlockLayout). option_and_then (λ (b : BlockLayout). shape_block (layouts_of t symbols) p b.shape) o) whole
         ∙ ap (λ (s : Shape). shape_block (layouts_of t symbols) p s) (shape_is ∙ e)
 
-    short : (sh : Shape) → shape_of (types_of symbols t.blocks) d.block ≡ sh
-        → shape_bits (types_of symbols t.blocks) t.blocks d.block sh / 8 ≤ 16384
+    short : (sh : Shape) → shape_of (types_of_source symbols t.blocks) d.block ≡ sh
+        → shape_bits (types_of_source symbols t.blocks) t.blocks d.block sh / 8 ≤ 16384
     short sh e =
-        subst (λ (s : Shape). shape_bits (types_of symbols t.blocks) t.blocks d.block s / 8 ≤ 16384) e
-        (subst (λ (n : ℕ). n ≤ 16384) (data_length (types_of symbols t.blocks) t.blocks d.block kind)
-        (ltb-false 16384 (length_of (types_of symbols t.blocks) t.blocks d.block) d.sound.head.by_51))
+        subst (λ (s : Shape). shape_bits (types_of_source symbols t.blocks) t.blocks d.block s / 8 ≤ 16384) e
+        (subst (λ (n : ℕ). n ≤ 16384) (data_length (types_of_source symbols t.blocks) t.blocks d.block kind)
+        (ltb-false 16384 (length_of_block (types_of_source symbols t.blocks) t.blocks d.block) d.sound.head.by_51))
 
-    long : (sh : Shape) → shape_of (types_of symbols t.blocks) d.block ≡ sh
+    long : (sh : Shape) → shape_of (types_of_source symbols t.blocks) d.block ≡ sh
         → length_at (slice_get (layouts_of t symbols) p)
-        ≡ shape_bits (types_of symbols t.blocks) t.blocks d.block sh / 8
+        ≡ shape_bits (types_of_source symbols t.blocks) t.blocks d.block sh / 8
     long sh e =
         ap (λ (o : Option BlockLayout). length_at o) d.laid
         ∙ layout_length symbols t p d.block d.layout d.sound
-        ∙ data_length (types_of symbols t.blocks) t.blocks d.block kind
-        ∙ ap (λ (s : Shape). shape_bits (types_of symbols t.blocks) t.blocks d.block s / 8) e
+        ∙ data_length (types_of_source symbols t.blocks) t.blocks d.block kind
+        ∙ ap (λ (s : Shape). shape_bits (types_of_source symbols t.blocks) t.blocks d.block s / 8) e
 
-    by : (sh : Shape) → shape_of (types_of symbols t.blocks) d.block ≡ sh → IsStructured symbols t p
+    by : (sh : Shape) → shape_of (types_of_source symbols t.blocks) d.block ≡ sh → IsStructured symbols t p
     by shape.Own e = record {
       inside = p;
       is = structure shape.Own e;
       small = subst (λ (cs : List Cell). structure_bits cs ≤ 131072)
           (sym (cells_are symbols t p d.block d.layout d.sound false))
-          (short_bits (structure_bits (components_of (types_of symbols t.blocks) d.block) / 8)
-          (structure_bits (components_of (types_of symbols t.blocks) d.block)) (short shape.Own e) refl
-          (structure_even (components_of (types_of symbols t.blocks) d.block)));
+          (short_bits (structure_bits (components_of (types_of_source symbols t.blocks) d.block) / 8)
+          (structure_bits (components_of (types_of_source symbols t.blocks) d.block)) (short shape.Own e) refl
+          (structure_even (components_of (types_of_source symbols t.blocks) d.block)));
       long = long shape.Own e
           ∙ ap (λ (cs : List Cell). structure_bits cs / 8)
           (sym (cells_are symbols t p d.block d.layout d.sound false));
@@ -873,40 +873,40 @@ structured symbols t tree p d = by (shape_of (types_of symbols t.blocks) d.block
           (ap is_some (whole_is (layouts_of t symbols) other there.layout there.laid there.sound.whole));
       small = subst (λ (cs : List Cell). structure_bits cs ≤ 131072)
           (sym (cells_are symbols t other there.block there.layout there.sound false))
-          (short_bits (structure_bits (components_of (types_of symbols t.blocks) there.block) / 8)
-          (structure_bits (components_of (types_of symbols t.blocks) there.block))
-          (subst (λ (o : Option Block). block_bits (types_of symbols t.blocks) o / 8 ≤ 16384)
+          (short_bits (structure_bits (components_of (types_of_source symbols t.blocks) there.block) / 8)
+          (structure_bits (components_of (types_of_source symbols t.blocks) there.block))
+          (subst (λ (o : Option Block). block_bits (types_of_source symbols t.blocks) o / 8 ≤ 16384)
           there.sound.block_there (short (shape.Of other) e)) refl
-          (structure_even (components_of (types_of symbols t.blocks) there.block)));
+          (structure_even (components_of (types_of_source symbols t.blocks) there.block)));
       long = long (shape.Of other) e
-          ∙ ap (λ (o : Option Block). block_bits (types_of symbols t.blocks) o / 8) there.sound.block_there
+          ∙ ap (λ (o : Option Block). block_bits (types_of_source symbols t.blocks) o / 8) there.sound.block_there
           ∙ ap (λ (cs : List Cell). structure_bits cs / 8)
           (sym (cells_are symbols t other there.block there.layout there.sound false));
     }
       where
-        found : (n : BlockName) × (found_block (types_of symbols t.blocks).symbols (types_of symbols t.blocks).ids has_structure n ≡ Some other)
-        found = shape_found (types_of symbols t.blocks) (referred d.block.instance_of d.block.shape) other e
+        found : (n : BlockName) × (found_block (types_of_source symbols t.blocks).symbols (types_of_source symbols t.blocks).ids has_structure n ≡ Some other)
+        found = shape_found (types_of_source symbols t.blocks) (structure_block_name d.block.instance_of d.block.shape) other e
 
         there : IsThere symbols t has_structure other
         there = block_there symbols t tree has_structure found.0 other found.1
     by shape.Unknown e =
-        let known = or_second (is_none (id_of (types_of symbols t.blocks).symbols d.block))
-        (is_unknown_shape (shape_of (types_of symbols t.blocks) d.block)) d.sound.head.by_23 in
+        let known = or_second (is_none (id_of (types_of_source symbols t.blocks).symbols d.block))
+        (is_unknown_shape (shape_of (types_of_source symbols t.blocks) d.block)) d.sound.head.by_23 in
         let never : is_unknown_shape shape.Unknown ≡ false
         = ap is_unknown_shape (sym e) ∙ known in
         absurd cc
 
 -- a component of a data block
-pub data_seen : (symbols : List Symbol) (t : Tree) → IsSoundTree symbols t → (k : ℕ) (a : Around)
+pub data_seen : (symbols : List Symbol) (t : Tree) → IsSoundTree symbols t → (k : ℕ) (a : Environment)
     (name : BlockName) (steps : List PathStep)
-    → is_unknown_data (types_of symbols t.blocks) name ≡ false
+    → is_unknown_data (types_of_source symbols t.blocks) name ≡ false
     → is_unknown (data_variable (context_at symbols t k) name steps) ≡ false
     → leaves_found (layouts_of t symbols)
-    (found_block (types_of symbols t.blocks).symbols (types_of symbols t.blocks).ids is_data_block name) steps ≡ false
+    (found_block (types_of_source symbols t.blocks).symbols (types_of_source symbols t.blocks).ids is_data_block name) steps ≡ false
     → IsSeen a (data_variable (context_at symbols t k) name steps)
 data_seen symbols t tree k a name steps there known stays =
     subst (IsSeen a) (sym whole)
-    (reads (walked_data (layouts_of t symbols) d.place steps) refl goes
+    (reads (path_end_in_data_block (layouts_of t symbols) d.place steps) refl goes
     (subst (λ (s : Resolution). is_unknown s ≡ false) whole known))
   where
     d : IsData symbols t k name
@@ -916,13 +916,13 @@ data_seen symbols t tree k a name steps there known stays =
     s = structured symbols t tree d.place d.block
 
     whole : data_variable (context_at symbols t k) name steps
-        ≡ data_walked (context_at symbols t k) d.block.id.number (walked_data (layouts_of t symbols) d.place steps)
+        ≡ data_walked (context_at symbols t k) d.block.id.number (path_end_in_data_block (layouts_of t symbols) d.place steps)
     whole =
         ap (λ (o : Option ℕ). data_path (context_at symbols t k) steps o (data_place (context_at symbols t k) name)) d.number
         ∙ ap (λ (o : Option ℕ). data_path (context_at symbols t k) steps (Some d.block.id.number) o) d.found
 
     goes : Goes (layouts_of t symbols) (structure_bits (cells_at (layouts_of t symbols) s.inside false))
-        (walked_data (layouts_of t symbols) d.place steps)
+        (path_end_in_data_block (layouts_of t symbols) d.place steps)
     goes = data_goes (layouts_of t symbols) (structure_bits (cells_at (layouts_of t symbols) s.inside false))
         (are_right symbols t tree) (let small = s.small in omega (arith, small)) d.place s.inside steps s.is
         (omega arith)
@@ -932,7 +932,7 @@ data_seen symbols t tree k a name steps there known stays =
         → (o : Option Simple) → elementary_at (layouts_of t symbols) w ≡ o
         → IsSeen a (data_at (context_at symbols t k) d.block.id.number w o)
     at w h None e = record {
-      view = composite (slice_get (cells_at (layouts_of t symbols) w.block w.temporary) w.place);
+      view = composite_operand (slice_get (cells_at (layouts_of t symbols) w.block w.temporary) w.place);
       is = refl;
       fits = composite_fits a (slice_get (cells_at (layouts_of t symbols) w.block w.temporary) w.place);
     }
@@ -950,7 +950,7 @@ data_seen symbols t tree k a name steps there known stays =
         place : IsPlaced (structure_bits (cells_at (layouts_of t symbols) s.inside false)) w.offset kind
         place = reached_place (layouts_of t symbols) (structure_bits (cells_at (layouts_of t symbols) s.inside false)) w kind h e
 
-    reads : (w : PathEnd) → w ≡ walked_data (layouts_of t symbols) d.place steps
+    reads : (w : PathEnd) → w ≡ path_end_in_data_block (layouts_of t symbols) d.place steps
         → Goes (layouts_of t symbols) (structure_bits (cells_at (layouts_of t symbols) s.inside false)) w
         → is_unknown (data_walked (context_at symbols t k) d.block.id.number w) ≡ false
         → IsSeen a (data_walked (context_at symbols t k) d.block.id.number w)
@@ -963,14 +963,14 @@ data_seen symbols t tree k a name steps there known stays =
 -- what the rules leave of an operand
 pub record IsJudged (symbols : List Symbol) (t : Tree) (k : ℕ) (o : Operand) : Type 0 where
   pub well_formed : IsOperand o
-  pub known : is_unknown (seen (context_at symbols t k) o) ≡ false
-  pub there : names_unknown (types_of symbols t.blocks) o ≡ false
-  pub inside : operand_is_outside (types_of symbols t.blocks) (layouts_of t symbols) k o ≡ false
+  pub known : is_unknown (resolution_of (context_at symbols t k) o) ≡ false
+  pub there : names_unknown (types_of_source symbols t.blocks) o ≡ false
+  pub inside : operand_is_outside (types_of_source symbols t.blocks) (layouts_of t symbols) k o ≡ false
 
 module _ (symbols : List Symbol) (t : Tree) (tree : IsSoundTree symbols t)
     (fit : AllByRecursion SymbolFits symbols) (k : ℕ) (b : Block) (l : BlockLayout)
     (block : IsSound symbols t k b l) (code : is_code b.kind ≡ true)
-    (a : Around) (around : Surrounds symbols t b l a) where
+    (a : Environment) (around : Surrounds symbols t b l a) where
   symbol_fits : (name : List ℕ) (o : Option Symbol) → symbol_named name symbols ≡ o
       → is_unknown (symbol_seen o) ≡ false → IsSeen a (symbol_seen o)
   symbol_fits name None e known = absurd cc
@@ -982,8 +982,8 @@ module _ (symbols : List Symbol) (t : Tree) (tree : IsSoundTree symbols t)
 
   path_fits : (p : PathHead) (steps : List PathStep)
       → is_unknown (path_seen (context_at symbols t k) p steps) ≡ false
-      → is_unknown_path (types_of symbols t.blocks) p ≡ false
-      → leaves_path (types_of symbols t.blocks) (layouts_of t symbols) k p steps ≡ false
+      → is_unknown_path (types_of_source symbols t.blocks) p ≡ false
+      → leaves_path (types_of_source symbols t.blocks) (layouts_of t symbols) k p steps ≡ false
       → IsSeen a (path_seen (context_at symbols t k) p steps)
   path_fits (head.Local name) steps known there inside =
       own_seen symbols t tree k b l block code a around (upper_case_name name) (folded_path steps) known inside
@@ -992,18 +992,18 @@ module _ (symbols : List Symbol) (t : Tree) (tree : IsSoundTree symbols t)
   path_fits (head.Symbol name) steps known there inside =
       symbol_fits name (symbol_named name symbols) refl known
 
-  pub operand_seen : (o : Operand) → IsJudged symbols t k o → is_called o ≡ false
-      → local_end o ≤ a.local_len → IsSeen a (seen (context_at symbols t k) o)
-  unfolding seen
+  pub operand_seen : (o : Operand) → IsJudged symbols t k o → names_called_block o ≡ false
+      → local_end o ≤ a.local_len → IsSeen a (resolution_of (context_at symbols t k) o)
+  unfolding resolution_of
   operand_seen operand.Nothing h other ends = record { view = view.Nothing; is = refl; fits = tt }
   operand_seen (operand.Direct None ar w byte bit) h other ends = record {
-    view = address 0 ar w byte bit;
+    view = resolved_address 0 ar w byte bit;
     is = refl;
     fits = (address_fits a ar w byte bit h.well_formed.2 ends, tt);
   }
   operand_seen (operand.Direct (Some name) ar w byte bit) h other ends = record {
-    view = address d.block.id.number ar w byte bit;
-    is = ap (λ (o : Option ℕ). address_in o ar w byte bit) d.number;
+    view = resolved_address d.block.id.number ar w byte bit;
+    is = ap (λ (o : Option ℕ). address_in_block o ar w byte bit) d.number;
     fits = (address_fits a ar w byte bit h.well_formed.2 ends, tt);
   }
     where
@@ -1015,9 +1015,9 @@ module _ (symbols : List Symbol) (t : Tree) (tree : IsSoundTree symbols t)
       record { view = view.Counter number; is = refl; fits = tt }
   operand_seen (operand.Named p steps) h other ends = path_fits p steps h.known h.there h.inside
   operand_seen (operand.ByMemory ar w from byte) h other ends =
-      record { view = view.ByMemory (area_of ar) w (area_of from) byte; is = refl; fits = tt }
+      record { view = view.ByMemory (area_for_letters ar) w (area_for_letters from) byte; is = refl; fits = tt }
   operand_seen (operand.NumberBy what from byte) h other ends =
-      record { view = view.NumberBy what (area_of from) byte; is = refl; fits = tt }
+      record { view = view.NumberBy what (area_for_letters from) byte; is = refl; fits = tt }
   operand_seen (operand.ByRegister ar w r bits) h other ends =
       record { view = view.ByRegister (area_left ar) w r bits; is = refl; fits = tt }
   operand_seen (operand.Pointer ar byte bit) h other ends =
@@ -1028,7 +1028,7 @@ module _ (symbols : List Symbol) (t : Tree) (tree : IsSoundTree symbols t)
   operand_seen (operand.OfStatus flag) h other ends =
       record { view = view.OfStatus flag; is = refl; fits = tt }
   operand_seen (operand.Other name) h other ends =
-      record { view = view.Register (register_of name); is = refl; fits = tt }
+      record { view = view.Register (register_for_word name); is = refl; fits = tt }
   operand_seen (operand.OpenBlock di name) h other ends = record {
     view = view.OpenBlock di d.block.id.number;
     is = ap (λ (o : Option ℕ). opened_seen di o) d.number;

@@ -7,15 +7,15 @@ use Rattle.plc_base.proofs.TruthLemmas.{and_first}
 use Rattle.stl_ast.specs.declared.declarations.Bounds.{Bounds}
 use Rattle.stl_ast.specs.declared.declarations.Simple.{Simple}
 use Rattle.stl_ast.specs.declared.declarations.Simple.TheVariants as simple
-use Rattle.block_layout.specs.Declarations.{count}
-use Rattle.block_layout.specs.Members.{component}
-use Rattle.block_layout.specs.Paths.{cells_at, entered, found_at, outermost, within}
-use Rattle.block_layout.specs.Sizes.{alignment, array_bits, capped, cell_bits, element_alignment, element_bits, element_of, end_of, stepped, structure_bits, up}
+use Rattle.block_layout.specs.Declarations.{element_count}
+use Rattle.block_layout.specs.Members.{component_of_name}
+use Rattle.block_layout.specs.Paths.{cells_at, path_end_at_cell, path_end_at_member, outermost_path_end, path_end_in_bounds}
+use Rattle.block_layout.specs.Sizes.{alignment, array_bits, capped_size, cell_bits, element_alignment, element_bits, element_of, components_end, end_behind_cell, structure_bits, next_multiple}
 use Rattle.block_layout.specs.declared.blocks.BlockLayout.{BlockLayout}
 use Rattle.block_layout.specs.declared.cells.Cell.{Cell}
 use Rattle.block_layout.specs.declared.cells.Element.{Element}
 use Rattle.block_layout.specs.declared.cells.Element.TheVariants.{Plain, Structure, DateAndTime, Udt, Unknown}
-use Rattle.block_layout.specs.Sizes.{largest}
+use Rattle.block_layout.specs.Sizes.{largest_size}
 use Rattle.block_layout.specs.declared.members.Member.{Member}
 use Rattle.block_layout.specs.declared.walks.ComponentAt.{ComponentAt}
 use Rattle.block_layout.specs.declared.walks.PathEnd.{PathEnd}
@@ -53,28 +53,28 @@ even_meets n [] (Udt block bits) e = e
 even_meets n [] Unknown e = e
 even_meets n (b ∷ bs) of e = e
 
-up_16_even : (n : ℕ) → up n 16 % 16 ≡ 0
-unfolding up
+up_16_even : (n : ℕ) → next_multiple n 16 % 16 ≡ 0
+unfolding next_multiple
 up_16_even n = omega arith
 
-up_8_even : (n : ℕ) → up n 8 % 8 ≡ 0
-unfolding up
+up_8_even : (n : ℕ) → next_multiple n 8 % 8 ≡ 0
+unfolding next_multiple
 up_8_even n = omega arith
 
-up_16_behind : (n : ℕ) → n ≤ up n 16
-unfolding up
+up_16_behind : (n : ℕ) → n ≤ next_multiple n 16
+unfolding next_multiple
 up_16_behind n = omega arith
 
-up_8_behind : (n : ℕ) → n ≤ up n 8
-unfolding up
+up_8_behind : (n : ℕ) → n ≤ next_multiple n 8
+unfolding next_multiple
 up_8_behind n = omega arith
 
-up_1_behind : (n : ℕ) → n ≤ up n 1
-unfolding up
+up_1_behind : (n : ℕ) → n ≤ next_multiple n 1
+unfolding next_multiple
 up_1_behind n = omega arith
 
 -- the alignment of an element
-kind_behind : (at : ℕ) (kind : Simple) → at ≤ up at (element_alignment (Plain kind))
+kind_behind : (at : ℕ) (kind : Simple) → at ≤ next_multiple at (element_alignment (Plain kind))
 kind_behind at simple.Bool = up_1_behind at
 kind_behind at simple.Byte = up_8_behind at
 kind_behind at simple.Char = up_8_behind at
@@ -85,7 +85,7 @@ kind_behind at simple.Dword = up_16_behind at
 kind_behind at simple.Dint = up_16_behind at
 kind_behind at simple.Time = up_16_behind at
 
-element_behind : (at : ℕ) (of : Element) → at ≤ up at (element_alignment of)
+element_behind : (at : ℕ) (of : Element) → at ≤ next_multiple at (element_alignment of)
 element_behind at (Plain kind) = kind_behind at kind
 element_behind at Structure = up_16_behind at
 element_behind at DateAndTime = up_16_behind at
@@ -93,16 +93,16 @@ element_behind at (Udt block bits) = up_16_behind at
 element_behind at Unknown = up_16_behind at
 
 align_behind : (at : ℕ) (opens one : Bool) (of : Element)
-    → at ≤ up at (if opens then 16 else if one then element_alignment of else 16)
+    → at ≤ next_multiple at (if opens then 16 else if one then element_alignment of else 16)
 align_behind at true one of = up_16_behind at
 align_behind at false true of = element_behind at of
 align_behind at false false of = up_16_behind at
 
-start_behind : (at : ℕ) (c : Cell) → at ≤ up at (alignment c)
+start_behind : (at : ℕ) (c : Cell) → at ≤ next_multiple at (alignment c)
 start_behind at c = align_behind at c.opens (nat_eq (length c.bounds) 0) c.of
 
 kind_meets : (n at : ℕ) (kind : Simple) → n % 16 ≡ 0
-    → MeetsKind (n + up at (element_alignment (Plain kind))) kind
+    → MeetsKind (n + next_multiple at (element_alignment (Plain kind))) kind
 kind_meets n at simple.Bool e = tt
 kind_meets n at simple.Byte e = let m = up_8_even at in omega (arith, e, m)
 kind_meets n at simple.Char e = let m = up_8_even at in omega (arith, e, m)
@@ -114,12 +114,12 @@ kind_meets n at simple.Dint e = let m = up_16_even at in omega (arith, e, m)
 kind_meets n at simple.Time e = let m = up_16_even at in omega (arith, e, m)
 
 sixteen_meets : (n at : ℕ) (bounds : List Bounds) (of : Element) → n % 16 ≡ 0
-    → Meets (n + up at 16) bounds of
+    → Meets (n + next_multiple at 16) bounds of
 sixteen_meets n at bounds of e =
-    let m = up_16_even at in even_meets (n + up at 16) bounds of (omega (arith, e, m))
+    let m = up_16_even at in even_meets (n + next_multiple at 16) bounds of (omega (arith, e, m))
 
 one_meets : (n at : ℕ) (of : Element) → n % 16 ≡ 0
-    → Meets (n + up at (element_alignment of)) [] of
+    → Meets (n + next_multiple at (element_alignment of)) [] of
 one_meets n at (Plain kind) e = kind_meets n at kind e
 one_meets n at Structure e = sixteen_meets n at [] Structure e
 one_meets n at DateAndTime e = sixteen_meets n at [] DateAndTime e
@@ -128,7 +128,7 @@ one_meets n at Unknown e = sixteen_meets n at [] Unknown e
 
 align_meets : (n at : ℕ) (opens one : Bool) (bounds : List Bounds) (of : Element) → n % 16 ≡ 0
     → nat_eq (length bounds) 0 ≡ one
-    → Meets (n + up at (if opens then 16 else if one then element_alignment of else 16)) bounds of
+    → Meets (n + next_multiple at (if opens then 16 else if one then element_alignment of else 16)) bounds of
 align_meets n at true one bounds of e is = sixteen_meets n at bounds of e
 align_meets n at false false bounds of e is = sixteen_meets n at bounds of e
 align_meets n at false true [] of e is = one_meets n at of e
@@ -136,27 +136,27 @@ align_meets n at false true (b ∷ bs) of e is =
     let none : suc (length bs) ≡ 0 = eqb-true (length (b ∷ bs)) 0 is in
     absurd (omega (arith, none))
 
-pub start_meets : (n at : ℕ) (c : Cell) → n % 16 ≡ 0 → Meets (n + up at (alignment c)) c.bounds c.of
+pub start_meets : (n at : ℕ) (c : Cell) → n % 16 ≡ 0 → Meets (n + next_multiple at (alignment c)) c.bounds c.of
 start_meets n at c e = align_meets n at c.opens (nat_eq (length c.bounds) 0) c.bounds c.of e refl
 
 -- ---- sizes
 
-capped_same : (n : ℕ) → n < largest → capped n ≡ n
+capped_same : (n : ℕ) → n < largest_size → capped_size n ≡ n
 capped_same n h = omega (arith, h)
 
 -- what is below the cap wasn't capped
-below_cap : (n : ℕ) → capped n < largest → n ≡ capped n
+below_cap : (n : ℕ) → capped_size n < largest_size → n ≡ capped_size n
 below_cap n h = omega (arith, h)
 
-capped_even : (n : ℕ) → n % 16 ≡ 0 → capped n % 16 ≡ 0
+capped_even : (n : ℕ) → n % 16 ≡ 0 → capped_size n % 16 ≡ 0
 capped_even n e = by n e
   where
     by : (n : ℕ) → n % 16 ≡ 0 → min n 2147483648 % 16 ≡ 0
     by n e = omega (arith, e)
 
 array_even : (b : Bounds) (bs : List Bounds) (element : ℕ) → array_bits (b ∷ bs) element % 16 ≡ 0
-array_even b bs element = capped_even (up (capped (count b * array_bits bs element)) 16)
-    (up_16_even (capped (count b * array_bits bs element)))
+array_even b bs element = capped_even (next_multiple (capped_size (element_count b * array_bits bs element)) 16)
+    (up_16_even (capped_size (element_count b * array_bits bs element)))
 
 times_even : (k n : ℕ) → n % 16 ≡ 0 → (k * n) % 16 ≡ 0
 times_even k n e =
@@ -169,15 +169,15 @@ times_even k n e =
 
 pub structure_even : (cells : List Cell) → structure_bits cells % 16 ≡ 0
 unfolding structure_bits
-structure_even cells = capped_even (up (end_of 0 0 cells) 16) (up_16_even (end_of 0 0 cells))
+structure_even cells = capped_even (next_multiple (components_end 0 0 cells) 16) (up_16_even (components_end 0 0 cells))
 
 -- a data type takes a whole number of words
 abbrev pub UdtEven : Element → Type 0
 UdtEven (Udt block bits) = bits % 16 ≡ 0
 UdtEven _ = Unit {0}
 
-pub inner_even : (sound : Bool) (n : ℕ) → (if sound then capped (up n 16) else 0) % 16 ≡ 0
-inner_even true n = capped_even (up n 16) (up_16_even n)
+pub inner_even : (sound : Bool) (n : ℕ) → (if sound then capped_size (next_multiple n 16) else 0) % 16 ≡ 0
+inner_even true n = capped_even (next_multiple n 16) (up_16_even n)
 inner_even false n = refl
 
 pub index_meets : (n k : ℕ) (bs : List Bounds) (of : Element) (components : ℕ) → n % 16 ≡ 0
@@ -196,7 +196,7 @@ index_meets n k [] Structure components e f g =
     let m = times_even k components f in omega (arith, e, m)
 index_meets n k [] DateAndTime components e f g = omega (arith, e)
 index_meets n k [] (Udt block bits) components e f g =
-    let m = times_even k (capped bits) (capped_even bits g) in omega (arith, e, m)
+    let m = times_even k (capped_size bits) (capped_even bits g) in omega (arith, e, m)
 index_meets n k [] Unknown components e f g = omega (arith, e)
 index_meets n k (b ∷ bs) of components e f g =
     let m = times_even k (array_bits (b ∷ bs) (element_bits of components))
@@ -210,59 +210,59 @@ one_of_many k n size h =
     let is : suc k * size ≡ k * size + size = suc-mul k size in
     omega (arith, more, is)
 
-pub element_within : (offset limit k : ℕ) (b : Bounds) (bs : List Bounds) (element : ℕ) → k < count b
-    → limit < largest → offset + array_bits (b ∷ bs) element ≤ limit
-    → (capped (offset + capped (k * array_bits bs element)) ≡ offset + k * array_bits bs element)
+pub element_within : (offset limit k : ℕ) (b : Bounds) (bs : List Bounds) (element : ℕ) → k < element_count b
+    → limit < largest_size → offset + array_bits (b ∷ bs) element ≤ limit
+    → (capped_size (offset + capped_size (k * array_bits bs element)) ≡ offset + k * array_bits bs element)
     × (offset + k * array_bits bs element + array_bits bs element ≤ limit)
 element_within offset limit k b bs element h near fits = by (k * array_bits bs element)
-    (count b * array_bits bs element) (array_bits bs element) (up (capped (count b * array_bits bs element)) 16)
-    (one_of_many k (count b) (array_bits bs element) h)
-    (up_16_behind (capped (count b * array_bits bs element))) fits
+    (element_count b * array_bits bs element) (array_bits bs element) (next_multiple (capped_size (element_count b * array_bits bs element)) 16)
+    (one_of_many k (element_count b) (array_bits bs element) h)
+    (up_16_behind (capped_size (element_count b * array_bits bs element))) fits
   where
-    by : (x all size whole : ℕ) → x + size ≤ all → capped all ≤ whole → offset + capped whole ≤ limit
-        → (capped (offset + capped x) ≡ offset + x) × (offset + x + size ≤ limit)
-    by x all size whole within behind fits = (omega (arith, near, within, behind, fits), omega (arith, near, within, behind, fits))
+    by : (x all size whole : ℕ) → x + size ≤ all → capped_size all ≤ whole → offset + capped_size whole ≤ limit
+        → (capped_size (offset + capped_size x) ≡ offset + x) × (offset + x + size ≤ limit)
+    by x all size whole path_end_in_bounds behind fits = (omega (arith, near, path_end_in_bounds, behind, fits), omega (arith, near, path_end_in_bounds, behind, fits))
 
 -- ---- ends of components
 
 pub record Grows (at next : ℕ) : Type 0 where
   pub above : at ≤ next
-  pub near : next ≤ largest
+  pub near : next ≤ largest_size
 
-grows_by : (here sound : Bool) (at first bits : ℕ) → at ≤ largest → at ≤ first
-    → Grows at (if here then if sound then capped (first + bits) else at else at)
+grows_by : (here sound : Bool) (at first bits : ℕ) → at ≤ largest_size → at ≤ first
+    → Grows at (if here then if sound then capped_size (first + bits) else at else at)
 grows_by true true at first bits near behind =
     record { above = omega (arith, near, behind); near = omega arith }
 grows_by true false at first bits near behind = record { above = omega arith; near = near }
 grows_by false sound at first bits near behind = record { above = omega arith; near = near }
 
-pub step_grows : (level at : ℕ) (c : Cell) (bits : ℕ) → at ≤ largest
-    → Grows at (stepped level at c bits)
+pub step_grows : (level at : ℕ) (c : Cell) (bits : ℕ) → at ≤ largest_size
+    → Grows at (end_behind_cell level at c bits)
 step_grows level at c bits near =
-    grows_by (nat_eq c.level level) c.sound at (up at (alignment c)) bits near (start_behind at c)
+    grows_by (nat_eq c.level level) c.sound at (next_multiple at (alignment c)) bits near (start_behind at c)
 
 pub end_step : (level at : ℕ) (c : Cell) (cs : List Cell) → nat_lt c.level level ≡ false
-    → end_of level at (c ∷ cs) ≡ end_of level (stepped level at c (cell_bits c cs)) cs
-unfolding end_of element_of
+    → components_end level at (c ∷ cs) ≡ components_end level (end_behind_cell level at c (cell_bits c cs)) cs
+unfolding components_end element_of
 end_step level at c cs stays = rw stays refl
 
 end_stop : (level at : ℕ) (c : Cell) (cs : List Cell) → nat_lt c.level level ≡ true
-    → end_of level at (c ∷ cs) ≡ at
-unfolding end_of element_of
+    → components_end level at (c ∷ cs) ≡ at
+unfolding components_end element_of
 end_stop level at c cs lower = rw lower refl
 
-end_none : (level at : ℕ) → end_of level at [] ≡ at
-unfolding end_of
+end_none : (level at : ℕ) → components_end level at [] ≡ at
+unfolding components_end
 end_none level at = refl
 
-end_grows : (level at : ℕ) (cells : List Cell) → at ≤ largest → at ≤ end_of level at cells
+end_grows : (level at : ℕ) (cells : List Cell) → at ≤ largest_size → at ≤ components_end level at cells
 end_grows level at [] near = let none = end_none level at in omega (arith, none)
 end_grows level at (c ∷ cs) near =
-    by (end_grows level (stepped level at c (cell_bits c cs)) cs
+    by (end_grows level (end_behind_cell level at c (cell_bits c cs)) cs
     (step_grows level at c (cell_bits c cs) near).near) (nat_lt c.level level) refl
   where
-    by : stepped level at c (cell_bits c cs) ≤ end_of level (stepped level at c (cell_bits c cs)) cs
-        → (lower : Bool) → nat_lt c.level level ≡ lower → at ≤ end_of level at (c ∷ cs)
+    by : end_behind_cell level at c (cell_bits c cs) ≤ components_end level (end_behind_cell level at c (cell_bits c cs)) cs
+        → (lower : Bool) → nat_lt c.level level ≡ lower → at ≤ components_end level at (c ∷ cs)
     by later true is = let stop = end_stop level at c cs is in omega (arith, stop)
     by later false is =
         let same = end_step level at c cs is in
@@ -290,78 +290,78 @@ pub record IsFound (all : List Cell) (end : ℕ) (m : Member) : Type 0 where
   pub cell : Cell
   pub there : slice_get all m.place ≡ Some cell
   pub at : ℕ
-  pub offset : m.offset ≡ up at (alignment cell)
-  pub within : cell.sound ≡ true → end < largest
+  pub offset : m.offset ≡ next_multiple at (alignment cell)
+  pub within : cell.sound ≡ true → end < largest_size
       → m.offset + cell_bits cell (drop (suc m.place) all) ≤ end
 
 component_step : (level at p : ℕ) (name : List ℕ) (c : Cell) (cs : List Cell)
-    → component level at p name (c ∷ cs)
+    → component_of_name level at p name (c ∷ cs)
     ≡ (if nat_lt c.level level then None
     else if nat_eq c.level level && bytes_eq name c.name
-    then Some (record { place = p; offset = up at (alignment c) })
-    else component level (stepped level at c (cell_bits c cs)) (p + 1) name cs)
-unfolding component
+    then Some (record { place = p; offset = next_multiple at (alignment c) })
+    else component_of_name level (end_behind_cell level at c (cell_bits c cs)) (p + 1) name cs)
+unfolding component_of_name
 component_step level at p name c cs = refl
 
-component_none : (level at p : ℕ) (name : List ℕ) → component level at p name [] ≡ None
-unfolding component
+component_none : (level at p : ℕ) (name : List ℕ) → component_of_name level at p name [] ≡ None
+unfolding component_of_name
 component_none level at p name = refl
 
-pub here_within : (level at : ℕ) (c : Cell) (cs : List Cell) → at ≤ largest
+pub here_within : (level at : ℕ) (c : Cell) (cs : List Cell) → at ≤ largest_size
     → nat_lt c.level level ≡ false → nat_eq c.level level ≡ true → c.sound ≡ true
-    → end_of level at (c ∷ cs) < largest
-    → up at (alignment c) + cell_bits c cs ≤ end_of level at (c ∷ cs)
+    → components_end level at (c ∷ cs) < largest_size
+    → next_multiple at (alignment c) + cell_bits c cs ≤ components_end level at (c ∷ cs)
 here_within level at c cs near stays here sound short =
     let same = end_step level at c cs stays in
     let grows = step_grows level at c (cell_bits c cs) near in
-    let later = end_grows level (stepped level at c (cell_bits c cs)) cs grows.near in
-    let is : stepped level at c (cell_bits c cs) ≡ capped (up at (alignment c) + cell_bits c cs)
+    let later = end_grows level (end_behind_cell level at c (cell_bits c cs)) cs grows.near in
+    let is : end_behind_cell level at c (cell_bits c cs) ≡ capped_size (next_multiple at (alignment c) + cell_bits c cs)
     = rw here (rw sound refl) in
-    fits (up at (alignment c) + cell_bits c cs) (stepped level at c (cell_bits c cs))
-    (end_of level (stepped level at c (cell_bits c cs)) cs) (end_of level at (c ∷ cs)) is later same short
+    fits (next_multiple at (alignment c) + cell_bits c cs) (end_behind_cell level at c (cell_bits c cs))
+    (components_end level (end_behind_cell level at c (cell_bits c cs)) cs) (components_end level at (c ∷ cs)) is later same short
   where
-    fits : (n next end whole : ℕ) → next ≡ capped n → next ≤ end → whole ≡ end → whole < largest
+    fits : (n next end whole : ℕ) → next ≡ capped_size n → next ≤ end → whole ≡ end → whole < largest_size
         → n ≤ whole
     fits n next end whole a b c d = omega (arith, a, b, c, d)
 
 pub component_found : (all : List Cell) (level at p : ℕ) (cells : List Cell) (name : List ℕ)
-    (m : Member) → drop p all ≡ cells → at ≤ largest → component level at p name cells ≡ Some m
-    → IsFound all (end_of level at cells) m
+    (m : Member) → drop p all ≡ cells → at ≤ largest_size → component_of_name level at p name cells ≡ Some m
+    → IsFound all (components_end level at cells) m
 component_found all level at p [] name m e near found =
     let none = component_none level at p name in absurd cc
 component_found all level at p (c ∷ cs) name m e near found =
-    lower (component_found all level (stepped level at c (cell_bits c cs)) (p + 1) cs name m
+    lower (component_found all level (end_behind_cell level at c (cell_bits c cs)) (p + 1) cs name m
     (ap (λ (k : ℕ). drop k all) (add-one p) ∙ cells_behind all p c cs e)
     (step_grows level at c (cell_bits c cs) near).near)
     (nat_lt c.level level) refl (sym (component_step level at p name c cs) ∙ found)
   where
     next : ℕ
-    next = stepped level at c (cell_bits c cs)
+    next = end_behind_cell level at c (cell_bits c cs)
 
-    lower : (component level (stepped level at c (cell_bits c cs)) (p + 1) name cs ≡ Some m
-        → IsFound all (end_of level (stepped level at c (cell_bits c cs)) cs) m)
+    lower : (component_of_name level (end_behind_cell level at c (cell_bits c cs)) (p + 1) name cs ≡ Some m
+        → IsFound all (components_end level (end_behind_cell level at c (cell_bits c cs)) cs) m)
         → (t : Bool) → nat_lt c.level level ≡ t
         → (if t then None
         else if nat_eq c.level level && bytes_eq name c.name
-        then Some (record { place = p; offset = up at (alignment c) })
-        else component level next (p + 1) name cs) ≡ Some m
-        → IsFound all (end_of level at (c ∷ cs)) m
+        then Some (record { place = p; offset = next_multiple at (alignment c) })
+        else component_of_name level next (p + 1) name cs) ≡ Some m
+        → IsFound all (components_end level at (c ∷ cs)) m
     lower more true is h = absurd cc
     lower more false stays h = here (nat_eq c.level level && bytes_eq name c.name) refl h
       where
         here : (t : Bool) → (nat_eq c.level level && bytes_eq name c.name) ≡ t
-            → (if t then Some (record { place = p; offset = up at (alignment c) })
-            else component level next (p + 1) name cs) ≡ Some m
-            → IsFound all (end_of level at (c ∷ cs)) m
+            → (if t then Some (record { place = p; offset = next_multiple at (alignment c) })
+            else component_of_name level next (p + 1) name cs) ≡ Some m
+            → IsFound all (components_end level at (c ∷ cs)) m
         here true is h =
-            let same : record { place = p; offset = up at (alignment c) } ≡ m = some_same _ m h in
-            subst (IsFound all (end_of level at (c ∷ cs))) same (record {
+            let same : record { place = p; offset = next_multiple at (alignment c) } ≡ m = some_same _ m h in
+            subst (IsFound all (components_end level at (c ∷ cs))) same (record {
               cell = c;
               there = cell_there all p c cs e;
               at = at;
               offset = refl;
               within = λ sound short.
-                  subst (λ (z : List Cell). up at (alignment c) + cell_bits c z ≤ end_of level at (c ∷ cs))
+                  subst (λ (z : List Cell). next_multiple at (alignment c) + cell_bits c z ≤ components_end level at (c ∷ cs))
                   (sym (cells_behind all p c cs e))
                   (here_within level at c cs near stays
                   (and_first (nat_eq c.level level) (bytes_eq name c.name) is) sound short);
@@ -420,30 +420,30 @@ slice_behind (c ∷ cs) (suc first) k =
 
 -- a component of a structure whose components begin at a place of the cells
 pub found_lies : (l : List BlockLayout) (limit : ℕ) (right : AreRight l) (block : ℕ) (temporary : Bool)
-    (level first offset : ℕ) (name : List ℕ) → offset % 16 ≡ 0 → limit < largest
-    → offset + end_of level 0 (drop first (cells_at l block temporary)) ≤ limit
-    → Goes l limit (found_at (cells_at l block temporary) block temporary first offset
-    (component level 0 0 name (drop first (cells_at l block temporary))))
+    (level first offset : ℕ) (name : List ℕ) → offset % 16 ≡ 0 → limit < largest_size
+    → offset + components_end level 0 (drop first (cells_at l block temporary)) ≤ limit
+    → Goes l limit (path_end_at_member (cells_at l block temporary) block temporary first offset
+    (component_of_name level 0 0 name (drop first (cells_at l block temporary))))
 found_lies l limit right block temporary level first offset name even near fits =
-    by (component level 0 0 name (drop first cells)) refl
+    by (component_of_name level 0 0 name (drop first cells)) refl
   where
     cells : List Cell
     cells = cells_at l block temporary
 
     end : ℕ
-    end = end_of level 0 (drop first cells)
+    end = components_end level 0 (drop first cells)
 
-    by : (found : Option Member) → component level 0 0 name (drop first cells) ≡ found
-        → Goes l limit (found_at cells block temporary first offset found)
+    by : (found : Option Member) → component_of_name level 0 0 name (drop first cells) ≡ found
+        → Goes l limit (path_end_at_member cells block temporary first offset found)
     by None e = tt
     by (Some m) e = entered_lies (component_found (drop first cells) level 0 0 (drop first cells) name m refl (omega arith) e)
       where
         entered_lies : IsFound (drop first cells) end m
-            → Goes l limit (entered block temporary (first + m.place) (capped (offset + capped m.offset))
+            → Goes l limit (path_end_at_cell block temporary (first + m.place) (capped_size (offset + capped_size m.offset))
             (slice_get cells (first + m.place)))
         entered_lies f =
-            subst (λ (o : Option Cell). Goes l limit (entered block temporary (first + m.place)
-            (capped (offset + capped m.offset)) o)) (sym there) (whether f.cell.sound is.sound)
+            subst (λ (o : Option Cell). Goes l limit (path_end_at_cell block temporary (first + m.place)
+            (capped_size (offset + capped_size m.offset)) o)) (sym there) (whether f.cell.sound is.sound)
           where
             there : slice_get cells (first + m.place) ≡ Some f.cell
             there = sym (slice_behind cells first m.place) ∙ f.there
@@ -451,7 +451,7 @@ found_lies l limit right block temporary level first offset name even near fits 
             is : IsRightCell l f.cell
             is = right block (first + m.place) temporary f.cell there
 
-            short : end < largest
+            short : end < largest_size
             short = omega (arith, near, fits)
 
             inside : m.offset + cell_bits f.cell (drop (suc m.place) (drop first cells)) ≤ end
@@ -461,11 +461,11 @@ found_lies l limit right block temporary level first offset name even near fits 
             behind = drop-drop (suc m.place) first cells
                 ∙ ap (λ (n : ℕ). drop n cells) (let e : first + suc m.place ≡ suc (first + m.place) = omega arith in e)
 
-            place : capped (offset + capped m.offset) ≡ offset + m.offset
+            place : capped_size (offset + capped_size m.offset) ≡ offset + m.offset
             place = fit offset m.offset (cell_bits f.cell (drop (suc m.place) (drop first cells))) end limit inside fits near
               where
                 fit : (offset more size end limit : ℕ) → more + size ≤ end → offset + end ≤ limit
-                    → limit < largest → capped (offset + capped more) ≡ offset + more
+                    → limit < largest_size → capped_size (offset + capped_size more) ≡ offset + more
                 fit offset more size end limit a b c = omega (arith, a, b, c)
 
             spot : ComponentAt
@@ -474,7 +474,7 @@ found_lies l limit right block temporary level first offset name even near fits 
               temporary = temporary;
               place = first + m.place;
               depth = 0;
-              offset = capped (offset + capped m.offset);
+              offset = capped_size (offset + capped_size m.offset);
             }
 
             lies : Lies l limit spot
@@ -496,17 +496,17 @@ found_lies l limit right block temporary level first offset name even near fits 
             whether false e = absurd cc
 
 -- the end of a structure's components is within the bits of the structure
-pub structure_ends : (end bits : ℕ) → bits ≡ capped (up end 16) → bits < largest → end ≤ bits
+pub structure_ends : (end bits : ℕ) → bits ≡ capped_size (next_multiple end 16) → bits < largest_size → end ≤ bits
 structure_ends end bits e h = let m = up_16_behind end in omega (arith, e, h, m)
 
 pub outermost_lies : (l : List BlockLayout) (limit : ℕ) → AreRight l → (block : ℕ) (temporary : Bool)
-    (offset : ℕ) (name : List ℕ) → offset % 16 ≡ 0 → limit < largest
+    (offset : ℕ) (name : List ℕ) → offset % 16 ≡ 0 → limit < largest_size
     → offset + structure_bits (cells_at l block temporary) ≤ limit
-    → Goes l limit (outermost l block temporary offset name)
-unfolding outermost structure_bits
+    → Goes l limit (outermost_path_end l block temporary offset name)
+unfolding outermost_path_end structure_bits
 outermost_lies l limit right block temporary offset name even near fits =
     found_lies l limit right block temporary 0 0 offset name even near
-    (let ends = structure_ends (end_of 0 0 (cells_at l block temporary))
-    (capped (up (end_of 0 0 (cells_at l block temporary)) 16)) refl
+    (let ends = structure_ends (components_end 0 0 (cells_at l block temporary))
+    (capped_size (next_multiple (components_end 0 0 (cells_at l block temporary)) 16)) refl
     (let f = fits in let n = near in omega (arith, f, n)) in
     let f = fits in omega (arith, ends, f))

@@ -12,25 +12,25 @@ use Rattle.plc_base.specs.declared.blocks.BlockId.{BlockId}
 use Rattle.plc_base.specs.declared.blocks.BlockKind.{BlockKind}
 use Rattle.plc_base.specs.declared.blocks.BlockKind.TheVariants as kinds
 use Rattle.plc_base.proofs.ListLemmas.{all_append}
-use Rattle.stl_ast.specs.Statements.{is_empty}
+use Rattle.stl_ast.specs.Statements.{is_empty_statement}
 use Rattle.stl_ast.specs.declared.blocks.Block.{Block}
 use Rattle.stl_ast.specs.declared.blocks.Tree.{Tree}
 use Rattle.stl_ast.specs.declared.statements.Statement.{Statement}
-use Rattle.stl_parser.specs.Lines.{Rises, lines_of}
+use Rattle.stl_parser.specs.Lines.{AreRisingLines, statement_lines_of}
 use Rattle.stl_parser.proofs.OptionLemmas.{some_holds}
 use Rattle.stl_symbols.specs.Symbol.{Symbol}
-use Rattle.block_layout.specs.Blocks.{block_place, id_of, ids_of, is_block_number, is_id}
+use Rattle.block_layout.specs.Blocks.{place_of_block, id_of, ids_of, is_block_number, is_id}
 use Rattle.block_layout.specs.Layouts.{block_layout, layouts_of}
-use Rattle.block_layout.specs.Lengths.{length_of, local_len}
-use Rattle.block_layout.specs.Measures.{types_of, with_all_bits, with_all_depths}
+use Rattle.block_layout.specs.Lengths.{length_of_block, local_len}
+use Rattle.block_layout.specs.Measures.{types_of_source, with_all_bits, with_all_depths}
 use Rattle.block_layout.specs.Rule22.{is_earlier}
-use Rattle.block_layout.specs.Rule44.{is_beyond}
+use Rattle.block_layout.specs.Rule44.{is_number_beyond_limits}
 use Rattle.block_layout.specs.Types.{Types}
 use Rattle.block_layout.specs.declared.blocks.BlockLayout.{BlockLayout}
 use Rattle.flat_code.specs.Checking.{all_good}
-use Rattle.flat_code.specs.Codes.{are_ops, code_bytes, code_fault, code_layout, is_nowhere, only, stop_at}
+use Rattle.flat_code.specs.Codes.{are_ops, code_bytes, code_fault, code_layout, is_nowhere, if_checked, stop_at}
 use Rattle.flat_code.specs.Faults.{field_fault, has_number}
-use Rattle.flat_code.specs.Image.{block_number_layout, code_and_lines, code_block_layout as block_layout_of, end_marks, head_layout, instance_bytes, kind_field, line_after, line_field, lines_layout, local_length_layout, parameter_count_layout, parameters, parameter_layout, plain_block, plain_u16, plain_u32, block_rows, head_of_block, head_rows, record_of_block, record_of_param, same_state}
+use Rattle.flat_code.specs.Image.{block_number_layout, code_and_lines, code_block_layout as block_layout_of, end_marks, head_layout, instance_bytes_layout, kind_field, line_after, line_field, lines_layout, local_length_layout, parameter_count_layout, parameters_layout, parameter_layout, plain_block, plain_u16, plain_u32, block_rows, head_of_block, head_rows, record_of_block, record_of_param, same_state}
 use Rattle.flat_code.specs.Instr.{Instr, Passing, Does, Jumps, JumpsByList, Calls, Returns}
 use Rattle.flat_code.specs.Layout.{Layout, good_many, is_fine}
 use Rattle.flat_code.specs.Ops.{OpData}
@@ -39,12 +39,12 @@ use Rattle.flat_code.specs.declared.image_fields.Field.TheVariants as field
 use Rattle.flat_code.specs.declared.programs.Param.{Param}
 use Rattle.flat_code.proofs.CheckLemmas.{zero_word_good}
 use Rattle.stl_types.specs.Context.{Context}
-use Rattle.stl_codegen.specs.Compiled.{Stated, StatedBlock, aimed_op, compiled, lines_in, offset_of, ops_in, placed_ops}
-use Rattle.stl_codegen.specs.Emitted.{call_op, ops_of, passing}
-use Rattle.stl_codegen.specs.Generated.{code_block, code_block_of, code_blocks_of, data_block, data_block_of, data_blocks_of, each_block, instance_len, returning, stated_from, statements_of}
+use Rattle.stl_codegen.specs.Compiled.{SourceInstruction, StatedBlock, op_with_target, compiled_block, lines_in, offset_of_statement, ops_in, placed_ops}
+use Rattle.stl_codegen.specs.Emitted.{call_op, ops_of, pass_ops}
+use Rattle.stl_codegen.specs.Generated.{code_block, code_block_of, code_blocks_of, generated_data_block, data_block_of, data_blocks_of, each_block, instance_len, return_statement, stated_from, statements_of}
 use Rattle.stl_codegen.specs.Instruction.{instruction}
 use Rattle.stl_codegen.specs.Order.{is_code_before, is_data_before, is_id_before}
-use Rattle.sem_kept.specs.Records.{HasCode}
+use Rattle.sem_kept.specs.Records.{HasFaultlessCode}
 use Rattle.sem_kept.proofs.accepted.Accepted.{AllLaid, IsSound, IsSoundTree, context_at}
 use Rattle.sem_kept.proofs.accepted.RecordData.{got, id_there, length_there, types_symbols}
 use Rattle.sem_kept.proofs.accepted.RecordOrder.{AreApart, Differ, Rise, rise_sorted}
@@ -54,7 +54,7 @@ use Rattle.sem_kept.proofs.accepted.Shared.{kind_there}
 -- ---- no two blocks are alike
 
 -- where the first block of a number stands no earlier, an earlier one is another
-not_placed : (id other : BlockId) (ids : List (Option BlockId)) (n k : ℕ) → is_earlier (block_place id ids) n ≡ false → k < n
+not_placed : (id other : BlockId) (ids : List (Option BlockId)) (n k : ℕ) → is_earlier (place_of_block id ids) n ≡ false → k < n
     → slice_get ids k ≡ Some (Some other) → is_same_block id other ≡ false
 not_placed id other [] n k h low e = absurd cc
 not_placed id other (i ∷ ids) n zero h low e = by (is_id id i) refl h
@@ -62,20 +62,20 @@ not_placed id other (i ∷ ids) n zero h low e = by (is_id id i) refl h
     first : i ≡ Some other
     first = cc
 
-    by : (t : Bool) → is_id id i ≡ t → is_earlier (if t then Some 0 else option_map (λ k. suc k) (block_place id ids)) n ≡ false → is_same_block id other ≡ false
+    by : (t : Bool) → is_id id i ≡ t → is_earlier (if t then Some 0 else option_map (λ k. suc k) (place_of_block id ids)) n ≡ false → is_same_block id other ≡ false
     by true is k = let less : ltb 0 n ≡ true = lt-ltb 0 n (omega (arith, low)) in absurd cc
     by false is k = ap (is_id id) (sym first) ∙ is
 not_placed id other (i ∷ ids) zero (suc k) h low e = absurd (omega (arith, low))
 not_placed id other (i ∷ ids) (suc n) (suc k) h low e =
-    not_placed id other ids n k (by (is_id id i) (block_place id ids) h) (omega (arith, low)) e
+    not_placed id other ids n k (by (is_id id i) (place_of_block id ids) h) (omega (arith, low)) e
   where
     by : (t : Bool) (o : Option ℕ) → is_earlier (if t then Some 0 else option_map (λ k. suc k) o) (suc n) ≡ false → is_earlier o n ≡ false
     by true o k = let less : ltb 0 (suc n) ≡ true = lt-ltb 0 (suc n) (omega arith) in absurd cc
     by false None k = refl
     by false (Some m) k = grind (arith, nat_tests)
 
-types_ids : (symbols : List Symbol) (blocks : List Block) → (types_of symbols blocks).ids ≡ ids_of symbols blocks
-unfolding types_of with_all_bits with_all_depths
+types_ids : (symbols : List Symbol) (blocks : List Block) → (types_of_source symbols blocks).ids ≡ ids_of symbols blocks
+unfolding types_of_source with_all_bits with_all_depths
 types_ids symbols blocks = refl
 
 -- items that are made of blocks of some kinds, one of each at most
@@ -91,7 +91,7 @@ module _ {A : Type 0} (of : Context → Block → BlockLayout → List A) (wante
       (differ x y i h.0.0 named h.0.3 is h.0.2 (other h.0.0 h.0.1), differs x i o named is other ys h.1)
 
   -- an item of a later block
-  later : (x : A) (i : BlockId) (k : ℕ) → Named x i → wanted i.kind ≡ true → slice_get (types_of symbols t.blocks).ids k ≡ Some (Some i)
+  later : (x : A) (i : BlockId) (k : ℕ) → Named x i → wanted i.kind ≡ true → slice_get (types_of_source symbols t.blocks).ids k ≡ Some (Some i)
       → (j : ℕ) (bs : List Block) (ls : List BlockLayout) → k < j → AllLaid (IsSound symbols t) j bs ls
       → AllByRecursion (Differ lt x) (each_block of (context_at symbols t j) bs ls)
   later x i k named is there j [] ls low h = tt
@@ -103,10 +103,10 @@ module _ {A : Type 0} (of : Context → Block → BlockLayout → List A) (wante
     where
       other : (id : BlockId) → l.id ≡ Some id → is_same_block id i ≡ false
       other id e =
-          let found : id_of (types_of symbols t.blocks).symbols b ≡ Some id = sym (id_there symbols t j b l h.0) ∙ e in
+          let found : id_of (types_of_source symbols t.blocks).symbols b ≡ Some id = sym (id_there symbols t j b l h.0) ∙ e in
           let count = h.0.count in
-          not_placed id i (types_of symbols t.blocks).ids (length h.0.before) k
-          (ap (λ (o : Option BlockId). is_earlier (option_and_then (λ d. block_place d (types_of symbols t.blocks).ids) o) (length h.0.before)) (sym found) ∙ h.0.head.by_22)
+          not_placed id i (types_of_source symbols t.blocks).ids (length h.0.before) k
+          (ap (λ (o : Option BlockId). is_earlier (option_and_then (λ d. place_of_block d (types_of_source symbols t.blocks).ids) o) (length h.0.before)) (sym found) ∙ h.0.head.by_22)
           (omega (arith, count, low)) there
 
   apart : (k : ℕ) (bs : List Block) (ls : List BlockLayout) → AllLaid (IsSound symbols t) k bs ls
@@ -121,7 +121,7 @@ module _ {A : Type 0} (of : Context → Block → BlockLayout → List A) (wante
       rest : List A
       rest = each_block of (context_at symbols t (suc k)) bs ls
 
-      there : (i : BlockId) → l.id ≡ Some i → slice_get (types_of symbols t.blocks).ids k ≡ Some (Some i)
+      there : (i : BlockId) → l.id ≡ Some i → slice_get (types_of_source symbols t.blocks).ids k ≡ Some (Some i)
       there i e =
           ap (λ (z : List (Option BlockId)). slice_get z k) (types_ids symbols t.blocks)
           ∙ slice_get-map (λ b. id_of symbols b) t.blocks k ∙ ap (option_map (λ b. id_of symbols b)) h.0.block_there
@@ -204,7 +204,7 @@ data_some c b l = by l.id refl
     by (Some id) e = whether (is_data_block id.kind) refl
       where
         whether : (t : Bool) → is_data_block id.kind ≡ t
-            → AllByRecursion (λ (x : DataBlock). (id : BlockId) × (l.id ≡ Some id) × (is_data_block id.kind ≡ true) × (x.number ≡ id.number)) (if t then data_block c l id ∷ [] else [])
+            → AllByRecursion (λ (x : DataBlock). (id : BlockId) × (l.id ≡ Some id) × (is_data_block id.kind ≡ true) × (x.number ≡ id.number)) (if t then generated_data_block c l id ∷ [] else [])
         whether true is = ((id, e, is, refl), tt)
         whether false is = tt
 
@@ -215,7 +215,7 @@ data_one c b l = by l.id
     by None = omega arith
     by (Some id) = whether (is_data_block id.kind)
       where
-        whether : (t : Bool) → length (if t then data_block c l id ∷ [] else []) ≤ 1
+        whether : (t : Bool) → length (if t then generated_data_block c l id ∷ [] else []) ≤ 1
         whether true = omega arith
         whether false = omega arith
 
@@ -248,30 +248,30 @@ data_blocks_rise symbols t h =
 
 -- ---- lines
 
-rises_weaker : (last low before : ℕ) (xs : List ℕ) → low ≤ before → Rises last before xs → Rises last low xs
+rises_weaker : (last low before : ℕ) (xs : List ℕ) → low ≤ before → AreRisingLines last before xs → AreRisingLines last low xs
 rises_weaker last low before [] le h = tt
 rises_weaker last low before (x ∷ xs) le h = (omega (arith, le, h.0), h.1, h.2)
 
 -- those of statements that aren't empty, and then others
 stated_rise : (last before : ℕ) (c : Context) (body : List Statement) (n : ℕ) (ss : List Statement) (tail : List ℕ)
-    → Rises last before (map (λ s. s.line) ss ++ tail) → Rises last before (map (λ s. s.line) (stated_from c body n ss) ++ tail)
+    → AreRisingLines last before (map (λ s. s.line) ss ++ tail) → AreRisingLines last before (map (λ s. s.line) (stated_from c body n ss) ++ tail)
 stated_rise last before c body n [] tail h = h
 stated_rise last before c body n (s ∷ ss) tail h =
-    by (is_empty s.code)
+    by (is_empty_statement s.code)
     (stated_rise last before c body n ss tail (rises_weaker last before s.line (map (λ s. s.line) ss ++ tail) h.0 h.2))
     (stated_rise last s.line c body (suc n) ss tail h.2)
   where
-    by : (t : Bool) → Rises last before (map (λ s. s.line) (stated_from c body n ss) ++ tail)
-        → Rises last s.line (map (λ s. s.line) (stated_from c body (suc n) ss) ++ tail)
-        → Rises last before (map (λ s. s.line) (if t then stated_from c body n ss
+    by : (t : Bool) → AreRisingLines last before (map (λ s. s.line) (stated_from c body n ss) ++ tail)
+        → AreRisingLines last s.line (map (λ s. s.line) (stated_from c body (suc n) ss) ++ tail)
+        → AreRisingLines last before (map (λ s. s.line) (if t then stated_from c body n ss
         else record { instr = instruction c body n s; line = s.line } ∷ stated_from c body (suc n) ss) ++ tail)
     by true skipped kept = skipped
     by false skipped kept = (h.0, h.1, kept)
 
-lines_stated : (last : ℕ) (c : Context) (b : Block) → Rises last 1 (lines_of b) → Rises last 1 (lines_in (statements_of c b))
+lines_stated : (last : ℕ) (c : Context) (b : Block) → AreRisingLines last 1 (statement_lines_of b) → AreRisingLines last 1 (lines_in (statements_of c b))
 unfolding statements_of
 lines_stated last c b h =
-    subst (Rises last 1) (sym (map-append (λ (s : Stated). s.line) (stated_from c b.body 0 b.body) (returning b ∷ [])))
+    subst (AreRisingLines last 1) (sym (map-append (λ (s : SourceInstruction). s.line) (stated_from c b.body 0 b.body) (return_statement b ∷ [])))
     (stated_rise last 1 c b.body 0 b.body (b.end_line ∷ []) h)
 
 line_good : (judged : Bool) (before line : ℕ) → line < 4294967296 → 1 ≤ line → before ≤ line → (line_field judged before).good line ≡ true
@@ -279,7 +279,7 @@ unfolding line_field field_fault
 line_good true before line near some low = grind (arith, nat_tests)
 line_good false before line near some low = grind (arith, nat_tests)
 
-lines_good : (judged : Bool) (last before low : ℕ) (lines : List ℕ) → last < 4294967296 → before ≤ low → 1 ≤ low → Rises last low lines
+lines_good : (judged : Bool) (last before low : ℕ) (lines : List ℕ) → last < 4294967296 → before ≤ low → 1 ≤ low → AreRisingLines last low lines
     → all_good (line_field judged) line_after before lines ≡ true
 lines_good judged last before low [] near le some h = refl
 lines_good judged last before low (x ∷ lines) near le some h =
@@ -296,9 +296,9 @@ pub record HasFields (last : ℕ) (b : CodeBlock) : Type 0 where
   pub local : b.local_len ≤ 1024
   pub start : kind_number b.id.kind ≡ 1 → 20 ≤ b.local_len
   pub instance : (if eqb (kind_number b.id.kind) 3 then leb b.instance_len 16384 else eqb b.instance_len 0) ≡ true
-  pub lines : Rises last 1 b.lines
+  pub lines : AreRisingLines last 1 b.lines
 
-local_there : (symbols : List Symbol) (t : Tree) (k : ℕ) (b : Block) (l : BlockLayout) → IsSound symbols t k b l → l.local_len ≡ local_len (types_of symbols t.blocks) b
+local_there : (symbols : List Symbol) (t : Tree) (k : ℕ) (b : Block) (l : BlockLayout) → IsSound symbols t k b l → l.local_len ≡ local_len (types_of_source symbols t.blocks) b
 unfolding block_layout
 local_there symbols t k b l h = ap (λ (x : BlockLayout). x.local_len) h.layout
 
@@ -318,7 +318,7 @@ instance_right symbols t k b l kind h same code = by kind same code
     by kinds.Fc same code = none (ap is_function_block same)
     by kinds.Fb same code =
         let len = length_there symbols t k b l h in
-        let short : length_of (types_of symbols t.blocks) t.blocks b ≤ 16384 = ltb-false 16384 (length_of (types_of symbols t.blocks) t.blocks b) h.head.by_51 in
+        let short : length_of_block (types_of_source symbols t.blocks) t.blocks b ≤ 16384 = ltb-false 16384 (length_of_block (types_of_source symbols t.blocks) t.blocks b) h.head.by_51 in
         ap (λ (s : Bool). leb (if s then l.length else 0) 16384) (ap is_function_block same) ∙ le-leb l.length 16384 (omega (arith, len, short))
     by kinds.Db same code = absurd cc
     by kinds.Udt same code = absurd cc
@@ -332,23 +332,23 @@ number_one kinds.Db h e = absurd cc
 number_one kinds.Udt h e = absurd cc
 number_one kinds.Sfc h e = absurd cc
 
-pub fields_of : (last : ℕ) (symbols : List Symbol) (t : Tree) → AllByRecursion (λ b. Rises last 1 (lines_of b)) t.blocks
+pub fields_of : (last : ℕ) (symbols : List Symbol) (t : Tree) → AllByRecursion (λ b. AreRisingLines last 1 (statement_lines_of b)) t.blocks
     → (k : ℕ) (b : Block) (l : BlockLayout) (id : BlockId) → IsSound symbols t k b l → l.id ≡ Some id → is_code id.kind ≡ true
-    → HasFields last (compiled (code_block (context_at symbols t k) b l id))
+    → HasFields last (compiled_block (code_block (context_at symbols t k) b l id))
 fields_of last symbols t rise k b l id h named code =
-    let found : id_of (types_of symbols t.blocks).symbols b ≡ Some id = sym (id_there symbols t k b l h) ∙ named in
-    let kind : b.kind ≡ id.kind = kind_there (types_of symbols t.blocks).symbols b id found in
+    let found : id_of (types_of_source symbols t.blocks).symbols b ≡ Some id = sym (id_there symbols t k b l h) ∙ named in
+    let kind : b.kind ≡ id.kind = kind_there (types_of_source symbols t.blocks).symbols b id found in
     let local = local_there symbols t k b l h in
-    let most : local_len (types_of symbols t.blocks) b ≤ 1024 = ltb-false 1024 (local_len (types_of symbols t.blocks) b) h.head.by_50 in
+    let most : local_len (types_of_source symbols t.blocks) b ≤ 1024 = ltb-false 1024 (local_len (types_of_source symbols t.blocks) b) h.head.by_50 in
     record {
       code = code;
-      number = not-false (is_block_number id.kind id.number) (ap is_beyond (sym found) ∙ h.head.by_44);
+      number = not-false (is_block_number id.kind id.number) (ap is_number_beyond_limits (sym found) ∙ h.head.by_44);
       params = params_right symbols t k b l id.kind h kind code;
       local = omega (arith, local, most);
-      start = λ e. let least = local_start (types_of symbols t.blocks) b (kind ∙ number_one id.kind code e) in omega (arith, local, least);
+      start = λ e. let least = local_start (types_of_source symbols t.blocks) b (kind ∙ number_one id.kind code e) in omega (arith, local, least);
       instance = instance_right symbols t k b l id.kind h kind code;
       lines = lines_stated last (context_at symbols t k) b
-          (some_holds (slice_get t.blocks k) b (λ x. Rises last 1 (lines_of x)) h.block_there (got (λ x. Rises last 1 (lines_of x)) t.blocks k rise));
+          (some_holds (slice_get t.blocks k) b (λ x. AreRisingLines last 1 (statement_lines_of x)) h.block_there (got (λ x. AreRisingLines last 1 (statement_lines_of x)) t.blocks k rise));
     }
 
 -- the fields one by one
@@ -369,8 +369,8 @@ local_good : (kind n : ℕ) → n ≤ 1024 → (not (eqb kind 1) || leb 20 n) �
 unfolding local_length_layout field_fault
 local_good kind n few start = grind (arith, nat_tests)
 
-instance_good : (kind n : ℕ) → n < 65536 → (if eqb kind 3 then leb n 16384 else eqb n 0) ≡ true → (instance_bytes kind).good n ≡ true
-unfolding instance_bytes field_fault
+instance_good : (kind n : ℕ) → n < 65536 → (if eqb kind 3 then leb n 16384 else eqb n 0) ≡ true → (instance_bytes_layout kind).good n ≡ true
+unfolding instance_bytes_layout field_fault
 instance_good kind n near h = and_from _ _ (lt-ltb n 65536 near) (rw h refl)
 
 word_good : (n : ℕ) → n < 65536 → plain_u16.good n ≡ true
@@ -409,7 +409,7 @@ implied kind t h = by (eqb kind 1) refl
 instance_near : (kind n : ℕ) → (if eqb kind 3 then leb n 16384 else eqb n 0) ≡ true → n < 65536
 instance_near kind n h = grind (arith, nat_tests)
 
-head_good : (last : ℕ) (before : ℕ × ℕ) (b : CodeBlock) → HasFields last b → HasCode b → before.0 ≤ kind_number b.id.kind
+head_good : (last : ℕ) (before : ℕ × ℕ) (b : CodeBlock) → HasFields last b → HasFaultlessCode b → before.0 ≤ kind_number b.id.kind
     → (not (eqb (kind_number b.id.kind) before.0) || ltb before.1 b.id.number) ≡ true
     → (head_layout before).good (head_of_block (record_of_block b)) ≡ true
 unfolding head_layout head_rows
@@ -433,7 +433,7 @@ marks_append : (xs ys : List OpData) → end_marks (xs ++ ys) ≡ end_marks xs +
 marks_append [] ys = omega arith
 marks_append (x ∷ xs) ys = let more = marks_append xs ys in omega (arith, more)
 
-marks_passing : (ps : List Passing) → end_marks (passing ps) ≡ 0
+marks_passing : (ps : List Passing) → end_marks (pass_ops ps) ≡ 0
 marks_passing [] = refl
 marks_passing (p ∷ ps) = let more = marks_passing ps in omega (arith, more)
 
@@ -445,25 +445,25 @@ marks_one (Does (Some number) w o) = refl
 marks_one (Jumps how target) = refl
 marks_one (JumpsByList targets otherwise) = refl
 marks_one (Calls how block instance passings) =
-    let both = marks_append (passing passings) (call_op how block instance ∷ []) in
+    let both = marks_append (pass_ops passings) (call_op how block instance ∷ []) in
     let none = marks_passing passings in omega (arith, both, none)
 marks_one (Returns how) = refl
 
-marks_in : (ss : List Stated) → end_marks (ops_in ss) ≡ length ss
+marks_in : (ss : List SourceInstruction) → end_marks (ops_in ss) ≡ length ss
 marks_in [] = refl
 marks_in (s ∷ ss) =
     let both = marks_append (ops_of s.instr) (ops_in ss) in
     let one = marks_one s.instr in
     let more = marks_in ss in omega (arith, both, one, more)
 
-marks_aimed : (f : ℕ → ℕ) (ops : List OpData) → end_marks (map (aimed_op f) ops) ≡ end_marks ops
+marks_aimed : (f : ℕ → ℕ) (ops : List OpData) → end_marks (map (op_with_target f) ops) ≡ end_marks ops
 marks_aimed f [] = refl
 marks_aimed f (op ∷ ops) = ap (λ (n : ℕ). (if op.last then 1 else 0) + n) (marks_aimed f ops)
 
-marks_there : (x : StatedBlock) → end_marks (compiled x).code ≡ length (compiled x).lines
+marks_there : (x : StatedBlock) → end_marks (compiled_block x).code ≡ length (compiled_block x).lines
 unfolding placed_ops
 marks_there x =
-    marks_aimed (offset_of (ops_in x.statements)) (ops_in x.statements) ∙ marks_in x.statements ∙ sym (length-map x.statements (λ s. s.line))
+    marks_aimed (offset_of_statement (ops_in x.statements)) (ops_in x.statements) ∙ marks_in x.statements ∙ sym (length-map x.statements (λ s. s.line))
 
 -- ---- a whole record
 
@@ -481,15 +481,15 @@ unfolding code_layout
 code_good judged ops h ends =
     and_from _ _ (and_from _ _ h (ap is_nowhere (nothing_stops judged ops ends))) (eq-eqb (length (code_bytes ops)) (length (code_bytes ops)) refl)
 
-marks_good : (judged : Bool) (marks count : ℕ) → marks ≡ count → is_fine (only judged (field_fault (field.StatementCount marks count))) ≡ true
+marks_good : (judged : Bool) (marks count : ℕ) → marks ≡ count → is_fine (if_checked judged (field_fault (field.StatementCount marks count))) ≡ true
 unfolding field_fault
 marks_good true marks count same = let e = eq-eqb marks count same in rw e refl
 marks_good false marks count same = refl
 
-block_good : (last : ℕ) (judged : Bool) (before : ℕ × ℕ) (b : CodeBlock) → last < 4294967296 → HasFields last b → HasCode b → end_marks b.code ≡ length b.lines → before.0 ≤ kind_number b.id.kind
+block_good : (last : ℕ) (judged : Bool) (before : ℕ × ℕ) (b : CodeBlock) → last < 4294967296 → HasFields last b → HasFaultlessCode b → end_marks b.code ≡ length b.lines → before.0 ≤ kind_number b.id.kind
     → (not (eqb (kind_number b.id.kind) before.0) || ltb before.1 b.id.number) ≡ true
     → (block_layout_of judged before).good (record_of_block b) ≡ true
-unfolding block_layout_of plain_block block_rows code_and_lines parameters lines_layout
+unfolding block_layout_of plain_block block_rows code_and_lines parameters_layout lines_layout
 block_good last judged before b near h c marks low rises =
     and_from _ _ (head_good last before b h c low rises)
     (and_from _ _ (counted (λ s. parameter_layout (kind_number b.id.kind) b.instance_len) same_state 0 (map record_of_param b.params) ∙ h.params.good)
@@ -500,20 +500,20 @@ block_good last judged before b near h c marks low rises =
 -- ---- all of them
 
 abbrev pub IsRightBlock : ℕ → StatedBlock → Type 0
-IsRightBlock last x = HasFields last (compiled x) × HasCode (compiled x)
+IsRightBlock last x = HasFields last (compiled_block x) × HasFaultlessCode (compiled_block x)
 
 pair_low : (r n s m : ℕ) → (ltb r s || eqb r s && ltb n m) ≡ true → (r ≤ s) × ((not (eqb s r) || ltb n m) ≡ true)
 pair_low r n s m h = (grind (arith, nat_tests), grind (arith, nat_tests))
 
-pub first_good : (last : ℕ) (judged : Bool) (x : StatedBlock) → last < 4294967296 → IsRightBlock last x → (block_layout_of judged (0, 0)).good (record_of_block (compiled x)) ≡ true
+pub first_good : (last : ℕ) (judged : Bool) (x : StatedBlock) → last < 4294967296 → IsRightBlock last x → (block_layout_of judged (0, 0)).good (record_of_block (compiled_block x)) ≡ true
 first_good last judged x near h =
-    block_good last judged (0, 0) (compiled x) near h.0 h.1 (marks_there x) (omega arith) (first (kind_number x.id.kind) (kind_within x.id.kind h.0.code).0)
+    block_good last judged (0, 0) (compiled_block x) near h.0 h.1 (marks_there x) (omega arith) (first (kind_number x.id.kind) (kind_within x.id.kind h.0.code).0)
   where
     first : (kind : ℕ) → 1 ≤ kind → (not (eqb kind 0) || ltb 0 x.id.number) ≡ true
     first kind some = grind (arith, nat_tests)
 
 pub next_good : (last : ℕ) (judged : Bool) (x y : StatedBlock) → last < 4294967296 → is_code_before x y ≡ true → IsRightBlock last y
-    → (block_layout_of judged (kind_number x.id.kind, x.id.number)).good (record_of_block (compiled y)) ≡ true
+    → (block_layout_of judged (kind_number x.id.kind, x.id.number)).good (record_of_block (compiled_block y)) ≡ true
 next_good last judged x y near rises h =
     let low = pair_low (kind_number x.id.kind) x.id.number (kind_number y.id.kind) y.id.number rises in
-    block_good last judged (kind_number x.id.kind, x.id.number) (compiled y) near h.0 h.1 (marks_there y) low.0 low.1
+    block_good last judged (kind_number x.id.kind, x.id.number) (compiled_block y) near h.0 h.1 (marks_there y) low.0 low.1

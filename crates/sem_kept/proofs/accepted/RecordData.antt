@@ -17,13 +17,13 @@ use Rattle.stl_ast.specs.declared.blocks.Block.{Block}
 use Rattle.stl_ast.specs.declared.blocks.Tree.{Tree}
 use Rattle.stl_symbols.specs.Symbol.{Symbol}
 use Rattle.block_layout.specs.Blocks.{id_of, is_block_number}
-use Rattle.block_layout.specs.InitialBytes.{Write, bytes_of, initial_bytes, length_at, put, setting_writes, settings_at, structure_writes, with_bit, with_bytes}
+use Rattle.block_layout.specs.InitialBytes.{Write, big_endian_bytes, initial_bytes, length_at, bytes_with_write, setting_writes, settings_at, structure_writes, with_bit, with_bytes}
 use Rattle.block_layout.specs.Layouts.{block_layout, layouts_by, layouts_from, layouts_of}
-use Rattle.block_layout.specs.Lengths.{length_of}
-use Rattle.block_layout.specs.Measures.{types_of, with_all_bits, with_all_depths}
+use Rattle.block_layout.specs.Lengths.{length_of_block}
+use Rattle.block_layout.specs.Measures.{types_of_source, with_all_bits, with_all_depths}
 use Rattle.block_layout.specs.Paths.{structure_of}
-use Rattle.block_layout.specs.Rule44.{is_beyond}
-use Rattle.block_layout.specs.Rule54.{data_length, exceeds_total, rule_54, total}
+use Rattle.block_layout.specs.Rule44.{is_number_beyond_limits}
+use Rattle.block_layout.specs.Rule54.{data_length, exceeds_total, rule_54, total_data_length}
 use Rattle.block_layout.specs.Types.{Types}
 use Rattle.block_layout.specs.declared.blocks.BlockLayout.{BlockLayout}
 use Rattle.block_layout.specs.declared.blocks.Shape.{Shape}
@@ -33,7 +33,7 @@ use Rattle.flat_code.specs.Faults.{field_fault}
 use Rattle.flat_code.specs.Image.{after_data, bytes_fit, data_block_layout as data_layout, data_length_layout, data_number_layout, instance_field, number_of_instance, data_rows}
 use Rattle.flat_code.specs.Programs.{DataBlock}
 use Rattle.flat_code.proofs.CheckLemmas.{contents_good, zero_word_good}
-use Rattle.stl_codegen.specs.Generated.{data_block, data_block_of, data_blocks_of, each_block, function_block_number, instance_in}
+use Rattle.stl_codegen.specs.Generated.{generated_data_block, data_block_of, data_blocks_of, each_block, function_block_number, instance_in}
 use Rattle.stl_codegen.specs.Order.{is_data_before}
 use Rattle.sem_kept.proofs.accepted.Accepted.{AllHeads, AllLaid, IsSound, IsSoundTree, context_at, heads_none, sound_data_blocks}
 use Rattle.sem_kept.proofs.accepted.RecordNames.{IsByte, OfBytes}
@@ -59,7 +59,7 @@ bit_byte bit value byte low h = by (nat_eq (value % 2) 1)
     by true = let power : 2 ^ bit < 2 ^ 8 = pow-lt low in or_lt 8 byte (2 ^ bit) h power
     by false = let less = and_le_l byte (255 - 2 ^ bit) in omega (arith, less, h)
 
-are_bytes : (count value : ℕ) → OfBytes (bytes_of count value)
+are_bytes : (count value : ℕ) → OfBytes (big_endian_bytes count value)
 are_bytes zero value = tt
 are_bytes (suc n) value = (low (value / 256 ^ n), are_bytes n value)
   where
@@ -73,19 +73,19 @@ bytes_put bytes at (b ∷ bs) h k = bytes_put (set bytes at b) (at + 1) bs (all_
 bit_low : (n : ℕ) → n % 8 < 8
 bit_low n = omega arith
 
-put_bytes : (bytes : List ℕ) (w : Write) → OfBytes bytes → OfBytes (put bytes w)
+put_bytes : (bytes : List ℕ) (w : Write) → OfBytes bytes → OfBytes (bytes_with_write bytes w)
 put_bytes bytes w h = by (nat_eq w.width 1)
   where
     by : (t : Bool) → OfBytes (if t then set bytes (w.offset / 8) (with_bit (w.offset % 8) w.value (get_or bytes (w.offset / 8) 0))
-        else with_bytes bytes (w.offset / 8) (bytes_of (w.width / 8) w.value))
+        else with_bytes bytes (w.offset / 8) (big_endian_bytes (w.width / 8) w.value))
     by true =
         all_set IsByte bytes (w.offset / 8) (with_bit (w.offset % 8) w.value (get_or bytes (w.offset / 8) 0))
         (bit_byte (w.offset % 8) w.value (get_or bytes (w.offset / 8) 0) (bit_low w.offset) (byte_at bytes (w.offset / 8) h)) h
-    by false = bytes_put bytes (w.offset / 8) (bytes_of (w.width / 8) w.value) h (are_bytes (w.width / 8) w.value)
+    by false = bytes_put bytes (w.offset / 8) (big_endian_bytes (w.width / 8) w.value) h (are_bytes (w.width / 8) w.value)
 
-written_bytes : (bytes : List ℕ) (ws : List Write) → OfBytes bytes → OfBytes (fold put bytes ws)
+written_bytes : (bytes : List ℕ) (ws : List Write) → OfBytes bytes → OfBytes (fold bytes_with_write bytes ws)
 written_bytes bytes [] h = h
-written_bytes bytes (w ∷ ws) h = written_bytes (put bytes w) ws (put_bytes bytes w h)
+written_bytes bytes (w ∷ ws) h = written_bytes (bytes_with_write bytes w) ws (put_bytes bytes w h)
 
 zero_bytes : (n : ℕ) → OfBytes (replicate n 0)
 zero_bytes zero = tt
@@ -110,20 +110,20 @@ fit_bytes (b ∷ bs) h = and_from _ _ (lt-ltb b 256 h.0) (fit_bytes bs h.1)
 
 -- ---- the blocks of a source have numbers within the limits
 
-pub types_symbols : (symbols : List Symbol) (blocks : List Block) → (types_of symbols blocks).symbols ≡ symbols
-unfolding types_of with_all_bits with_all_depths
+pub types_symbols : (symbols : List Symbol) (blocks : List Block) → (types_of_source symbols blocks).symbols ≡ symbols
+unfolding types_of_source with_all_bits with_all_depths
 types_symbols symbols blocks = refl
 
 -- of the layouts, as far as they have one
 abbrev HasNumber : BlockLayout → Type 0
-HasNumber l = is_beyond l.id ≡ false
+HasNumber l = is_number_beyond_limits l.id ≡ false
 
 pub got : {A : Type 0} (P : A → Type 0) (xs : List A) (i : ℕ) → AllByRecursion P xs → IfSome (slice_get xs i) P
 got P [] i h = tt
 got P (x ∷ xs) zero h = h.0
 got P (x ∷ xs) (suc i) h = got P xs i h.1
 
-number_within : (id : BlockId) → is_function_block id.kind ≡ true → is_beyond (Some id) ≡ false → id.number ≤ 2047
+number_within : (id : BlockId) → is_function_block id.kind ≡ true → is_number_beyond_limits (Some id) ≡ false → id.number ≤ 2047
 number_within id fb within = by id.kind fb within
   where
     by : (k : BlockKind) → is_function_block k ≡ true → not (is_block_number k id.number) ≡ false → id.number ≤ 2047
@@ -134,7 +134,7 @@ number_within id fb within = by id.kind fb within
     by kinds.Udt h k = absurd cc
     by kinds.Sfc h k = absurd cc
 
-function_number : (id : Option BlockId) → is_beyond id ≡ false → number_of_instance (function_block_number id) ≤ 2048
+function_number : (id : Option BlockId) → is_number_beyond_limits id ≡ false → number_of_instance (function_block_number id) ≤ 2048
 function_number None within = omega arith
 function_number (Some id) within = by (is_function_block id.kind) refl
   where
@@ -160,7 +160,7 @@ pub record IsData (d : DataBlock) : Type 0 where
   short : length d.bytes ≤ 16384
   bytes : bytes_fit d.bytes ≡ true
 
-data_number_within : (id : BlockId) → is_data_block id.kind ≡ true → is_beyond (Some id) ≡ false → (1 ≤ id.number) × (id.number ≤ 2047)
+data_number_within : (id : BlockId) → is_data_block id.kind ≡ true → is_number_beyond_limits (Some id) ≡ false → (1 ≤ id.number) × (id.number ≤ 2047)
 data_number_within id db within = by id.kind db within
   where
     by : (k : BlockKind) → is_data_block k ≡ true → not (is_block_number k id.number) ≡ false → (1 ≤ id.number) × (id.number ≤ 2047)
@@ -173,29 +173,29 @@ data_number_within id db within = by id.kind db within
 
 -- the length of the layout of a block
 pub length_there : (symbols : List Symbol) (t : Tree) (k : ℕ) (b : Block) (l : BlockLayout) → IsSound symbols t k b l
-    → l.length ≡ length_of (types_of symbols t.blocks) t.blocks b
+    → l.length ≡ length_of_block (types_of_source symbols t.blocks) t.blocks b
 unfolding block_layout
 length_there symbols t k b l h = ap (λ (x : BlockLayout). x.length) h.layout
 
 pub id_there : (symbols : List Symbol) (t : Tree) (k : ℕ) (b : Block) (l : BlockLayout) → IsSound symbols t k b l
-    → l.id ≡ id_of (types_of symbols t.blocks).symbols b
+    → l.id ≡ id_of (types_of_source symbols t.blocks).symbols b
 unfolding block_layout
 id_there symbols t k b l h = ap (λ (x : BlockLayout). x.id) h.layout
 
 bytes_there : (symbols : List Symbol) (t : Tree) (k : ℕ) (b : Block) (l : BlockLayout) (id : BlockId) → IsSound symbols t k b l
-    → length (data_block (context_at symbols t k) l id).bytes ≡ l.length
+    → length (generated_data_block (context_at symbols t k) l id).bytes ≡ l.length
 bytes_there symbols t k b l id h =
     initial_length (layouts_of t symbols) t.blocks k ∙ ap length_at h.layout_there
 
 data_right : (symbols : List Symbol) (t : Tree) → AllByRecursion HasNumber (layouts_of t symbols)
     → (k : ℕ) (b : Block) (l : BlockLayout) (id : BlockId) → IsSound symbols t k b l → l.id ≡ Some id → is_data_block id.kind ≡ true
-    → IsData (data_block (context_at symbols t k) l id)
+    → IsData (generated_data_block (context_at symbols t k) l id)
 data_right symbols t numbered k b l id h named db =
-    let within : is_beyond (Some id) ≡ false = ap is_beyond (sym named ∙ id_there symbols t k b l h) ∙ h.head.by_44 in
+    let within : is_number_beyond_limits (Some id) ≡ false = ap is_number_beyond_limits (sym named ∙ id_there symbols t k b l h) ∙ h.head.by_44 in
     let number = data_number_within id db within in
     let len = bytes_there symbols t k b l id h in
     let same = length_there symbols t k b l h in
-    let short : length_of (types_of symbols t.blocks) t.blocks b ≤ 16384 = ltb-false 16384 (length_of (types_of symbols t.blocks) t.blocks b) h.head.by_51 in
+    let short : length_of_block (types_of_source symbols t.blocks) t.blocks b ≤ 16384 = ltb-false 16384 (length_of_block (types_of_source symbols t.blocks) t.blocks b) h.head.by_51 in
     record {
       low = number.0;
       high = number.1;
@@ -210,7 +210,7 @@ laid_numbered symbols t k [] [] e laid = tt
 laid_numbered symbols t k [] (l ∷ ls) e laid = absurd (omega (arith, e))
 laid_numbered symbols t k (b ∷ bs) [] e laid = tt
 laid_numbered symbols t k (b ∷ bs) (l ∷ ls) e laid =
-    (ap is_beyond (id_there symbols t k b l laid.0) ∙ laid.0.head.by_44, laid_numbered symbols t (suc k) bs ls (omega (arith, e)) laid.1)
+    (ap is_number_beyond_limits (id_there symbols t k b l laid.0) ∙ laid.0.head.by_44, laid_numbered symbols t (suc k) bs ls (omega (arith, e)) laid.1)
 
 layouts_long : (y : Types) (blocks before bs : List Block) → length (layouts_from y blocks before bs) ≡ length bs
 layouts_long y blocks before [] = refl
@@ -219,7 +219,7 @@ layouts_long y blocks before (b ∷ bs) = ap suc (layouts_long y blocks (b ∷ b
 tree_numbered : (symbols : List Symbol) (t : Tree) → IsSoundTree symbols t → AllByRecursion HasNumber (layouts_of t symbols)
 unfolding layouts_of layouts_by
 tree_numbered symbols t h =
-    laid_numbered symbols t 0 t.blocks (layouts_of t symbols) (layouts_long (types_of symbols t.blocks) t.blocks [] t.blocks) h.blocks
+    laid_numbered symbols t 0 t.blocks (layouts_of t symbols) (layouts_long (types_of_source symbols t.blocks) t.blocks [] t.blocks) h.blocks
 
 pub datas_right : (symbols : List Symbol) (t : Tree) → IsSoundTree symbols t → AllByRecursion IsData (data_blocks_of t symbols (layouts_of t symbols))
 datas_right symbols t h = sound_data_blocks symbols t IsData h (data_right symbols t (tree_numbered symbols t h))
@@ -233,27 +233,27 @@ kind_of_data : (symbols : List Symbol) (b : Block) (id : BlockId) → id_of symb
 kind_of_data symbols b id e db = ap is_data_block (kind_there symbols b id e) ∙ db
 
 one_size : (symbols : List Symbol) (t : Tree) (k : ℕ) (b : Block) (l : BlockLayout) (found : Option BlockId) → IsSound symbols t k b l → l.id ≡ found
-    → sum_by data_size (data_block_of (context_at symbols t k) l found) ≤ data_length (types_of symbols t.blocks) t.blocks b
+    → sum_by data_size (data_block_of (context_at symbols t k) l found) ≤ data_length (types_of_source symbols t.blocks) t.blocks b
 unfolding data_size
 one_size symbols t k b l None h named = omega arith
 one_size symbols t k b l (Some id) h named = by (is_data_block id.kind) refl
   where
     y : Types
-    y = types_of symbols t.blocks
+    y = types_of_source symbols t.blocks
 
     by : (s : Bool) → is_data_block id.kind ≡ s
-        → sum_by data_size (if s then data_block (context_at symbols t k) l id ∷ [] else []) ≤ data_length y t.blocks b
+        → sum_by data_size (if s then generated_data_block (context_at symbols t k) l id ∷ [] else []) ≤ data_length y t.blocks b
     by true is =
         let db : is_data_block b.kind ≡ true = kind_of_data y.symbols b id (sym (id_there symbols t k b l h) ∙ named) is in
-        let whole : data_length y t.blocks b ≡ length_of y t.blocks b = ap (λ (s : Bool). if s then length_of y t.blocks b else 0) db in
+        let whole : data_length y t.blocks b ≡ length_of_block y t.blocks b = ap (λ (s : Bool). if s then length_of_block y t.blocks b else 0) db in
         let len = bytes_there symbols t k b l id h in
         let same = length_there symbols t k b l h in
-        let all = sum_by-cons data_size (data_block (context_at symbols t k) l id) [] in
+        let all = sum_by-cons data_size (generated_data_block (context_at symbols t k) l id) [] in
         omega (arith, whole, len, same, all)
     by false is = omega arith
 
 each_size : (symbols : List Symbol) (t : Tree) (k : ℕ) (bs : List Block) (ls : List BlockLayout) → AllLaid (IsSound symbols t) k bs ls
-    → sum_by data_size (each_block (λ c b l. data_block_of c l l.id) (context_at symbols t k) bs ls) ≤ sum_by (data_length (types_of symbols t.blocks) t.blocks) bs
+    → sum_by data_size (each_block (λ c b l. data_block_of c l l.id) (context_at symbols t k) bs ls) ≤ sum_by (data_length (types_of_source symbols t.blocks) t.blocks) bs
 each_size symbols t k [] ls h = omega arith
 each_size symbols t k (b ∷ bs) [] h = omega arith
 each_size symbols t k (b ∷ bs) (l ∷ ls) h =
@@ -261,11 +261,11 @@ each_size symbols t k (b ∷ bs) (l ∷ ls) h =
     let more = each_size symbols t (suc k) bs ls h.1 in
     let both = sum_by-append data_size (data_block_of (context_at symbols t k) l l.id)
     (each_block (λ c b l. data_block_of c l l.id) (context_at symbols t (suc k)) bs ls) in
-    let all = sum_by-cons (data_length (types_of symbols t.blocks) t.blocks) b bs in
+    let all = sum_by-cons (data_length (types_of_source symbols t.blocks) t.blocks) b bs in
     omega (arith, one, more, both, all)
 
 total_within : (y : Types) (blocks before bs : List Block) → AllHeads (λ before b. exceeds_total y blocks before b ≡ false) before bs
-    → total y blocks before ≤ 2097152 → total y blocks before + sum_by (data_length y blocks) bs ≤ 2097152
+    → total_data_length y blocks before ≤ 2097152 → total_data_length y blocks before + sum_by (data_length y blocks) bs ≤ 2097152
 total_within y blocks before [] h within = omega (arith, within)
 total_within y blocks before (b ∷ bs) h within =
     let next = sum_by-cons (data_length y blocks) b before in
@@ -273,20 +273,20 @@ total_within y blocks before (b ∷ bs) h within =
     let more = total_within y blocks (b ∷ before) bs h.1 (omega (arith, next, here)) in
     omega (arith, next, all, more)
   where
-    here : total y blocks before + data_length y blocks b ≤ 2097152
+    here : total_data_length y blocks before + data_length y blocks b ≤ 2097152
     here = by (is_data_block b.kind) refl h.0
       where
-        by : (s : Bool) → is_data_block b.kind ≡ s → (s && ltb 2097152 (total y blocks before + data_length y blocks b)) ≡ false
-            → total y blocks before + data_length y blocks b ≤ 2097152
-        by true is k = ltb-false 2097152 (total y blocks before + data_length y blocks b) k
+        by : (s : Bool) → is_data_block b.kind ≡ s → (s && ltb 2097152 (total_data_length y blocks before + data_length y blocks b)) ≡ false
+            → total_data_length y blocks before + data_length y blocks b ≤ 2097152
+        by true is k = ltb-false 2097152 (total_data_length y blocks before + data_length y blocks b) k
         by false is k =
-            let none : data_length y blocks b ≡ 0 = ap (λ (s : Bool). if s then length_of y blocks b else 0) is in
+            let none : data_length y blocks b ≡ 0 = ap (λ (s : Bool). if s then length_of_block y blocks b else 0) is in
             omega (arith, none, within)
 
 total_right : (symbols : List Symbol) (t : Tree) → IsSoundTree symbols t → sum_by data_size (data_blocks_of t symbols (layouts_of t symbols)) ≤ 2097152
 unfolding data_blocks_of rule_54
 total_right symbols t h =
-    let y : Types = types_of symbols t.blocks in
+    let y : Types = types_of_source symbols t.blocks in
     let each = each_block (λ c b l. data_block_of c l l.id) (context_at symbols t 0) t.blocks (layouts_of t symbols) in
     let same = sum_sorted data_size is_data_before each in
     let less = each_size symbols t 0 t.blocks (layouts_of t symbols) h.blocks in

@@ -21,8 +21,8 @@ use Rattle.flat_code.specs.Layout.{is_fine}
 use Rattle.flat_code.specs.Programs.{NameEntry}
 use Rattle.flat_code.proofs.CheckLemmas.{text_good}
 use Rattle.plc_base.specs.Folding.{upper_case_name, is_same_name}
-use Rattle.stl_symbols.specs.Laws.{AreApart as AreOther, Passes}
-use Rattle.stl_symbols.specs.Symbol.{IsFirstBit, IsSymbol, IsTarget as IsAddressed, Symbol}
+use Rattle.stl_symbols.specs.Laws.{SymbolNamesDiffer as AreOther, EachBytePasses}
+use Rattle.stl_symbols.specs.Symbol.{IsFirstBit, IsSymbol, IsSymbolTarget as IsAddressed, Symbol}
 use Rattle.plc_base.specs.Texts.{is_blank}
 use Rattle.plc_base.proofs.ListLemmas.{all_append}
 use Rattle.stl_symbols.specs.Symbols.{symbols_in}
@@ -30,7 +30,7 @@ use Rattle.stl_symbols.specs.declared.languages.Language.{Language}
 use Rattle.stl_symbols.specs.declared.targets.Target.{Target}
 use Rattle.stl_symbols.specs.declared.targets.Target.TheVariants as target
 use Rattle.stl_symbols.proofs.FileLemmas.{symbols_right}
-use Rattle.stl_codegen.specs.Generated.{has_name, name_entry, names_of}
+use Rattle.stl_codegen.specs.Generated.{has_name, name_entry, name_entries_of}
 use Rattle.stl_codegen.specs.Order.{is_name_before}
 use Rattle.sem_kept.proofs.accepted.Accepted.{all_sorted}
 use Rattle.sem_kept.proofs.accepted.RecordOrder.{AreApart, Differ, rise_sorted, good_all}
@@ -89,15 +89,15 @@ target_placed (target.Timer n) h = tt
 target_placed (target.Counter n) h = tt
 target_placed (target.Block id) h = tt
 
-bytes_passed : (name : List ℕ) → Passes (λ b. ltb b 256) name → OfBytes name
+bytes_passed : (name : List ℕ) → EachBytePasses (λ b. ltb b 256) name → OfBytes name
 bytes_passed [] h = tt
 bytes_passed (b ∷ bs) h = (ltb-true b 256 h.0, bytes_passed bs h.1)
 
-passing_bytes : (file : List ℕ) → OfBytes file → Passes (λ b. ltb b 256) file
+passing_bytes : (file : List ℕ) → OfBytes file → EachBytePasses (λ b. ltb b 256) file
 passing_bytes [] h = tt
 passing_bytes (b ∷ bs) h = (lt-ltb b 256 h.0, passing_bytes bs h.1)
 
-named_by : (s : Symbol) → IsSymbol s → Passes (λ b. ltb b 256) s.name → IsNamed s
+named_by : (s : Symbol) → IsSymbol s → EachBytePasses (λ b. ltb b 256) s.name → IsNamed s
 named_by s is bytes = record {
   some = is.some;
   short = is.short;
@@ -112,7 +112,7 @@ abbrev pub AreNamed : List Symbol → Type 0
 AreNamed symbols = AllByRecursion IsNamed symbols × AreOther symbols
 
 named_all : (symbols : List Symbol) → AllByRecursion IsSymbol symbols
-    → AllByRecursion (λ (s : Symbol). Passes (λ b. ltb b 256) s.name) symbols
+    → AllByRecursion (λ (s : Symbol). EachBytePasses (λ b. ltb b 256) s.name) symbols
     → AllByRecursion IsNamed symbols
 named_all [] h k = tt
 named_all (s ∷ symbols) h k = (named_by s h.0 k.0, named_all symbols h.1 k.1)
@@ -321,10 +321,10 @@ first_name : (name : List ℕ) → 1 ≤ length name → is_earlier_name [] name
 first_name [] some = absurd (omega (arith, some))
 first_name (b ∷ bs) some = refl
 
-pub names_right : (symbols : List Symbol) → AreNamed symbols → good_names [] (names_of symbols) ≡ true
+pub names_right : (symbols : List Symbol) → AreNamed symbols → good_names [] (name_entries_of symbols) ≡ true
 unfolding entries
 names_right symbols h =
     good_all name_record after_name name_of_entry (λ e. e.name) is_name_before IsEntry []
     (λ s e. refl) (λ e is. entry_good [] e is (first_name e.name is.some)) (λ a b there rises is. entry_good a.name b is rises)
-    (names_of symbols) (rise_sorted is_name_before (entries symbols) (entries_apart symbols h.1))
+    (name_entries_of symbols) (rise_sorted is_name_before (entries symbols) (entries_apart symbols h.1))
     (all_sorted IsEntry is_name_before (entries symbols) (entries_of symbols h.0))

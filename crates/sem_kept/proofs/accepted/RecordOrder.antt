@@ -5,29 +5,29 @@ use Rattle.std.proofs.lemmas.Bool.{and_from}
 use Rattle.std.proofs.lemmas.List.Sums.{sum_by-cons}
 use Rattle.flat_code.specs.Checking.{all_good}
 use Rattle.flat_code.specs.Layout.{Layout}
-use Rattle.stl_codegen.specs.Order.{inserted, sorted}
+use Rattle.stl_codegen.specs.Order.{sorted_insertion, sorted_list}
 use Rattle.sem_kept.proofs.accepted.Accepted.{all_sorted}
 
 -- ---- sums
 
 sum_inserted : {A : Type 0} (f : A → ℕ) (before : A → A → Bool) (x : A) (ys : List A)
-    → sum_by f (inserted before x ys) ≡ f x + sum_by f ys
+    → sum_by f (sorted_insertion before x ys) ≡ f x + sum_by f ys
 sum_inserted f before x [] = sum_by-cons f x []
 sum_inserted {A = A} f before x (y ∷ ys) = by (before y x) (sum_inserted f before x ys)
   where
-    by : (first : Bool) → sum_by f (inserted before x ys) ≡ f x + sum_by f ys
-        → sum_by f (cond first (y ∷ inserted before x ys) (x ∷ y ∷ ys)) ≡ f x + sum_by f (y ∷ ys)
+    by : (first : Bool) → sum_by f (sorted_insertion before x ys) ≡ f x + sum_by f ys
+        → sum_by f (cond first (y ∷ sorted_insertion before x ys) (x ∷ y ∷ ys)) ≡ f x + sum_by f (y ∷ ys)
     by true more =
-        let front = sum_by-cons f y (inserted before x ys) in
+        let front = sum_by-cons f y (sorted_insertion before x ys) in
         let behind = sum_by-cons f y ys in omega (arith, front, behind, more)
     by false more = sum_by-cons f x (y ∷ ys)
 
 pub sum_sorted : {A : Type 0} (f : A → ℕ) (before : A → A → Bool) (xs : List A)
-    → sum_by f (sorted before xs) ≡ sum_by f xs
-unfolding sorted
+    → sum_by f (sorted_list before xs) ≡ sum_by f xs
+unfolding sorted_list
 sum_sorted f before [] = refl
 sum_sorted f before (x ∷ xs) =
-    let front = sum_inserted f before x (sorted before xs) in
+    let front = sum_inserted f before x (sorted_list before xs) in
     let more = sum_sorted f before xs in
     let all = sum_by-cons f x xs in omega (arith, front, more, all)
 
@@ -57,30 +57,30 @@ other_first false b h e = absurd cc
 
 behind_inserted : {A : Type 0} (lt : A → A → Bool) (y x : A) (ys : List A)
     → RiseFrom lt y ys → lt y x ≡ true → AllByRecursion (Differ lt x) ys
-    → RiseFrom lt y (inserted lt x ys)
+    → RiseFrom lt y (sorted_insertion lt x ys)
 behind_inserted lt y x [] rise first apart = (first, tt)
 behind_inserted lt y x (z ∷ zs) rise first apart =
     by (lt z x) refl (λ e. behind_inserted lt z x zs rise.1 e apart.1)
   where
-    by : (b : Bool) → lt z x ≡ b → (lt z x ≡ true → RiseFrom lt z (inserted lt x zs))
-        → RiseFrom lt y (cond b (z ∷ inserted lt x zs) (x ∷ z ∷ zs))
+    by : (b : Bool) → lt z x ≡ b → (lt z x ≡ true → RiseFrom lt z (sorted_insertion lt x zs))
+        → RiseFrom lt y (cond b (z ∷ sorted_insertion lt x zs) (x ∷ z ∷ zs))
     by true e more = (rise.0, more e)
     by false e more = (first, (other_first (lt x z) (lt z x) apart.0 e, rise.1))
 
 rise_inserted : {A : Type 0} (lt : A → A → Bool) (x : A) (ys : List A)
-    → Rise lt ys → AllByRecursion (Differ lt x) ys → Rise lt (inserted lt x ys)
+    → Rise lt ys → AllByRecursion (Differ lt x) ys → Rise lt (sorted_insertion lt x ys)
 rise_inserted lt x [] rise apart = tt
 rise_inserted lt x (y ∷ ys) rise apart = by (lt y x) refl
   where
-    by : (b : Bool) → lt y x ≡ b → Rise lt (cond b (y ∷ inserted lt x ys) (x ∷ y ∷ ys))
+    by : (b : Bool) → lt y x ≡ b → Rise lt (cond b (y ∷ sorted_insertion lt x ys) (x ∷ y ∷ ys))
     by true e = behind_inserted lt y x ys rise e apart.1
     by false e = (other_first (lt x y) (lt y x) apart.0 e, rise)
 
-pub rise_sorted : {A : Type 0} (lt : A → A → Bool) (xs : List A) → AreApart lt xs → Rise lt (sorted lt xs)
-unfolding sorted
+pub rise_sorted : {A : Type 0} (lt : A → A → Bool) (xs : List A) → AreApart lt xs → Rise lt (sorted_list lt xs)
+unfolding sorted_list
 rise_sorted lt [] apart = tt
 rise_sorted lt (x ∷ xs) apart =
-    rise_inserted lt x (sorted lt xs) (rise_sorted lt xs apart.1)
+    rise_inserted lt x (sorted_list lt xs) (rise_sorted lt xs apart.1)
     (all_sorted (Differ lt x) lt xs apart.0)
 
 -- ---- records that are checked by the one before

@@ -15,8 +15,8 @@ use Rattle.plc_base.specs.Widths.{byte_count, width_number}
 use Rattle.plc_base.specs.declared.places.Width.{Width}
 use Rattle.plc_base.specs.declared.places.Width.TheVariants as width
 use Rattle.plc_base.specs.declared.refusals.Refusal.{Refusal}
-use Rattle.stl_ast.specs.Blocks.{is_parameter, may_have}
-use Rattle.stl_ast.specs.Declarations.{is_plain, is_elementary}
+use Rattle.stl_ast.specs.Blocks.{is_parameter, may_have_section}
+use Rattle.stl_ast.specs.Declarations.{is_elementary_type, is_elementary}
 use Rattle.stl_ast.specs.Outline.{IsOutline, level_behind}
 use Rattle.stl_ast.specs.WellFormed.{IsBlock, AreDeclaredIn, IsSection, MayReturn, IsShapeOf}
 use Rattle.stl_ast.specs.declared.blocks.Block.{Block}
@@ -34,33 +34,33 @@ use Rattle.plc_base.specs.Folding.{upper_case_name}
 use Rattle.plc_base.specs.Gathered.{refusals_along}
 use Rattle.plc_base.specs.Least.{broken_if}
 use Rattle.plc_base.proofs.ListLemmas.{all_front, all_back, all_append}
-use Rattle.stl_symbols.specs.Names.{place_of}
+use Rattle.stl_symbols.specs.Names.{name_place}
 use Rattle.stl_symbols.specs.Symbol.{Symbol}
-use Rattle.block_layout.specs.Around.{Outside, around, onto, of_sections, of_structure, returned_names, section_declarations, in_block, in_list}
-use Rattle.block_layout.specs.Cells.{cell_of, cells_of, components_of, is_sound, is_temp, opened, returned_cells, section_cells}
+use Rattle.block_layout.specs.Around.{Outside, structures_around, declarations_before_next, of_sections, of_structure, returned_names, section_declarations, refusals_in_block, refusals_in_list}
+use Rattle.block_layout.specs.Cells.{cell_of, cells_of, components_of, is_sound, is_temp, with_first_cell_opening, returned_cells, section_cells}
 use Rattle.block_layout.specs.Declarations.{init_fits}
 use Rattle.block_layout.specs.Layouts.{block_layout}
-use Rattle.block_layout.specs.Lengths.{length_of}
-use Rattle.block_layout.specs.Measures.{types_of}
-use Rattle.block_layout.specs.Members.{component}
+use Rattle.block_layout.specs.Lengths.{length_of_block}
+use Rattle.block_layout.specs.Measures.{types_of_source}
+use Rattle.block_layout.specs.Members.{component_of_name}
 use Rattle.block_layout.specs.Offsets.{width_of}
-use Rattle.block_layout.specs.Rule21.{broken_21, is_twice, name_here, names_before}
+use Rattle.block_layout.specs.Rule21.{broken_21, is_twice, declaration_name_here, names_before}
 use Rattle.block_layout.specs.Rule41.{broken_41}
-use Rattle.block_layout.specs.Rule52.{declared_in, has_too_many_parameters, parameter_count, returned}
-use Rattle.block_layout.specs.Sizes.{alignment, capped, cell_bits, element_alignment, element_of, end_of, plain_bits, stepped, structure_bits, up}
+use Rattle.block_layout.specs.Rule52.{parameters_in_section, has_too_many_parameters, parameter_count, return_value_count}
+use Rattle.block_layout.specs.Sizes.{alignment, capped_size, cell_bits, element_alignment, element_of, components_end, plain_bits, end_behind_cell, structure_bits, next_multiple}
 use Rattle.block_layout.specs.Types.{Types}
 use Rattle.block_layout.specs.declared.blocks.BlockLayout.{BlockLayout}
 use Rattle.block_layout.specs.declared.cells.Cell.{Cell}
 use Rattle.block_layout.specs.declared.cells.Element.{Element}
 use Rattle.block_layout.specs.declared.cells.Element.TheVariants as element
-use Rattle.block_layout.specs.Sizes.{largest}
+use Rattle.block_layout.specs.Sizes.{largest_size}
 use Rattle.block_layout.specs.declared.members.Member.{Member}
 use Rattle.flat_code.specs.Checking.{good_params}
 use Rattle.flat_code.specs.Faults.{field_fault}
 use Rattle.flat_code.specs.Image.{parameter_layout, parameter_bit, parameter_byte, parameter_rows, record_of_param, section_field}
 use Rattle.flat_code.specs.declared.programs.Param.{Param}
 use Rattle.flat_code.proofs.CheckLemmas.{zero_byte_good}
-use Rattle.stl_codegen.specs.Generated.{instance_len, offset_named, param_here, param_of, params_of, section_number}
+use Rattle.stl_codegen.specs.Generated.{instance_len, offset_of_member, param_here, param_of, params_of, section_number}
 use Rattle.stl_codegen.specs.Instruction.{return_last}
 use Rattle.sem_kept.proofs.accepted.Accepted.{IsSound, none_left, none_right, not_broken}
 use Rattle.sem_kept.proofs.accepted.RecordNames.{width_good}
@@ -92,7 +92,7 @@ before_front P before [] es h = tt
 before_front P before (d ∷ ds) es h = (h.0, before_front P (d ∷ before) ds es h.1)
 
 pub before_rest : (P : List Declaration → Declaration → Type 0) (before ds es : List Declaration) → AllBefore P before (ds ++ es)
-    → AllBefore P (onto before ds) es
+    → AllBefore P (declarations_before_next before ds) es
 before_rest P before [] es h = h
 before_rest P before (d ∷ ds) es h = before_rest P (d ∷ before) ds es h.1
 
@@ -100,24 +100,24 @@ before_rest P before (d ∷ ds) es h = before_rest P (d ∷ before) ds es h.1
 abbrev pub IsNew : Outside → List Declaration → Declaration → Type 0
 IsNew o before d = (is_twice o before d ≡ false) × (not (init_fits d) ≡ false)
 
-pub declarations_new : (b : Block) → in_block broken_21 b ≡ [] → in_block broken_41 b ≡ []
+pub declarations_new : (b : Block) → refusals_in_block broken_21 b ≡ [] → refusals_in_block broken_41 b ≡ []
     → AllBefore (IsNew (of_sections b)) [] (section_declarations b)
 declarations_new b h k =
     let o : Outside = of_sections b in
     before_both (λ before d. is_twice o before d ≡ false) (λ before d. not (init_fits d) ≡ false) [] (section_declarations b)
     (before_none (is_twice o) 21 [] (section_declarations b)
-    (none_left (in_list (broken_21 o) (section_declarations b)) (in_list (broken_21 of_structure) b.components) h))
+    (none_left (refusals_in_list (broken_21 o) (section_declarations b)) (refusals_in_list (broken_21 of_structure) b.components) h))
     (before_none (λ before d. not (init_fits d)) 41 [] (section_declarations b)
-    (none_left (in_list (broken_41 o) (section_declarations b)) (in_list (broken_41 of_structure) b.components) k))
+    (none_left (refusals_in_list (broken_41 o) (section_declarations b)) (refusals_in_list (broken_41 of_structure) b.components) k))
 
 -- ---- names of cells
 
 abbrev pub NotIn : List ℕ → List (List ℕ) → Type 0
 NotIn n names = AllByRecursion (λ m. bytes_eq n m ≡ false) names
 
-not_in : (n : List ℕ) (names : List (List ℕ)) → is_some (place_of n names) ≡ false → NotIn n names
+not_in : (n : List ℕ) (names : List (List ℕ)) → is_some (name_place n names) ≡ false → NotIn n names
 not_in n [] e = tt
-not_in n (m ∷ names) e = by (bytes_eq n m) (place_of n names) refl e (not_in n names)
+not_in n (m ∷ names) e = by (bytes_eq n m) (name_place n names) refl e (not_in n names)
   where
     by : (t : Bool) (o : Option ℕ) → bytes_eq n m ≡ t → is_some {T = ℕ} (cond t (Some 0) (option_map (λ k. suc k) o)) ≡ false
         → (is_some o ≡ false → NotIn n names) → NotIn n (m ∷ names)
@@ -142,27 +142,27 @@ once_append : (seen : List (List ℕ)) (xs ys : List Cell) → AreOnce seen xs �
 once_append seen [] ys h k = k
 once_append seen (x ∷ xs) ys h k = (h.0, once_append (seen_by seen x) xs ys h.1 k)
 
-once_opened : (seen : List (List ℕ)) (cs : List Cell) → AreOnce seen cs → AreOnce seen (opened cs)
+once_opened : (seen : List (List ℕ)) (cs : List Cell) → AreOnce seen cs → AreOnce seen (with_first_cell_opening cs)
 once_opened seen [] h = tt
 once_opened seen (c ∷ cs) h = by c.sound (once_opened (seen_by seen c) cs h.1)
   where
-    by : (t : Bool) → AreOnce (seen_by seen c) (opened cs) → AreOnce seen (if t then record c { opens = true } ∷ cs else c ∷ opened cs)
+    by : (t : Bool) → AreOnce (seen_by seen c) (with_first_cell_opening cs) → AreOnce seen (if t then record c { opens = true } ∷ cs else c ∷ with_first_cell_opening cs)
     by true more = h
     by false more = (h.0, more)
 
-seen_opened : (seen : List (List ℕ)) (cs : List Cell) → seen_after seen (opened cs) ≡ seen_after seen cs
+seen_opened : (seen : List (List ℕ)) (cs : List Cell) → seen_after seen (with_first_cell_opening cs) ≡ seen_after seen cs
 seen_opened seen [] = refl
 seen_opened seen (c ∷ cs) = by c.sound (seen_opened (seen_by seen c) cs)
   where
-    by : (t : Bool) → seen_after (seen_by seen c) (opened cs) ≡ seen_after (seen_by seen c) cs
-        → seen_after seen (if t then record c { opens = true } ∷ cs else c ∷ opened cs) ≡ seen_after (seen_by seen c) cs
+    by : (t : Bool) → seen_after (seen_by seen c) (with_first_cell_opening cs) ≡ seen_after (seen_by seen c) cs
+        → seen_after seen (if t then record c { opens = true } ∷ cs else c ∷ with_first_cell_opening cs) ≡ seen_after (seen_by seen c) cs
     by true more = refl
     by false more = more
 
 pub never_less : (n : ℕ) → nat_lt n 0 ≡ false
 never_less n = grind (arith, nat_tests)
 
-names_step : (outer : List (List ℕ)) (d : Declaration) (ds : List Declaration) → names_before outer 0 (d ∷ ds) ≡ names_before outer 0 ds ++ name_here 0 d
+names_step : (outer : List (List ℕ)) (d : Declaration) (ds : List Declaration) → names_before outer 0 (d ∷ ds) ≡ names_before outer 0 ds ++ declaration_name_here 0 d
 names_step outer d ds = let never = never_less d.level in rw never refl
 
 -- the names before a declaration hold all that were seen
@@ -172,14 +172,14 @@ Covers outer before seen = (n : List ℕ) → NotIn n (names_before outer 0 befo
 covers_more : (outer : List (List ℕ)) (before : List Declaration) (seen : List (List ℕ)) (d : Declaration) (c : Cell)
     → c.name ≡ upper_case_name d.name → c.level ≡ d.level → Covers outer before seen → Covers outer (d ∷ before) (seen_by seen c)
 covers_more outer before seen d c name level h n all =
-    rw level (by (nat_eq d.level 0) (all_back (λ m. bytes_eq n m ≡ false) (names_before outer 0 before) (name_here 0 d) out))
+    rw level (by (nat_eq d.level 0) (all_back (λ m. bytes_eq n m ≡ false) (names_before outer 0 before) (declaration_name_here 0 d) out))
   where
-    out : NotIn n (names_before outer 0 before ++ name_here 0 d)
+    out : NotIn n (names_before outer 0 before ++ declaration_name_here 0 d)
     out = subst (NotIn n) (names_step outer d before) all
 
     by : (t : Bool) → NotIn n (if t then upper_case_name d.name ∷ [] else []) → NotIn n (if t then c.name ∷ seen else seen)
-    by true k = (ap (bytes_eq n) name ∙ k.0, h n (all_front (λ m. bytes_eq n m ≡ false) (names_before outer 0 before) (name_here 0 d) out))
-    by false k = h n (all_front (λ m. bytes_eq n m ≡ false) (names_before outer 0 before) (name_here 0 d) out)
+    by true k = (ap (bytes_eq n) name ∙ k.0, h n (all_front (λ m. bytes_eq n m ≡ false) (names_before outer 0 before) (declaration_name_here 0 d) out))
+    by false k = h n (all_front (λ m. bytes_eq n m ≡ false) (names_before outer 0 before) (declaration_name_here 0 d) out)
 
 name_new : (o : Outside) (before : List Declaration) (d : Declaration) → is_twice o before d ≡ false → nat_eq d.level 0 ≡ true
     → NotIn (upper_case_name d.name) (names_before o.names 0 before)
@@ -198,7 +198,7 @@ cells_once y o section before (d ∷ ds) seen covers h =
     )
 
 cells_covered : (y : Types) (o : Outside) (section : PartKind) (before ds : List Declaration) (seen : List (List ℕ)) → Covers o.names before seen
-    → Covers o.names (onto before ds) (seen_after seen (cells_of y o section before ds))
+    → Covers o.names (declarations_before_next before ds) (seen_after seen (cells_of y o section before ds))
 unfolding cell_of
 cells_covered y o section before [] seen covers = covers
 cells_covered y o section before (d ∷ ds) seen covers =
@@ -206,10 +206,10 @@ cells_covered y o section before (d ∷ ds) seen covers =
     cells_covered y o section (d ∷ before) ds (seen_by seen c) (covers_more o.names before seen d c refl refl covers)
 
 -- names that stand before cover also where a section is left out
-names_more : (outer : List (List ℕ)) (before ds : List Declaration) (n : List ℕ) → NotIn n (names_before outer 0 (onto before ds)) → NotIn n (names_before outer 0 before)
+names_more : (outer : List (List ℕ)) (before ds : List Declaration) (n : List ℕ) → NotIn n (names_before outer 0 (declarations_before_next before ds)) → NotIn n (names_before outer 0 before)
 names_more outer before [] n h = h
 names_more outer before (d ∷ ds) n h =
-    all_front (λ m. bytes_eq n m ≡ false) (names_before outer 0 before) (name_here 0 d)
+    all_front (λ m. bytes_eq n m ≡ false) (names_before outer 0 before) (declaration_name_here 0 d)
     (subst (NotIn n) (names_step outer d before) (names_more outer (d ∷ before) ds n h))
 
 pub sections_once : (y : Types) (o : Outside) (wanted : PartKind → Bool) (before : List Declaration) (ps : List Part) (seen : List (List ℕ))
@@ -217,21 +217,21 @@ pub sections_once : (y : Types) (o : Outside) (wanted : PartKind → Bool) (befo
 sections_once y o wanted before [] seen covers h = tt
 sections_once y o wanted before (p ∷ ps) seen covers h =
     by (wanted p.kind)
-    (sections_once y o wanted (onto before p.items) ps (seen_after seen cells) (cells_covered y o p.kind before p.items seen covers) rest)
-    (sections_once y o wanted (onto before p.items) ps seen (λ n out. covers n (names_more o.names before p.items n out)) rest)
+    (sections_once y o wanted (declarations_before_next before p.items) ps (seen_after seen cells) (cells_covered y o p.kind before p.items seen covers) rest)
+    (sections_once y o wanted (declarations_before_next before p.items) ps seen (λ n out. covers n (names_more o.names before p.items n out)) rest)
   where
     cells : List Cell
     cells = cells_of y o p.kind before p.items
 
     more : List Cell
-    more = section_cells y o wanted (onto before p.items) ps
+    more = section_cells y o wanted (declarations_before_next before p.items) ps
 
-    rest : AllBefore (IsNew o) (onto before p.items) (flat_map (λ p. p.items) ps)
+    rest : AllBefore (IsNew o) (declarations_before_next before p.items) (flat_map (λ p. p.items) ps)
     rest = before_rest (IsNew o) before p.items (flat_map (λ p. p.items) ps) h
 
-    by : (t : Bool) → AreOnce (seen_after seen cells) more → AreOnce seen more → AreOnce seen ((if t then opened cells else []) ++ more)
+    by : (t : Bool) → AreOnce (seen_after seen cells) more → AreOnce seen more → AreOnce seen ((if t then with_first_cell_opening cells else []) ++ more)
     by true there skipped =
-        once_append seen (opened cells) more
+        once_append seen (with_first_cell_opening cells) more
         (once_opened seen cells (cells_once y o p.kind before p.items seen covers (before_front (IsNew o) before p.items (flat_map (λ p. p.items) ps) h)))
         (subst (λ (z : List (List ℕ)). AreOnce z more) (sym (seen_opened seen cells)) there)
     by false there skipped = skipped
@@ -242,7 +242,7 @@ sections_once y o wanted before (p ∷ ps) seen covers h =
 abbrev pub IsParameter : Cell → Type 0
 IsParameter c = is_parameter c.section ≡ true → (c.level ≡ 0) × (c.sound ≡ true) × (c.bounds ≡ [])
 
-pub none_around : (before : List Declaration) → around 0 before ≡ []
+pub none_around : (before : List Declaration) → structures_around 0 before ≡ []
 none_around [] = refl
 none_around (d ∷ ds) = let never = never_less d.level in rw never (none_around ds)
 
@@ -255,7 +255,7 @@ pub record IsElementary (d : Declaration) : Type 0 where
 pub elementary : (d : Declaration) → is_elementary d ≡ true → IsElementary d
 elementary d h = by d.of.arrays d.of.of refl refl h
   where
-    by : (arrays : List Bounds) (of : ElementType) → d.of.arrays ≡ arrays → d.of.of ≡ of → is_plain arrays of ≡ true → IsElementary d
+    by : (arrays : List Bounds) (of : ElementType) → d.of.arrays ≡ arrays → d.of.of ≡ of → is_elementary_type arrays of ≡ true → IsElementary d
     by [] (type.Plain k) e f h = record { arrays = e; kind = k; of = f }
     by [] type.Structure e f h = absurd cc
     by [] type.DateAndTime e f h = absurd cc
@@ -291,11 +291,11 @@ parameter_cells y o section before (d ∷ ds) shallow h new = (
   parameter_cells y o section (d ∷ before) ds shallow (λ is. (h is).1) new.1,
 )
 
-parameters_opened : (cs : List Cell) → AllByRecursion IsParameter cs → AllByRecursion IsParameter (opened cs)
+parameters_opened : (cs : List Cell) → AllByRecursion IsParameter cs → AllByRecursion IsParameter (with_first_cell_opening cs)
 parameters_opened [] h = tt
 parameters_opened (c ∷ cs) h = by c.sound (parameters_opened cs h.1)
   where
-    by : (t : Bool) → AllByRecursion IsParameter (opened cs) → AllByRecursion IsParameter (if t then record c { opens = true } ∷ cs else c ∷ opened cs)
+    by : (t : Bool) → AllByRecursion IsParameter (with_first_cell_opening cs) → AllByRecursion IsParameter (if t then record c { opens = true } ∷ cs else c ∷ with_first_cell_opening cs)
     by true more = h
     by false more = (h.0, more)
 
@@ -304,17 +304,17 @@ parameter_sections : (y : Types) (k : BlockKind) (o : Outside) (wanted : PartKin
     → AllByRecursion IsParameter (section_cells y o wanted before ps)
 parameter_sections y k o wanted before [] shallow h new = tt
 parameter_sections y k o wanted before (p ∷ ps) shallow h new =
-    by (wanted p.kind) (parameter_sections y k o wanted (onto before p.items) ps shallow h.1 (before_rest (IsNew o) before p.items (flat_map (λ p. p.items) ps) new))
+    by (wanted p.kind) (parameter_sections y k o wanted (declarations_before_next before p.items) ps shallow h.1 (before_rest (IsNew o) before p.items (flat_map (λ p. p.items) ps) new))
   where
     cells : List Cell
     cells = cells_of y o p.kind before p.items
 
     more : List Cell
-    more = section_cells y o wanted (onto before p.items) ps
+    more = section_cells y o wanted (declarations_before_next before p.items) ps
 
-    by : (t : Bool) → AllByRecursion IsParameter more → AllByRecursion IsParameter ((if t then opened cells else []) ++ more)
+    by : (t : Bool) → AllByRecursion IsParameter more → AllByRecursion IsParameter ((if t then with_first_cell_opening cells else []) ++ more)
     by true there =
-        all_append IsParameter (opened cells) more
+        all_append IsParameter (with_first_cell_opening cells) more
         (parameters_opened cells (parameter_cells y o p.kind before p.items shallow (λ is. outer_levels k p.kind p.items is h.0.1 h.0.2)
         (before_front (IsNew o) before p.items (flat_map (λ p. p.items) ps) new)))
         there
@@ -322,8 +322,8 @@ parameter_sections y k o wanted before (p ∷ ps) shallow h new =
 
 -- ---- where they lie
 
-up_behind : (c : Cell) (at : ℕ) → at ≤ up at (alignment c)
-unfolding up
+up_behind : (c : Cell) (at : ℕ) → at ≤ next_multiple at (alignment c)
+unfolding next_multiple
 up_behind c at = by c.opens (nat_eq (length c.bounds) 0) (least c.of)
   where
     least : (e : Element) → at ≤ (at + (element_alignment e - 1)) / element_alignment e * element_alignment e
@@ -348,33 +348,33 @@ up_behind c at = by c.opens (nat_eq (length c.bounds) 0) (least c.of)
     by false true h = h
     by false false h = omega arith
 
-pub past_behind : (at : ℕ) (c : Cell) (bits : ℕ) → at ≤ largest → (at ≤ stepped 0 at c bits) × (stepped 0 at c bits ≤ largest)
+pub past_behind : (at : ℕ) (c : Cell) (bits : ℕ) → at ≤ largest_size → (at ≤ end_behind_cell 0 at c bits) × (end_behind_cell 0 at c bits ≤ largest_size)
 past_behind at c bits near = by (nat_eq c.level 0) c.sound
   where
-    by : (outer sound : Bool) → (at ≤ (if outer then (if sound then capped (up at (alignment c) + bits) else at) else at))
-        × ((if outer then (if sound then capped (up at (alignment c) + bits) else at) else at) ≤ largest)
+    by : (outer sound : Bool) → (at ≤ (if outer then (if sound then capped_size (next_multiple at (alignment c) + bits) else at) else at))
+        × ((if outer then (if sound then capped_size (next_multiple at (alignment c) + bits) else at) else at) ≤ largest_size)
     by true true = let behind = up_behind c at in (omega (arith, near, behind), omega arith)
     by true false = (omega arith, near)
     by false sound = (omega arith, near)
 
-pub end_step : (at : ℕ) (c : Cell) (cs : List Cell) → end_of 0 at (c ∷ cs) ≡ end_of 0 (stepped 0 at c (cell_bits c cs)) cs
-unfolding end_of element_of
+pub end_step : (at : ℕ) (c : Cell) (cs : List Cell) → components_end 0 at (c ∷ cs) ≡ components_end 0 (end_behind_cell 0 at c (cell_bits c cs)) cs
+unfolding components_end element_of
 end_step at c cs = let never = never_less c.level in rw never refl
 
-pub end_behind : (at : ℕ) (cs : List Cell) → at ≤ largest → at ≤ end_of 0 at cs
-unfolding end_of
+pub end_behind : (at : ℕ) (cs : List Cell) → at ≤ largest_size → at ≤ components_end 0 at cs
+unfolding components_end
 end_behind at [] near = omega arith
 end_behind at (c ∷ cs) near =
     let step = past_behind at c (cell_bits c cs) near in
-    let more = end_behind (stepped 0 at c (cell_bits c cs)) cs step.1 in
+    let more = end_behind (end_behind_cell 0 at c (cell_bits c cs)) cs step.1 in
     let same = end_step at c cs in
     omega (arith, step.0, more, same)
 
 -- a parameter of this kind lies before the end, by its bytes
 placed_fits : (k : Simple) (opens : Bool) (at end len : ℕ) → end ≤ 8 * len
-    → up at (if opens then 16 else min (plain_bits k) 16) + plain_bits k ≤ end
-    → up at (if opens then 16 else min (plain_bits k) 16) / 8 + byte_count (width_of k) ≤ len
-unfolding up
+    → next_multiple at (if opens then 16 else min (plain_bits k) 16) + plain_bits k ≤ end
+    → next_multiple at (if opens then 16 else min (plain_bits k) 16) / 8 + byte_count (width_of k) ≤ len
+unfolding next_multiple
 placed_fits simple.Bool true at end len fits h = omega (arith, fits, h)
 placed_fits simple.Bool false at end len fits h = omega (arith, fits, h)
 placed_fits simple.Byte true at end len fits h = omega (arith, fits, h)
@@ -398,20 +398,20 @@ placed_fits simple.Time false at end len fits h = omega (arith, fits, h)
 abbrev IsPlacedIn : (look : List ℕ → Option Member) → (len : ℕ) → Cell → Type 0
 IsPlacedIn look len c =
     is_parameter c.section ≡ true → (k : Simple) → c.of ≡ element.Plain k
-    → offset_named (look c.name) / 8 + byte_count (width_of k) ≤ len
+    → offset_of_member (look c.name) / 8 + byte_count (width_of k) ≤ len
 
 pub same_bytes : (n : List ℕ) → bytes_eq n n ≡ true
 same_bytes [] = refl
 same_bytes (x ∷ n) = and_from _ _ (eq-eqb x x refl) (same_bytes n)
 
 pub passed_by : (at place : ℕ) (n : List ℕ) (c : Cell) (cs : List Cell) → (nat_eq c.level 0 && bytes_eq n c.name) ≡ false
-    → component 0 at place n (c ∷ cs) ≡ component 0 (stepped 0 at c (cell_bits c cs)) (place + 1) n cs
-unfolding component
+    → component_of_name 0 at place n (c ∷ cs) ≡ component_of_name 0 (end_behind_cell 0 at c (cell_bits c cs)) (place + 1) n cs
+unfolding component_of_name
 passed_by at place n c cs other = let never = never_less c.level in rw never (rw other refl)
 
 pub found_here : (at place : ℕ) (c : Cell) (cs : List Cell) → c.level ≡ 0
-    → component 0 at place c.name (c ∷ cs) ≡ Some (record { place = place; offset = up at (alignment c) })
-unfolding component
+    → component_of_name 0 at place c.name (c ∷ cs) ≡ Some (record { place = place; offset = next_multiple at (alignment c) })
+unfolding component_of_name
 found_here at place c cs outer = rw outer (rw (same_bytes c.name) refl)
 
 pub not_both : (a b : Bool) → (a ≡ true → b ≡ false) → (a && b) ≡ false
@@ -423,29 +423,29 @@ unfolding element_of
 plain_sized c cs k bounds of = rw bounds (rw of refl)
 
 pub parameters_placed : (look : List ℕ → Option Member) (len at place : ℕ) (seen : List (List ℕ)) (cs : List Cell)
-    → at ≤ largest → end_of 0 at cs < largest → end_of 0 at cs ≤ 8 * len
-    → ((n : List ℕ) → NotIn n seen → look n ≡ component 0 at place n cs) → AreOnce seen cs → AllByRecursion IsParameter cs
+    → at ≤ largest_size → components_end 0 at cs < largest_size → components_end 0 at cs ≤ 8 * len
+    → ((n : List ℕ) → NotIn n seen → look n ≡ component_of_name 0 at place n cs) → AreOnce seen cs → AllByRecursion IsParameter cs
     → AllByRecursion (IsPlacedIn look len) cs
 parameters_placed look len at place seen [] near below fits finds once are = tt
 parameters_placed look len at place seen (c ∷ cs) near below fits finds once are = (
   here,
-  parameters_placed look len next (place + 1) (seen_by seen c) cs step.1 (subst (λ (n : ℕ). n < largest) same below)
+  parameters_placed look len next (place + 1) (seen_by seen c) cs step.1 (subst (λ (n : ℕ). n < largest_size) same below)
       (subst (λ (n : ℕ). n ≤ 8 * len) same fits) later once.1 are.1,
 )
   where
     next : ℕ
-    next = stepped 0 at c (cell_bits c cs)
+    next = end_behind_cell 0 at c (cell_bits c cs)
 
-    step : (at ≤ next) × (next ≤ largest)
+    step : (at ≤ next) × (next ≤ largest_size)
     step = past_behind at c (cell_bits c cs) near
 
-    same : end_of 0 at (c ∷ cs) ≡ end_of 0 next cs
+    same : components_end 0 at (c ∷ cs) ≡ components_end 0 next cs
     same = end_step at c cs
 
-    later : (n : List ℕ) → NotIn n (seen_by seen c) → look n ≡ component 0 next (place + 1) n cs
+    later : (n : List ℕ) → NotIn n (seen_by seen c) → look n ≡ component_of_name 0 next (place + 1) n cs
     later n out = by (nat_eq c.level 0) refl out
       where
-        by : (t : Bool) → nat_eq c.level 0 ≡ t → NotIn n (if t then c.name ∷ seen else seen) → look n ≡ component 0 next (place + 1) n cs
+        by : (t : Bool) → nat_eq c.level 0 ≡ t → NotIn n (if t then c.name ∷ seen else seen) → look n ≡ component_of_name 0 next (place + 1) n cs
         by true e out = finds n out.1 ∙ passed_by at place n c cs (not_both (nat_eq c.level 0) (bytes_eq n c.name) (λ is. out.0))
         by false e out = finds n out ∙ passed_by at place n c cs (not_both (nat_eq c.level 0) (bytes_eq n c.name) (λ is. absurd cc))
 
@@ -453,16 +453,16 @@ parameters_placed look len at place seen (c ∷ cs) near below fits finds once a
     here is k of =
         let is_parameter_cell = are.0 is in
         let level = is_parameter_cell.0 in
-        let found : look c.name ≡ Some (record { place = place; offset = up at (alignment c) }) =
+        let found : look c.name ≡ Some (record { place = place; offset = next_multiple at (alignment c) }) =
         finds c.name (once.0 (eq-eqb c.level 0 level)) ∙ found_here at place c cs level in
-        let offset : offset_named (look c.name) ≡ up at (alignment c) = ap offset_named found in
+        let offset : offset_of_member (look c.name) ≡ next_multiple at (alignment c) = ap offset_of_member found in
         let align : alignment c ≡ (if c.opens then 16 else min (plain_bits k) 16) = aligned is_parameter_cell.2 of in
         let bits : cell_bits c cs ≡ plain_bits k = sized is_parameter_cell.2 of in
-        let past_it : next ≡ capped (up at (alignment c) + cell_bits c cs) = stepped_past level is_parameter_cell.1 in
+        let past_it : next ≡ capped_size (next_multiple at (alignment c) + cell_bits c cs) = stepped_past level is_parameter_cell.1 in
         let ends = end_behind next cs step.1 in
-        let within : up at (alignment c) + plain_bits k ≤ end_of 0 at (c ∷ cs) = omega (arith, past_it, bits, ends, same, below) in
-        subst (λ (o : ℕ). o / 8 + byte_count (width_of k) ≤ len) (sym (offset ∙ ap (up at) align))
-        (placed_fits k c.opens at (end_of 0 at (c ∷ cs)) len fits (subst (λ (a : ℕ). up at a + plain_bits k ≤ end_of 0 at (c ∷ cs)) align within))
+        let within : next_multiple at (alignment c) + plain_bits k ≤ components_end 0 at (c ∷ cs) = omega (arith, past_it, bits, ends, same, below) in
+        subst (λ (o : ℕ). o / 8 + byte_count (width_of k) ≤ len) (sym (offset ∙ ap (next_multiple at) align))
+        (placed_fits k c.opens at (components_end 0 at (c ∷ cs)) len fits (subst (λ (a : ℕ). next_multiple at a + plain_bits k ≤ components_end 0 at (c ∷ cs)) align within))
       where
         aligned : c.bounds ≡ [] → c.of ≡ element.Plain k → alignment c ≡ (if c.opens then 16 else min (plain_bits k) 16)
         aligned bounds of = rw bounds (rw of refl)
@@ -470,7 +470,7 @@ parameters_placed look len at place seen (c ∷ cs) near below fits finds once a
         sized : c.bounds ≡ [] → c.of ≡ element.Plain k → cell_bits c cs ≡ plain_bits k
         sized bounds of = plain_sized c cs k bounds of
 
-        stepped_past : c.level ≡ 0 → c.sound ≡ true → next ≡ capped (up at (alignment c) + cell_bits c cs)
+        stepped_past : c.level ≡ 0 → c.sound ≡ true → next ≡ capped_size (next_multiple at (alignment c) + cell_bits c cs)
         stepped_past level sound = rw level (rw sound refl)
 
 -- ---- how many there are
@@ -507,17 +507,17 @@ params_few in_instance all (c ∷ cs) =
 count_append : (xs ys : List Cell) → parameter_cells_of (xs ++ ys) ≡ parameter_cells_of xs + parameter_cells_of ys
 count_append xs ys = sum_by-append (λ (x : Cell). if is_parameter x.section then 1 else 0) xs ys
 
-count_opened : (cs : List Cell) → parameter_cells_of (opened cs) ≡ parameter_cells_of cs
+count_opened : (cs : List Cell) → parameter_cells_of (with_first_cell_opening cs) ≡ parameter_cells_of cs
 count_opened [] = refl
 count_opened (c ∷ cs) = by c.sound (count_opened cs)
   where
     count : (d : Cell) (ds : List Cell) → parameter_cells_of (d ∷ ds) ≡ (if is_parameter d.section then 1 else 0) + parameter_cells_of ds
     count d ds = sum_by-cons (λ (x : Cell). if is_parameter x.section then 1 else 0) d ds
 
-    by : (t : Bool) → parameter_cells_of (opened cs) ≡ parameter_cells_of cs
-        → parameter_cells_of (if t then record c { opens = true } ∷ cs else c ∷ opened cs) ≡ parameter_cells_of (c ∷ cs)
+    by : (t : Bool) → parameter_cells_of (with_first_cell_opening cs) ≡ parameter_cells_of cs
+        → parameter_cells_of (if t then record c { opens = true } ∷ cs else c ∷ with_first_cell_opening cs) ≡ parameter_cells_of (c ∷ cs)
     by true more = count (record c { opens = true }) cs ∙ sym (count c cs)
-    by false more = count c (opened cs) ∙ ap (λ (n : ℕ). (if is_parameter c.section then 1 else 0) + n) more ∙ sym (count c cs)
+    by false more = count c (with_first_cell_opening cs) ∙ ap (λ (n : ℕ). (if is_parameter c.section then 1 else 0) + n) more ∙ sym (count c cs)
 
 no_parameters : (y : Types) (o : Outside) (section : PartKind) (before ds : List Declaration) → is_parameter section ≡ false
     → parameter_cells_of (cells_of y o section before ds) ≡ 0
@@ -547,28 +547,28 @@ some_parameters y o section before (d ∷ ds) h =
     at_most_one false = omega arith
 
 sections_count : (y : Types) (k : BlockKind) (o : Outside) (wanted : PartKind → Bool) (before : List Declaration) (ps : List Part)
-    → AllByRecursion (IsSection k) ps → parameter_cells_of (section_cells y o wanted before ps) ≤ sum_by declared_in ps
+    → AllByRecursion (IsSection k) ps → parameter_cells_of (section_cells y o wanted before ps) ≤ sum_by parameters_in_section ps
 sections_count y k o wanted before [] h = omega arith
-sections_count y k o wanted before (p ∷ ps) h = by (wanted p.kind) (sections_count y k o wanted (onto before p.items) ps h.1)
+sections_count y k o wanted before (p ∷ ps) h = by (wanted p.kind) (sections_count y k o wanted (declarations_before_next before p.items) ps h.1)
   where
     cells : List Cell
     cells = cells_of y o p.kind before p.items
 
     more : List Cell
-    more = section_cells y o wanted (onto before p.items) ps
+    more = section_cells y o wanted (declarations_before_next before p.items) ps
 
     here : (t : Bool) → is_parameter p.kind ≡ t → parameter_cells_of cells ≤ (if t then count_by (λ d. nat_eq d.level 0) p.items else 0)
     here true is = some_parameters y o p.kind before p.items (outer_levels k p.kind p.items is h.0.1 h.0.2)
     here false is = let none = no_parameters y o p.kind before p.items is in omega (arith, none)
 
-    by : (t : Bool) → parameter_cells_of more ≤ sum_by declared_in ps → parameter_cells_of ((if t then opened cells else []) ++ more) ≤ sum_by declared_in (p ∷ ps)
+    by : (t : Bool) → parameter_cells_of more ≤ sum_by parameters_in_section ps → parameter_cells_of ((if t then with_first_cell_opening cells else []) ++ more) ≤ sum_by parameters_in_section (p ∷ ps)
     by true less =
-        let both = count_append (opened cells) more in
+        let both = count_append (with_first_cell_opening cells) more in
         let same = count_opened cells in
         let one = here (is_parameter p.kind) refl in
-        let all = sum_by-cons declared_in p ps in
+        let all = sum_by-cons parameters_in_section p ps in
         omega (arith, less, both, same, one, all)
-    by false less = let all = sum_by-cons declared_in p ps in omega (arith, less, all)
+    by false less = let all = sum_by-cons parameters_in_section p ps in omega (arith, less, all)
 
 all_count : (y : Types) (b : Block) → AllByRecursion (IsSection b.kind) b.parts → parameter_cells_of (components_of y b) ≤ parameter_count b
 all_count y b h =
@@ -583,7 +583,7 @@ all_count y b h =
     let one = returned_count b.result in
     omega (arith, outer, front, none, some, one)
   where
-    returned_count : (r : Option Simple) → parameter_cells_of (returned_cells r) ≤ returned r
+    returned_count : (r : Option Simple) → parameter_cells_of (returned_cells r) ≤ return_value_count r
     returned_count None = omega arith
     returned_count (Some k) = omega arith
 
@@ -672,7 +672,7 @@ plain_params kind instance all (c ∷ cs) other =
 
 -- of a function block
 abbrev look_in : List Cell → List ℕ → Option Member
-look_in all name = component 0 0 0 name all
+look_in all name = component_of_name 0 0 0 name all
 
 placed_param : (instance : ℕ) (all : List Cell) (c : Cell) → instance ≤ 16384 → IsPlacedIn (look_in all) instance c
     → AllByRecursion (IsGood 3 instance) (param_here true all c)
@@ -686,7 +686,7 @@ placed_param instance all c short placed = by (is_parameter c.section) refl
             high = (section_low c.section).1;
             near = omega (arith, within, short);
             byte = le-leb _ instance within;
-            bit = bit_low (offset_named (look_in all c.name));
+            bit = bit_low (offset_of_member (look_in all c.name));
             whole = refl;
           },
           tt,
@@ -728,8 +728,8 @@ pub record HasParams (kind instance : ℕ) (ps : List Param) : Type 0 where
   pub none : kind ≡ 1 → ps ≡ []
 
 pub structure_end : (cells : List Cell) → structure_bits cells / 8 ≤ 16384
-    → (end_of 0 0 cells < largest) × (end_of 0 0 cells ≤ 8 * (structure_bits cells / 8))
-unfolding structure_bits up
+    → (components_end 0 0 cells < largest_size) × (components_end 0 0 cells ≤ 8 * (structure_bits cells / 8))
+unfolding structure_bits next_multiple
 structure_end cells short = (omega (arith, short), omega (arith, short))
 
 few_params : (y : Types) (b : Block) (l : BlockLayout) → l.components ≡ components_of y b → AllByRecursion (IsSection b.kind) b.parts
@@ -747,14 +747,14 @@ few_params y b l are sections h =
 -- those of an organization block
 no_sections : (y : Types) (o : Outside) (before : List Declaration) (ps : List Part) → AllByRecursion (IsSection kinds.Ob) ps
     → section_cells y o (λ k. not (is_temp k)) before ps ≡ []
-unfolding may_have
+unfolding may_have_section
 no_sections y o before [] h = refl
-no_sections y o before (p ∷ ps) h = by p.kind h.0.0 (no_sections y o (onto before p.items) ps h.1)
+no_sections y o before (p ∷ ps) h = by p.kind h.0.0 (no_sections y o (declarations_before_next before p.items) ps h.1)
   where
     more : List Cell
-    more = section_cells y o (λ k. not (is_temp k)) (onto before p.items) ps
+    more = section_cells y o (λ k. not (is_temp k)) (declarations_before_next before p.items) ps
 
-    by : (k : PartKind) → may_have kinds.Ob k ≡ true → more ≡ [] → (if not (is_temp k) then opened (cells_of y o k before p.items) else []) ++ more ≡ []
+    by : (k : PartKind) → may_have_section kinds.Ob k ≡ true → more ≡ [] → (if not (is_temp k) then with_first_cell_opening (cells_of y o k before p.items) else []) ++ more ≡ []
     by part.Input is none = absurd cc
     by part.Output is none = absurd cc
     by part.InOut is none = absurd cc
@@ -784,9 +784,9 @@ no_params y b l are kind formed =
 -- and those of a function block
 instance_params : (symbols : List Symbol) (t : Tree) (k : ℕ) (b : Block) (l : BlockLayout) → IsSound symbols t k b l → b.kind ≡ kinds.Fb
     → AllByRecursion (IsGood 3 l.length) (params_of b l)
-unfolding params_of block_layout length_of
+unfolding params_of block_layout length_of_block
 instance_params symbols t k b l h kind =
-    let y : Types = types_of symbols t.blocks in
+    let y : Types = types_of_source symbols t.blocks in
     let result : b.result ≡ None = subst (λ (k : BlockKind). MayReturn k b.result) kind h.well_formed.returns in
     let shaped = subst (λ (k : BlockKind). IsShapeOf k b.shape b.instance_of b.components) kind h.well_formed.shaped in
     let sections = subst (λ (k : BlockKind). AllByRecursion (IsSection k) b.parts) kind h.well_formed.sections.1 in
@@ -795,7 +795,7 @@ instance_params symbols t k b l h kind =
     let are : l.components ≡ cells = ap (λ (x : BlockLayout). x.components) h.layout ∙ own in
     let len : l.length ≡ structure_bits cells / 8 =
     ap (λ (x : BlockLayout). x.length) h.layout ∙ structure_len y t.blocks b kind shaped.0 shaped.1 ∙ ap (λ (cs : List Cell). structure_bits cs / 8) own in
-    let short : l.length ≤ 16384 = subst (λ (n : ℕ). n ≤ 16384) (ap (λ (x : BlockLayout). x.length) (sym h.layout)) (ltb-false 16384 (length_of y t.blocks b) h.head.by_51) in
+    let short : l.length ≤ 16384 = subst (λ (n : ℕ). n ≤ 16384) (ap (λ (x : BlockLayout). x.length) (sym h.layout)) (ltb-false 16384 (length_of_block y t.blocks b) h.head.by_51) in
     let new = declarations_new b h.declarations.by_21 h.declarations.by_41 in
     let covers : Covers (returned_names b.result) [] [] = λ n out. tt in
     let once = sections_once y (of_sections b) (λ k. not (is_temp k)) [] b.parts [] covers new in
@@ -813,7 +813,7 @@ instance_params symbols t k b l h kind =
     is_instance e = ap is_function_block e
 
     structure_len : (y : Types) (blocks : List Block) (b : Block) → b.kind ≡ kinds.Fb → b.shape ≡ None → b.instance_of ≡ None
-        → length_of y blocks b ≡ structure_bits (components_of y b) / 8
+        → length_of_block y blocks b ≡ structure_bits (components_of y b) / 8
     structure_len y blocks b kind shape instance = rw kind (rw shape (rw instance refl))
 
 -- ---- whatever block it is
@@ -831,15 +831,15 @@ pub params_right : (symbols : List Symbol) (t : Tree) (k : ℕ) (b : Block) (l :
 unfolding block_layout
 params_right symbols t k b l kind h same code = by kind same code
   where
-    are : l.components ≡ components_of (types_of symbols t.blocks) b
+    are : l.components ≡ components_of (types_of_source symbols t.blocks) b
     are = ap (λ (x : BlockLayout). x.components) h.layout
 
     few : length (params_of b l) ≤ 60
-    few = few_params (types_of symbols t.blocks) b l are h.well_formed.sections.1 h.head.by_52
+    few = few_params (types_of_source symbols t.blocks) b l are h.well_formed.sections.1 h.head.by_52
 
     by : (kind : BlockKind) → b.kind ≡ kind → is_code kind ≡ true → HasParams (kind_number kind) (instance_len b l) (params_of b l)
     by kinds.Ob same code =
-        let none = no_params (types_of symbols t.blocks) b l are same h.well_formed in
+        let none = no_params (types_of_source symbols t.blocks) b l are same h.well_formed in
         record { few = few; good = ap (good_params 1 (instance_len b l)) none; none = λ e. none }
     by kinds.Fc same code = record {
       few = few;

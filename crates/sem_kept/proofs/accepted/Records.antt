@@ -8,20 +8,20 @@ use Rattle.std.proofs.lemmas.List.{length-map}
 use Rattle.plc_base.specs.Kinds.{kind_number}
 use Rattle.flat_code.specs.Checking.{all_good, good_counts, good_datas, good_names}
 use Rattle.flat_code.specs.Faults.{field_fault}
-use Rattle.flat_code.specs.Image.{after_block, after_data, after_name, body, body_rows, code_block_layout, code_blocks, count_rows, counts_layout, data_block_layout, data_blocks_layout, data_count, name_of_entry, name_record, names, plain_u16, record_of_block, records, zero_u16}
+use Rattle.flat_code.specs.Image.{after_block, after_data, after_name, body_layout, body_rows, code_block_layout, code_blocks_layout, count_rows, counts_layout, data_block_layout, data_blocks_layout, data_count, name_of_entry, name_record, names_layout, plain_u16, record_of_block, records_layout, zero_u16}
 use Rattle.flat_code.specs.Programs.{Program}
 use Rattle.stl_ast.specs.declared.blocks.Tree.{Tree}
-use Rattle.stl_parser.specs.Lines.{Rises, lines_of, LinesRise}
+use Rattle.stl_parser.specs.Lines.{AreRisingLines, statement_lines_of, LinesRise}
 use Rattle.stl_parser.proofs.RiseLemmas.{lines_rise}
 use Rattle.stl_symbols.specs.Symbol.{Symbol}
 use Rattle.stl_symbols.specs.Symbols.{symbols_in}
 use Rattle.stl_symbols.specs.declared.languages.Language.{Language}
 use Rattle.block_layout.specs.Layouts.{layouts_of}
-use Rattle.stl_codegen.specs.Compiled.{compiled}
+use Rattle.stl_codegen.specs.Compiled.{compiled_block}
 use Rattle.stl_codegen.specs.Generated.{code_blocks_of}
 use Rattle.stl_codegen.specs.Order.{is_code_before}
 use Rattle.sem_kept.specs.Accepted.{program_in}
-use Rattle.sem_kept.specs.Records.{HasCode, HasCounts, IsOfBytes, RecordsAreRight}
+use Rattle.sem_kept.specs.Records.{HasFaultlessCode, HasCounts, IsOfBytes, RecordsAreRight}
 use Rattle.sem_kept.proofs.accepted.Accepted.{IsSoundTree, all_both, right_tree, sound_code_blocks}
 use Rattle.sem_kept.proofs.accepted.RecordBlocks.{HasFields, IsRightBlock, code_blocks_rise, counted, data_blocks_rise, fields_of, first_good, next_good}
 use Rattle.sem_kept.proofs.accepted.RecordData.{data_blocks_right}
@@ -36,8 +36,8 @@ counts_good codes datas names h = grind (arith, nat_tests)
 
 body_good : (judged : Bool) (p : Program) → HasCounts p
     → all_good (code_block_layout judged) after_block (0, 0) (map record_of_block p.code_blocks) ≡ true
-    → good_datas (0, 0) p.data_blocks ≡ true → good_names [] p.names ≡ true → (body judged).good p ≡ true
-unfolding body records body_rows code_blocks data_blocks_layout names
+    → good_datas (0, 0) p.data_blocks ≡ true → good_names [] p.names ≡ true → (body_layout judged).good p ≡ true
+unfolding body_layout records_layout body_rows code_blocks_layout data_blocks_layout names_layout
 body_good judged p enough blocks datas entries =
     and_from _ _
     (rw (length-map p.code_blocks record_of_block, length-map p.names name_of_entry) (counts_good (length p.code_blocks) (length p.data_blocks) (length p.names) enough))
@@ -56,18 +56,18 @@ unmapped P f [] h = tt
 unmapped P f (x ∷ xs) h = (h.0, unmapped P f xs h.1)
 
 pub code_blocks_right : (symbols : List Symbol) (t : Tree) (last : ℕ) (judged : Bool) → IsSoundTree symbols t → last < 4294967296
-    → AllByRecursion (λ b. Rises last 1 (lines_of b)) t.blocks
-    → AllByRecursion HasCode (map compiled (code_blocks_of t symbols (layouts_of t symbols)))
-    → all_good (code_block_layout judged) after_block (0, 0) (map record_of_block (map compiled (code_blocks_of t symbols (layouts_of t symbols)))) ≡ true
+    → AllByRecursion (λ b. AreRisingLines last 1 (statement_lines_of b)) t.blocks
+    → AllByRecursion HasFaultlessCode (map compiled_block (code_blocks_of t symbols (layouts_of t symbols)))
+    → all_good (code_block_layout judged) after_block (0, 0) (map record_of_block (map compiled_block (code_blocks_of t symbols (layouts_of t symbols)))) ≡ true
 code_blocks_right symbols t last judged h near rise codes =
     let blocks = code_blocks_of t symbols (layouts_of t symbols) in
-    ap (λ z. all_good (code_block_layout judged) after_block (0, 0) z) (map_twice compiled record_of_block blocks)
-    ∙ good_all (code_block_layout judged) after_block (λ x. record_of_block (compiled x)) (λ x. (kind_number x.id.kind, x.id.number)) is_code_before (IsRightBlock last) (0, 0)
+    ap (λ z. all_good (code_block_layout judged) after_block (0, 0) z) (map_twice compiled_block record_of_block blocks)
+    ∙ good_all (code_block_layout judged) after_block (λ x. record_of_block (compiled_block x)) (λ x. (kind_number x.id.kind, x.id.number)) is_code_before (IsRightBlock last) (0, 0)
     (λ s x. refl) (λ x is. first_good last judged x near is) (λ x y there rises is. next_good last judged x y near rises is)
     blocks (code_blocks_rise symbols t h)
-    (all_both (λ x. HasFields last (compiled x)) (λ x. HasCode (compiled x)) blocks
-    (sound_code_blocks symbols t (λ x. HasFields last (compiled x)) h (fields_of last symbols t rise))
-    (unmapped HasCode compiled blocks codes))
+    (all_both (λ x. HasFields last (compiled_block x)) (λ x. HasFaultlessCode (compiled_block x)) blocks
+    (sound_code_blocks symbols t (λ x. HasFields last (compiled_block x)) h (fields_of last symbols t rise))
+    (unmapped HasFaultlessCode compiled_block blocks codes))
 
 all_from : (bytes : List ℕ) → ((i : ℕ) → get_or bytes i 0 < 256) → OfBytes bytes
 all_from [] h = tt

@@ -3,7 +3,7 @@
 use Rattle.std.proofs.Common.{ℕ, ◌≡◌, ◌≤◌, Bool, true, false, List, [], ◌∷◌, map, Option, Some, None, refl, sym, ◌∙◌, ap, subst}
 use Rattle.std.specs.List.{AllByRecursion}
 use Rattle.plc_base.specs.Kinds.{kind_number, is_code}
-use Rattle.flat_code.specs.Blocks.{Around, signature_of}
+use Rattle.flat_code.specs.Blocks.{Environment, signature_of}
 use Rattle.flat_code.specs.Image.{record_of_block, record_of_param}
 use Rattle.flat_code.specs.declared.kinds.JumpOperation.{JumpOperation}
 use Rattle.flat_code.specs.declared.operations.CallOperation.{CallOperation}
@@ -14,18 +14,18 @@ use Rattle.stl_ast.specs.declared.mnemonics.Mnemonic.{Mnemonic}
 use Rattle.stl_ast.specs.declared.mnemonics.Mnemonic.TheVariants as code
 use Rattle.stl_ast.specs.declared.operands.Operand.TheVariants as operand
 use Rattle.stl_ast.specs.declared.statements.Statement.{Statement}
-use Rattle.stl_symbols.specs.Names.{place_of}
+use Rattle.stl_symbols.specs.Names.{name_place}
 use Rattle.stl_symbols.specs.Symbol.{Symbol}
 use Rattle.block_layout.specs.Layouts.{block_layout, layouts_of}
-use Rattle.block_layout.specs.Lengths.{farthest, local_len}
-use Rattle.block_layout.specs.Measures.{types_of}
+use Rattle.block_layout.specs.Lengths.{farthest_operand_end, local_len}
+use Rattle.block_layout.specs.Measures.{types_of_source}
 use Rattle.block_layout.specs.declared.blocks.BlockLayout.{BlockLayout}
 use Rattle.stl_types.specs.Labels.{is_unknown_label, labels_of}
-use Rattle.stl_types.specs.Resolution.{seen}
-use Rattle.stl_types.specs.Resolved.{resolved, seen_view}
-use Rattle.stl_codegen.specs.Compiled.{compiled}
+use Rattle.stl_types.specs.Resolution.{resolution_of}
+use Rattle.stl_types.specs.Resolved.{resolved_operand, seen_view}
+use Rattle.stl_codegen.specs.Compiled.{compiled_block}
 use Rattle.stl_codegen.specs.Generated.{code_blocks_of, params_of}
-use Rattle.stl_codegen.specs.Operations.{call_of, jump_of}
+use Rattle.stl_codegen.specs.Operations.{call_operation_of, jump_operation_of}
 use Rattle.sem_kept.specs.Coded.{StatementHasBytes}
 use Rattle.sem_kept.specs.Settled.{HasInstruction, HasLabel, HasOperand, HasPassed, IsSettled, StatementsSettle}
 use Rattle.sem_kept.proofs.accepted.Accepted.{IsSound, IsSoundStatement, IsSoundTree, context_at, each_passes, right_tree}
@@ -40,12 +40,12 @@ use Rattle.sem_kept.proofs.accepted.OperandsSymbols.{SymbolFits, symbols_fit}
 use Rattle.sem_kept.proofs.accepted.OperandsViews.{EndsBy, IsSeen, Surrounds, ends_by, holds_locals, not_none, operand_seen}
 
 -- what calls no block has no actual parameters
-none_owed : (m : Mnemonic) → call_of m ≡ None → has_actuals m ≡ false
+none_owed : (m : Mnemonic) → call_operation_of m ≡ None → has_actuals m ≡ false
 none_owed code.Call e = absurd cc
 none_owed _ e = refl
 
 local_is : (symbols : List Symbol) (t : Tree) (k : ℕ) (b : Block) (l : BlockLayout)
-    → IsSound symbols t k b l → l.local_len ≡ local_len (types_of symbols t.blocks) b
+    → IsSound symbols t k b l → l.local_len ≡ local_len (types_of_source symbols t.blocks) b
 unfolding block_layout
 local_is symbols t k b l block = ap (λ (z : BlockLayout). z.local_len) block.layout
 
@@ -53,12 +53,12 @@ module _ (symbols : List Symbol) (t : Tree) (tree : IsSoundTree symbols t)
     (fit : AllByRecursion SymbolFits symbols) (k : ℕ) (b : Block) (l : BlockLayout)
     (block : IsSound symbols t k b l) (code : is_code b.kind ≡ true) where
   -- the block among all code blocks
-  abbrev here : Around
+  abbrev here : Environment
   here = record {
     kind = kind_number b.kind;
     local_len = l.local_len;
     params = map record_of_param (params_of b l);
-    blocks = map signature_of (map record_of_block (map compiled (code_blocks_of t symbols (layouts_of t symbols))));
+    blocks = map signature_of (map record_of_block (map compiled_block (code_blocks_of t symbols (layouts_of t symbols))));
     data_lens = None;
   }
 
@@ -66,32 +66,32 @@ module _ (symbols : List Symbol) (t : Tree) (tree : IsSoundTree symbols t)
   surrounded = record { kind = refl; local = refl; params = refl }
 
   statement_settles : (s : Statement)
-      → IsSoundStatement (types_of symbols t.blocks) (context_at symbols t k) s
+      → IsSoundStatement (types_of_source symbols t.blocks) (context_at symbols t k) s
       → EndsBy l.local_len s → StatementHasBytes s
       → is_unknown_label (labels_of b.body) s.operand ≡ false → Settle symbols t k s
       → IsSettled (context_at symbols t k) b.body s
   statement_settles s sound ends has known settle = record {
-    instruction = by (jump_of s.code) refl;
-    actuals = passed (call_of s.code) refl;
+    instruction = by (jump_operation_of s.code) refl;
+    actuals = passed (call_operation_of s.code) refl;
   }
     where
       takes : TakesRight s
-      takes = takes_right (types_of symbols t.blocks) (context_at symbols t k) s sound settle
+      takes = takes_right (types_of_source symbols t.blocks) (context_at symbols t k) s sound settle
 
       labelled : (n : (name : List ℕ) × (s.operand ≡ operand.Label name)) → HasLabel b.body s
       labelled n =
-          let there = not_none (place_of n.0 (labels_of b.body))
+          let there = not_none (name_place n.0 (labels_of b.body))
           (ap (is_unknown_label (labels_of b.body)) (sym n.1) ∙ known) in
           record { name = n.0; is = n.1; place = there.0; there = there.1 }
 
-      resolves : resolved (context_at symbols t k) s ≡ seen_view (seen (context_at symbols t k) s.operand)
+      resolves : resolved_operand (context_at symbols t k) s ≡ seen_view (resolution_of (context_at symbols t k) s.operand)
       resolves = resolved_is (context_at symbols t k) s sound.allowed
 
-      whether : (o : Option CallOperation) → call_of s.code ≡ o
+      whether : (o : Option CallOperation) → call_operation_of s.code ≡ o
           → HasOperand (context_at symbols t k) s o
       whether None is = (found.view, resolves ∙ ap seen_view found.is)
         where
-          found : IsSeen here (seen (context_at symbols t k) s.operand)
+          found : IsSeen here (resolution_of (context_at symbols t k) s.operand)
           found = operand_seen symbols t tree fit k b l block code here surrounded s.operand
               (record {
                 well_formed = sound.well_formed.value;
@@ -114,12 +114,12 @@ module _ (symbols : List Symbol) (t : Tree) (tree : IsSoundTree symbols t)
             once = callee.3.once;
           }
 
-      by : (j : Option JumpOperation) → jump_of s.code ≡ j
+      by : (j : Option JumpOperation) → jump_operation_of s.code ≡ j
           → HasInstruction (context_at symbols t k) b.body s j
-      by None is = whether (call_of s.code) refl
+      by None is = whether (call_operation_of s.code) refl
       by (Some how) is = labelled (takes.jumps how is)
 
-      passed : (o : Option CallOperation) → call_of s.code ≡ o
+      passed : (o : Option CallOperation) → call_operation_of s.code ≡ o
           → AllByRecursion (HasPassed (context_at symbols t k)) s.actuals
       passed None is =
           subst (AllByRecursion (HasPassed (context_at symbols t k)))
@@ -128,7 +128,7 @@ module _ (symbols : List Symbol) (t : Tree) (tree : IsSoundTree symbols t)
           actuals_pass symbols t tree fit k b l block code here surrounded refl s sound ends has how is
 
   all_settle : (ss : List Statement)
-      → AllByRecursion (IsSoundStatement (types_of symbols t.blocks) (context_at symbols t k)) ss
+      → AllByRecursion (IsSoundStatement (types_of_source symbols t.blocks) (context_at symbols t k)) ss
       → AllByRecursion (EndsBy l.local_len) ss → AllByRecursion StatementHasBytes ss
       → AllByRecursion (λ (s : Statement). is_unknown_label (labels_of b.body) s.operand ≡ false) ss
       → AllByRecursion (Settle symbols t k) ss
@@ -151,8 +151,8 @@ block_settles symbols t tree fit k b l block has settle = by (is_code b.kind) re
     by true is =
         all_settle symbols t tree fit k b l block is b.body block.statements
         (ends_by l.local_len b.body
-        (subst (λ (n : ℕ). farthest b.body ≤ n) (sym (local_is symbols t k b l block))
-        (holds_locals (types_of symbols t.blocks) b is block.head.by_50).operands))
+        (subst (λ (n : ℕ). farthest_operand_end b.body ≤ n) (sym (local_is symbols t k b l block))
+        (holds_locals (types_of_source symbols t.blocks) b is block.head.by_50).operands))
         has
         (each_passes (λ (s : Statement). is_unknown_label (labels_of b.body) s.operand)
         (λ (s : Statement). s.line) 26 b.body block.body.by_26)

@@ -11,7 +11,7 @@ use Rattle.plc_base.specs.declared.blocks.BlockKind.{BlockKind}
 use Rattle.plc_base.specs.declared.blocks.BlockKind.TheVariants as kinds
 use Rattle.flat_code.specs.declared.kinds.JumpOperation.{JumpOperation}
 use Rattle.flat_code.specs.declared.operations.CallOperation.{CallOperation}
-use Rattle.stl_ast.specs.Statements.{is_empty}
+use Rattle.stl_ast.specs.Statements.{is_empty_statement}
 use Rattle.stl_ast.specs.declared.literals.Literal.{Literal}
 use Rattle.stl_ast.specs.declared.mnemonics.Mnemonic.{Mnemonic}
 use Rattle.stl_ast.specs.declared.mnemonics.Mnemonic.TheVariants as code
@@ -19,14 +19,14 @@ use Rattle.stl_ast.specs.declared.operands.Operand.{Operand}
 use Rattle.stl_ast.specs.declared.operands.Operand.TheVariants as operand
 use Rattle.stl_ast.specs.declared.statements.Statement.{Statement}
 use Rattle.stl_ast.specs.declared.blocks.Block.{Block}
-use Rattle.block_layout.specs.InitialBytes.{Write, bytes_of, put, with_bit, with_bytes}
+use Rattle.block_layout.specs.InitialBytes.{Write, big_endian_bytes, bytes_with_write, with_bit, with_bytes}
 use Rattle.block_layout.specs.Blocks.{id_of, named_block, of_kind}
 use Rattle.stl_types.specs.Constants.{takes_constant}
 use Rattle.stl_types.specs.Context.{Context}
 use Rattle.stl_types.specs.Forms.{form_of}
-use Rattle.stl_types.specs.Kinds.{is_called}
-use Rattle.stl_types.specs.Operands.{operand_rule, rule_of, rule_seen, takes}
-use Rattle.stl_types.specs.Resolution.{seen}
+use Rattle.stl_types.specs.Kinds.{is_operand_of_call}
+use Rattle.stl_types.specs.Operands.{operand_rule, rule_of_resolved_operand, rule_seen, takes_operand}
+use Rattle.stl_types.specs.Resolution.{resolution_of}
 use Rattle.stl_types.specs.declared.forms.OperandRule.{OperandRule}
 use Rattle.stl_types.specs.declared.forms.OperandRule.TheVariants as form
 use Rattle.stl_types.specs.declared.views.Resolution.{Resolution}
@@ -35,7 +35,7 @@ use Rattle.stl_types.specs.declared.views.ResolvedOperand.{ResolvedOperand}
 use Rattle.stl_types.specs.declared.views.ResolvedOperand.TheVariants as view
 use Rattle.stl_codegen.specs.Generated.{stated_from}
 use Rattle.stl_codegen.specs.Instruction.{instruction}
-use Rattle.stl_codegen.specs.Operations.{call_of, jump_of}
+use Rattle.stl_codegen.specs.Operations.{call_operation_of, jump_operation_of}
 use Rattle.sem_kept.proofs.accepted.OperandsOperations.{allowed}
 use Rattle.stl_symbols.specs.Symbol.{Symbol}
 
@@ -76,40 +76,40 @@ length_put_bytes : (bytes : List ℕ) (at : ℕ) (new : List ℕ) → length (wi
 length_put_bytes bytes at [] = refl
 length_put_bytes bytes at (b ∷ bs) = length_put_bytes (set bytes at b) (at + 1) bs ∙ length-set bytes at b
 
-put_length : (bytes : List ℕ) (w : Write) → length (put bytes w) ≡ length bytes
+put_length : (bytes : List ℕ) (w : Write) → length (bytes_with_write bytes w) ≡ length bytes
 put_length bytes w = by (nat_eq w.width 1)
   where
     by : (t : Bool) → length (if t then set bytes (w.offset / 8) (with_bit (w.offset % 8) w.value (get_or bytes (w.offset / 8) 0))
-        else with_bytes bytes (w.offset / 8) (bytes_of (w.width / 8) w.value)) ≡ length bytes
+        else with_bytes bytes (w.offset / 8) (big_endian_bytes (w.width / 8) w.value)) ≡ length bytes
     by true = length-set bytes (w.offset / 8) (with_bit (w.offset % 8) w.value (get_or bytes (w.offset / 8) 0))
-    by false = length_put_bytes bytes (w.offset / 8) (bytes_of (w.width / 8) w.value)
+    by false = length_put_bytes bytes (w.offset / 8) (big_endian_bytes (w.width / 8) w.value)
 
-pub written_length : (bytes : List ℕ) (ws : List Write) → length (fold put bytes ws) ≡ length bytes
+pub written_length : (bytes : List ℕ) (ws : List Write) → length (fold bytes_with_write bytes ws) ≡ length bytes
 written_length bytes [] = refl
-written_length bytes (w ∷ ws) = written_length (put bytes w) ws ∙ put_length bytes w
+written_length bytes (w ∷ ws) = written_length (bytes_with_write bytes w) ws ∙ put_length bytes w
 
 -- ---- statements
 
 -- as many as aren't empty
 pub stated_count : (c : Context) (body : List Statement) (n : ℕ) (ss : List Statement)
-    → length (stated_from c body n ss) ≡ count_by (λ s. not (is_empty s.code)) ss
+    → length (stated_from c body n ss) ≡ count_by (λ s. not (is_empty_statement s.code)) ss
 stated_count c body n [] = refl
 stated_count c body n (s ∷ ss) =
-    by (is_empty s.code) (stated_count c body n ss) (stated_count c body (suc n) ss)
-    ∙ sym (sum_by-cons (λ (s : Statement). cond (not (is_empty s.code)) 1 0) s ss)
+    by (is_empty_statement s.code) (stated_count c body n ss) (stated_count c body (suc n) ss)
+    ∙ sym (sum_by-cons (λ (s : Statement). cond (not (is_empty_statement s.code)) 1 0) s ss)
   where
     by : (empty : Bool)
-        → length (stated_from c body n ss) ≡ count_by (λ s. not (is_empty s.code)) ss
-        → length (stated_from c body (suc n) ss) ≡ count_by (λ s. not (is_empty s.code)) ss
+        → length (stated_from c body n ss) ≡ count_by (λ s. not (is_empty_statement s.code)) ss
+        → length (stated_from c body (suc n) ss) ≡ count_by (λ s. not (is_empty_statement s.code)) ss
         → length (if empty then stated_from c body n ss
         else record { instr = instruction c body n s; line = s.line } ∷ stated_from c body (suc n) ss)
-        ≡ cond (not empty) 1 0 + count_by (λ s. not (is_empty s.code)) ss
+        ≡ cond (not empty) 1 0 + count_by (λ s. not (is_empty_statement s.code)) ss
     by true same next = omega (arith, same)
     by false same next = omega (arith, next)
 
 -- ---- the forms of instructions
 
-pub jump_form : (m : Mnemonic) (how : JumpOperation) → jump_of m ≡ Some how → form_of m ≡ form.Jumps
+pub jump_form : (m : Mnemonic) (how : JumpOperation) → jump_operation_of m ≡ Some how → form_of m ≡ form.Jumps
 unfolding form_of
 jump_form code.Ju how h = refl
 jump_form code.Jl how h = refl
@@ -131,7 +131,7 @@ jump_form code.Juo how h = refl
 jump_form code.Loop how h = refl
 jump_form _ how h = absurd cc
 
-pub call_form : (m : Mnemonic) (how : CallOperation) → call_of m ≡ Some how → form_of m ≡ form.Calls
+pub call_form : (m : Mnemonic) (how : CallOperation) → call_operation_of m ≡ Some how → form_of m ≡ form.Calls
 unfolding form_of
 call_form code.Call how h = refl
 call_form code.Uc how h = refl
@@ -145,10 +145,10 @@ allowed_if b = if b then None else Some 25
 
 pub rule_there : (c : Context) (f : OperandRule) (o : Operand) (v : ResolvedOperand)
     → ((value : Literal) → takes_constant f value ≡ false) → operand_rule c f o ≡ None
-    → seen c o ≡ Resolved v → rule_of f v ≡ None
+    → resolution_of c o ≡ Resolved v → rule_of_resolved_operand f v ≡ None
 rule_there c f (operand.Constant value) v never h e = by (takes_constant f value) (never value) h
   where
-    by : (b : Bool) → b ≡ false → allowed_if b ≡ None → rule_of f v ≡ None
+    by : (b : Bool) → b ≡ false → allowed_if b ≡ None → rule_of_resolved_operand f v ≡ None
     by true e h = absurd cc
     by false e h = absurd cc
 rule_there c f _ v never h e = sym (ap (λ (s : Resolution). rule_seen f s) e) ∙ h
@@ -162,11 +162,11 @@ unfolding takes_constant
 no_call_constant value = refl
 
 -- what is called can be
-pub calls_called : (v : ResolvedOperand) → rule_of form.Calls v ≡ None → is_called v ≡ true
-unfolding takes
+pub calls_called : (v : ResolvedOperand) → rule_of_resolved_operand form.Calls v ≡ None → is_operand_of_call v ≡ true
+unfolding takes_operand
 calls_called v e = (allowed form.Calls v e).taken
 
-pub callable_by : (id : BlockId) (instance : Option ℕ) → is_called (view.Called id instance) ≡ true
+pub callable_by : (id : BlockId) (instance : Option ℕ) → is_operand_of_call (view.Called id instance) ≡ true
     → is_callable id.kind ≡ true
 callable_by id None e = e
 callable_by id (Some n) e = by id.kind e
@@ -180,5 +180,5 @@ callable_by id (Some n) e = by id.kind e
     by kinds.Udt e = absurd cc
 
 pub rule_callable : (id : BlockId) (instance : Option ℕ)
-    → rule_of form.Calls (view.Called id instance) ≡ None → is_callable id.kind ≡ true
+    → rule_of_resolved_operand form.Calls (view.Called id instance) ≡ None → is_callable id.kind ≡ true
 rule_callable id instance e = callable_by id instance (calls_called (view.Called id instance) e)

@@ -16,7 +16,7 @@ use Rattle.flat_code.specs.Programs.{DataBlock}
 use Rattle.flat_code.specs.declared.programs.Param.{Param}
 use Rattle.stl_ast.specs.Blocks.{is_parameter}
 use Rattle.stl_ast.specs.Sizes.{body_size}
-use Rattle.stl_ast.specs.Statements.{is_empty}
+use Rattle.stl_ast.specs.Statements.{is_empty_statement}
 use Rattle.stl_ast.specs.declared.blocks.Block.{Block}
 use Rattle.stl_ast.specs.declared.blocks.Part.{Part}
 use Rattle.stl_ast.specs.declared.blocks.PartKind.{PartKind}
@@ -30,13 +30,13 @@ use Rattle.stl_ast.specs.declared.operands.Operand.{Operand}
 use Rattle.stl_ast.specs.declared.operands.Operand.TheVariants as operand
 use Rattle.stl_ast.specs.declared.statements.Statement.{Statement}
 use Rattle.stl_symbols.specs.Symbol.{Symbol}
-use Rattle.block_layout.specs.Around.{Outside, in_block, of_sections, of_structure, onto}
-use Rattle.block_layout.specs.Blocks.{block_place, found_block, id_of, is_block_number, is_id, known_block, named_block, of_kind}
-use Rattle.block_layout.specs.Cells.{cell_of, cells_of, components_of, is_temp, laid, opened, returned_cells, section_cells, udt_element}
+use Rattle.block_layout.specs.Around.{Outside, refusals_in_block, of_sections, of_structure, declarations_before_next}
+use Rattle.block_layout.specs.Blocks.{place_of_block, found_block, id_of, is_block_number, is_id, known_block, named_block, of_kind}
+use Rattle.block_layout.specs.Cells.{cell_of, cells_of, components_of, is_temp, layout_element, with_first_cell_opening, returned_cells, section_cells, udt_element}
 use Rattle.block_layout.specs.InitialBytes.{initial_bytes, length_at, setting_writes, settings_at, structure_writes}
 use Rattle.block_layout.specs.Layouts.{block_layout, layouts_by, layouts_from, layouts_of}
-use Rattle.block_layout.specs.Lengths.{length_of}
-use Rattle.block_layout.specs.Measures.{types_of, with_all_bits, with_all_depths}
+use Rattle.block_layout.specs.Lengths.{length_of_block}
+use Rattle.block_layout.specs.Measures.{types_of_source, with_all_bits, with_all_depths}
 use Rattle.block_layout.specs.Paths.{structure_of, whole_at}
 use Rattle.block_layout.specs.Rule21.{broken_21, rule_21}
 use Rattle.block_layout.specs.Rule22.{is_block_twice, rule_22}
@@ -44,14 +44,14 @@ use Rattle.block_layout.specs.Rule23.{names_unknown}
 use Rattle.block_layout.specs.Rule44.{has_wrong_number, rule_44}
 use Rattle.block_layout.specs.Rule53.{is_one_too_many, rule_53}
 use Rattle.block_layout.specs.Rule54.{data_length, exceeds_total, rule_54}
-use Rattle.block_layout.specs.Types.{Types, udt_of}
+use Rattle.block_layout.specs.Types.{Types, data_type_place}
 use Rattle.block_layout.specs.declared.blocks.BlockLayout.{BlockLayout}
 use Rattle.block_layout.specs.declared.cells.Cell.{Cell}
-use Rattle.stl_types.specs.Context.{Context, number_of}
-use Rattle.stl_codegen.specs.Compiled.{StatedBlock, compiled}
-use Rattle.stl_codegen.specs.Generated.{code_block, code_block_of, code_blocks_of, data_block, data_block_of, data_blocks_of, each_block, names_of, param_here, param_of, params_of}
+use Rattle.stl_types.specs.Context.{Context, number_of_block}
+use Rattle.stl_codegen.specs.Compiled.{StatedBlock, compiled_block}
+use Rattle.stl_codegen.specs.Generated.{code_block, code_block_of, code_blocks_of, generated_data_block, data_block_of, data_blocks_of, each_block, name_entries_of, param_here, param_of, params_of}
 use Rattle.stl_codegen.specs.Instruction.{return_last}
-use Rattle.stl_codegen.specs.Order.{is_code_before, is_data_before, sorted}
+use Rattle.stl_codegen.specs.Order.{is_code_before, is_data_before, sorted_list}
 use Rattle.sem_kept.specs.Sizes.{AcceptedIsSmall, IsSmallBlock}
 use Rattle.sem_kept.proofs.accepted.Accepted.{AllHeads, AllLaid, IsSound, IsSoundStatement, IsSoundTree, context_at, each_none, heads_none, right_tree, sound_code_blocks}
 use Rattle.sem_kept.proofs.accepted.SizesBlocks.{bit, coded, counted_data, few_code_blocks, few_data_blocks, few_data_bytes, is_code_id}
@@ -80,23 +80,23 @@ among_append i all (x ∷ xs) ys =
     omega (arith, among_cons i all x (xs ++ ys), among_cons i all x xs, among_append i all xs ys)
 
 among_opened : (i : Bool) (all cells : List Cell)
-    → params_among i all (opened cells) ≡ params_among i all cells
+    → params_among i all (with_first_cell_opening cells) ≡ params_among i all cells
 among_opened i all [] = refl
 among_opened i all (c ∷ cs) = by c.sound (among_opened i all cs)
   where
-    by : (sound : Bool) → params_among i all (opened cs) ≡ params_among i all cs
-        → params_among i all (if sound then record c { opens = true } ∷ cs else c ∷ opened cs)
+    by : (sound : Bool) → params_among i all (with_first_cell_opening cs) ≡ params_among i all cs
+        → params_among i all (if sound then record c { opens = true } ∷ cs else c ∷ with_first_cell_opening cs)
         ≡ params_among i all (c ∷ cs)
     by true more = refl
-    by false more = omega (arith, among_cons i all c (opened cs), among_cons i all c cs, more)
+    by false more = omega (arith, among_cons i all c (with_first_cell_opening cs), among_cons i all c cs, more)
 
 -- six bytes each, as their declarations have
 one_param : (i : Bool) (all : List Cell) (c : Cell) (y : Types) (e : ElementType)
-    → 6 * length (param_of i all c (laid y e)) ≤ element_size e
+    → 6 * length (param_of i all c (layout_element y e)) ≤ element_size e
 one_param i all c y (types.Plain kind) = omega arith
 one_param i all c y types.Structure = omega arith
 one_param i all c y types.DateAndTime = omega arith
-one_param i all c y (types.Udt name) = by (udt_of y name)
+one_param i all c y (types.Udt name) = by (data_type_place y name)
   where
     by : (block : Option ℕ) → 6 * length (param_of i all c (udt_element y.bits block)) ≤ 0
     by None = omega arith
@@ -118,7 +118,7 @@ items_params i all y o section before (d ∷ ds) =
     )
   where
     by : (is : Bool)
-        → 6 * length (if is then param_of i all (cell_of y o section before d) (laid y d.of.of)
+        → 6 * length (if is then param_of i all (cell_of y o section before d) (layout_element y d.of.of)
         else []) ≤ declared_size d
     by true = one_param i all (cell_of y o section before d) y d.of.of
     by false = omega arith
@@ -128,17 +128,17 @@ sections_params : (i : Bool) (all : List Cell) (y : Types) (o : Outside)
     → 6 * params_among i all (section_cells y o wanted before ps) ≤ parts_size ps
 sections_params i all y o wanted before [] = omega arith
 sections_params i all y o wanted before (p ∷ ps) =
-    let here = if wanted p.kind then opened (cells_of y o p.kind before p.items) else [] in
+    let here = if wanted p.kind then with_first_cell_opening (cells_of y o p.kind before p.items) else [] in
     omega (
       arith,
-      among_append i all here (section_cells y o wanted (onto before p.items) ps),
+      among_append i all here (section_cells y o wanted (declarations_before_next before p.items) ps),
       by (wanted p.kind),
-      sections_params i all y o wanted (onto before p.items) ps,
+      sections_params i all y o wanted (declarations_before_next before p.items) ps,
       sum_by-cons part_size p ps,
     )
   where
     by : (is : Bool)
-        → 6 * params_among i all (if is then opened (cells_of y o p.kind before p.items) else [])
+        → 6 * params_among i all (if is then with_first_cell_opening (cells_of y o p.kind before p.items) else [])
         ≤ part_size p
     by true =
         omega (
@@ -218,7 +218,7 @@ all_whole : (symbols : List Symbol) (t : Tree) → IsSoundTree symbols t
     → AllByRecursion IsWhole (layouts_of t symbols)
 unfolding layouts_of layouts_by
 all_whole symbols t h =
-    layouts_whole symbols t (types_of symbols t.blocks) t.blocks [] 0 t.blocks h.blocks
+    layouts_whole symbols t (types_of_source symbols t.blocks) t.blocks [] 0 t.blocks h.blocks
 
 -- a data block that is known has a number
 shifted : (l : BlockLayout) (ls : List BlockLayout) (place : Option ℕ)
@@ -232,22 +232,22 @@ suc_none None = refl
 suc_none (Some k) = refl
 
 abbrev number_at : List BlockLayout → Option ℕ → Option ℕ
-number_at ls place = option_and_then (λ b. number_of b.id) (option_and_then (whole_at ls) place)
+number_at ls place = option_and_then (λ b. number_of_block b.id) (option_and_then (whole_at ls) place)
 
 numbered : (id : BlockId) (o : Option BlockId) → is_id id o ≡ true
-    → is_some (number_of o) ≡ true
+    → is_some (number_of_block o) ≡ true
 numbered id None h = absurd cc
 numbered id (Some other) h = refl
 
 placed_number : (id : BlockId) (ls : List BlockLayout) → AllByRecursion IsWhole ls
-    → is_none (block_place id (map (λ b. b.id) ls)) ≡ false
-    → is_some (number_at ls (block_place id (map (λ b. b.id) ls))) ≡ true
+    → is_none (place_of_block id (map (λ b. b.id) ls)) ≡ false
+    → is_some (number_at ls (place_of_block id (map (λ b. b.id) ls))) ≡ true
 placed_number id [] h e = absurd cc
 placed_number id (l ∷ ls) h e =
     by (is_id id l.id) refl e (placed_number id ls h.1)
   where
     place : Option ℕ
-    place = block_place id (map (λ (b : BlockLayout). b.id) ls)
+    place = place_of_block id (map (λ (b : BlockLayout). b.id) ls)
 
     by : (here : Bool) → is_id id l.id ≡ here
         → is_none (if here then Some 0 else option_map (λ k. suc k) place) ≡ false
@@ -256,7 +256,7 @@ placed_number id (l ∷ ls) h e =
         (if here then Some 0 else option_map (λ k. suc k) place)) ≡ true
     by true is e more = rw h.0 (numbered id l.id is)
     by false is e more =
-        ap (λ (o : Option BlockLayout). is_some (option_and_then (λ b. number_of b.id) o))
+        ap (λ (o : Option BlockLayout). is_some (option_and_then (λ b. number_of_block b.id) o))
         (shifted l ls place) ∙ more (sym (suc_none place) ∙ e)
 
 known_number : (id : BlockId) (ls : List BlockLayout) → AllByRecursion IsWhole ls
@@ -265,7 +265,7 @@ known_number : (id : BlockId) (ls : List BlockLayout) → AllByRecursion IsWhole
 known_number id ls h e = by (is_block_number id.kind id.number) e
   where
     place : Option ℕ
-    place = block_place id (map (λ (b : BlockLayout). b.id) ls)
+    place = place_of_block id (map (λ (b : BlockLayout). b.id) ls)
 
     by : (right : Bool) → is_none (if right then place else None) ≡ false
         → is_some (number_at ls (if right then place else None)) ≡ true
@@ -279,14 +279,14 @@ meant_number ls None h e = absurd cc
 meant_number ls (Some id) h e = known_number id ls h e
 
 types_symbols : (symbols : List Symbol) (blocks : List Block)
-    → (types_of symbols blocks).symbols ≡ symbols
-unfolding types_of with_all_bits with_all_depths
+    → (types_of_source symbols blocks).symbols ≡ symbols
+unfolding types_of_source with_all_bits with_all_depths
 types_symbols symbols blocks = refl
 
 own_ids : (symbols : List Symbol) (blocks : List Block)
-    → (types_of symbols blocks).ids
-    ≡ map (λ b. id_of (types_of symbols blocks).symbols b) blocks
-unfolding types_of with_all_bits with_all_depths
+    → (types_of_source symbols blocks).ids
+    ≡ map (λ b. id_of (types_of_source symbols blocks).symbols b) blocks
+unfolding types_of_source with_all_bits with_all_depths
 own_ids symbols blocks = refl
 
 laid_ids : (y : Types) (blocks before bs : List Block)
@@ -297,19 +297,19 @@ laid_ids y blocks before (b ∷ bs) =
     ap (λ (ids : List (Option BlockId)). id_of y.symbols b ∷ ids) (laid_ids y blocks (b ∷ before) bs)
 
 types_ids : (symbols : List Symbol) (t : Tree)
-    → (types_of symbols t.blocks).ids ≡ map (λ b. b.id) (layouts_of t symbols)
+    → (types_of_source symbols t.blocks).ids ≡ map (λ b. b.id) (layouts_of t symbols)
 unfolding layouts_of layouts_by
 types_ids symbols t =
-    own_ids symbols t.blocks ∙ sym (laid_ids (types_of symbols t.blocks) t.blocks [] t.blocks)
+    own_ids symbols t.blocks ∙ sym (laid_ids (types_of_source symbols t.blocks) t.blocks [] t.blocks)
 
 opens : (symbols : List Symbol) (t : Tree) (k : ℕ) (o : Operand)
     → AllByRecursion IsWhole (layouts_of t symbols)
-    → names_unknown (types_of symbols t.blocks) o ≡ false → Opens (context_at symbols t k) o
+    → names_unknown (types_of_source symbols t.blocks) o ≡ false → Opens (context_at symbols t k) o
 opens symbols t k (operand.OpenBlock di name) whole there =
     let found : List Symbol → List (Option BlockId) → Bool =
     λ s ids. is_none (found_block s ids is_data_block name) in
     let known : found symbols (map (λ (b : BlockLayout). b.id) (layouts_of t symbols)) ≡ false =
-    sym (ap (λ (s : List Symbol). found s (types_of symbols t.blocks).ids)
+    sym (ap (λ (s : List Symbol). found s (types_of_source symbols t.blocks).ids)
     (types_symbols symbols t.blocks) ∙ ap (found symbols) (types_ids symbols t)) ∙ there in
     meant_number (layouts_of t symbols)
     (of_kind is_data_block (named_block symbols name)) whole known
@@ -322,7 +322,7 @@ record IsReady (symbols : List Symbol) (t : Tree) : Type 0 where
   once : AllAreOnce (layouts_of t symbols)
 
 all_taken : (symbols : List Symbol) (t : Tree) (k : ℕ) (ss : List Statement) → IsReady symbols t
-    → AllByRecursion (IsSoundStatement (types_of symbols t.blocks) (context_at symbols t k)) ss
+    → AllByRecursion (IsSoundStatement (types_of_source symbols t.blocks) (context_at symbols t k)) ss
     → AllByRecursion (IsTaken (context_at symbols t k)) ss
 all_taken symbols t k [] ready h = tt
 all_taken symbols t k (s ∷ ss) ready h = (
@@ -347,7 +347,7 @@ unfolding block_layout
 laid_components y blocks before b l is = ap (λ (l : BlockLayout). l.components) is
 
 laid_length : (y : Types) (blocks before : List Block) (b : Block) (l : BlockLayout)
-    → l ≡ block_layout y blocks before b → l.length ≡ length_of y blocks b
+    → l ≡ block_layout y blocks before b → l.length ≡ length_of_block y blocks b
 unfolding block_layout
 laid_length y blocks before b l is = ap (λ (l : BlockLayout). l.length) is
 
@@ -365,7 +365,7 @@ of_same k (Some j) id h = by (is_same_kind k j.kind) refl h
 sound_kind : (symbols : List Symbol) (t : Tree) (k : ℕ) (b : Block) (l : BlockLayout)
     (id : BlockId) → IsSound symbols t k b l → l.id ≡ Some id → is_same_kind b.kind id.kind ≡ true
 sound_kind symbols t k b l id sound e =
-    let y = types_of symbols t.blocks in
+    let y = types_of_source symbols t.blocks in
     of_same b.kind (named_block y.symbols b.name) id
     (sym (laid_id y t.blocks sound.before b l sound.layout) ∙ e)
 
@@ -382,8 +382,8 @@ code_body _ _ same is = absurd cc
 code_fits : (symbols : List Symbol) (t : Tree) → IsReady symbols t → (k : ℕ) (b : Block)
     (l : BlockLayout) (id : BlockId) → IsSound symbols t k b l → l.id ≡ Some id
     → is_code id.kind ≡ true
-    → bytes_in (compiled (code_block (context_at symbols t k) b l id)).code
-    + 4 * length (compiled (code_block (context_at symbols t k) b l id)).lines ≤ body_size b
+    → bytes_in (compiled_block (code_block (context_at symbols t k) b l id)).code
+    + 4 * length (compiled_block (code_block (context_at symbols t k) b l id)).lines ≤ body_size b
 code_fits symbols t ready k b l id sound e is =
     whole_fits (context_at symbols t k) b ready.fine
     (all_taken symbols t k b.body ready sound.statements)
@@ -392,9 +392,9 @@ code_fits symbols t ready k b l id sound e is =
 code_size : (symbols : List Symbol) (t : Tree) → IsReady symbols t → (k : ℕ) (b : Block)
     (l : BlockLayout) (id : BlockId) → IsSound symbols t k b l → l.id ≡ Some id
     → is_code id.kind ≡ true
-    → records_size (compiled (code_block (context_at symbols t k) b l id)) ≤ 22 + whole_size b
+    → records_size (compiled_block (code_block (context_at symbols t k) b l id)) ≤ 22 + whole_size b
 code_size symbols t ready k b l id sound e is =
-    let y = types_of symbols t.blocks in
+    let y = types_of_source symbols t.blocks in
     omega (
       arith,
       code_fits symbols t ready k b l id sound e is,
@@ -404,26 +404,26 @@ code_size symbols t ready k b l id sound e is =
 coded_is : (symbols : List Symbol) (t : Tree) (k : ℕ) (b : Block) (l : BlockLayout)
     → IsSound symbols t k b l → bit (is_code_id l.id) ≡ coded symbols b
 coded_is symbols t k b l sound =
-    let y = types_of symbols t.blocks in
+    let y = types_of_source symbols t.blocks in
     ap (λ (o : Option BlockId). bit (is_code_id o))
     (laid_id y t.blocks sound.before b l sound.layout
     ∙ ap (λ (s : List Symbol). id_of s b) (types_symbols symbols t.blocks))
 
 code_here : (symbols : List Symbol) (t : Tree) → IsReady symbols t → (k : ℕ) (b : Block)
     (l : BlockLayout) → IsSound symbols t k b l
-    → sum_by (λ s. records_size (compiled s)) (code_block_of (context_at symbols t k) b l l.id)
+    → sum_by (λ s. records_size (compiled_block s)) (code_block_of (context_at symbols t k) b l l.id)
     ≤ 22 * coded symbols b + whole_size b
 code_here symbols t ready k b l sound =
     omega (arith, by l.id refl, coded_is symbols t k b l sound)
   where
     by : (o : Option BlockId) → l.id ≡ o
-        → sum_by (λ s. records_size (compiled s)) (code_block_of (context_at symbols t k) b l o)
+        → sum_by (λ s. records_size (compiled_block s)) (code_block_of (context_at symbols t k) b l o)
         ≤ 22 * bit (is_code_id o) + whole_size b
     by None e = omega arith
     by (Some id) e = whether (is_code id.kind) refl
       where
         whether : (is : Bool) → is_code id.kind ≡ is
-            → sum_by (λ s. records_size (compiled s))
+            → sum_by (λ s. records_size (compiled_block s))
             (if is then code_block (context_at symbols t k) b l id ∷ [] else [])
             ≤ 22 * bit is + whole_size b
         whether true g =
@@ -431,7 +431,7 @@ code_here symbols t ready k b l sound =
             omega (
               arith,
               code_size symbols t ready k b l id sound e g,
-              sum_by-cons (λ (s : StatedBlock). records_size (compiled s)) one [],
+              sum_by-cons (λ (s : StatedBlock). records_size (compiled_block s)) one [],
             )
         whether false g = omega arith
 
@@ -451,20 +451,20 @@ code_count symbols t k b l sound = omega (arith, by l.id, coded_is symbols t k b
         whether false = omega arith
 
 codes_size : (symbols : List Symbol) (t : Tree) → IsReady symbols t → IsSoundTree symbols t
-    → sum_by records_size (map compiled (code_blocks_of t symbols (layouts_of t symbols)))
+    → sum_by records_size (map compiled_block (code_blocks_of t symbols (layouts_of t symbols)))
     ≤ 22 * sum_by (coded symbols) t.blocks + sum_by whole_size t.blocks
 unfolding code_blocks_of
 codes_size symbols t ready sound =
     let of_ : Context → Block → BlockLayout → List StatedBlock =
     λ c b l. code_block_of c b l l.id in
-    let bytes : StatedBlock → ℕ = λ s. records_size (compiled s) in
+    let bytes : StatedBlock → ℕ = λ s. records_size (compiled_block s) in
     let each = each_block of_ (context_at symbols t 0) t.blocks (layouts_of t symbols) in
     let each_fits = laid_mapped (IsSound symbols t) (λ k b l. sum_by bytes (of_ (context_at symbols t k) b l)
     ≤ 22 * coded symbols b + whole_size b) (code_here symbols t ready) 0 t.blocks (layouts_of t symbols)
     sound.blocks in
     omega (
       arith,
-      mapped_sum compiled records_size (sorted is_code_before each),
+      mapped_sum compiled_block records_size (sorted_list is_code_before each),
       sorted_sum is_code_before bytes each,
       each_sum of_ bytes (λ b. 22 * coded symbols b + whole_size b) symbols t 0 t.blocks
           (layouts_of t symbols) each_fits,
@@ -502,13 +502,13 @@ sound_data symbols t k b l id sound e is =
 
 one_data_size : (symbols : List Symbol) (t : Tree) (k : ℕ) (b : Block) (l : BlockLayout)
     (id : BlockId) → IsSound symbols t k b l → l.id ≡ Some id → is_data_block id.kind ≡ true
-    → data_size (data_block (context_at symbols t k) l id)
-    ≡ 8 * counted_data b + data_length (types_of symbols t.blocks) t.blocks b
+    → data_size (generated_data_block (context_at symbols t k) l id)
+    ≡ 8 * counted_data b + data_length (types_of_source symbols t.blocks) t.blocks b
 one_data_size symbols t k b l id sound e is =
-    let y = types_of symbols t.blocks in
+    let y = types_of_source symbols t.blocks in
     let counted : counted_data b ≡ 1 = ap bit (sound_data symbols t k b l id sound e is) in
-    let long : data_length y t.blocks b ≡ length_of y t.blocks b =
-    ap (λ (d : Bool). cond d (length_of y t.blocks b) 0)
+    let long : data_length y t.blocks b ≡ length_of_block y t.blocks b =
+    ap (λ (d : Bool). cond d (length_of_block y t.blocks b) 0)
     (sound_data symbols t k b l id sound e is) in
     omega (
       arith,
@@ -521,11 +521,11 @@ one_data_size symbols t k b l id sound e is =
 data_here : (symbols : List Symbol) (t : Tree) (k : ℕ) (b : Block) (l : BlockLayout)
     → IsSound symbols t k b l
     → sum_by data_size (data_block_of (context_at symbols t k) l l.id)
-    ≤ 8 * counted_data b + data_length (types_of symbols t.blocks) t.blocks b
+    ≤ 8 * counted_data b + data_length (types_of_source symbols t.blocks) t.blocks b
 data_here symbols t k b l sound = by l.id refl
   where
     most : ℕ
-    most = 8 * counted_data b + data_length (types_of symbols t.blocks) t.blocks b
+    most = 8 * counted_data b + data_length (types_of_source symbols t.blocks) t.blocks b
 
     by : (o : Option BlockId) → l.id ≡ o
         → sum_by data_size (data_block_of (context_at symbols t k) l o) ≤ most
@@ -534,12 +534,12 @@ data_here symbols t k b l sound = by l.id refl
       where
         whether : (is : Bool) → is_data_block id.kind ≡ is
             → sum_by data_size
-            (if is then data_block (context_at symbols t k) l id ∷ [] else []) ≤ most
+            (if is then generated_data_block (context_at symbols t k) l id ∷ [] else []) ≤ most
         whether true g =
             omega (
               arith,
               one_data_size symbols t k b l id sound e g,
-              sum_by-cons data_size (data_block (context_at symbols t k) l id) [],
+              sum_by-cons data_size (generated_data_block (context_at symbols t k) l id) [],
             )
         whether false g = omega arith
 
@@ -555,17 +555,17 @@ data_count symbols t k b l sound = by l.id refl
       where
         whether : (is : Bool) → is_data_block id.kind ≡ is
             → sum_by {X = DataBlock} (λ d. 1)
-            (if is then data_block (context_at symbols t k) l id ∷ [] else []) ≤ counted_data b
+            (if is then generated_data_block (context_at symbols t k) l id ∷ [] else []) ≤ counted_data b
         whether true g = omega (arith, ap bit (sound_data symbols t k b l id sound e g))
         whether false g = omega arith
 
 datas_size : (symbols : List Symbol) (t : Tree) → IsSoundTree symbols t
     → sum_by data_size (data_blocks_of t symbols (layouts_of t symbols))
     ≤ 8 * sum_by counted_data t.blocks
-    + sum_by (data_length (types_of symbols t.blocks) t.blocks) t.blocks
+    + sum_by (data_length (types_of_source symbols t.blocks) t.blocks) t.blocks
 unfolding data_blocks_of
 datas_size symbols t sound =
-    let y = types_of symbols t.blocks in
+    let y = types_of_source symbols t.blocks in
     let of_ : Context → Block → BlockLayout → List DataBlock =
     λ c b l. data_block_of c l l.id in
     let each = each_block of_ (context_at symbols t 0) t.blocks (layouts_of t symbols) in
@@ -584,7 +584,7 @@ datas_size symbols t sound =
 -- ---- counts
 
 codes_count : (symbols : List Symbol) (t : Tree) → IsSoundTree symbols t
-    → length (map compiled (code_blocks_of t symbols (layouts_of t symbols)))
+    → length (map compiled_block (code_blocks_of t symbols (layouts_of t symbols)))
     ≤ sum_by (coded symbols) t.blocks
 unfolding code_blocks_of
 codes_count symbols t sound =
@@ -597,7 +597,7 @@ codes_count symbols t sound =
     (code_count symbols t) 0 t.blocks (layouts_of t symbols) sound.blocks in
     omega (
       arith,
-      length-map (sorted is_code_before each) compiled,
+      length-map (sorted_list is_code_before each) compiled_block,
       sorted_length is_code_before each,
       summed_ones each,
       each_sum of_ one (coded symbols) symbols t 0 t.blocks (layouts_of t symbols) each_fits,
@@ -650,7 +650,7 @@ heads_54 y blocks e = heads_none (exceeds_total y blocks) 54 [] blocks e
 few_codes : (symbols : List Symbol) (t : Tree) → IsSoundTree symbols t
     → sum_by (coded symbols) t.blocks ≤ 4219
 few_codes symbols t sound =
-    let y = types_of symbols t.blocks in
+    let y = types_of_source symbols t.blocks in
     subst (λ (s : List Symbol). sum_by (coded s) t.blocks ≤ 4219)
     (types_symbols symbols t.blocks)
     (few_code_blocks y t.blocks (own_ids symbols t.blocks)
@@ -672,9 +672,9 @@ few_statements n h = grind (arith, nat_tests)
 small_block : (symbols : List Symbol) (t : Tree) → IsReady symbols t
     → sum_by whole_size t.blocks ≤ 4194304 → (k : ℕ) (b : Block) (l : BlockLayout)
     (id : BlockId) → IsSound symbols t k b l → l.id ≡ Some id → is_code id.kind ≡ true
-    → IsSmallBlock (compiled (code_block (context_at symbols t k) b l id))
+    → IsSmallBlock (compiled_block (code_block (context_at symbols t k) b l id))
 small_block symbols t ready bounded k b l id sound e is =
-    let count = count_by (λ (s : Statement). not (is_empty s.code)) b.body in
+    let count = count_by (λ (s : Statement). not (is_empty_statement s.code)) b.body in
     record {
       lines = omega (
         arith,
@@ -700,14 +700,14 @@ ready_once : (symbols : List Symbol) (t : Tree) → IsSoundTree symbols t
     → AllAreOnce (layouts_of t symbols)
 unfolding layouts_of layouts_by rule_21
 ready_once symbols t sound =
-    layouts_once (types_of symbols t.blocks) t.blocks [] t.blocks sound.well_formed
-    (each_none (in_block broken_21) t.blocks sound.by_layout.by_21)
+    layouts_once (types_of_source symbols t.blocks) t.blocks [] t.blocks sound.well_formed
+    (each_none (refusals_in_block broken_21) t.blocks sound.by_layout.by_21)
 
 pub accepted_is_small : AcceptedIsSmall
 accepted_is_small source file symbols t is =
     let sound = right_tree source file symbols t is in
     let fine = symbols_fine is.language file symbols is.named in
-    let y = types_of symbols t.blocks in
+    let y = types_of_source symbols t.blocks in
     let ready : IsReady symbols t = record {
       fine = fine.each;
       whole = all_whole symbols t sound;
@@ -723,13 +723,13 @@ accepted_is_small source file symbols t is =
     let data_sum = datas_size symbols t sound in
     let name_sum = names_size symbols fine in
     record {
-      counts = counts_good (length (map compiled (code_blocks_of t symbols (layouts_of t symbols))))
-          (length (data_blocks_of t symbols (layouts_of t symbols))) (length (names_of symbols))
+      counts = counts_good (length (map compiled_block (code_blocks_of t symbols (layouts_of t symbols))))
+          (length (data_blocks_of t symbols (layouts_of t symbols))) (length (name_entries_of symbols))
           (omega (arith, codes_count symbols t sound, codes))
           (omega (arith, datas_count symbols t sound, datas)) (names_count symbols fine);
       short = omega (arith, code_bytes, codes, datas, bytes, code_sum, data_sum, name_sum);
-      blocks = all_mapped_to IsSmallBlock compiled
+      blocks = all_mapped_to IsSmallBlock compiled_block
           (code_blocks_of t symbols (layouts_of t symbols))
-          (sound_code_blocks symbols t (λ s. IsSmallBlock (compiled s)) sound
+          (sound_code_blocks symbols t (λ s. IsSmallBlock (compiled_block s)) sound
           (small_block symbols t ready code_bytes));
     }

@@ -12,10 +12,10 @@ use Rattle.plc_base.specs.declared.blocks.BlockKind.{BlockKind}
 use Rattle.plc_base.specs.declared.blocks.BlockKind.TheVariants as kinds
 use Rattle.stl_ast.specs.declared.blocks.Block.{Block}
 use Rattle.stl_symbols.specs.Symbol.{Symbol}
-use Rattle.block_layout.specs.Blocks.{block_place, id_of, is_block_number, is_id, is_ob_number}
-use Rattle.block_layout.specs.Lengths.{length_of}
+use Rattle.block_layout.specs.Blocks.{place_of_block, id_of, is_block_number, is_id, is_ob_number}
+use Rattle.block_layout.specs.Lengths.{length_of_block}
 use Rattle.block_layout.specs.Rule22.{is_block_twice, is_earlier}
-use Rattle.block_layout.specs.Rule44.{has_wrong_number, is_beyond}
+use Rattle.block_layout.specs.Rule44.{has_wrong_number, is_number_beyond_limits}
 use Rattle.block_layout.specs.Rule53.{is_one_too_many}
 use Rattle.block_layout.specs.Rule54.{data_length, exceeds_total}
 use Rattle.block_layout.specs.Types.{Types}
@@ -51,14 +51,14 @@ is_there id (Some other) h = ap (λ (i : BlockId). Some i) (sym (same_block id o
 -- the first place of an id is at most a place where it stands
 placed : (id : BlockId) (front : List (Option BlockId)) (o : Option BlockId)
     (rest : List (Option BlockId)) → is_id id o ≡ true
-    → (p : ℕ) × (block_place id (front ++ o ∷ rest) ≡ Some p) × (p ≤ length front)
+    → (p : ℕ) × (place_of_block id (front ++ o ∷ rest) ≡ Some p) × (p ≤ length front)
 placed id [] o rest h = (0, rw h refl, omega arith)
 placed id (i ∷ is) o rest h = by (is_id id i) (placed id is o rest h)
   where
     by : (first : Bool)
-        → (p : ℕ) × (block_place id (is ++ o ∷ rest) ≡ Some p) × (p ≤ length is)
+        → (p : ℕ) × (place_of_block id (is ++ o ∷ rest) ≡ Some p) × (p ≤ length is)
         → (p : ℕ) × ((if first then Some 0
-        else option_map (λ k. suc k) (block_place id (is ++ o ∷ rest))) ≡ Some p)
+        else option_map (λ k. suc k) (place_of_block id (is ++ o ∷ rest))) ≡ Some p)
         × (p ≤ length (i ∷ is))
     by true more = (0, refl, omega arith)
     by false more =
@@ -66,10 +66,10 @@ placed id (i ∷ is) o rest h = by (is_id id i) (placed id is o rest h)
 
 -- behind it no block has it
 twice_there : (y : Types) (id : BlockId) (before : List Block) (b : Block) (p : ℕ)
-    → block_place id y.ids ≡ Some p → p < length before → id_of y.symbols b ≡ Some id
+    → place_of_block id y.ids ≡ Some p → p < length before → id_of y.symbols b ≡ Some id
     → is_block_twice y before b ≡ true
 twice_there y id before b p place early is =
-    ap (λ (o : Option BlockId). is_earlier (option_and_then (λ i. block_place i y.ids) o)
+    ap (λ (o : Option BlockId). is_earlier (option_and_then (λ i. place_of_block i y.ids) o)
     (length before)) is
     ∙ ap (λ (o : Option ℕ). is_earlier o (length before)) place
     ∙ below p (length before) early
@@ -81,7 +81,7 @@ with_id : List Symbol → BlockId → Block → ℕ
 with_id symbols id b = bit (is_id id (id_of symbols b))
 
 none_behind : (y : Types) (id : BlockId) (p : ℕ) (before rest : List Block)
-    → block_place id y.ids ≡ Some p → p < length before
+    → place_of_block id y.ids ≡ Some p → p < length before
     → AllHeads (λ before b. is_block_twice y before b ≡ false) before rest
     → sum_by (with_id y.symbols id) rest ≡ 0
 unfolding with_id
@@ -127,7 +127,7 @@ once_behind y id front before (b ∷ bs) ids long once =
         let behind : List (Option BlockId) = map (λ b. id_of y.symbols b) bs in
         let there = placed id front (id_of y.symbols b) behind e in
         let none = none_behind y id there.0 (b ∷ before) bs
-        (ap (λ (l : List (Option BlockId)). block_place id l) ids ∙ there.1)
+        (ap (λ (l : List (Option BlockId)). place_of_block id l) ids ∙ there.1)
         (omega (arith, there.2, long)) once.1 in
         omega (arith, none)
     by false e more =
@@ -221,7 +221,7 @@ by_kind kinds.Db n h = omega arith
 by_kind kinds.Sfc n h = omega arith
 by_kind kinds.Udt n h = omega arith
 
-by_id : (o : Option BlockId) → is_beyond o ≡ false
+by_id : (o : Option BlockId) → is_number_beyond_limits o ≡ false
     → bit (is_code_id o)
     ≤ bit (below_limit kinds.Ob 123 o) + bit (below_limit kinds.Fc 2048 o)
     + bit (below_limit kinds.Fb 2048 o)
@@ -303,7 +303,7 @@ bytes_from : (y : Types) (blocks before bs : List Block)
     → sum_by (data_length y blocks) before + sum_by (data_length y blocks) bs ≤ 2097152
 bytes_from y blocks before [] less h = omega (arith, less)
 bytes_from y blocks before (b ∷ bs) less h =
-    let here = less_more (is_data_block b.kind) (length_of y blocks b)
+    let here = less_more (is_data_block b.kind) (length_of_block y blocks b)
     (sum_by (data_length y blocks) before) less h.0 in
     let split = sum_by-cons (data_length y blocks) b before in
     omega (

@@ -13,7 +13,7 @@ use Rattle.plc_base.specs.declared.blocks.BlockId.{BlockId}
 use Rattle.plc_base.specs.declared.blocks.BlockKind.{BlockKind}
 use Rattle.flat_code.specs.declared.operands.Passed.{Passed}
 use Rattle.stl_ast.specs.Blocks.{is_parameter}
-use Rattle.stl_ast.specs.Declarations.{is_elementary, is_plain}
+use Rattle.stl_ast.specs.Declarations.{is_elementary, is_elementary_type}
 use Rattle.stl_ast.specs.Outline.{IsOutline, level_behind}
 use Rattle.stl_ast.specs.WellFormed.{AreDeclaredIn, IsBlock, IsSection}
 use Rattle.stl_ast.specs.declared.blocks.Block.{Block}
@@ -31,13 +31,13 @@ use Rattle.stl_ast.specs.declared.statements.Actual.{Actual}
 use Rattle.stl_ast.specs.declared.statements.Statement.{Statement}
 use Rattle.plc_base.specs.Folding.{upper_case_name}
 use Rattle.plc_base.specs.Gathered.{refusals_along}
-use Rattle.stl_symbols.specs.Names.{place_of}
-use Rattle.block_layout.specs.Around.{Outside, in_block, of_sections, of_structure, onto, ret_val, returned_names, section_declarations}
+use Rattle.stl_symbols.specs.Names.{name_place}
+use Rattle.block_layout.specs.Around.{Outside, refusals_in_block, of_sections, of_structure, declarations_before_next, ret_val, returned_names, section_declarations}
 use Rattle.block_layout.specs.Blocks.{named_block}
-use Rattle.block_layout.specs.Cells.{cell_of, cells_of, components_of, is_temp, laid, opened, returned_cells, section_cells}
+use Rattle.block_layout.specs.Cells.{cell_of, cells_of, components_of, is_temp, layout_element, with_first_cell_opening, returned_cells, section_cells}
 use Rattle.block_layout.specs.Layouts.{block_layout, layouts_from}
 use Rattle.block_layout.specs.Paths.{cells_at}
-use Rattle.block_layout.specs.Rule21.{broken_21, is_twice, name_here, names_before}
+use Rattle.block_layout.specs.Rule21.{broken_21, is_twice, declaration_name_here, names_before}
 use Rattle.block_layout.specs.Types.{Types}
 use Rattle.block_layout.specs.declared.blocks.BlockLayout.{BlockLayout}
 use Rattle.block_layout.specs.declared.cells.Cell.{Cell}
@@ -45,11 +45,11 @@ use Rattle.block_layout.specs.declared.cells.Element.{Element}
 use Rattle.block_layout.specs.declared.cells.Element.TheVariants as element
 use Rattle.stl_types.specs.Context.{Context, whole_place}
 use Rattle.stl_types.specs.Parameters.{Callee, callee_by, callee_of, formal_here, formal_of, formals_of, is_one_of, is_sound_formal, sound_formals, source_callee, system_formals}
-use Rattle.stl_types.specs.Resolution.{seen}
+use Rattle.stl_types.specs.Resolution.{resolution_of}
 use Rattle.stl_types.specs.declared.parameters.Formal.{Formal}
 use Rattle.stl_parser.proofs.OptionLemmas.{both, chained, mapped, none_holds, passed}
-use Rattle.stl_codegen.specs.Instruction.{block_at, in_order, passings_to, return_last}
-use Rattle.stl_codegen.specs.Passed.{passed_actual, passed_seen, passings_from, supplied, with_index}
+use Rattle.stl_codegen.specs.Instruction.{source_block_at, in_parameter_order, passings_to, return_last}
+use Rattle.stl_codegen.specs.Passed.{passed_actual, passed_seen, passings_from, actual_of_formal, with_index}
 use Rattle.sem_kept.proofs.accepted.Accepted.{none_left, none_right, not_broken}
 use Rattle.sem_kept.proofs.accepted.SizesBlocks.{bit}
 use Rattle.sem_kept.proofs.accepted.SizesOps.{PassesFew}
@@ -67,7 +67,7 @@ pub record AreOnce (fs : List Formal) : Type 0 where
 
 -- those that are supplied
 abbrev is_given : List Actual → Formal → ℕ
-is_given actuals f = bit (is_some (supplied actuals f))
+is_given actuals f = bit (is_some (actual_of_formal actuals f))
 
 given_more : (a : Actual) (here : Bool) (rest : Option Actual)
     → bit (is_some (if here then Some a else rest)) ≤ bit here + bit (is_some rest)
@@ -90,7 +90,7 @@ given_few (a ∷ actuals) fs once =
       summed_le (is_given (a ∷ actuals))
           (λ f. named_so (upper_case_name a.name) f + is_given actuals f) fs
           (every (λ f. is_given (a ∷ actuals) f ≤ named_so (upper_case_name a.name) f + is_given actuals f)
-          (λ f. given_more a (bytes_eq (upper_case_name a.name) f.name) (supplied actuals f)) fs),
+          (λ f. given_more a (bytes_eq (upper_case_name a.name) f.name) (actual_of_formal actuals f)) fs),
     )
 
 index_few : (index : ℕ) (p : Option Passed) → length (with_index index p) ≤ 1
@@ -100,7 +100,7 @@ index_few index (Some actual) = omega arith
 one_passed : (c : Context) (index : ℕ) (a : Option Actual)
     → length (passed_actual c index a) ≤ bit (is_some a)
 one_passed c index None = omega arith
-one_passed c index (Some a) = index_few index (passed_seen a.value (seen c a.value))
+one_passed c index (Some a) = index_few index (passed_seen a.value (resolution_of c a.value))
 
 passed_given : (c : Context) (actuals : List Actual) (index : ℕ) (fs : List Formal)
     → length (passings_from c actuals index fs) ≤ sum_by (is_given actuals) fs
@@ -108,9 +108,9 @@ passed_given c actuals index [] = omega arith
 passed_given c actuals index (f ∷ fs) =
     omega (
       arith,
-      one_passed c index (supplied actuals f),
+      one_passed c index (actual_of_formal actuals f),
       passed_given c actuals (suc index) fs,
-      length-append (passed_actual c index (supplied actuals f))
+      length-append (passed_actual c index (actual_of_formal actuals f))
           (passings_from c actuals (suc index) fs),
       sum_by-cons (is_given actuals) f fs,
     )
@@ -128,11 +128,11 @@ ordered_sum f None xs = refl
 ordered_sum f (Some result) xs = last_sum f xs
 
 in_order_sum : (f : Formal → ℕ) (b : Option Block) (xs : List Formal)
-    → sum_by f (in_order b xs) ≡ sum_by f xs
+    → sum_by f (in_parameter_order b xs) ≡ sum_by f xs
 in_order_sum f None xs = refl
 in_order_sum f (Some b) xs = ordered_sum f b.result xs
 
-ordered_once : (b : Option Block) (xs : List Formal) → AreOnce xs → AreOnce (in_order b xs)
+ordered_once : (b : Option Block) (xs : List Formal) → AreOnce xs → AreOnce (in_parameter_order b xs)
 ordered_once b xs once =
     record { each = λ n. omega (arith, once.each n, in_order_sum (named_so n) b xs) }
 
@@ -141,11 +141,11 @@ passings_few : (c : Context) (s : Statement) (callee : Option Callee)
     → length (passings_to c s callee) ≤ length s.actuals
 passings_few c s None once = omega arith
 passings_few c s (Some callee) once =
-    let fs = in_order (block_at c.blocks callee.place) callee.formals in
+    let fs = in_parameter_order (source_block_at c.blocks callee.place) callee.formals in
     omega (
       arith,
       passed_given c s.actuals 0 fs,
-      given_few s.actuals fs (ordered_once (block_at c.blocks callee.place) callee.formals once),
+      given_few s.actuals fs (ordered_once (source_block_at c.blocks callee.place) callee.formals once),
     )
 
 -- ---- of system functions
@@ -229,13 +229,13 @@ once_front o before [] es h = tt
 once_front o before (d ∷ ds) es h = (h.0, once_front o (d ∷ before) ds es h.1)
 
 once_back : (o : Outside) (before ds es : List Declaration) → AllOnce o before (ds ++ es)
-    → AllOnce o (onto before ds) es
+    → AllOnce o (declarations_before_next before ds) es
 once_back o before [] es h = h
 once_back o before (d ∷ ds) es h = once_back o (d ∷ before) ds es h.1
 
 -- a name stands among those of the outermost level
 abbrev is_known : List ℕ → Outside → List Declaration → Bool
-is_known n o before = is_some (place_of n (names_before o.names 0 before))
+is_known n o before = is_some (name_place n (names_before o.names 0 before))
 
 suc_some : (o : Option ℕ) → is_some (option_map (λ k. suc k) o) ≡ is_some o
 suc_some None = refl
@@ -243,41 +243,41 @@ suc_some (Some k) = refl
 
 -- names behind others
 place_grows : (n : List ℕ) (xs ys : List (List ℕ))
-    → bit (is_some (place_of n xs)) ≤ bit (is_some (place_of n (xs ++ ys)))
+    → bit (is_some (name_place n xs)) ≤ bit (is_some (name_place n (xs ++ ys)))
 place_grows n [] ys = omega arith
 place_grows n (x ∷ xs) ys = by (bytes_eq n x) (place_grows n xs ys)
   where
     by : (here : Bool)
-        → bit (is_some (place_of n xs)) ≤ bit (is_some (place_of n (xs ++ ys)))
-        → bit (is_some (if here then Some 0 else option_map (λ k. suc k) (place_of n xs)))
-        ≤ bit (is_some (if here then Some 0 else option_map (λ k. suc k) (place_of n (xs ++ ys))))
+        → bit (is_some (name_place n xs)) ≤ bit (is_some (name_place n (xs ++ ys)))
+        → bit (is_some (if here then Some 0 else option_map (λ k. suc k) (name_place n xs)))
+        ≤ bit (is_some (if here then Some 0 else option_map (λ k. suc k) (name_place n (xs ++ ys))))
     by true more = omega arith
     by false more =
-        rw (suc_some (place_of n xs)) (rw (suc_some (place_of n (xs ++ ys))) more)
+        rw (suc_some (name_place n xs)) (rw (suc_some (name_place n (xs ++ ys))) more)
 
 place_last : (n : List ℕ) (xs : List (List ℕ)) (x : List ℕ) → bytes_eq n x ≡ true
-    → is_some (place_of n (xs ++ x ∷ [])) ≡ true
+    → is_some (name_place n (xs ++ x ∷ [])) ≡ true
 place_last n [] x h = rw h refl
 place_last n (y ∷ ys) x h = by (bytes_eq n y) (place_last n ys x h)
   where
-    by : (here : Bool) → is_some (place_of n (ys ++ x ∷ [])) ≡ true
+    by : (here : Bool) → is_some (name_place n (ys ++ x ∷ [])) ≡ true
         → is_some (if here then Some 0
-        else option_map (λ k. suc k) (place_of n (ys ++ x ∷ []))) ≡ true
+        else option_map (λ k. suc k) (name_place n (ys ++ x ∷ []))) ≡ true
     by true more = refl
-    by false more = suc_some (place_of n (ys ++ x ∷ [])) ∙ more
+    by false more = suc_some (name_place n (ys ++ x ∷ [])) ∙ more
 
 not_below : (n : ℕ) → nat_lt n 0 ≡ false
 not_below n = grind (arith, nat_tests)
 
 names_more : (o : Outside) (before : List Declaration) (d : Declaration)
-    → names_before o.names 0 (d ∷ before) ≡ names_before o.names 0 before ++ name_here 0 d
+    → names_before o.names 0 (d ∷ before) ≡ names_before o.names 0 before ++ declaration_name_here 0 d
 names_more o before d = rw (not_below d.level) refl
 
 known_grows : (n : List ℕ) (o : Outside) (before : List Declaration) (d : Declaration)
     → bit (is_known n o before) ≤ bit (is_known n o (d ∷ before))
 known_grows n o before d =
     rw (names_more o before d)
-    (place_grows n (names_before o.names 0 before) (name_here 0 d))
+    (place_grows n (names_before o.names 0 before) (declaration_name_here 0 d))
 
 -- a declaration at the outermost level adds its name
 known_adds : (n : List ℕ) (o : Outside) (before : List Declaration) (d : Declaration)
@@ -291,11 +291,11 @@ known_adds n o before d level once = by (bytes_eq n (upper_case_name d.name)) re
     by true e =
         let same = same_name n (upper_case_name d.name) e in
         let fresh : is_known n o before ≡ false =
-        ap (λ (m : List ℕ). is_some (place_of m (names_before o.names 0 before))) same
-        ∙ ap (λ (k : ℕ). is_some (place_of (upper_case_name d.name) (names_before o.names k before)))
+        ap (λ (m : List ℕ). is_some (name_place m (names_before o.names 0 before))) same
+        ∙ ap (λ (k : ℕ). is_some (name_place (upper_case_name d.name) (names_before o.names k before)))
         (sym level) ∙ once in
         let here : is_known n o (d ∷ before) ≡ true =
-        ap (λ (l : List (List ℕ)). is_some (place_of n l)) (names_more o before d
+        ap (λ (l : List (List ℕ)). is_some (name_place n l)) (names_more o before d
         ∙ ap (λ (k : ℕ). names_before o.names 0 before ++ (if nat_eq k 0 then upper_case_name d.name ∷ [] else [])) level)
         ∙ place_last n (names_before o.names 0 before) (upper_case_name d.name) e in
         omega (arith, ap bit fresh, ap bit here)
@@ -316,15 +316,15 @@ so_append n (x ∷ xs) ys =
     omega (arith, so_cons n x (xs ++ ys), so_cons n x xs, so_append n xs ys)
 
 opened_so : (n : List ℕ) (cells : List Cell)
-    → parameters_so n (opened cells) ≡ parameters_so n cells
+    → parameters_so n (with_first_cell_opening cells) ≡ parameters_so n cells
 opened_so n [] = refl
 opened_so n (c ∷ cs) = by c.sound (opened_so n cs)
   where
-    by : (sound : Bool) → parameters_so n (opened cs) ≡ parameters_so n cs
-        → parameters_so n (if sound then record c { opens = true } ∷ cs else c ∷ opened cs)
+    by : (sound : Bool) → parameters_so n (with_first_cell_opening cs) ≡ parameters_so n cs
+        → parameters_so n (if sound then record c { opens = true } ∷ cs else c ∷ with_first_cell_opening cs)
         ≡ parameters_so n (c ∷ cs)
     by true more = refl
-    by false more = omega (arith, so_cons n c (opened cs), so_cons n c cs, more)
+    by false more = omega (arith, so_cons n c (with_first_cell_opening cs), so_cons n c cs, more)
 
 formal_so : (n name : List ℕ) (c : Cell) (e : Element) → c.name ≡ name
     → sum_by (named_so n) (formal_of c e) ≤ bit (bytes_eq n name)
@@ -336,7 +336,7 @@ items_so : (n : List ℕ) (y : Types) (o : Outside) (section : PartKind)
     (before ds : List Declaration)
     → (is_parameter section ≡ true → AllByRecursion (λ d. d.level ≡ 0) ds) → AllOnce o before ds
     → parameters_so n (cells_of y o section before ds) + bit (is_known n o before)
-    ≤ bit (is_known n o (onto before ds))
+    ≤ bit (is_known n o (declarations_before_next before ds))
 unfolding cell_of
 items_so n y o section before [] low once = omega arith
 items_so n y o section before (d ∷ ds) low once =
@@ -350,17 +350,17 @@ items_so n y o section before (d ∷ ds) low once =
   where
     by : (is : Bool) → is_parameter section ≡ is
         → sum_by (named_so n) (if is then formal_of (cell_of y o section before d)
-        (laid y d.of.of) else []) + bit (is_known n o before) ≤ bit (is_known n o (d ∷ before))
+        (layout_element y d.of.of) else []) + bit (is_known n o before) ≤ bit (is_known n o (d ∷ before))
     by true e =
         omega (
           arith,
-          formal_so n (upper_case_name d.name) (cell_of y o section before d) (laid y d.of.of) refl,
+          formal_so n (upper_case_name d.name) (cell_of y o section before d) (layout_element y d.of.of) refl,
           known_adds n o before d (low e).0 once.0,
         )
     by false e = omega (arith, known_grows n o before d)
 
 known_onto : (n : List ℕ) (o : Outside) (before ds : List Declaration)
-    → bit (is_known n o before) ≤ bit (is_known n o (onto before ds))
+    → bit (is_known n o before) ≤ bit (is_known n o (declarations_before_next before ds))
 known_onto n o before [] = omega arith
 known_onto n o before (d ∷ ds) =
     omega (arith, known_grows n o before d, known_onto n o (d ∷ before) ds)
@@ -383,20 +383,20 @@ sections_so n y o wanted before [] low once = at_most (is_known n o before)
     at_most false = omega arith
 sections_so n y o wanted before (p ∷ ps) low once =
     let items = once_front o before p.items (declarations_in ps) once in
-    let here = if wanted p.kind then opened (cells_of y o p.kind before p.items) else [] in
+    let here = if wanted p.kind then with_first_cell_opening (cells_of y o p.kind before p.items) else [] in
     omega (
       arith,
-      so_append n here (section_cells y o wanted (onto before p.items) ps),
+      so_append n here (section_cells y o wanted (declarations_before_next before p.items) ps),
       by (wanted p.kind) (items_so n y o p.kind before p.items low.0 items),
-      sections_so n y o wanted (onto before p.items) ps low.1
+      sections_so n y o wanted (declarations_before_next before p.items) ps low.1
           (once_back o before p.items (declarations_in ps) once),
     )
   where
     by : (is : Bool)
         → parameters_so n (cells_of y o p.kind before p.items) + bit (is_known n o before)
-        ≤ bit (is_known n o (onto before p.items))
-        → parameters_so n (if is then opened (cells_of y o p.kind before p.items) else [])
-        + bit (is_known n o before) ≤ bit (is_known n o (onto before p.items))
+        ≤ bit (is_known n o (declarations_before_next before p.items))
+        → parameters_so n (if is then with_first_cell_opening (cells_of y o p.kind before p.items) else [])
+        + bit (is_known n o before) ≤ bit (is_known n o (declarations_before_next before p.items))
     by true h = omega (arith, h, opened_so n (cells_of y o p.kind before p.items))
     by false h = omega (arith, known_onto n o before p.items)
 
@@ -415,7 +415,7 @@ static_so n y o before (d ∷ ds) =
 
 returned_so : (n : List ℕ) (result : Option Simple)
     → parameters_so n (returned_cells result)
-    ≡ bit (is_some (place_of n (returned_names result)))
+    ≡ bit (is_some (name_place n (returned_names result)))
 returned_so n None = refl
 returned_so n (Some kind) = by (bytes_eq n ret_val)
   where
@@ -443,7 +443,7 @@ parts_so n y b low once =
 
 -- elementary declarations are outermost
 level_here : (level : ℕ) (arrays : List Bounds) (e : ElementType) → level ≤ 0
-    → is_plain arrays e ≡ true → (level ≡ 0) × (level_behind level e ≡ 0)
+    → is_elementary_type arrays e ≡ true → (level ≡ 0) × (level_behind level e ≡ 0)
 level_here level [] (types.Plain kind) h is = (omega (arith, h), omega (arith, h))
 level_here level _ _ h is = absurd cc
 
@@ -468,7 +468,7 @@ sections_low k (p ∷ ps) h = (
 )
 
 -- no two parameters of a block have one name
-pub components_once : (y : Types) (b : Block) → IsBlock b → in_block broken_21 b ≡ []
+pub components_once : (y : Types) (b : Block) → IsBlock b → refusals_in_block broken_21 b ≡ []
     → AreOnce (formals_of (components_of y b))
 components_once y b is e = record {
   each = λ n. parts_so n y b (sections_low b.kind b.parts is.sections.1)
@@ -524,7 +524,7 @@ passes_few c s h =
 
 -- layouts of blocks
 pub layouts_once : (y : Types) (blocks before bs : List Block) → AllByRecursion IsBlock bs
-    → AllByRecursion (λ b. in_block broken_21 b ≡ []) bs
+    → AllByRecursion (λ b. refusals_in_block broken_21 b ≡ []) bs
     → AllAreOnce (layouts_from y blocks before bs)
 unfolding block_layout
 layouts_once y blocks before [] are once = tt

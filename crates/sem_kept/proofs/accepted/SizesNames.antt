@@ -7,13 +7,13 @@ use Rattle.std.proofs.lemmas.List.{length-map}
 use Rattle.std.proofs.lemmas.List.Sums.{sum_by-append}
 use Rattle.flat_code.specs.Checking.{name_size}
 use Rattle.flat_code.specs.Programs.{NameEntry}
-use Rattle.stl_symbols.specs.Symbol.{IsSymbol, IsTarget, Symbol}
+use Rattle.stl_symbols.specs.Symbol.{IsSymbol, IsSymbolTarget, Symbol}
 use Rattle.stl_symbols.specs.Symbols.{symbols_in}
 use Rattle.stl_symbols.specs.declared.languages.Language.{Language}
 use Rattle.stl_symbols.specs.declared.targets.Target.{Target}
 use Rattle.stl_symbols.specs.declared.targets.Target.TheVariants as target
 use Rattle.stl_symbols.proofs.FileLemmas.{symbols_right}
-use Rattle.stl_codegen.specs.Generated.{has_name, name_entry, names_of}
+use Rattle.stl_codegen.specs.Generated.{has_name, name_entry, name_entries_of}
 use Rattle.stl_codegen.specs.Order.{is_name_before}
 use Rattle.sem_kept.proofs.accepted.Accepted.{all_mapped}
 use Rattle.sem_kept.proofs.accepted.SizesSums.{sorted_length, sorted_sum}
@@ -33,7 +33,7 @@ pub record AreFine (symbols : List Symbol) : Type 0 where
   pub few : length symbols ≤ 65535
   pub each : AllByRecursion IsFine symbols
 
-target_apart : (t : Target) → IsTarget t → IsApart t
+target_apart : (t : Target) → IsSymbolTarget t → IsApart t
 target_apart (target.Variable place width) h = h.number
 target_apart (target.Timer number) h = tt
 target_apart (target.Counter number) h = tt
@@ -104,7 +104,7 @@ entries_count (s ∷ ss) =
     )
 
 pub names_size : (symbols : List Symbol) → AreFine symbols
-    → sum_by name_size (names_of symbols) ≤ 1966050
+    → sum_by name_size (name_entries_of symbols) ≤ 1966050
 names_size symbols are =
     let entries = flat_map (λ (s : Symbol). name_entry s.name s.target) symbols in
     omega (
@@ -114,7 +114,7 @@ names_size symbols are =
       sorted_sum is_name_before name_size entries,
     )
 
-pub names_count : (symbols : List Symbol) → AreFine symbols → length (names_of symbols) ≤ 65535
+pub names_count : (symbols : List Symbol) → AreFine symbols → length (name_entries_of symbols) ≤ 65535
 names_count symbols are =
     let entries = flat_map (λ (s : Symbol). name_entry s.name s.target) symbols in
     omega (arith, are.few, entries_count symbols, sorted_length is_name_before entries)

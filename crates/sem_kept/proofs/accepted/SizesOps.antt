@@ -27,7 +27,7 @@ use Rattle.flat_code.specs.declared.operations.EndOperation.TheVariants as ends
 use Rattle.flat_code.specs.declared.operations.Operation.{Operation}
 use Rattle.flat_code.specs.declared.operations.Operation.TheVariants as operation
 use Rattle.stl_ast.specs.Sizes.{block_size, body_size, code_size, op_size, path_size, return_size, statement_size}
-use Rattle.stl_ast.specs.Statements.{is_empty}
+use Rattle.stl_ast.specs.Statements.{is_empty_statement}
 use Rattle.stl_ast.specs.declared.blocks.Block.{Block}
 use Rattle.stl_ast.specs.declared.blocks.PathStep.{PathStep}
 use Rattle.stl_ast.specs.declared.declarations.Simple.{Simple}
@@ -45,21 +45,21 @@ use Rattle.stl_ast.specs.declared.statements.Statement.{Statement}
 use Rattle.stl_symbols.specs.Symbol.{Symbol, symbol_named}
 use Rattle.stl_symbols.specs.declared.targets.Target.{Target}
 use Rattle.stl_symbols.specs.declared.targets.Target.TheVariants as target
-use Rattle.block_layout.specs.Offsets.{place_at, placed, width_of}
+use Rattle.block_layout.specs.Offsets.{place_at, elementary_place, width_of}
 use Rattle.block_layout.specs.declared.cells.Cell.{Cell}
 use Rattle.block_layout.specs.declared.cells.Element.{Element}
 use Rattle.block_layout.specs.declared.cells.Element.TheVariants as element
 use Rattle.block_layout.specs.declared.walks.ComponentAt.{ComponentAt}
 use Rattle.block_layout.specs.declared.walks.PathEnd.{PathEnd}
 use Rattle.block_layout.specs.declared.walks.PathEnd.TheVariants as walk
-use Rattle.stl_types.specs.Addresses.{address_in, area_of}
+use Rattle.stl_types.specs.Addresses.{address_in_block, area_for_letters}
 use Rattle.stl_types.specs.Context.{Context, data_number, in_function}
-use Rattle.stl_types.specs.Kinds.{is_called}
-use Rattle.stl_types.specs.Operands.{operand_rule, rule_of, statement_rule, takes}
+use Rattle.stl_types.specs.Kinds.{is_operand_of_call}
+use Rattle.stl_types.specs.Operands.{operand_rule, rule_of_resolved_operand, statement_rule, takes_operand}
 use Rattle.stl_types.specs.Parameters.{callee_of}
-use Rattle.stl_types.specs.Resolved.{resolved, seen_view}
-use Rattle.stl_types.specs.Resolution.{called_seen, direct_seen, opened_seen, path_seen, register_of, seen, symbol_seen, target_view}
-use Rattle.stl_types.specs.Variables.{composite, data_at, data_path, data_walked, date_or_composite, in_area, own_at, own_elementary, own_walked, parameter, parameter_at}
+use Rattle.stl_types.specs.Resolved.{resolved_operand, seen_view}
+use Rattle.stl_types.specs.Resolution.{called_seen, direct_seen, opened_seen, path_seen, register_for_word, resolution_of, symbol_seen, target_view}
+use Rattle.stl_types.specs.Variables.{composite_operand, data_at, data_path, data_walked, date_or_composite, variable_in_area, own_at, own_elementary, own_walked, parameter_resolution, parameter_at}
 use Rattle.stl_types.specs.declared.forms.OperandRule.{OperandRule}
 use Rattle.stl_types.specs.declared.forms.OperandRule.TheVariants as form
 use Rattle.stl_types.specs.declared.views.Register.{Register}
@@ -68,12 +68,12 @@ use Rattle.stl_types.specs.declared.views.Resolution.{Resolution}
 use Rattle.stl_types.specs.declared.views.Resolution.TheVariants.{Unjudged, Resolved, Unknown}
 use Rattle.stl_types.specs.declared.views.ResolvedOperand.{ResolvedOperand}
 use Rattle.stl_types.specs.declared.views.ResolvedOperand.TheVariants as view
-use Rattle.stl_codegen.specs.Compiled.{Stated, aimed, aimed_op, code_in, lines_in, ops_in, placed_ops}
-use Rattle.stl_codegen.specs.Emitted.{call_op, ending, opening, ops_of, passing, preparing}
-use Rattle.stl_codegen.specs.Generated.{returning, stated_from, statements_of}
-use Rattle.stl_codegen.specs.Instruction.{call_instr, end_instr, filler, instr_by, instruction, jump_instr, passings_to, resolved_instr, target_of, view_instr}
-use Rattle.stl_codegen.specs.Operands.{is_db, is_in_named_block, numbered_operand, opened_by, opened_by_place, operand_of, register_operand}
-use Rattle.stl_codegen.specs.Operations.{call_of, end_of, jump_of, operation_for}
+use Rattle.stl_codegen.specs.Compiled.{SourceInstruction, operand_with_target, op_with_target, code_in, lines_in, ops_in, placed_ops}
+use Rattle.stl_codegen.specs.Emitted.{call_op, op_with_end_mark, use_db_ops, ops_of, pass_ops, preparing_op}
+use Rattle.stl_codegen.specs.Generated.{return_statement, stated_from, statements_of}
+use Rattle.stl_codegen.specs.Instruction.{call_instr, end_instr, filler_instruction, instr_by, instruction, jump_instr, passings_to, resolved_instr, target_of, view_instr}
+use Rattle.stl_codegen.specs.Operands.{is_db, is_in_named_block, numbered_operand, block_opened_by_operand, opened_by_place, flat_operand_of, register_operand}
+use Rattle.stl_codegen.specs.Operations.{call_operation_of, end_operation_of, jump_operation_of, operation_for}
 use Rattle.sem_kept.proofs.accepted.Shared.{call_form, calls_called, jump_form, no_call_constant, no_jump_constant, rule_there, stated_count}
 use Rattle.sem_kept.proofs.accepted.SizesNames.{IsApart, IsFine}
 
@@ -150,19 +150,19 @@ bytes_both (x ∷ xs) ys =
     )
 
 -- targets as offsets take no other bytes
-aimed_size : (f : ℕ → ℕ) (o : FlatOperand) → flat_size (aimed f o) ≡ flat_size o
+aimed_size : (f : ℕ → ℕ) (o : FlatOperand) → flat_size (operand_with_target f o) ≡ flat_size o
 aimed_size f (flat.Jump kind target) = refl
 aimed_size f _ = refl
 
-aimed_bytes : (f : ℕ → ℕ) (ops : List OpData) → bytes_in (map (aimed_op f) ops) ≡ bytes_in ops
+aimed_bytes : (f : ℕ → ℕ) (ops : List OpData) → bytes_in (map (op_with_target f) ops) ≡ bytes_in ops
 aimed_bytes f [] = refl
 aimed_bytes f (op ∷ ops) =
     omega (
       arith,
-      length-append (op_bytes (aimed_op f op)) (code_bytes (map (aimed_op f) ops)),
+      length-append (op_bytes (op_with_target f op)) (code_bytes (map (op_with_target f) ops)),
       length-append (op_bytes op) (code_bytes ops),
       aimed_bytes f ops,
-      op_sized (aimed_op f op),
+      op_sized (op_with_target f op),
       op_sized op,
       aimed_size f op.operand,
     )
@@ -180,13 +180,13 @@ opened_size (Some number) = 4
 does_sized : (use_db : Option ℕ) (w : Operation) (o : FlatOperand)
     → bytes_in (ops_of (Does use_db w o)) ≡ opened_size use_db + flat_size o
 unfolding ops_of
-does_sized None w o = omega (arith, one_sized (ending w o))
+does_sized None w o = omega (arith, one_sized (op_with_end_mark w o))
 does_sized (Some number) w o =
     omega (
       arith,
-      bytes_both (opening (Some number)) (ending w o ∷ []),
-      one_sized (ending w o),
-      one_sized (preparing operation.UseDb (flat.UseDb number)),
+      bytes_both (use_db_ops (Some number)) (op_with_end_mark w o ∷ []),
+      one_sized (op_with_end_mark w o),
+      one_sized (preparing_op operation.UseDb (flat.UseDb number)),
     )
 
 passed_few : (index : ℕ) (p : Passed) → flat_size (flat.Pass index p) ≤ 11
@@ -195,13 +195,13 @@ passed_few index (passed.Direct area width byte bit) = omega arith
 passed_few index (passed.Parameter index' width) = omega arith
 passed_few index (passed.InBlock number area width byte bit) = omega arith
 
-passing_sized : (ps : List Passing) → bytes_in (passing ps) ≤ 11 * length ps
+passing_sized : (ps : List Passing) → bytes_in (pass_ops ps) ≤ 11 * length ps
 passing_sized [] = omega arith
 passing_sized (p ∷ ps) =
-    let op = preparing operation.Pass (flat.Pass p.index p.actual) in
+    let op = preparing_op operation.Pass (flat.Pass p.index p.actual) in
     omega (
       arith,
-      length-append (op_bytes op) (code_bytes (passing ps)),
+      length-append (op_bytes op) (code_bytes (pass_ops ps)),
       op_sized op,
       passed_few p.index p.actual,
       passing_sized ps,
@@ -213,7 +213,7 @@ unfolding ops_of
 calls_sized how id instance ps =
     omega (
       arith,
-      bytes_both (passing ps) (call_op how id instance ∷ []),
+      bytes_both (pass_ops ps) (call_op how id instance ∷ []),
       one_sized (call_op how id instance),
       passing_sized ps,
     )
@@ -233,15 +233,15 @@ returns_sized how = one_sized _
 -- ---- of what operands name
 
 abbrev ViewFits : ℕ → Operand → ResolvedOperand → Type 0
-ViewFits n o v = opened_size (opened_by v) + flat_size (operand_of o v) ≤ n
+ViewFits n o v = opened_size (block_opened_by_operand v) + flat_size (flat_operand_of o v) ≤ n
 
 abbrev SeenFits : ℕ → Operand → Resolution → Type 0
 SeenFits n o (Resolved v) = ViewFits n o v
 SeenFits n o _ = Unit {0}
 
 composite_fits : (n : ℕ) (o : Operand) (c : Option Cell) → 2 ≤ n
-    → SeenFits n o (Resolved (composite c))
-unfolding operand_of
+    → SeenFits n o (Resolved (composite_operand c))
+unfolding flat_operand_of
 composite_fits n o None h = omega (arith, h)
 composite_fits n o (Some c) h = by c.of
   where
@@ -268,17 +268,17 @@ apart_fits : (place : Place) → place.number ≡ 0 → opened_size (opened_by_p
 apart_fits place h = rw (apart place h) (omega arith)
 
 own_area_fits : (o : Operand) (a : Area) (bits : ℕ) (kind : Simple)
-    → SeenFits 7 o (in_area kind (placed a 0 bits (Some kind)))
-unfolding operand_of
+    → SeenFits 7 o (variable_in_area kind (elementary_place a 0 bits (Some kind)))
+unfolding flat_operand_of
 own_area_fits o a bits kind = by (nat_le (bits / 8) 65535)
   where
-    by : (near : Bool) → SeenFits 7 o (in_area kind (if near then Some (place_at a 0 bits, width_of kind) else None))
+    by : (near : Bool) → SeenFits 7 o (variable_in_area kind (if near then Some (place_at a 0 bits, width_of kind) else None))
     by true = apart_fits (place_at a 0 bits) refl
     by false = tt
 
 parameter_fits : (o : Operand) (index : ℕ) (kind : Simple) (c : Option Cell)
-    → SeenFits 7 o (parameter index kind c)
-unfolding operand_of
+    → SeenFits 7 o (parameter_resolution index kind c)
+unfolding flat_operand_of
 parameter_fits o index kind None = tt
 parameter_fits o index kind (Some c) = omega arith
 
@@ -288,7 +288,7 @@ own_elementary_fits c o true spot kind = own_area_fits o area.L spot.offset kind
 own_elementary_fits c o false spot kind = by (in_function c)
   where
     by : (function : Bool) → SeenFits 7 o (if function then parameter_at c spot kind
-        else in_area kind (placed area.Di 0 spot.offset (Some kind)))
+        else variable_in_area kind (elementary_place area.Di 0 spot.offset (Some kind)))
     by true = parameter_fits o _ kind _
     by false = own_area_fits o area.Di spot.offset kind
 
@@ -304,11 +304,11 @@ own_fits c o temporary walk.Unknown = tt
 own_fits c o temporary walk.Rests = tt
 
 data_area_fits : (o : Operand) (number bits : ℕ) (kind : Simple)
-    → SeenFits 11 o (in_area kind (placed area.Db number bits (Some kind)))
-unfolding operand_of
+    → SeenFits 11 o (variable_in_area kind (elementary_place area.Db number bits (Some kind)))
+unfolding flat_operand_of
 data_area_fits o number bits kind = by (nat_le (bits / 8) 65535)
   where
-    by : (near : Bool) → SeenFits 11 o (in_area kind (if near then Some (place_at area.Db number bits, width_of kind) else None))
+    by : (near : Bool) → SeenFits 11 o (variable_in_area kind (if near then Some (place_at area.Db number bits, width_of kind) else None))
     by true =
         place_fits o (place_at area.Db number bits) (is_in_named_block (place_at area.Db number bits))
     by false = tt
@@ -331,7 +331,7 @@ data_path_fits c o steps (Some number) None = tt
 data_path_fits c o steps None block = tt
 
 target_fits : (o : Operand) (t : Target) → IsApart t → SeenFits 7 o (Resolved (target_view t))
-unfolding operand_of
+unfolding flat_operand_of
 target_fits o (target.Variable place width) h = apart_fits place h
 target_fits o (target.Timer number) h = omega arith
 target_fits o (target.Counter number) h = omega arith
@@ -366,15 +366,15 @@ path_fits c o (head.Symbol name) steps h =
 
 direct_fits : (c : Context) (o : Operand) (name : Option BlockName) (a : Letters) (w : Width)
     (byte bit : ℕ) → SeenFits (7 + block_size name) o (direct_seen c name a w byte bit)
-unfolding operand_of
+unfolding flat_operand_of
 direct_fits c o None a w byte bit =
-    apart_fits (record { area = area_of a; number = 0; byte = byte; bit = bit }) refl
+    apart_fits (record { area = area_for_letters a; number = 0; byte = byte; bit = bit }) refl
 direct_fits c o (Some name) a w byte bit = by (data_number c name)
   where
-    by : (number : Option ℕ) → SeenFits 11 o (address_in number a w byte bit)
+    by : (number : Option ℕ) → SeenFits 11 o (address_in_block number a w byte bit)
     by None = tt
     by (Some number) =
-        let place : Place = record { area = area_of a; number = number; byte = byte; bit = bit } in
+        let place : Place = record { area = area_for_letters a; number = number; byte = byte; bit = bit } in
         place_fits o place (is_in_named_block place)
 
 numbered_fits : (what : Numbered) (from : Area) (byte : ℕ)
@@ -392,13 +392,13 @@ register_fits register.Dino = omega arith
 register_fits _ = omega arith
 
 opened_fits : (o : Operand) (di : Bool) (number : Option ℕ) → SeenFits 5 o (opened_seen di number)
-unfolding operand_of
+unfolding flat_operand_of
 opened_fits o di None = tt
 opened_fits o di (Some number) = omega arith
 
 called_fits : (o : Operand) (id : Option BlockId) (name : Option BlockName) (instance : Option ℕ)
     → SeenFits 7 o (called_seen id name instance)
-unfolding operand_of
+unfolding flat_operand_of
 called_fits o None name instance = tt
 called_fits o (Some id) None instance = omega arith
 called_fits o (Some id) (Some name) None = tt
@@ -406,8 +406,8 @@ called_fits o (Some id) (Some name) (Some number) = omega arith
 
 -- the op of an operand, and the one that opens its data block
 seen_fits : (c : Context) (o : Operand) → AllByRecursion IsFine c.symbols
-    → SeenFits (op_size o) o (seen c o)
-unfolding seen operand_of
+    → SeenFits (op_size o) o (resolution_of c o)
+unfolding resolution_of flat_operand_of
 seen_fits c operand.Nothing h = omega arith
 seen_fits c (operand.Direct name a w byte bit) h =
     direct_fits c (operand.Direct name a w byte bit) name a w byte bit
@@ -416,13 +416,13 @@ seen_fits c (operand.Counter number) h = omega arith
 seen_fits c (operand.Named path steps) h = path_fits c (operand.Named path steps) path steps h
 seen_fits c (operand.ByMemory a w from byte) h = omega arith
 seen_fits c (operand.NumberBy what from byte) h =
-    omega (arith, numbered_fits what (area_of from) byte)
+    omega (arith, numbered_fits what (area_for_letters from) byte)
 seen_fits c (operand.ByRegister a w register bits) h = omega arith
 seen_fits c (operand.Pointer a byte bit) h = omega arith
 seen_fits c (operand.Constant value) h = omega arith
 seen_fits c (operand.Label name) h = omega arith
 seen_fits c (operand.OfStatus flag) h = omega arith
-seen_fits c (operand.Other name) h = omega (arith, register_fits (register_of name))
+seen_fits c (operand.Other name) h = omega (arith, register_fits (register_for_word name))
 seen_fits c (operand.OpenBlock di name) h =
     opened_fits (operand.OpenBlock di name) di (data_number c name)
 seen_fits c (operand.Called name instance) h =
@@ -471,8 +471,8 @@ opened_wide : (n : ℕ) (di : Bool) (number : Option ℕ) → SeenWide n (opened
 opened_wide n di None = tt
 opened_wide n di (Some number) = λ wide. absurd wide
 
-seen_wide : (c : Context) (o : Operand) → SeenWide (op_size o) (seen c o)
-unfolding seen
+seen_wide : (c : Context) (o : Operand) → SeenWide (op_size o) (resolution_of c o)
+unfolding resolution_of
 seen_wide c operand.Nothing = λ wide. absurd wide
 seen_wide c (operand.Direct name a w byte bit) = any_wide _ _ (omega arith)
 seen_wide c (operand.Timer number) = λ wide. absurd wide
@@ -509,8 +509,8 @@ opened_seen_there : (n : ℕ) (di : Bool) (number : Option ℕ) → is_some numb
 opened_seen_there n di None h = absurd cc
 opened_seen_there n di (Some number) h = tt
 
-seen_or_wide : (c : Context) (o : Operand) → Opens c o → SeenOrWide (op_size o) (seen c o)
-unfolding seen
+seen_or_wide : (c : Context) (o : Operand) → Opens c o → SeenOrWide (op_size o) (resolution_of c o)
+unfolding resolution_of
 seen_or_wide c operand.Nothing h = tt
 seen_or_wide c (operand.Direct name a w byte bit) h = wide_anyway _ _ (omega arith)
 seen_or_wide c (operand.Timer number) h = tt
@@ -528,8 +528,8 @@ seen_or_wide c (operand.OpenBlock di name) h = opened_seen_there _ di (data_numb
 seen_or_wide c (operand.Called name instance) h = wide_anyway _ _ (omega arith)
 
 -- what such a form takes
-jumps_wide : (v : ResolvedOperand) → rule_of form.Jumps v ≡ None → IsWide v
-unfolding rule_of takes
+jumps_wide : (v : ResolvedOperand) → rule_of_resolved_operand form.Jumps v ≡ None → IsWide v
+unfolding rule_of_resolved_operand takes_operand
 jumps_wide view.Label h = tt
 jumps_wide (view.Called id instance) h = tt
 jumps_wide _ h = absurd cc
@@ -547,54 +547,54 @@ abbrev pub PassesFew : Context → Statement → Type 0
 PassesFew c s = length (passings_to c s (callee_of c s.operand)) ≤ length s.actuals
 
 jump_fits : (c : Context) (n : ℕ) (s : Statement) (how : JumpOperation) (v : ResolvedOperand)
-    → jump_of s.code ≡ Some how → statement_rule c s ≡ None → seen c s.operand ≡ Resolved v
+    → jump_operation_of s.code ≡ Some how → statement_rule c s ≡ None → resolution_of c s.operand ≡ Resolved v
     → (target : ℕ) → bytes_in (ops_of (jump_instr how n target)) ≤ op_size s.operand
 jump_fits c n s how v is rule e target =
     let there = rule_there c form.Jumps s.operand v no_jump_constant
     (ap (λ (f : OperandRule). operand_rule c f s.operand) (sym (jump_form s.code how is)) ∙ rule) e in
-    let wide = seen_holds (op_size s.operand) (seen c s.operand) v e
+    let wide = seen_holds (op_size s.operand) (resolution_of c s.operand) v e
     (seen_wide c s.operand) (jumps_wide v there) in
     omega (arith, jump_sized how n target, wide)
 
 called_view_fits : (c : Context) (s : Statement) (how : CallOperation) (v : ResolvedOperand)
-    → is_called v ≡ true → 7 ≤ op_size s.operand → PassesFew c s
+    → is_operand_of_call v ≡ true → 7 ≤ op_size s.operand → PassesFew c s
     → bytes_in (ops_of (call_instr c s how v)) ≤ op_size s.operand + 11 * length s.actuals
 called_view_fits c s how (view.Called id instance) h wide few =
     omega (arith, calls_sized how id instance (passings_to c s (callee_of c s.operand)), wide, few)
 called_view_fits c s how _ h wide few = absurd cc
 
-called_wide : (v : ResolvedOperand) → is_called v ≡ true → IsWide v
+called_wide : (v : ResolvedOperand) → is_operand_of_call v ≡ true → IsWide v
 called_wide (view.Called id instance) h = tt
 called_wide _ h = absurd cc
 
 call_fits : (c : Context) (s : Statement) (how : CallOperation) (v : ResolvedOperand)
-    → call_of s.code ≡ Some how → statement_rule c s ≡ None → seen c s.operand ≡ Resolved v
+    → call_operation_of s.code ≡ Some how → statement_rule c s ≡ None → resolution_of c s.operand ≡ Resolved v
     → PassesFew c s
     → bytes_in (ops_of (call_instr c s how v)) ≤ op_size s.operand + 11 * length s.actuals
 call_fits c s how v is rule e few =
     let there = rule_there c form.Calls s.operand v no_call_constant
     (ap (λ (f : OperandRule). operand_rule c f s.operand) (sym (call_form s.code how is)) ∙ rule) e in
     let called = calls_called v there in
-    let wide = seen_holds (op_size s.operand) (seen c s.operand) v e
+    let wide = seen_holds (op_size s.operand) (resolution_of c s.operand) v e
     (seen_wide c s.operand) (called_wide v called) in
     called_view_fits c s how v called wide few
 
 end_fits : (c : Context) (s : Statement) (v : ResolvedOperand) (how : Option EndOperation)
-    → AllByRecursion IsFine c.symbols → seen c s.operand ≡ Resolved v
+    → AllByRecursion IsFine c.symbols → resolution_of c s.operand ≡ Resolved v
     → bytes_in (ops_of (end_instr s v how)) ≤ op_size s.operand
 end_fits c s v None fine e =
     omega (
       arith,
-      does_sized (opened_by v) (operation_for s.code s.operand v) (operand_of s.operand v),
-      view_holds (op_size s.operand) s.operand (seen c s.operand) v e (seen_fits c s.operand fine),
+      does_sized (block_opened_by_operand v) (operation_for s.code s.operand v) (flat_operand_of s.operand v),
+      view_holds (op_size s.operand) s.operand (resolution_of c s.operand) v e (seen_fits c s.operand fine),
     )
 end_fits c s v (Some how) fine e = omega (arith, returns_sized how, least_op s.operand)
 
 view_instr_fits : (c : Context) (s : Statement) (v : ResolvedOperand) (how : Option CallOperation)
-    → call_of s.code ≡ how → AllByRecursion IsFine c.symbols → statement_rule c s ≡ None
-    → seen c s.operand ≡ Resolved v → PassesFew c s
+    → call_operation_of s.code ≡ how → AllByRecursion IsFine c.symbols → statement_rule c s ≡ None
+    → resolution_of c s.operand ≡ Resolved v → PassesFew c s
     → bytes_in (ops_of (view_instr c s v how)) ≤ op_size s.operand + 11 * length s.actuals
-view_instr_fits c s v None is fine rule e few = omega (arith, end_fits c s v (end_of s.code) fine e)
+view_instr_fits c s v None is fine rule e few = omega (arith, end_fits c s v (end_operation_of s.code) fine e)
 view_instr_fits c s v (Some how) is fine rule e few = call_fits c s how v is rule e few
 
 -- a statement that breaks no rule by its operand, and opens what is there
@@ -604,21 +604,21 @@ pub record IsTaken (c : Context) (s : Statement) : Type 0 where
   pub few : PassesFew c s
 
 resolved_is : (c : Context) (s : Statement) → statement_rule c s ≡ None
-    → resolved c s ≡ seen_view (seen c s.operand)
-unfolding resolved
+    → resolved_operand c s ≡ seen_view (resolution_of c s.operand)
+unfolding resolved_operand
 resolved_is c s rule = rw rule refl
 
-filler_sized : bytes_in (ops_of filler) ≡ 6
+filler_sized : bytes_in (ops_of filler_instruction) ≡ 6
 unfolding ops_of
 filler_sized = one_sized _
 
 -- an instruction that isn't a jump
 view_fits : (c : Context) (s : Statement) (found : Resolution) → AllByRecursion IsFine c.symbols
-    → IsTaken c s → seen c s.operand ≡ found
+    → IsTaken c s → resolution_of c s.operand ≡ found
     → bytes_in (ops_of (resolved_instr c s (seen_view found)))
     ≤ op_size s.operand + 11 * length s.actuals
 view_fits c s (Resolved v) fine is e =
-    view_instr_fits c s v (call_of s.code) refl fine is.allowed e is.few
+    view_instr_fits c s v (call_operation_of s.code) refl fine is.allowed e is.few
 view_fits c s Unknown fine is e =
     let wide = subst (λ (s' : Resolution). SeenOrWide (op_size s.operand) s') e
     (seen_or_wide c s.operand is.opens) in
@@ -630,7 +630,7 @@ view_fits c s Unjudged fine is e =
 
 -- a jump
 jump_seen_fits : (c : Context) (n : ℕ) (s : Statement) (how : JumpOperation) (found : Resolution)
-    → IsTaken c s → jump_of s.code ≡ Some how → seen c s.operand ≡ found → (target : ℕ)
+    → IsTaken c s → jump_operation_of s.code ≡ Some how → resolution_of c s.operand ≡ found → (target : ℕ)
     → bytes_in (ops_of (jump_instr how n target)) ≤ op_size s.operand
 jump_seen_fits c n s how (Resolved v) is jumps e target =
     jump_fits c n s how v jumps is.allowed e target
@@ -644,14 +644,14 @@ jump_seen_fits c n s how Unjudged is jumps e target =
     omega (arith, wide, jump_sized how n target)
 
 instr_fits : (c : Context) (body : List Statement) (n : ℕ) (s : Statement) (how : Option JumpOperation)
-    → jump_of s.code ≡ how → AllByRecursion IsFine c.symbols → IsTaken c s
+    → jump_operation_of s.code ≡ how → AllByRecursion IsFine c.symbols → IsTaken c s
     → bytes_in (ops_of (instr_by c body n s how)) ≤ op_size s.operand + 11 * length s.actuals
 instr_fits c body n s None jumps fine is =
-    rw (resolved_is c s is.allowed) (view_fits c s (seen c s.operand) fine is refl)
+    rw (resolved_is c s is.allowed) (view_fits c s (resolution_of c s.operand) fine is refl)
 instr_fits c body n s (Some how) jumps fine is =
     omega (
       arith,
-      jump_seen_fits c n s how (seen c s.operand) is jumps refl
+      jump_seen_fits c n s how (resolution_of c s.operand) is jumps refl
           (target_of body s.operand),
     )
 
@@ -659,9 +659,9 @@ statement_fits : (c : Context) (body : List Statement) (n : ℕ) (s : Statement)
     → AllByRecursion IsFine c.symbols → IsTaken c s
     → bytes_in (ops_of (instruction c body n s)) ≤ op_size s.operand + 11 * length s.actuals
 unfolding instruction
-statement_fits c body n s fine is = instr_fits c body n s (jump_of s.code) refl fine is
+statement_fits c body n s fine is = instr_fits c body n s (jump_operation_of s.code) refl fine is
 
-code_sized : (m : Mnemonic) (o : Operand) (n : ℕ) → is_empty m ≡ false
+code_sized : (m : Mnemonic) (o : Operand) (n : ℕ) → is_empty_statement m ≡ false
     → code_size m o n ≡ 4 + op_size o + 11 * n
 code_sized code.Empty o n h = absurd cc
 code_sized _ o n h = refl
@@ -669,7 +669,7 @@ code_sized _ o n h = refl
 -- ---- of bodies
 
 -- the ops of statements and the entries of their lines
-abbrev pub stated_size : List Stated → ℕ
+abbrev pub stated_size : List SourceInstruction → ℕ
 stated_size ss = bytes_in (ops_in ss) + 4 * length ss
 
 pub body_fits : (c : Context) (body : List Statement) (n : ℕ) (ss : List Statement)
@@ -680,11 +680,11 @@ body_fits c body n (s ∷ ss) fine h =
     omega (
       arith,
       sum_by-cons statement_size s ss,
-      by (is_empty s.code) refl (body_fits c body n ss fine h.1)
+      by (is_empty_statement s.code) refl (body_fits c body n ss fine h.1)
           (body_fits c body (suc n) ss fine h.1),
     )
   where
-    by : (empty : Bool) → is_empty s.code ≡ empty
+    by : (empty : Bool) → is_empty_statement s.code ≡ empty
         → stated_size (stated_from c body n ss) ≤ sum_by statement_size ss
         → stated_size (stated_from c body (suc n) ss) ≤ sum_by statement_size ss
         → stated_size (if empty then stated_from c body n ss
@@ -692,7 +692,7 @@ body_fits c body n (s ∷ ss) fine h =
         ≤ statement_size s + sum_by statement_size ss
     by true e same next = omega (arith, same)
     by false e same next =
-        let one : Stated = record { instr = instruction c body n s; line = s.line } in
+        let one : SourceInstruction = record { instr = instruction c body n s; line = s.line } in
         omega (
           arith,
           next,
@@ -702,7 +702,7 @@ body_fits c body n (s ∷ ss) fine h =
         )
 
 -- with the statement that returns
-ops_both : (xs ys : List Stated) → bytes_in (ops_in (xs ++ ys)) ≡ bytes_in (ops_in xs ++ ops_in ys)
+ops_both : (xs ys : List SourceInstruction) → bytes_in (ops_in (xs ++ ys)) ≡ bytes_in (ops_in xs ++ ops_in ys)
 ops_both [] ys = refl
 ops_both (x ∷ xs) ys =
     omega (
@@ -714,7 +714,7 @@ ops_both (x ∷ xs) ys =
       bytes_both (ops_in (x ∷ xs)) (ops_in ys),
     )
 
-one_returns : (b : Block) → bytes_in (ops_in (returning b ∷ [])) ≡ 2
+one_returns : (b : Block) → bytes_in (ops_in (return_statement b ∷ [])) ≡ 2
 one_returns b = omega (arith, returns_sized ends.Be, bytes_both (ops_of (Returns ends.Be)) [])
 
 pub whole_fits : (c : Context) (b : Block) → AllByRecursion IsFine c.symbols
@@ -724,15 +724,15 @@ pub whole_fits : (c : Context) (b : Block) → AllByRecursion IsFine c.symbols
 unfolding statements_of
 whole_fits c b fine h has =
     let ss = stated_from c b.body 0 b.body in
-    let all = ss ++ returning b ∷ [] in
+    let all = ss ++ return_statement b ∷ [] in
     omega (
       arith,
       placed_bytes (ops_in all),
-      ops_both ss (returning b ∷ []),
-      bytes_both (ops_in ss) (ops_in (returning b ∷ [])),
+      ops_both ss (return_statement b ∷ []),
+      bytes_both (ops_in ss) (ops_in (return_statement b ∷ [])),
       one_returns b,
       length-map all (λ s. s.line),
-      length-append ss (returning b ∷ []),
+      length-append ss (return_statement b ∷ []),
       body_fits c b.body 0 b.body fine h,
       returned,
     )
@@ -741,13 +741,13 @@ whole_fits c b fine h has =
     returned = rw has refl
 
 pub whole_count : (c : Context) (b : Block)
-    → length (lines_in (statements_of c b)) ≡ count_by (λ s. not (is_empty s.code)) b.body + 1
+    → length (lines_in (statements_of c b)) ≡ count_by (λ s. not (is_empty_statement s.code)) b.body + 1
 unfolding statements_of
 whole_count c b =
     let ss = stated_from c b.body 0 b.body in
     omega (
       arith,
-      length-map (ss ++ returning b ∷ []) (λ s. s.line),
-      length-append ss (returning b ∷ []),
+      length-map (ss ++ return_statement b ∷ []) (λ s. s.line),
+      length-append ss (return_statement b ∷ []),
       stated_count c b.body 0 b.body,
     )

@@ -9,7 +9,7 @@ use Rattle.stl_symbols.specs.Symbol.{Symbol}
 use Rattle.block_layout.specs.declared.blocks.BlockLayout.{BlockLayout}
 use Rattle.stl_types.specs.Context.{Context}
 use Rattle.stl_codegen.specs.Generated.{each_block}
-use Rattle.stl_codegen.specs.Order.{inserted, sorted}
+use Rattle.stl_codegen.specs.Order.{sorted_insertion, sorted_list}
 use Rattle.sem_kept.proofs.accepted.Accepted.{AllLaid, context_at}
 
 -- ---- sums by parts
@@ -80,35 +80,35 @@ flat_sum {A = A} g f (x ∷ xs) =
 -- ---- in order
 
 inserted_sum : {A : Type 0} (before : A → A → Bool) (f : A → ℕ) (x : A) (ys : List A)
-    → sum_by f (inserted before x ys) ≡ f x + sum_by f ys
+    → sum_by f (sorted_insertion before x ys) ≡ f x + sum_by f ys
 inserted_sum before f x [] = sum_by-cons f x []
 inserted_sum {A = A} before f x (y ∷ ys) = by (before y x) (inserted_sum before f x ys)
   where
-    by : (first : Bool) → sum_by f (inserted before x ys) ≡ f x + sum_by f ys
-        → sum_by f (if first then y ∷ inserted before x ys else x ∷ y ∷ ys)
+    by : (first : Bool) → sum_by f (sorted_insertion before x ys) ≡ f x + sum_by f ys
+        → sum_by f (if first then y ∷ sorted_insertion before x ys else x ∷ y ∷ ys)
         ≡ f x + sum_by f (y ∷ ys)
     by true more =
-        omega (arith, more, sum_by-cons f y (inserted before x ys), sum_by-cons f y ys)
+        omega (arith, more, sum_by-cons f y (sorted_insertion before x ys), sum_by-cons f y ys)
     by false more = sum_by-cons f x (y ∷ ys)
 
 pub sorted_sum : {A : Type 0} (before : A → A → Bool) (f : A → ℕ) (xs : List A)
-    → sum_by f (sorted before xs) ≡ sum_by f xs
-unfolding sorted
+    → sum_by f (sorted_list before xs) ≡ sum_by f xs
+unfolding sorted_list
 sorted_sum before f [] = refl
 sorted_sum before f (x ∷ xs) =
     omega (
       arith,
-      inserted_sum before f x (sorted before xs),
+      inserted_sum before f x (sorted_list before xs),
       sorted_sum before f xs,
       sum_by-cons f x xs,
     )
 
 pub sorted_length : {A : Type 0} (before : A → A → Bool) (xs : List A)
-    → length (sorted before xs) ≡ length xs
+    → length (sorted_list before xs) ≡ length xs
 sorted_length {A = A} before xs =
     omega (
       arith,
-      summed_ones (sorted before xs),
+      summed_ones (sorted_list before xs),
       summed_ones xs,
       sorted_sum before (λ (x : A). 1) xs,
     )

@@ -31,9 +31,9 @@ use Rattle.stl_parser.specs.declared.tables.Keyword.{Keyword}
 use Rattle.stl_parser.specs.declared.tables.Keyword.TheVariants as keyword
 use Rattle.stl_parser.specs.Addresses.{block_at}
 use Rattle.stl_parser.specs.Clauses as spec
-use Rattle.stl_parser.specs.Declarations.{after_struct, declaration_of, declared_at, structure_at}
-use Rattle.stl_parser.specs.Source.{IsTree, Reads}
-use Rattle.stl_parser.specs.Spelling.{is_kept, spelled_block, spelled_part, spelled_shape}
+use Rattle.stl_parser.specs.Declarations.{after_struct, declaration_of, declared_name_at, structure_at}
+use Rattle.stl_parser.specs.Source.{IsTree, ReadsClauses}
+use Rattle.stl_parser.specs.Spelling.{is_kept_by_tree, spelled_block, spelled_part, spelled_shape}
 use Rattle.stl_parser.specs.Statements.{statement_of}
 use Rattle.stl_parser.specs.Tables.{head_words, keywords, look_up}
 use Rattle.stl_parser.specs.Terminals.{is_mark}
@@ -64,11 +64,11 @@ abbrev IsTaken : ℕ → Clause × List Token × Bool → Type 0
 IsTaken n r = Takes n r.0 (length r.1)
 
 head_takes : (source : List ℕ) (line : ℕ) (k : BlockKind) (tokens : List Token) (n : ℕ)
-    → IfSome (spec.head_of source line k tokens) (IsTaken n)
-unfolding spec.head_of
+    → IfSome (spec.head_clause source line k tokens) (IsTaken n)
+unfolding spec.head_clause
 head_takes source line k tokens n =
-    chained (spec.named_at source k tokens) _ (λ b. Unit {0}) (IsTaken n)
-    (none_holds (spec.named_at source k tokens))
+    chained (spec.block_of_kind_at source k tokens) _ (λ b. Unit {0}) (IsTaken n)
+    (none_holds (spec.block_of_kind_at source k tokens))
     (λ b h. mapped (spec.result_at source k b.1) _ (λ r. Unit {0}) (IsTaken n)
     (none_holds (spec.result_at source k b.1)) (λ r l. tt))
 
@@ -100,12 +100,12 @@ head_word_takes source p w rest n =
     (none_holds (spec.head_word_at source w rest)) (λ r h. tt)
 
 based_takes : (source : List ℕ) (tokens : List Token) (n : ℕ)
-    → IfSome (spec.based_at source tokens) (IsTaken n)
-unfolding spec.based_at
+    → IfSome (spec.base_block_at source tokens) (IsTaken n)
+unfolding spec.base_block_at
 based_takes source tokens n =
     chained (block_at source tokens) _ (λ r. Unit {0}) (IsTaken n)
     (none_holds (block_at source tokens))
-    (λ r h. passed (spec.is_base r.0) _ (IsTaken n) (λ test. tt))
+    (λ r h. passed (spec.is_base_block r.0) _ (IsTaken n) (λ test. tt))
 
 -- a declaration that is all of these tokens
 abbrev Insides : ℕ → Clause → Type 0
@@ -116,7 +116,7 @@ abbrev IsInside : ℕ → Clause × Bool → Type 0
 IsInside n c = Insides n c.0
 
 no_declaration : (source : List ℕ) (level : ℕ) → declaration_of source level [] ≡ None
-unfolding declaration_of declared_at
+unfolding declaration_of declared_name_at
 no_declaration source level = refl
 
 declaration_takes : (source : List ℕ) (p : ClausePlace) (tokens : List Token)
@@ -201,8 +201,8 @@ structure_takes source p tokens n =
     failed (spec.takes_parameters p) _ (IsTaken n)
     (λ test. mapped (structure_at source level tokens) _
     (λ r. Owes r.0.of.of (length r.1 + 2 ≤ n)) (IsTaken n)
-    (chained (declared_at source tokens) _ (λ d. Unit {0})
-    (λ r. Owes r.0.of.of (length r.1 + 2 ≤ n)) (none_holds (declared_at source tokens))
+    (chained (declared_name_at source tokens) _ (λ d. Unit {0})
+    (λ r. Owes r.0.of.of (length r.1 + 2 ≤ n)) (none_holds (declared_name_at source tokens))
     (λ d h. chained (arrays_at source d.1) _ (λ a. Unit {0})
     (λ r. Owes r.0.of.of (length r.1 + 2 ≤ n)) (none_holds (arrays_at source d.1))
     (λ a k. mapped (after_struct source a.1) _ (λ rest. Unit {0})
@@ -222,7 +222,7 @@ other_takes : (source : List ℕ) (p : ClausePlace) (line : ℕ) (tokens : List 
 unfolding spec.other_clause
 other_takes source p line tokens =
     both (spec.in_data_head p) _ _ (IsTaken (length tokens))
-    (either (spec.based_at source tokens) _ (IsTaken (length tokens))
+    (either (spec.base_block_at source tokens) _ (IsTaken (length tokens))
     (based_takes source tokens (length tokens)) (plain_takes source p line tokens))
     (plain_takes source p line tokens)
 
@@ -297,7 +297,7 @@ fewer_behind source p (t ∷ ts) c behind h =
 
 -- clauses fit into the tokens that they take
 clauses_fit : (source : List ℕ) (p : ClausePlace) (ts : List Token) (cs : List Clause)
-    (q : ClausePlace) (rest : List Token) → Reads source p ts cs q rest
+    (q : ClausePlace) (rest : List Token) → ReadsClauses source p ts cs q rest
     → sum_by clause_size cs + 4 * length rest ≤ 4 * length ts
 clauses_fit source p ts [] q rest reads = omega (arith, ap length reads.1)
 clauses_fit source p ts (c ∷ cs) q rest reads =
@@ -318,13 +318,13 @@ one_kept : (b : Bool) (c : Clause) (cs : List Clause)
 one_kept true c cs = omega (arith, sum_by-cons clause_size c cs)
 one_kept false c cs = omega arith
 
-kept_fit : (cs : List Clause) → sum_by clause_size (filter is_kept cs) ≤ sum_by clause_size cs
+kept_fit : (cs : List Clause) → sum_by clause_size (filter is_kept_by_tree cs) ≤ sum_by clause_size cs
 kept_fit [] = omega arith
 kept_fit (c ∷ cs) =
     omega (
       arith,
       sum_by-cons clause_size c cs,
-      one_kept (is_kept c) c (filter is_kept cs),
+      one_kept (is_kept_by_tree c) c (filter is_kept_by_tree cs),
       kept_fit cs,
     )
 

@@ -4,20 +4,20 @@ use Rattle.std.proofs.Common.{◌≡◌, ℕ, ◌+◌, ◌<◌, zero, suc, true,
 use Rattle.std.specs.List.{AllByRecursion}
 use Rattle.flat_code.specs.Checking.{good_blocks}
 use Rattle.flat_code.specs.Image.{record_of_block}
-use Rattle.flat_code.specs.Loading.{AreVerified, around_block, lens_of}
-use Rattle.flat_code.specs.Placed.{code_places, spots}
+use Rattle.flat_code.specs.Loading.{AreVerified, environment_of_block, lens_of}
+use Rattle.flat_code.specs.Placed.{code_places, statement_spots}
 use Rattle.flat_code.specs.Programs.{CodeBlock}
 use Rattle.flat_code.specs.Records.{BlockRecord}
 use Rattle.stl_ast.specs.Literals.{AreBytes}
-use Rattle.stl_codegen.specs.Compiled.{StatedBlock, code_in, compiled}
+use Rattle.stl_codegen.specs.Compiled.{StatedBlock, code_in, compiled_block}
 use Rattle.stl_codegen.specs.Generated.{code_blocks_of}
 use Rattle.stl_parser.proofs.RiseLemmas.{lines_rise}
 use Rattle.block_layout.specs.Layouts.{layouts_of}
 use Rattle.sem_kept.specs.Accepted.{AcceptedVerifies, program_in}
-use Rattle.sem_kept.specs.Coded.{IsCoded}
+use Rattle.sem_kept.specs.Coded.{IsBlockCoded}
 use Rattle.sem_kept.specs.Jumps.{AllLandRight}
 use Rattle.sem_kept.specs.Operands.{AreFine}
-use Rattle.sem_kept.specs.Records.{HasCode}
+use Rattle.sem_kept.specs.Records.{HasFaultlessCode}
 use Rattle.sem_kept.specs.Sizes.{IsSmallBlock}
 use Rattle.sem_kept.proofs.accepted.Accepted.{right_tree}
 use Rattle.sem_kept.proofs.accepted.Coded.{are_coded}
@@ -37,20 +37,20 @@ BlockLands b = AllLandRight (code_in b.statements)
 
 blocks_clean : (lens : List (ℕ × ℕ)) (all : List BlockRecord) (bs : List StatedBlock)
     → AllByRecursion
-    (λ b. AreFine (around_block (Some lens) all (record_of_block b)) lens (spots b.code) (code_places b.code))
-    (map compiled bs)
-    → AllByRecursion BlockLands bs → AreVerified lens all (map record_of_block (map compiled bs))
+    (λ b. AreFine (environment_of_block (Some lens) all (record_of_block b)) lens (statement_spots b.code) (code_places b.code))
+    (map compiled_block bs)
+    → AllByRecursion BlockLands bs → AreVerified lens all (map record_of_block (map compiled_block bs))
 blocks_clean lens all [] fine lands = tt
 blocks_clean lens all (b ∷ bs) fine lands =
-    let a = around_block (Some lens) all (record_of_block (compiled b)) in (
+    let a = environment_of_block (Some lens) all (record_of_block (compiled_block b)) in (
       fine_is_faultless a lens 0 (code_in b.statements) refl fine.0 lands.0,
       blocks_clean lens all bs fine.1 lands.1,
     )
 
 -- ---- the program
 
-has_code : (bs : List CodeBlock) → AllByRecursion IsCoded bs → AllByRecursion IsSmallBlock bs
-    → AllByRecursion HasCode bs
+has_code : (bs : List CodeBlock) → AllByRecursion IsBlockCoded bs → AllByRecursion IsSmallBlock bs
+    → AllByRecursion HasFaultlessCode bs
 has_code [] coded small = tt
 has_code (b ∷ bs) coded small = (
   record { ops = coded.0.ops; ends = coded.0.right; statements = small.0.lines; size = small.0.code },

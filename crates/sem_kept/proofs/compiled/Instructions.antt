@@ -33,9 +33,9 @@ use Rattle.stl_symbols.specs.Symbol.{Symbol, symbol_named}
 use Rattle.plc_base.specs.Folding.{upper_case_name}
 use Rattle.stl_symbols.specs.declared.targets.Target.{Target}
 use Rattle.stl_symbols.specs.declared.targets.Target.TheVariants as target
-use Rattle.block_layout.specs.Blocks.{is_id, is_block_number, block_place, known_block, of_kind, named_block}
-use Rattle.block_layout.specs.Paths.{cells_at, elementary_at, walked_data, walked_local, whole_at, whole_block, folded_path}
-use Rattle.block_layout.specs.Offsets.{placed}
+use Rattle.block_layout.specs.Blocks.{is_id, is_block_number, place_of_block, known_block, of_kind, named_block}
+use Rattle.block_layout.specs.Paths.{cells_at, elementary_at, path_end_in_data_block, walked_local, whole_at, whole_block, folded_path}
+use Rattle.block_layout.specs.Offsets.{elementary_place}
 use Rattle.block_layout.specs.declared.blocks.BlockLayout.{BlockLayout}
 use Rattle.block_layout.specs.declared.cells.Cell.{Cell}
 use Rattle.block_layout.specs.declared.cells.Element.{Element}
@@ -43,13 +43,13 @@ use Rattle.block_layout.specs.declared.cells.Element.TheVariants as element
 use Rattle.block_layout.specs.declared.walks.ComponentAt.{ComponentAt}
 use Rattle.block_layout.specs.declared.walks.PathEnd.{PathEnd}
 use Rattle.block_layout.specs.declared.walks.PathEnd.TheVariants as walk
-use Rattle.stl_types.specs.Addresses.{address_in}
-use Rattle.stl_types.specs.Context.{Context, ids, number_of, data_place, data_number, in_function}
+use Rattle.stl_types.specs.Addresses.{address_in_block}
+use Rattle.stl_types.specs.Context.{Context, source_block_ids, number_of_block, data_place, data_number, in_function}
 use Rattle.stl_types.specs.Forms.{form_of}
-use Rattle.stl_types.specs.Operands.{rule_of, rule_seen, operand_rule, statement_rule}
-use Rattle.stl_types.specs.Resolved.{seen_view, resolved}
-use Rattle.stl_types.specs.Resolution.{target_view, symbol_seen, path_seen, direct_seen, opened_seen, called_seen, instance_number, whole_block as whole_called, seen}
-use Rattle.stl_types.specs.Variables.{date_or_composite, composite, in_area, parameter, parameter_index, parameter_at, is_temporary, own_elementary, own_at, own_walked, data_at, data_walked, data_path}
+use Rattle.stl_types.specs.Operands.{rule_of_resolved_operand, rule_seen, operand_rule, statement_rule}
+use Rattle.stl_types.specs.Resolved.{seen_view, resolved_operand}
+use Rattle.stl_types.specs.Resolution.{target_view, symbol_seen, path_seen, direct_seen, opened_seen, called_seen, instance_number, whole_called_block as whole_called, resolution_of}
+use Rattle.stl_types.specs.Variables.{date_or_composite, composite_operand, variable_in_area, parameter_resolution, parameter_index, parameter_at, is_temporary_variable, own_elementary, own_at, own_walked, data_at, data_walked, data_path}
 use Rattle.stl_types.specs.declared.forms.OperandRule.{OperandRule}
 use Rattle.stl_types.specs.declared.forms.OperandRule.TheVariants as form
 use Rattle.stl_types.specs.declared.views.Register.{Register}
@@ -59,48 +59,48 @@ use Rattle.stl_types.specs.declared.views.Resolution.TheVariants.{Resolved, Unkn
 use Rattle.stl_types.specs.declared.views.ResolvedOperand.{ResolvedOperand}
 use Rattle.stl_types.specs.declared.views.ResolvedOperand.TheVariants as view
 use Rattle.stl_codegen.specs.Instruction.{numbers_from, jump_instr, target_of, call_instr, end_instr, view_instr, resolved_instr, instr_by, instruction}
-use Rattle.stl_codegen.specs.Operands.{numbered_operand, register_operand, operand_of}
-use Rattle.stl_codegen.specs.Operations.{jump_of, call_of, end_of, or_operation, load_operation, transfer_operation, load_pointer_operation, store_pointer_operation, add_operation, operation_for}
-use Rattle.sem_kept.specs.Back.{goes_on, is_target, IsInstance}
+use Rattle.stl_codegen.specs.Operands.{numbered_operand, register_operand, flat_operand_of}
+use Rattle.stl_codegen.specs.Operations.{jump_operation_of, call_operation_of, end_operation_of, or_operation, load_operation, transfer_operation, load_pointer_operation, store_pointer_operation, add_operation, operation_for}
+use Rattle.sem_kept.specs.Back.{goes_to_next_statement, is_target, IsInstanceNumber}
 use Rattle.sem_kept.proofs.accepted.Shared.{call_form, rule_callable}
 
 abbrev pub IsMade : (n : ℕ) → Instr → Type 0
-IsMade n (Does use_db w o) = (goes_on w ≡ true) × (is_target o ≡ false)
+IsMade n (Does use_db w o) = (goes_to_next_statement w ≡ true) × (is_target o ≡ false)
 IsMade n (Jumps how target) = is_jl how ≡ false
 IsMade n (JumpsByList targets otherwise) = targets ≡ numbers_from (suc n) (otherwise - suc n)
 IsMade n (Calls how block instance passings) =
-    (is_callable block.kind ≡ true) × IsInstance instance
+    (is_callable block.kind ≡ true) × IsInstanceNumber instance
 IsMade n (Returns how) = Unit {0}
 
 -- ---- operations and operands of instructions that go on
 
-or_goes_on : (v : ResolvedOperand) → goes_on (or_operation v) ≡ true
+or_goes_on : (v : ResolvedOperand) → goes_to_next_statement (or_operation v) ≡ true
 or_goes_on view.Nothing = refl
 or_goes_on _ = refl
 
-load_goes_on : (v : ResolvedOperand) → goes_on (load_operation v) ≡ true
+load_goes_on : (v : ResolvedOperand) → goes_to_next_statement (load_operation v) ≡ true
 load_goes_on (view.Register register.Stw) = refl
 load_goes_on (view.Register _) = refl
 load_goes_on _ = refl
 
-transfer_goes_on : (v : ResolvedOperand) → goes_on (transfer_operation v) ≡ true
+transfer_goes_on : (v : ResolvedOperand) → goes_to_next_statement (transfer_operation v) ≡ true
 transfer_goes_on (view.Register which) = refl
 transfer_goes_on _ = refl
 
-load_pointer_goes_on : (v : ResolvedOperand) → goes_on (load_pointer_operation v) ≡ true
+load_pointer_goes_on : (v : ResolvedOperand) → goes_to_next_statement (load_pointer_operation v) ≡ true
 load_pointer_goes_on (view.Register which) = refl
 load_pointer_goes_on _ = refl
 
-store_pointer_goes_on : (v : ResolvedOperand) → goes_on (store_pointer_operation v) ≡ true
+store_pointer_goes_on : (v : ResolvedOperand) → goes_to_next_statement (store_pointer_operation v) ≡ true
 store_pointer_goes_on (view.Register which) = refl
 store_pointer_goes_on _ = refl
 
-add_goes_on : (o : Operand) → goes_on (add_operation o) ≡ true
+add_goes_on : (o : Operand) → goes_to_next_statement (add_operation o) ≡ true
 add_goes_on (operand.Constant (literal.Long value)) = refl
 add_goes_on (operand.Constant _) = refl
 add_goes_on _ = refl
 
-operation_goes_on : (m : Mnemonic) (o : Operand) (v : ResolvedOperand) → goes_on (operation_for m o v) ≡ true
+operation_goes_on : (m : Mnemonic) (o : Operand) (v : ResolvedOperand) → goes_to_next_statement (operation_for m o v) ≡ true
 unfolding operation_for
 operation_goes_on code.O o v = or_goes_on v
 operation_goes_on code.L o v = load_goes_on v
@@ -124,8 +124,8 @@ by_register register.Dilg = refl
 by_register register.Dino = refl
 by_register _ = refl
 
-pub no_target : (o : Operand) (v : ResolvedOperand) → is_target (operand_of o v) ≡ false
-unfolding operand_of
+pub no_target : (o : Operand) (v : ResolvedOperand) → is_target (flat_operand_of o v) ≡ false
+unfolding flat_operand_of
 no_target o (view.NumberBy what from byte) = by_number what from byte
 no_target o (view.Register which) = by_register which
 no_target o _ = refl
@@ -142,9 +142,9 @@ taken (Some rule) x v e = absurd cc
 
 -- an operand that names a called block breaks the rule of what it names
 rule_none : (c : Context) (f : OperandRule) (o : Operand) (id : BlockId) (i : Option ℕ)
-    → operand_rule c f o ≡ None → seen c o ≡ Resolved (view.Called id i)
-    → rule_of f (view.Called id i) ≡ None
-unfolding seen
+    → operand_rule c f o ≡ None → resolution_of c o ≡ Resolved (view.Called id i)
+    → rule_of_resolved_operand f (view.Called id i) ≡ None
+unfolding resolution_of
 rule_none c f (operand.Constant value) id i e s = absurd cc
 rule_none c f _ id i e s = ap (rule_seen f) (sym s) ∙ e
 
@@ -159,21 +159,21 @@ of_element : (e : Element) → names_called (Resolved (date_or_composite e)) ≡
 of_element element.DateAndTime = refl
 of_element _ = refl
 
-of_cell : (c : Option Cell) → names_called (Resolved (composite c)) ≡ false
+of_cell : (c : Option Cell) → names_called (Resolved (composite_operand c)) ≡ false
 of_cell None = refl
 of_cell (Some c) = of_element c.of
 
-of_area : (kind : Simple) (p : Option (Place × Width)) → names_called (in_area kind p) ≡ false
+of_area : (kind : Simple) (p : Option (Place × Width)) → names_called (variable_in_area kind p) ≡ false
 of_area kind None = refl
 of_area kind (Some p) = refl
 
 of_parameter : (index : ℕ) (kind : Simple) (c : Option Cell)
-    → names_called (parameter index kind c) ≡ false
+    → names_called (parameter_resolution index kind c) ≡ false
 of_parameter index kind None = refl
 of_parameter index kind (Some c) = refl
 
 of_function : (c : Context) (function : Bool) (spot : ComponentAt) (kind : Simple) (p : Option (Place × Width))
-    → names_called (if function then parameter_at c spot kind else in_area kind p) ≡ false
+    → names_called (if function then parameter_at c spot kind else variable_in_area kind p) ≡ false
 of_function c true spot kind p =
     of_parameter
     (parameter_index (length (cells_at c.layouts c.block false)) spot.place
@@ -183,9 +183,9 @@ of_function c false spot kind p = of_area kind p
 
 of_elementary : (c : Context) (temporary : Bool) (spot : ComponentAt) (kind : Simple)
     → names_called (own_elementary c temporary spot kind) ≡ false
-of_elementary c true spot kind = of_area kind (placed _ 0 spot.offset (Some kind))
+of_elementary c true spot kind = of_area kind (elementary_place _ 0 spot.offset (Some kind))
 of_elementary c false spot kind =
-    of_function c (in_function c) spot kind (placed _ 0 spot.offset (Some kind))
+    of_function c (in_function c) spot kind (elementary_place _ 0 spot.offset (Some kind))
 
 of_own_at : (c : Context) (temporary : Bool) (spot : ComponentAt) (k : Option Simple)
     → names_called (own_at c temporary spot k) ≡ false
@@ -204,7 +204,7 @@ of_data_at : (c : Context) (number : ℕ) (spot : ComponentAt) (k : Option Simpl
     → names_called (data_at c number spot k) ≡ false
 of_data_at c number spot None =
     of_cell (slice_get (cells_at c.layouts spot.block spot.temporary) spot.place)
-of_data_at c number spot (Some kind) = of_area kind (placed _ number spot.offset (Some kind))
+of_data_at c number spot (Some kind) = of_area kind (elementary_place _ number spot.offset (Some kind))
 
 of_data : (c : Context) (number : ℕ) (w : PathEnd) → names_called (data_walked c number w) ≡ false
 of_data c number (walk.Reaches spot) = of_data_at c number spot (elementary_at c.layouts spot)
@@ -214,7 +214,7 @@ of_data c number walk.Rests = refl
 of_data_path : (c : Context) (steps : List PathStep) (number place : Option ℕ)
     → names_called (data_path c steps number place) ≡ false
 of_data_path c steps (Some number) (Some block) =
-    of_data c number (walked_data c.layouts block steps)
+    of_data c number (path_end_in_data_block c.layouts block steps)
 of_data_path c steps (Some number) None = refl
 of_data_path c steps None place = refl
 
@@ -231,14 +231,14 @@ of_symbol (Some s) = of_target s.target
 of_path : (c : Context) (h : PathHead) (steps : List PathStep)
     → names_called (path_seen c h steps) ≡ false
 of_path c (head.Local name) steps =
-    of_own c (is_temporary c (upper_case_name name))
+    of_own c (is_temporary_variable c (upper_case_name name))
     (walked_local c.layouts c.block (upper_case_name name) (folded_path steps))
 of_path c (head.InBlock name) steps =
     of_data_path c (folded_path steps) (data_number c name) (data_place c name)
 of_path c (head.Symbol name) steps = of_symbol (symbol_named name c.symbols)
 
 of_address : (number : Option ℕ) (a : Letters) (width : Width) (byte bit : ℕ)
-    → names_called (address_in number a width byte bit) ≡ false
+    → names_called (address_in_block number a width byte bit) ≡ false
 of_address None a width byte bit = refl
 of_address (Some number) a width byte bit = refl
 
@@ -260,16 +260,16 @@ first_id id l ls zero b is e g =
 first_id id l ls (suc place) b is e g = absurd cc
 
 placed_id : (id : BlockId) (ls : List BlockLayout) (place : ℕ) (b : BlockLayout)
-    → block_place id (map (λ l. l.id) ls) ≡ Some place → slice_get ls place ≡ Some b
+    → place_of_block id (map (λ l. l.id) ls) ≡ Some place → slice_get ls place ≡ Some b
     → is_id id b.id ≡ true
 placed_id id [] place b e g = absurd cc
 placed_id id (l ∷ ls) place b e g =
-    by (is_id id l.id) refl (block_place id (map (λ l. l.id) ls)) (placed_id id ls) refl place e g
+    by (is_id id l.id) refl (place_of_block id (map (λ l. l.id) ls)) (placed_id id ls) refl place e g
   where
     by : (t : Bool) → is_id id l.id ≡ t → (found : Option ℕ)
-        → ((place : ℕ) (b : BlockLayout) → block_place id (map (λ l. l.id) ls) ≡ Some place
+        → ((place : ℕ) (b : BlockLayout) → place_of_block id (map (λ l. l.id) ls) ≡ Some place
         → slice_get ls place ≡ Some b → is_id id b.id ≡ true)
-        → block_place id (map (λ l. l.id) ls) ≡ found → (place : ℕ)
+        → place_of_block id (map (λ l. l.id) ls) ≡ found → (place : ℕ)
         → (if t then Some 0 else option_map (λ k. suc k) found) ≡ Some place
         → slice_get (l ∷ ls) place ≡ Some b → is_id id b.id ≡ true
     by true is found more at place e g = first_id id l ls place b is e g
@@ -287,7 +287,7 @@ whole_is (Some l) b e = by l.broken e
     by false h = h
 
 same_number : (id : BlockId) (i : Option BlockId) (number : ℕ)
-    → is_id id i ≡ true → number_of i ≡ Some number → id.number ≡ number
+    → is_id id i ≡ true → number_of_block i ≡ Some number → id.number ≡ number
 same_number id None number is e = absurd cc
 same_number id (Some other) number is e =
     let eq : other.number ≡ number = cc in
@@ -316,12 +316,12 @@ least_number kinds.Udt number is e = absurd cc
 
 known_is : (id : BlockId) (is : List (Option BlockId)) (place : ℕ)
     → known_block id is ≡ Some place
-    → (is_block_number id.kind id.number ≡ true) × (block_place id is ≡ Some place)
+    → (is_block_number id.kind id.number ≡ true) × (place_of_block id is ≡ Some place)
 known_is id is place e = by (is_block_number id.kind id.number) refl e
   where
     by : (t : Bool) → is_block_number id.kind id.number ≡ t
-        → (if t then block_place id is else None) ≡ Some place
-        → (is_block_number id.kind id.number ≡ true) × (block_place id is ≡ Some place)
+        → (if t then place_of_block id is else None) ≡ Some place
+        → (is_block_number id.kind id.number ≡ true) × (place_of_block id is ≡ Some place)
     by true right h = (right, h)
     by false wrong h = absurd cc
 
@@ -329,15 +329,15 @@ known_is id is place e = by (is_block_number id.kind id.number) refl e
 known_number : (c : Context) (i : Option BlockId) (place : Option ℕ) (b : Option BlockLayout)
     (number : ℕ)
     → (id : Option BlockId) → of_kind is_data_block i ≡ id
-    → option_and_then (λ x. known_block x (ids c)) id ≡ place
+    → option_and_then (λ x. known_block x (source_block_ids c)) id ≡ place
     → option_and_then (whole_at c.layouts) place ≡ b
-    → option_and_then (λ x. number_of x.id) b ≡ Some number → 1 ≤ number
+    → option_and_then (λ x. number_of_block x.id) b ≡ Some number → 1 ≤ number
 known_number c i None None number id is at there e = absurd cc
 known_number c i None (Some b) number id is at there e = absurd cc
 known_number c i (Some place) None number id is at there e = absurd cc
 known_number c i (Some place) (Some b) number None is at there e = absurd cc
 known_number c i (Some place) (Some b) number (Some id) is at there e =
-    let known = known_is id (ids c) place at in
+    let known = known_is id (source_block_ids c) place at in
     let here : slice_get c.layouts place ≡ Some b =
     whole_is (slice_get c.layouts place) b there in
     let same : id.number ≡ number =
@@ -371,8 +371,8 @@ not_called : (x : Resolution) (id : BlockId) (i : Option ℕ) → names_called x
 not_called x id i other e = let h : false ≡ true = sym other ∙ ap names_called e in cc
 
 seen_instance : (c : Context) (o : Operand) (id : BlockId) (number : ℕ)
-    → seen c o ≡ Resolved (view.Called id (Some number)) → 1 ≤ number
-unfolding seen
+    → resolution_of c o ≡ Resolved (view.Called id (Some number)) → 1 ≤ number
+unfolding resolution_of
 seen_instance c (operand.Called name instance) id number e =
     called_instance c (whole_called c (named_block c.symbols name)) instance id number e
 seen_instance c (operand.Direct name a width byte bit) id number e =
@@ -386,21 +386,21 @@ seen_instance c (operand.OpenBlock di name) id number e =
 seen_instance c _ id number e = absurd cc
 
 instance_is : (c : Context) (o : Operand) (id : BlockId) (i : Option ℕ)
-    → seen c o ≡ Resolved (view.Called id i) → IsInstance i
+    → resolution_of c o ≡ Resolved (view.Called id i) → IsInstanceNumber i
 instance_is c o id None e = tt
 instance_is c o id (Some number) e = seen_instance c o id number e
 
 -- ---- instructions
 
 called_made : (c : Context) (n : ℕ) (s : Statement) (how : CallOperation) (v : ResolvedOperand)
-    → resolved c s ≡ Some v → call_of s.code ≡ Some how → IsMade n (call_instr c s how v)
-unfolding resolved
+    → resolved_operand c s ≡ Some v → call_operation_of s.code ≡ Some how → IsMade n (call_instr c s how v)
+unfolding resolved_operand
 called_made c n s how (view.Called id i) is e =
-    let t = taken (statement_rule c s) (seen c s.operand) (view.Called id i) is in
-    let rule : rule_of (form_of s.code) (view.Called id i) ≡ None =
+    let t = taken (statement_rule c s) (resolution_of c s.operand) (view.Called id i) is in
+    let rule : rule_of_resolved_operand (form_of s.code) (view.Called id i) ≡ None =
     rule_none c (form_of s.code) s.operand id i t.0 t.1 in
     let calls_form : form_of s.code ≡ form.Calls = call_form s.code how e in (
-      rule_callable id i (ap (λ (f : OperandRule). rule_of f (view.Called id i)) (sym calls_form) ∙ rule),
+      rule_callable id i (ap (λ (f : OperandRule). rule_of_resolved_operand f (view.Called id i)) (sym calls_form) ∙ rule),
       instance_is c s.operand id i t.1,
     )
 called_made c n s how _ is e = (refl, refl)
@@ -410,15 +410,15 @@ ended_made : (n : ℕ) (s : Statement) (v : ResolvedOperand) (e : Option EndOper
 ended_made n s v None = (operation_goes_on s.code s.operand v, no_target s.operand v)
 ended_made n s v (Some how) = tt
 
-seen_made : (c : Context) (n : ℕ) (s : Statement) (v : ResolvedOperand) → resolved c s ≡ Some v
-    → (h : Option CallOperation) → call_of s.code ≡ h → IsMade n (view_instr c s v h)
-seen_made c n s v is None e = ended_made n s v (end_of s.code)
+seen_made : (c : Context) (n : ℕ) (s : Statement) (v : ResolvedOperand) → resolved_operand c s ≡ Some v
+    → (h : Option CallOperation) → call_operation_of s.code ≡ h → IsMade n (view_instr c s v h)
+seen_made c n s v is None e = ended_made n s v (end_operation_of s.code)
 seen_made c n s v is (Some how) e = called_made c n s how v is e
 
-resolved_made : (c : Context) (n : ℕ) (s : Statement) (v : Option ResolvedOperand) → resolved c s ≡ v
+resolved_made : (c : Context) (n : ℕ) (s : Statement) (v : Option ResolvedOperand) → resolved_operand c s ≡ v
     → IsMade n (resolved_instr c s v)
 resolved_made c n s None is = (refl, refl)
-resolved_made c n s (Some v) is = seen_made c n s v is (call_of s.code) refl
+resolved_made c n s (Some v) is = seen_made c n s v is (call_operation_of s.code) refl
 
 jump_made : (n target : ℕ) (how : JumpOperation) → IsMade n (jump_instr how n target)
 jump_made n target jump.Jl = refl
@@ -426,10 +426,10 @@ jump_made n target _ = refl
 
 instr_made : (c : Context) (body : List Statement) (n : ℕ) (s : Statement) (j : Option JumpOperation)
     → IsMade n (instr_by c body n s j)
-instr_made c body n s None = resolved_made c n s (resolved c s) refl
+instr_made c body n s None = resolved_made c n s (resolved_operand c s) refl
 instr_made c body n s (Some how) = jump_made n (target_of body s.operand) how
 
 pub instruction_made : (c : Context) (body : List Statement) (n : ℕ) (s : Statement)
     → IsMade n (instruction c body n s)
 unfolding instruction
-instruction_made c body n s = instr_made c body n s (jump_of s.code)
+instruction_made c body n s = instr_made c body n s (jump_operation_of s.code)

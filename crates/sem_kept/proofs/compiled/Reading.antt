@@ -7,7 +7,7 @@ use Rattle.std.specs.List.{AllByRecursion}
 use Rattle.plc_base.specs.declared.blocks.BlockKind.{BlockKind}
 use Rattle.plc_base.specs.declared.blocks.BlockKind.TheVariants as kinds
 use Rattle.plc_base.specs.Kinds.{is_callable, kind_number}
-use Rattle.flat_code.specs.Codes.{size}
+use Rattle.flat_code.specs.Codes.{size_of_op}
 use Rattle.flat_code.specs.Forms.{kind_of_code}
 use Rattle.flat_code.specs.Instr.{Instr, Passing, Does, Jumps, JumpsByList, Calls, Returns}
 use Rattle.flat_code.specs.Laws.{OperationsHaveTheirCodes, JumpsHaveTheirKinds}
@@ -20,21 +20,21 @@ use Rattle.flat_code.specs.declared.operands.Operand.{Operand}
 use Rattle.flat_code.specs.declared.operands.Operand.TheVariants as operand
 use Rattle.flat_code.specs.declared.operations.Operation.{Operation}
 use Rattle.flat_code.specs.declared.operations.Operation.TheVariants as operation
-use Rattle.machine.specs.Flat.{OpRun, op_run_at, with_op, most_ops, use_db_of, passings_of, list_of, most_listed, instance_named, instr_of, fetched_of, statement_fetched}
-use Rattle.stl_codegen.specs.Emitted.{ops_of, ending, opening, passing, jump_op, call_op, end_op, instance_number}
-use Rattle.stl_codegen.specs.Compiled.{Stated, ops_in, offset_from, offset_of, aimed, aimed_op, placed_ops, code_in, lines_in}
+use Rattle.machine.specs.Flat.{OpRun, op_run_at, with_op, most_ops_of_statement, use_db_of, passings_of, list_of, most_listed, instance_named, instr_of, fetched_of, statement_fetched}
+use Rattle.stl_codegen.specs.Emitted.{ops_of, op_with_end_mark, use_db_ops, pass_ops, jump_op, call_op, end_op, instance_number_or_zero}
+use Rattle.stl_codegen.specs.Compiled.{SourceInstruction, ops_in, offset_from, offset_of_statement, operand_with_target, op_with_target, placed_ops, code_in, lines_in}
 use Rattle.stl_codegen.specs.Instruction.{numbers_from}
 use Rattle.machine.specs.Moved.{aimed_instr}
-use Rattle.sem_kept.specs.Back.{aimed_statement, goes_on, is_target, IsInstance, is_ju, IsJu, IsList, IsCompiled, AreCompiled, IsReadBack}
+use Rattle.sem_kept.specs.Back.{aimed_statement, goes_to_next_statement, is_target, IsInstanceNumber, is_ju, IsJu, IsList, IsGeneratedInstruction, AreCompiled, IsReadBack}
 use Rattle.sem_kept.proofs.compiled.Runs.{total, total_append, op_behind, op_at_end, size_aimed, total_aimed, Parted, IsPreparing, IsStatement, AreStatements, flat, bytes_of, bytes_long, extent, total_flat, extent_append, flat_append, line_at, line_at_end, offset_is, offset_past}
 
 -- ---- the ops of a statement, in parts
 
 abbrev pub parted : Instr → Parted
-parted (Does use_db w o) = record { front = opening use_db; end = ending w o }
+parted (Does use_db w o) = record { front = use_db_ops use_db; end = op_with_end_mark w o }
 parted (Jumps how target) = record { front = []; end = jump_op how target }
 parted (JumpsByList targets otherwise) = record { front = []; end = jump_op jump.Jl otherwise }
-parted (Calls how block instance passings) = record { front = passing passings; end = call_op how block instance }
+parted (Calls how block instance passings) = record { front = pass_ops passings; end = call_op how block instance }
 parted (Returns how) = record { front = []; end = end_op how }
 
 ops_parted : (i : Instr) → ops_of i ≡ (parted i).front ++ (parted i).end ∷ []
@@ -45,11 +45,11 @@ ops_parted (JumpsByList targets otherwise) = refl
 ops_parted (Calls how block instance passings) = refl
 ops_parted (Returns how) = refl
 
-passing_prepares : (ps : List Passing) → AllByRecursion IsPreparing (passing ps)
+passing_prepares : (ps : List Passing) → AllByRecursion IsPreparing (pass_ops ps)
 passing_prepares [] = tt
 passing_prepares (p ∷ ps) = (refl, passing_prepares ps)
 
-opening_prepares : (use_db : Option ℕ) → AllByRecursion IsPreparing (opening use_db)
+opening_prepares : (use_db : Option ℕ) → AllByRecursion IsPreparing (use_db_ops use_db)
 opening_prepares None = tt
 opening_prepares (Some number) = (refl, tt)
 
@@ -60,45 +60,45 @@ is_statement (JumpsByList targets otherwise) = record { front = tt; end = refl }
 is_statement (Calls how block instance passings) = record { front = passing_prepares passings; end = refl }
 is_statement (Returns how) = record { front = tt; end = refl }
 
-abbrev pub parts : List Stated → List Parted
+abbrev pub parts : List SourceInstruction → List Parted
 parts [] = []
 parts (s ∷ ss) = parted s.instr ∷ parts ss
 
-pub ops_in_parts : (ss : List Stated) → ops_in ss ≡ flat (parts ss)
+pub ops_in_parts : (ss : List SourceInstruction) → ops_in ss ≡ flat (parts ss)
 ops_in_parts [] = refl
 ops_in_parts (s ∷ ss) =
     let p = parted s.instr in
     rw (ops_parted s.instr) (rw (ops_in_parts ss) (append_assoc p.front (p.end ∷ []) (flat (parts ss))))
 
-pub parts_append : (xs ys : List Stated) → parts (xs ++ ys) ≡ parts xs ++ parts ys
+pub parts_append : (xs ys : List SourceInstruction) → parts (xs ++ ys) ≡ parts xs ++ parts ys
 parts_append [] ys = refl
 parts_append (x ∷ xs) ys = rw (parts_append xs ys) refl
 
-pub parts_count : (ss : List Stated) → length (parts ss) ≡ length ss
+pub parts_count : (ss : List SourceInstruction) → length (parts ss) ≡ length ss
 parts_count [] = refl
 parts_count (s ∷ ss) = ap suc (parts_count ss)
 
-pub parts_are : (ss : List Stated) → AreStatements (parts ss)
+pub parts_are : (ss : List SourceInstruction) → AreStatements (parts ss)
 parts_are [] = tt
 parts_are (s ∷ ss) = (is_statement s.instr, parts_are ss)
 
 -- ---- with offsets as targets
 
 abbrev pub aimed_part : (ℕ → ℕ) → Parted → Parted
-aimed_part f p = record { front = map (aimed_op f) p.front; end = aimed_op f p.end }
+aimed_part f p = record { front = map (op_with_target f) p.front; end = op_with_target f p.end }
 
 abbrev pub aimed_parts : (ℕ → ℕ) → List Parted → List Parted
 aimed_parts f [] = []
 aimed_parts f (p ∷ ps) = aimed_part f p ∷ aimed_parts f ps
 
-map_append : (f : ℕ → ℕ) (xs ys : List OpData) → map (aimed_op f) (xs ++ ys) ≡ map (aimed_op f) xs ++ map (aimed_op f) ys
+map_append : (f : ℕ → ℕ) (xs ys : List OpData) → map (op_with_target f) (xs ++ ys) ≡ map (op_with_target f) xs ++ map (op_with_target f) ys
 map_append f [] ys = refl
-map_append f (x ∷ xs) ys = ap (λ (z : List OpData). aimed_op f x ∷ z) (map_append f xs ys)
+map_append f (x ∷ xs) ys = ap (λ (z : List OpData). op_with_target f x ∷ z) (map_append f xs ys)
 
-aimed_flat : (f : ℕ → ℕ) (ps : List Parted) → map (aimed_op f) (flat ps) ≡ flat (aimed_parts f ps)
+aimed_flat : (f : ℕ → ℕ) (ps : List Parted) → map (op_with_target f) (flat ps) ≡ flat (aimed_parts f ps)
 aimed_flat f [] = refl
 aimed_flat f (p ∷ ps) = map_append f p.front (p.end ∷ flat ps)
-    ∙ ap (λ (z : List OpData). map (aimed_op f) p.front ++ aimed_op f p.end ∷ z) (aimed_flat f ps)
+    ∙ ap (λ (z : List OpData). map (op_with_target f) p.front ++ op_with_target f p.end ∷ z) (aimed_flat f ps)
 
 pub aimed_bytes : (f : ℕ → ℕ) (p : Parted) → bytes_of (aimed_part f p) ≡ bytes_of p
 aimed_bytes f p = let a = total_aimed f p.front in let b = size_aimed f p.end in omega (arith, a, b)
@@ -107,7 +107,7 @@ pub aimed_extent : (f : ℕ → ℕ) (ps : List Parted) → extent (aimed_parts 
 aimed_extent f [] = refl
 aimed_extent f (p ∷ ps) = let a = aimed_bytes f p in let b = aimed_extent f ps in omega (arith, a, b)
 
-aimed_prepares : (f : ℕ → ℕ) (ops : List OpData) → AllByRecursion IsPreparing ops → AllByRecursion IsPreparing (map (aimed_op f) ops)
+aimed_prepares : (f : ℕ → ℕ) (ops : List OpData) → AllByRecursion IsPreparing ops → AllByRecursion IsPreparing (map (op_with_target f) ops)
 aimed_prepares f [] h = tt
 aimed_prepares f (op ∷ ops) h = (h.0, aimed_prepares f ops h.1)
 
@@ -128,47 +128,47 @@ aimed_count f (p ∷ ps) = ap suc (aimed_count f ps)
 
 -- ---- the run of a statement
 
-op_here : (xs : List OpData) (op : OpData) (ys : List OpData) → op_placed 0 (xs ++ op ∷ ys) (total xs) ≡ Some (op, total xs + size op)
-op_here xs op ys = let same : 0 + total xs ≡ total xs = omega arith in subst (λ (k : ℕ). op_placed 0 (xs ++ op ∷ ys) k ≡ Some (op, k + size op)) same (op_behind 0 xs op ys)
+op_here : (xs : List OpData) (op : OpData) (ys : List OpData) → op_placed 0 (xs ++ op ∷ ys) (total xs) ≡ Some (op, total xs + size_of_op op)
+op_here xs op ys = let same : 0 + total xs ≡ total xs = omega arith in subst (λ (k : ℕ). op_placed 0 (xs ++ op ∷ ys) k ≡ Some (op, k + size_of_op op)) same (op_behind 0 xs op ys)
 
 -- one that prepares stands in front
 run_more :
     (most : ℕ) (xs front : List OpData) (x op : OpData) (ys : List OpData) → x.last ≡ false
     → op_run_at most ((xs ++ x ∷ []) ++ (front ++ op ∷ ys)) (total (xs ++ x ∷ []))
-    ≡ Some (record { before = front; last = op; next = total (xs ++ x ∷ []) + (total front + size op) })
+    ≡ Some (record { before = front; last = op; next = total (xs ++ x ∷ []) + (total front + size_of_op op) })
     → op_run_at (suc most) (xs ++ x ∷ (front ++ op ∷ ys)) (total xs)
-    ≡ Some (record { before = x ∷ front; last = op; next = total xs + (size x + total front + size op) })
+    ≡ Some (record { before = x ∷ front; last = op; next = total xs + (size_of_op x + total front + size_of_op op) })
 unfolding op_run_at
 run_more most xs front x op ys prepares more = rw (op_here xs x (front ++ op ∷ ys)) (by x.last prepares)
   where
     cut : (xs ++ x ∷ []) ++ (front ++ op ∷ ys) ≡ xs ++ x ∷ (front ++ op ∷ ys)
     cut = append_assoc xs (x ∷ []) (front ++ op ∷ ys)
 
-    at : total (xs ++ x ∷ []) ≡ total xs + size x
+    at : total (xs ++ x ∷ []) ≡ total xs + size_of_op x
     at = total_append xs (x ∷ []) ∙ omega arith
 
-    there : op_run_at most (xs ++ x ∷ (front ++ op ∷ ys)) (total xs + size x)
-        ≡ Some (record { before = front; last = op; next = total xs + (size x + total front + size op) })
-    there = ap (λ (z : List OpData). op_run_at most z (total xs + size x)) (sym cut)
+    there : op_run_at most (xs ++ x ∷ (front ++ op ∷ ys)) (total xs + size_of_op x)
+        ≡ Some (record { before = front; last = op; next = total xs + (size_of_op x + total front + size_of_op op) })
+    there = ap (λ (z : List OpData). op_run_at most z (total xs + size_of_op x)) (sym cut)
         ∙ ap (λ (k : ℕ). op_run_at most ((xs ++ x ∷ []) ++ (front ++ op ∷ ys)) k) (sym at) ∙ more
         ∙ ap (λ (k : ℕ). Some (record { before = front; last = op; next = k })) (omega (arith, at))
 
-    by : (b : Bool) → b ≡ false → (if b then Some (record { before = []; last = x; next = total xs + size x })
-        else option_map (with_op x) (op_run_at most (xs ++ x ∷ (front ++ op ∷ ys)) (total xs + size x)))
-        ≡ Some (record { before = x ∷ front; last = op; next = total xs + (size x + total front + size op) })
+    by : (b : Bool) → b ≡ false → (if b then Some (record { before = []; last = x; next = total xs + size_of_op x })
+        else option_map (with_op x) (op_run_at most (xs ++ x ∷ (front ++ op ∷ ys)) (total xs + size_of_op x)))
+        ≡ Some (record { before = x ∷ front; last = op; next = total xs + (size_of_op x + total front + size_of_op op) })
     by true h = absurd cc
     by false h = ap (option_map (with_op x)) there
 
 run_last :
     (most : ℕ) (xs : List OpData) (op : OpData) (ys : List OpData) → op.last ≡ true
     → op_run_at (suc most) (xs ++ op ∷ ys) (total xs)
-    ≡ Some (record { before = []; last = op; next = total xs + (total [] + size op) })
+    ≡ Some (record { before = []; last = op; next = total xs + (total [] + size_of_op op) })
 unfolding op_run_at
 run_last most xs op ys last = rw (op_here xs op ys) (by op.last last)
   where
-    by : (b : Bool) → b ≡ true → (if b then Some (record { before = []; last = op; next = total xs + size op })
-        else option_map (with_op op) (op_run_at most (xs ++ op ∷ ys) (total xs + size op)))
-        ≡ Some (record { before = []; last = op; next = total xs + (total [] + size op) })
+    by : (b : Bool) → b ≡ true → (if b then Some (record { before = []; last = op; next = total xs + size_of_op op })
+        else option_map (with_op op) (op_run_at most (xs ++ op ∷ ys) (total xs + size_of_op op)))
+        ≡ Some (record { before = []; last = op; next = total xs + (total [] + size_of_op op) })
     by true h = ap (λ (k : ℕ). Some (record { before = []; last = op; next = k })) (omega arith)
     by false h = absurd cc
 
@@ -176,7 +176,7 @@ run_of :
     (most : ℕ) (xs front : List OpData) (op : OpData) (ys : List OpData)
     → AllByRecursion IsPreparing front → op.last ≡ true → length front < most
     → op_run_at most (xs ++ (front ++ op ∷ ys)) (total xs)
-    ≡ Some (record { before = front; last = op; next = total xs + (total front + size op) })
+    ≡ Some (record { before = front; last = op; next = total xs + (total front + size_of_op op) })
 run_of zero xs front op ys fs last few = absurd (omega (arith, few))
 run_of (suc most) xs [] op ys fs last few = run_last most xs op ys last
 run_of (suc most) xs (x ∷ front) op ys fs last few =
@@ -184,12 +184,12 @@ run_of (suc most) xs (x ∷ front) op ys fs last few =
 
 pub run_is :
     (ps : List Parted) (p : Parted) (qs : List Parted) → IsStatement p → length p.front ≤ 63
-    → op_run_at most_ops (flat (ps ++ p ∷ qs)) (extent ps)
+    → op_run_at most_ops_of_statement (flat (ps ++ p ∷ qs)) (extent ps)
     ≡ Some (record { before = p.front; last = p.end; next = extent ps + bytes_of p })
 run_is ps p qs h few =
     rw (flat_append ps (p ∷ qs)) (rw (sym (total_flat ps)) (run_of 64 (flat ps) p.front p.end (flat qs) h.front h.end (omega (arith, few))))
 
-run_none : (ps : List Parted) → op_run_at most_ops (flat ps) (extent ps) ≡ None
+run_none : (ps : List Parted) → op_run_at most_ops_of_statement (flat ps) (extent ps) ≡ None
 unfolding op_run_at
 run_none ps =
     let end = op_at_end 0 (flat ps) in
@@ -198,15 +198,15 @@ run_none ps =
 
 -- ---- the instruction of a run
 
-use_db_back : (f : ℕ → ℕ) (use_db : Option ℕ) → use_db_of (map (aimed_op f) (opening use_db)) ≡ use_db
+use_db_back : (f : ℕ → ℕ) (use_db : Option ℕ) → use_db_of (map (op_with_target f) (use_db_ops use_db)) ≡ use_db
 use_db_back f None = refl
 use_db_back f (Some number) = refl
 
-passings_back : (f : ℕ → ℕ) (ps : List Passing) → passings_of (map (aimed_op f) (passing ps)) ≡ ps
+passings_back : (f : ℕ → ℕ) (ps : List Passing) → passings_of (map (op_with_target f) (pass_ops ps)) ≡ ps
 passings_back f [] = refl
 passings_back f (p ∷ ps) = ap (λ (z : List Passing). p ∷ z) (passings_back f ps)
 
-pub aimed_same : (f : ℕ → ℕ) (o : Operand) → is_target o ≡ false → aimed f o ≡ o
+pub aimed_same : (f : ℕ → ℕ) (o : Operand) → is_target o ≡ false → operand_with_target f o ≡ o
 aimed_same f (operand.Jump kind target) h = absurd cc
 aimed_same f operand.Nothing h = refl
 aimed_same f (operand.Literal value) h = refl
@@ -225,7 +225,7 @@ aimed_same f (operand.OpenBy register from byte) h = refl
 
 does_back :
     (w : Operation) (o : Operand) (use_db : Option ℕ) (passings : List Passing) (next : ℕ) (ops : List OpData)
-    → goes_on w ≡ true → instr_of w o use_db passings next ops ≡ Does use_db w o
+    → goes_to_next_statement w ≡ true → instr_of w o use_db passings next ops ≡ Does use_db w o
 does_back operation.NoOperation o use_db passings next ops h = refl
 does_back operation.Nop o use_db passings next ops h = refl
 does_back operation.Bld o use_db passings next ops h = refl
@@ -275,7 +275,7 @@ kind_back kinds.Ob h = absurd cc
 kind_back kinds.Db h = absurd cc
 kind_back kinds.Udt h = absurd cc
 
-instance_back : (instance : Option ℕ) → IsInstance instance → instance_named (instance_number instance) ≡ instance
+instance_back : (instance : Option ℕ) → IsInstanceNumber instance → instance_named (instance_number_or_zero instance) ≡ instance
 instance_back None h = refl
 instance_back (Some number) h = rw (ne_eqb number 0 (λ e. omega (arith, e, h))) refl
 
@@ -289,12 +289,12 @@ ListIsThere f (JumpsByList targets otherwise) next ops = list_of most_listed ops
 ListIsThere f _ next ops = Unit {0}
 
 instr_back :
-    (f : ℕ → ℕ) (n : ℕ) (i : Instr) (behind : List Stated) (next : ℕ) (ops : List OpData)
-    → OperationsHaveTheirCodes → JumpsHaveTheirKinds → IsCompiled n i behind → ListIsThere f i next ops
+    (f : ℕ → ℕ) (n : ℕ) (i : Instr) (behind : List SourceInstruction) (next : ℕ) (ops : List OpData)
+    → OperationsHaveTheirCodes → JumpsHaveTheirKinds → IsGeneratedInstruction n i behind → ListIsThere f i next ops
     → back (aimed_part f (parted i)).front (aimed_part f (parted i)).end next ops ≡ aimed_instr f i
 instr_back f n (Does use_db w o) behind next ops operations jumps h list =
     rw (operations w) (rw (aimed_same f o h.1) (rw (use_db_back f use_db)
-    (does_back w o use_db (passings_of (map (aimed_op f) (opening use_db))) next ops h.0)))
+    (does_back w o use_db (passings_of (map (op_with_target f) (use_db_ops use_db))) next ops h.0)))
 instr_back f n (Jumps how target) behind next ops operations jumps h list =
     rw (operations operation.Jump) (rw (jumps how) (rw h refl))
 instr_back f n (JumpsByList targets otherwise) behind next ops operations jumps h list =
@@ -318,14 +318,14 @@ unfolding list_of
 list_ends zero ops at = refl
 list_ends (suc most) ops at = rw (eq-eqb at at refl) refl
 
-abbrev pub the_code : (ℕ → ℕ) → List Stated → List OpData
+abbrev pub the_code : (ℕ → ℕ) → List SourceInstruction → List OpData
 the_code f ss = flat (aimed_parts f (parts ss))
 
 -- where the statements in front end
-abbrev pub ends_at : List Stated → ℕ
+abbrev pub ends_at : List SourceInstruction → ℕ
 ends_at ss = extent (parts ss)
 
-pub ends_append : (xs ys : List Stated) → ends_at (xs ++ ys) ≡ ends_at xs + ends_at ys
+pub ends_append : (xs ys : List SourceInstruction) → ends_at (xs ++ ys) ≡ ends_at xs + ends_at ys
 ends_append xs ys = ap extent (parts_append xs ys) ∙ extent_append (parts xs) (parts ys)
 
 -- a statement of one op, JU, at its place
@@ -337,7 +337,7 @@ ju_alone (Calls how block instance passings) h = absurd cc
 ju_alone (Returns how) h = absurd cc
 
 ju_at :
-    (f : ℕ → ℕ) (front : List Stated) (j : Stated) (rest : List Stated) → is_ju j.instr ≡ true
+    (f : ℕ → ℕ) (front : List SourceInstruction) (j : SourceInstruction) (rest : List SourceInstruction) → is_ju j.instr ≡ true
     → op_placed 0 (the_code f (front ++ j ∷ rest)) (ends_at front)
     ≡ Some ((aimed_part f (parted j.instr)).end, ends_at front + bytes_of (parted j.instr))
 ju_at f front j rest h =
@@ -349,21 +349,21 @@ ju_at f front j rest h =
     ∙ flat_append (aimed_parts f (parts front)) (aimed_parts f (parts (j ∷ rest))) in
     let here : total (flat (aimed_parts f (parts front))) ≡ ends_at front
     = total_flat (aimed_parts f (parts front)) ∙ aimed_extent f (parts front) in
-    let long : size (aimed_part f (parted j.instr)).end ≡ bytes_of (parted j.instr)
+    let long : size_of_op (aimed_part f (parted j.instr)).end ≡ bytes_of (parted j.instr)
     = size_aimed f (parted j.instr).end ∙ (rw alone (omega arith)) in
     same_op same here long alone
   where
     same_op :
-        the_code f (front ++ j ∷ rest) ≡ flat (aimed_parts f (parts front)) ++ (map (aimed_op f) (parted j.instr).front ++ aimed_op f (parted j.instr).end ∷ flat (aimed_parts f (parts rest)))
+        the_code f (front ++ j ∷ rest) ≡ flat (aimed_parts f (parts front)) ++ (map (op_with_target f) (parted j.instr).front ++ op_with_target f (parted j.instr).end ∷ flat (aimed_parts f (parts rest)))
         → total (flat (aimed_parts f (parts front))) ≡ ends_at front
-        → size (aimed_op f (parted j.instr).end) ≡ bytes_of (parted j.instr)
+        → size_of_op (op_with_target f (parted j.instr).end) ≡ bytes_of (parted j.instr)
         → (parted j.instr).front ≡ []
         → op_placed 0 (the_code f (front ++ j ∷ rest)) (ends_at front)
-        ≡ Some (aimed_op f (parted j.instr).end, ends_at front + bytes_of (parted j.instr))
+        ≡ Some (op_with_target f (parted j.instr).end, ends_at front + bytes_of (parted j.instr))
     same_op same here long alone =
         let xs = flat (aimed_parts f (parts front)) in
-        let op = aimed_op f (parted j.instr).end in
-        let none : map (aimed_op f) (parted j.instr).front ≡ [] = ap (λ (z : List OpData). map (aimed_op f) z) alone in
+        let op = op_with_target f (parted j.instr).end in
+        let none : map (op_with_target f) (parted j.instr).front ≡ [] = ap (λ (z : List OpData). map (op_with_target f) z) alone in
         let at : the_code f (front ++ j ∷ rest) ≡ xs ++ op ∷ flat (aimed_parts f (parts rest))
         = same ∙ ap (λ (z : List OpData). xs ++ (z ++ op ∷ flat (aimed_parts f (parts rest)))) none in
         ap (λ (z : List OpData). op_placed 0 z (ends_at front)) at
@@ -373,7 +373,7 @@ ju_at f front j rest h =
 
 -- the list goes on behind its first jump
 list_step :
-    (f : ℕ → ℕ) (most : ℕ) (front : List Stated) (j : Stated) (js rest : List Stated) → is_ju j.instr ≡ true
+    (f : ℕ → ℕ) (most : ℕ) (front : List SourceInstruction) (j : SourceInstruction) (js rest : List SourceInstruction) → is_ju j.instr ≡ true
     → f (length front) ≡ ends_at front
     → list_of most (the_code f ((front ++ j ∷ []) ++ (js ++ rest))) (ends_at (front ++ j ∷ []) + ends_at js) (ends_at (front ++ j ∷ []))
     ≡ map f (numbers_from (length (front ++ j ∷ [])) (length js))
@@ -400,13 +400,13 @@ list_step f most front j js rest jump first more =
     others : list_of most (the_code f (front ++ j ∷ (js ++ rest))) (ends_at front + ends_at (j ∷ js)) (ends_at front + bytes_of (parted j.instr))
         ≡ map f (numbers_from (suc (length front)) (length js))
     others =
-        ap (λ (z : List Stated). list_of most (the_code f z) (ends_at front + ends_at (j ∷ js)) (ends_at front + bytes_of (parted j.instr))) cut
+        ap (λ (z : List SourceInstruction). list_of most (the_code f z) (ends_at front + ends_at (j ∷ js)) (ends_at front + bytes_of (parted j.instr))) cut
         ∙ ap (λ (k : ℕ). list_of most (the_code f ((front ++ j ∷ []) ++ (js ++ rest))) k (ends_at front + bytes_of (parted j.instr))) target
         ∙ ap (λ (k : ℕ). list_of most (the_code f ((front ++ j ∷ []) ++ (js ++ rest))) (ends_at (front ++ j ∷ []) + ends_at js) k) (sym ends)
         ∙ more ∙ ap (λ (k : ℕ). map f (numbers_from k (length js))) longer
 
 list_of_jumps :
-    (f : ℕ → ℕ) (most : ℕ) (front js rest : List Stated) → AllByRecursion IsJu js → length js ≤ most
+    (f : ℕ → ℕ) (most : ℕ) (front js rest : List SourceInstruction) → AllByRecursion IsJu js → length js ≤ most
     → ((k : ℕ) → k ≤ length js → f (length front + k) ≡ ends_at front + ends_at (take k js))
     → list_of most (the_code f (front ++ (js ++ rest))) (ends_at front + ends_at js) (ends_at front)
     ≡ map f (numbers_from (length front) (length js))
@@ -422,11 +422,11 @@ list_of_jumps f (suc most) front (j ∷ js) rest jumps few at =
 
 -- ---- whole
 
-abbrev pub position : List Stated → ℕ → ℕ
-position ss n = offset_of (ops_in ss) n
+abbrev pub position : List SourceInstruction → ℕ → ℕ
+position ss n = offset_of_statement (ops_in ss) n
 
-pub position_is : (front rest : List Stated) → position (front ++ rest) (length front) ≡ ends_at front
-unfolding offset_of
+pub position_is : (front rest : List SourceInstruction) → position (front ++ rest) (length front) ≡ ends_at front
+unfolding offset_of_statement
 position_is front rest =
     let same : ops_in (front ++ rest) ≡ flat (parts front ++ parts rest)
     = ops_in_parts (front ++ rest) ∙ ap flat (parts_append front rest) in
@@ -434,34 +434,34 @@ position_is front rest =
     ∙ ap (λ (k : ℕ). offset_from 0 true (flat (parts front ++ parts rest)) k) (sym (parts_count front))
     ∙ offset_is 0 (parts front) (parts rest) (parts_are front) ∙ omega arith
 
-position_past : (ss : List Stated) (n : ℕ) → length ss ≤ n → position ss n ≡ ends_at ss
-unfolding offset_of
+position_past : (ss : List SourceInstruction) (n : ℕ) → length ss ≤ n → position ss n ≡ ends_at ss
+unfolding offset_of_statement
 position_past ss n past =
     let count = parts_count ss in
     ap (λ (z : List OpData). offset_from 0 true z n) (ops_in_parts ss)
     ∙ offset_past 0 n (parts ss) (parts_are ss) (omega (arith, past, count)) ∙ omega arith
 
-pub the_code_is : (ss : List Stated) → code_in ss ≡ the_code (position ss) ss
+pub the_code_is : (ss : List SourceInstruction) → code_in ss ≡ the_code (position ss) ss
 unfolding placed_ops
-the_code_is ss = ap (λ (z : List OpData). map (aimed_op (position ss)) z) (ops_in_parts ss) ∙ aimed_flat (position ss) (parts ss)
+the_code_is ss = ap (λ (z : List OpData). map (op_with_target (position ss)) z) (ops_in_parts ss) ∙ aimed_flat (position ss) (parts ss)
 
 -- the positions within statements behind others
 positions_in :
-    (front js rest : List Stated) (k : ℕ) → k ≤ length js
+    (front js rest : List SourceInstruction) (k : ℕ) → k ≤ length js
     → position (front ++ (js ++ rest)) (length front + k) ≡ ends_at front + ends_at (take k js)
 positions_in front js rest k few =
     let cut : front ++ (js ++ rest) ≡ (front ++ take k js) ++ (drop k js ++ rest)
-    = ap (λ (z : List Stated). front ++ (z ++ rest)) (sym (take-append-drop k js))
-    ∙ ap (λ (z : List Stated). front ++ z) (append_assoc (take k js) (drop k js) rest)
+    = ap (λ (z : List SourceInstruction). front ++ (z ++ rest)) (sym (take-append-drop k js))
+    ∙ ap (λ (z : List SourceInstruction). front ++ z) (append_assoc (take k js) (drop k js) rest)
     ∙ sym (append_assoc front (take k js) (drop k js ++ rest)) in
     let count : length (front ++ take k js) ≡ length front + k
     = length-append front (take k js) ∙ ap (λ (m : ℕ). length front + m) (length-take-le k js few) in
-    ap (λ (z : List Stated). position z (length front + k)) cut
+    ap (λ (z : List SourceInstruction). position z (length front + k)) cut
     ∙ ap (λ (m : ℕ). position ((front ++ take k js) ++ (drop k js ++ rest)) m) (sym count)
     ∙ position_is (front ++ take k js) (drop k js ++ rest) ∙ ends_append front (take k js)
 
 list_there :
-    (front : List Stated) (s : Stated) (rest : List Stated) (targets : List ℕ) (otherwise : ℕ)
+    (front : List SourceInstruction) (s : SourceInstruction) (rest : List SourceInstruction) (targets : List ℕ) (otherwise : ℕ)
     → IsList (length front) targets otherwise rest
     → list_of most_listed (the_code (position (front ++ s ∷ rest)) (front ++ s ∷ rest)) (position (front ++ s ∷ rest) otherwise) (ends_at (front ++ s ∷ []))
     ≡ map (position (front ++ s ∷ rest)) targets
@@ -469,13 +469,13 @@ list_there front s rest targets otherwise h =
     rw whole (aim whole_f ∙ list_of_jumps f 255 before js behind h.jumps (omega (arith, h.few, count)) (λ k few. positions_in before js behind k few)
     ∙ ap (map f) (numbers ∙ sym h.numbers))
   where
-    before : List Stated
+    before : List SourceInstruction
     before = front ++ s ∷ []
 
-    js : List Stated
+    js : List SourceInstruction
     js = take (length targets) rest
 
-    behind : List Stated
+    behind : List SourceInstruction
     behind = drop (length targets) rest
 
     f : ℕ → ℕ
@@ -485,7 +485,7 @@ list_there front s rest targets otherwise h =
     count = length-take-le (length targets) rest h.there
 
     whole : front ++ s ∷ rest ≡ before ++ (js ++ behind)
-    whole = ap (λ (z : List Stated). front ++ s ∷ z) (sym (take-append-drop (length targets) rest))
+    whole = ap (λ (z : List SourceInstruction). front ++ s ∷ z) (sym (take-append-drop (length targets) rest))
         ∙ sym (append_assoc front (s ∷ []) (js ++ behind))
 
     one_more : length before ≡ suc (length front)
@@ -493,7 +493,7 @@ list_there front s rest targets otherwise h =
 
     whole_f : f otherwise ≡ ends_at before + ends_at js
     whole_f = ap f (h.ends ∙ omega (arith, one_more, count))
-        ∙ positions_in before js behind (length js) (omega arith) ∙ ap (λ (z : List Stated). ends_at before + ends_at z) (take-length js)
+        ∙ positions_in before js behind (length js) (omega arith) ∙ ap (λ (z : List SourceInstruction). ends_at before + ends_at z) (take-length js)
 
     aim : f otherwise ≡ ends_at before + ends_at js
         → list_of most_listed (the_code f (before ++ (js ++ behind))) (f otherwise) (ends_at before)
@@ -505,7 +505,7 @@ list_there front s rest targets otherwise h =
 
 -- what a jump list finds in the ops behind it
 list_found :
-    (front : List Stated) (s : Stated) (rest : List Stated) (i : Instr) → IsCompiled (length front) i rest
+    (front : List SourceInstruction) (s : SourceInstruction) (rest : List SourceInstruction) (i : Instr) → IsGeneratedInstruction (length front) i rest
     → ListIsThere (position (front ++ s ∷ rest)) i (ends_at (front ++ s ∷ []))
     (the_code (position (front ++ s ∷ rest)) (front ++ s ∷ rest))
 list_found front s rest (JumpsByList targets otherwise) h = list_there front s rest targets otherwise h
@@ -515,30 +515,30 @@ list_found front s rest (Calls how block instance passings) h = tt
 list_found front s rest (Returns how) h = tt
 
 -- a statement has at most 63 ops before its last
-few_before : (f : ℕ → ℕ) (n : ℕ) (i : Instr) (behind : List Stated) → IsCompiled n i behind → length (aimed_part f (parted i)).front ≤ 63
-few_before f n i behind h = let same = length-map (parted i).front (aimed_op f) in let few = fronts i h in omega (arith, same, few)
+few_before : (f : ℕ → ℕ) (n : ℕ) (i : Instr) (behind : List SourceInstruction) → IsGeneratedInstruction n i behind → length (aimed_part f (parted i)).front ≤ 63
+few_before f n i behind h = let same = length-map (parted i).front (op_with_target f) in let few = fronts i h in omega (arith, same, few)
   where
-    passing_count : (ps : List Passing) → length (passing ps) ≡ length ps
+    passing_count : (ps : List Passing) → length (pass_ops ps) ≡ length ps
     passing_count [] = refl
     passing_count (p ∷ ps) = ap suc (passing_count ps)
 
-    opening_count : (use_db : Option ℕ) → length (opening use_db) ≤ 63
+    opening_count : (use_db : Option ℕ) → length (use_db_ops use_db) ≤ 63
     opening_count None = omega arith
     opening_count (Some number) = omega arith
 
-    fronts : (i : Instr) → IsCompiled n i behind → length (parted i).front ≤ 63
+    fronts : (i : Instr) → IsGeneratedInstruction n i behind → length (parted i).front ≤ 63
     fronts (Does use_db w o) h = opening_count use_db
     fronts (Jumps how target) h = omega arith
     fronts (JumpsByList targets otherwise) h = omega arith
     fronts (Calls how block instance passings) h = let same = passing_count passings in let few = h.2 in omega (arith, same, few)
     fronts (Returns how) h = omega arith
 
-lines_behind : (front : List Stated) (s : Stated) (rest : List Stated) → slice_get (lines_in (front ++ s ∷ rest)) (length front) ≡ Some s.line
+lines_behind : (front : List SourceInstruction) (s : SourceInstruction) (rest : List SourceInstruction) → slice_get (lines_in (front ++ s ∷ rest)) (length front) ≡ Some s.line
 lines_behind [] s rest = refl
 lines_behind (x ∷ front) s rest = lines_behind front s rest
 
 found_in :
-    (b : CodeBlock) (at line next : ℕ) (r : OpRun) → line_placed 0 true b.code b.lines at ≡ Some line → op_run_at most_ops b.code at ≡ Some r
+    (b : CodeBlock) (at line next : ℕ) (r : OpRun) → line_placed 0 true b.code b.lines at ≡ Some line → op_run_at most_ops_of_statement b.code at ≡ Some r
     → statement_fetched b at ≡ Some (fetched_of b.code line r)
 unfolding statement_fetched
 found_in b at line next r is run = rw is (rw run refl)
@@ -548,17 +548,17 @@ unfolding statement_fetched
 none_in b at is = rw is refl
 
 statement_here :
-    (b : CodeBlock) (front : List Stated) (s : Stated) (rest : List Stated)
+    (b : CodeBlock) (front : List SourceInstruction) (s : SourceInstruction) (rest : List SourceInstruction)
     → OperationsHaveTheirCodes → JumpsHaveTheirKinds
     → b.code ≡ code_in (front ++ s ∷ rest) → b.lines ≡ lines_in (front ++ s ∷ rest)
-    → IsCompiled (length front) s.instr rest
+    → IsGeneratedInstruction (length front) s.instr rest
     → statement_fetched b (position (front ++ s ∷ rest) (length front))
     ≡ Some (aimed_statement (position (front ++ s ∷ rest)) (length front) s)
 statement_here b front s rest operations jumps is lines h =
     ap (statement_fetched b) (position_is front (s ∷ rest))
     ∙ found_in b (ends_at front) s.line 0 run line_is run_there ∙ ap Some same
   where
-    ss : List Stated
+    ss : List SourceInstruction
     ss = front ++ s ∷ rest
 
     f : ℕ → ℕ
@@ -590,16 +590,16 @@ statement_here b front s rest operations jumps is lines h =
         ∙ ap (slice_get b.lines) (aimed_count f (parts front) ∙ parts_count front)
         ∙ ap (λ (z : List ℕ). slice_get z (length front)) lines ∙ lines_behind front s rest
 
-    run_there : op_run_at most_ops b.code (ends_at front) ≡ Some run
-    run_there = ap (λ (z : List OpData). op_run_at most_ops z (ends_at front)) code
-        ∙ ap (op_run_at most_ops (flat (ps ++ p ∷ qs))) (sym at)
+    run_there : op_run_at most_ops_of_statement b.code (ends_at front) ≡ Some run
+    run_there = ap (λ (z : List OpData). op_run_at most_ops_of_statement z (ends_at front)) code
+        ∙ ap (op_run_at most_ops_of_statement (flat (ps ++ p ∷ qs))) (sym at)
         ∙ run_is ps p qs (aimed_is f (parted s.instr) (is_statement s.instr)) (few_before f (length front) s.instr rest h)
 
     next_at : extent ps + bytes_of p ≡ ends_at (front ++ s ∷ [])
     next_at = let bytes = aimed_bytes f (parted s.instr) in let ends = ends_append front (s ∷ []) in omega (arith, bytes, ends, at)
 
     next_is : extent ps + bytes_of p ≡ f (suc (length front))
-    next_is = next_at ∙ sym (ap (λ (z : List Stated). position z (suc (length front))) (sym (append_assoc front (s ∷ []) rest))
+    next_is = next_at ∙ sym (ap (λ (z : List SourceInstruction). position z (suc (length front))) (sym (append_assoc front (s ∷ []) rest))
         ∙ ap (position ((front ++ s ∷ []) ++ rest)) (omega (arith, length-append front (s ∷ []))) ∙ position_is (front ++ s ∷ []) rest)
 
     instr : instr_of (operation_of p.end.code) p.end.operand (use_db_of p.front) (passings_of p.front) (extent ps + bytes_of p) b.code ≡ aimed_instr f s.instr
@@ -612,7 +612,7 @@ statement_here b front s rest operations jumps is lines h =
         ∙ ap (λ (k : ℕ). record { instr = aimed_instr f s.instr; next = k; line = s.line }) next_is
 
 statement_none :
-    (b : CodeBlock) (ss : List Stated) (n : ℕ) → b.code ≡ code_in ss → length ss ≤ n
+    (b : CodeBlock) (ss : List SourceInstruction) (n : ℕ) → b.code ≡ code_in ss → length ss ≤ n
     → statement_fetched b (position ss n) ≡ None
 statement_none b ss n is past =
     ap (statement_fetched b) (position_past ss n past) ∙ none_in b (ends_at ss)
@@ -621,16 +621,16 @@ statement_none b ss n is past =
     ∙ line_at_end 0 (aimed_parts (position ss) (parts ss)) b.lines (aimed_are (position ss) (parts ss) (parts_are ss)))
 
 -- the statement of a number, with those in front and behind
-compiled_in : (n : ℕ) (front : List Stated) (s : Stated) (rest : List Stated) → AreCompiled n (front ++ s ∷ rest) → IsCompiled (n + length front) s.instr rest
-compiled_in n [] s rest h = subst (λ (k : ℕ). IsCompiled k s.instr rest) (omega arith) h.0
-compiled_in n (x ∷ front) s rest h = subst (λ (k : ℕ). IsCompiled k s.instr rest) (omega arith) (compiled_in (suc n) front s rest h.1)
+compiled_in : (n : ℕ) (front : List SourceInstruction) (s : SourceInstruction) (rest : List SourceInstruction) → AreCompiled n (front ++ s ∷ rest) → IsGeneratedInstruction (n + length front) s.instr rest
+compiled_in n [] s rest h = subst (λ (k : ℕ). IsGeneratedInstruction k s.instr rest) (omega arith) h.0
+compiled_in n (x ∷ front) s rest h = subst (λ (k : ℕ). IsGeneratedInstruction k s.instr rest) (omega arith) (compiled_in (suc n) front s rest h.1)
 
 pub is_read_back :
-    (b : CodeBlock) (ss : List Stated) → OperationsHaveTheirCodes → JumpsHaveTheirKinds
+    (b : CodeBlock) (ss : List SourceInstruction) → OperationsHaveTheirCodes → JumpsHaveTheirKinds
     → AreCompiled 0 ss → b.code ≡ code_in ss → b.lines ≡ lines_in ss → IsReadBack b ss
 is_read_back b ss operations jumps h is lines n = by [] ss n refl (omega arith)
   where
-    by : (front rest : List Stated) (k : ℕ) → ss ≡ front ++ rest → n ≡ length front + k
+    by : (front rest : List SourceInstruction) (k : ℕ) → ss ≡ front ++ rest → n ≡ length front + k
         → statement_fetched b (position ss n) ≡ option_map (aimed_statement (position ss) n) (slice_get rest k)
     by front [] k e count = statement_none b ss n is (let same = ap length e in let cut = length-append front [] in omega (arith, same, cut, count))
     by front (s ∷ rest) (suc k) e count =
@@ -640,6 +640,6 @@ is_read_back b ss operations jumps h is lines n = by [] ss n refl (omega arith)
         let here : n ≡ length front = omega (arith, count) in
         let at_code : b.code ≡ code_in (front ++ s ∷ rest) = is ∙ ap code_in e in
         let at_lines : b.lines ≡ lines_in (front ++ s ∷ rest) = lines ∙ ap lines_in e in
-        let compiled : IsCompiled (length front) s.instr rest
-        = subst (λ (k : ℕ). IsCompiled k s.instr rest) (omega arith) (compiled_in 0 front s rest (subst (AreCompiled 0) e h)) in
+        let compiled : IsGeneratedInstruction (length front) s.instr rest
+        = subst (λ (k : ℕ). IsGeneratedInstruction k s.instr rest) (omega arith) (compiled_in 0 front s rest (subst (AreCompiled 0) e h)) in
         rw here (rw e (statement_here b front s rest operations jumps at_code at_lines compiled))

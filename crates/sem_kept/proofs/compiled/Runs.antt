@@ -2,21 +2,21 @@
 use Rattle.std.proofs.Common.{◌≡◌, ℕ, zero, suc, ◌+◌, ◌<◌, ◌≤◌, Bool, true, false, eqb, List, [], ◌∷◌, ◌++◌, length, map, drop, slice_get, append_assoc, Some, None, refl, sym, ◌∙◌, arith}
 use Rattle.std.proofs.lemmas.Bool.{eq-eqb, ne_eqb}
 use Rattle.std.specs.List.{AllByRecursion}
-use Rattle.flat_code.specs.Codes.{size}
+use Rattle.flat_code.specs.Codes.{size_of_op}
 use Rattle.flat_code.specs.Ops.{OpData, op_bytes}
 use Rattle.flat_code.specs.Placed.{op_placed, line_placed}
 use Rattle.flat_code.specs.declared.operands.Operand.{Operand}
 use Rattle.flat_code.specs.declared.operands.Operand.TheVariants as operand
-use Rattle.stl_codegen.specs.Compiled.{offset_from, aimed, aimed_op}
+use Rattle.stl_codegen.specs.Compiled.{offset_from, operand_with_target, op_with_target}
 
-pub op_long : (op : OpData) → 0 < size op
-unfolding size op_bytes
+pub op_long : (op : OpData) → 0 < size_of_op op
+unfolding size_of_op op_bytes
 op_long op = omega arith
 
 -- how many bytes ops take
 abbrev pub total : List OpData → ℕ
 total [] = 0
-total (op ∷ ops) = size op + total ops
+total (op ∷ ops) = size_of_op op + total ops
 
 pub total_append : (xs ys : List OpData) → total (xs ++ ys) ≡ total xs + total ys
 total_append [] ys = omega arith
@@ -25,28 +25,28 @@ total_append (x ∷ xs) ys = let more = total_append xs ys in omega (arith, more
 -- the op behind other ops
 pub op_behind :
     (from : ℕ) (xs : List OpData) (op : OpData) (ys : List OpData)
-    → op_placed from (xs ++ op ∷ ys) (from + total xs) ≡ Some (op, from + total xs + size op)
+    → op_placed from (xs ++ op ∷ ys) (from + total xs) ≡ Some (op, from + total xs + size_of_op op)
 op_behind from [] op ys =
     let same : from + 0 ≡ from = omega arith in
     rw same (rw (eq-eqb from from refl) refl)
 op_behind from (x ∷ xs) op ys =
     let long = op_long x in
-    let other : eqb from (from + (size x + total xs)) ≡ false = ne_eqb from (from + (size x + total xs)) (λ e. omega (arith, e, long)) in
-    let moved : from + (size x + total xs) ≡ from + size x + total xs = omega arith in
-    rw other (rw moved (op_behind (from + size x) xs op ys))
+    let other : eqb from (from + (size_of_op x + total xs)) ≡ false = ne_eqb from (from + (size_of_op x + total xs)) (λ e. omega (arith, e, long)) in
+    let moved : from + (size_of_op x + total xs) ≡ from + size_of_op x + total xs = omega arith in
+    rw other (rw moved (op_behind (from + size_of_op x) xs op ys))
 
 pub op_at_end : (from : ℕ) (xs : List OpData) → op_placed from xs (from + total xs) ≡ None
 op_at_end from [] = refl
 op_at_end from (x ∷ xs) =
     let long = op_long x in
-    let other : eqb from (from + (size x + total xs)) ≡ false = ne_eqb from (from + (size x + total xs)) (λ e. omega (arith, e, long)) in
-    let moved : from + (size x + total xs) ≡ from + size x + total xs = omega arith in
-    rw other (rw moved (op_at_end (from + size x) xs))
+    let other : eqb from (from + (size_of_op x + total xs)) ≡ false = ne_eqb from (from + (size_of_op x + total xs)) (λ e. omega (arith, e, long)) in
+    let moved : from + (size_of_op x + total xs) ≡ from + size_of_op x + total xs = omega arith in
+    rw other (rw moved (op_at_end (from + size_of_op x) xs))
 
 -- a target is as long as any other
 long_as : (f : ℕ → ℕ) (code : ℕ) (last : Bool) (o : Operand)
-    → size (record { code = code; last = last; operand = aimed f o }) ≡ size (record { code = code; last = last; operand = o })
-unfolding size op_bytes
+    → size_of_op (record { code = code; last = last; operand = operand_with_target f o }) ≡ size_of_op (record { code = code; last = last; operand = o })
+unfolding size_of_op op_bytes
 long_as f code last (operand.Jump kind target) = refl
 long_as f code last operand.Nothing = refl
 long_as f code last (operand.Literal value) = refl
@@ -63,10 +63,10 @@ long_as f code last (operand.Called kind number instance) = refl
 long_as f code last (operand.OpenBlock register number) = refl
 long_as f code last (operand.OpenBy register from byte) = refl
 
-pub size_aimed : (f : ℕ → ℕ) (op : OpData) → size (aimed_op f op) ≡ size op
+pub size_aimed : (f : ℕ → ℕ) (op : OpData) → size_of_op (op_with_target f op) ≡ size_of_op op
 size_aimed f op = long_as f op.code op.last op.operand
 
-pub total_aimed : (f : ℕ → ℕ) (ops : List OpData) → total (map (aimed_op f) ops) ≡ total ops
+pub total_aimed : (f : ℕ → ℕ) (ops : List OpData) → total (map (op_with_target f) ops) ≡ total ops
 total_aimed f [] = refl
 total_aimed f (op ∷ ops) = let one = size_aimed f op in let more = total_aimed f ops in omega (arith, one, more)
 
@@ -90,7 +90,7 @@ flat [] = []
 flat (p ∷ ps) = p.front ++ p.end ∷ flat ps
 
 abbrev pub bytes_of : Parted → ℕ
-bytes_of p = total p.front + size p.end
+bytes_of p = total p.front + size_of_op p.end
 
 pub bytes_long : (p : Parted) → 0 < bytes_of p
 bytes_long p = let long = op_long p.end in omega (arith, long)
@@ -118,19 +118,19 @@ flat_append (x ∷ xs) ys = rw (flat_append xs ys) (sym (append_assoc x.front (x
 line_behind :
     (from k : ℕ) (b : Bool) (front : List OpData) (op : OpData) (ys : List OpData) (lines : List ℕ)
     → AllByRecursion IsPreparing front → op.last ≡ true
-    → line_placed from b (front ++ op ∷ ys) lines (from + (total front + size op) + k)
-    ≡ line_placed (from + (total front + size op)) true ys (drop 1 lines) (from + (total front + size op) + k)
-unfolding size op_bytes
+    → line_placed from b (front ++ op ∷ ys) lines (from + (total front + size_of_op op) + k)
+    ≡ line_placed (from + (total front + size_of_op op)) true ys (drop 1 lines) (from + (total front + size_of_op op) + k)
+unfolding size_of_op op_bytes
 line_behind from k b [] op ys lines fs last =
     let long = op_long op in
-    let same : total [] + size op ≡ size op = omega arith in
-    let other : eqb from (from + size op + k) ≡ false = ne_eqb from (from + size op + k) (λ e. omega (arith, e, long)) in
+    let same : total [] + size_of_op op ≡ size_of_op op = omega arith in
+    let other : eqb from (from + size_of_op op + k) ≡ false = ne_eqb from (from + size_of_op op + k) (λ e. omega (arith, e, long)) in
     rw same (rw other (rw last refl))
 line_behind from k b (x ∷ front) op ys lines fs last =
     let long = op_long x in
-    let other : eqb from (from + (size x + total front + size op) + k) ≡ false = ne_eqb from (from + (size x + total front + size op) + k) (λ e. omega (arith, e, long)) in
-    let moved : from + (size x + total front + size op) ≡ from + size x + (total front + size op) = omega arith in
-    let more = line_behind (from + size x) k false front op ys lines fs.1 last in
+    let other : eqb from (from + (size_of_op x + total front + size_of_op op) + k) ≡ false = ne_eqb from (from + (size_of_op x + total front + size_of_op op) + k) (λ e. omega (arith, e, long)) in
+    let moved : from + (size_of_op x + total front + size_of_op op) ≡ from + size_of_op x + (total front + size_of_op op) = omega arith in
+    let more = line_behind (from + size_of_op x) k false front op ys lines fs.1 last in
     rw other (rw moved (rw fs.0 more))
 
 pub line_at :
@@ -142,9 +142,9 @@ line_at from [] p qs lines h = here p.front
     here [] = rw (eq-eqb from (from + 0) (omega arith)) refl
     here (x ∷ front) = rw (eq-eqb from (from + 0) (omega arith)) refl
 line_at from (q ∷ ps) p qs lines h =
-    let moved : from + (bytes_of q + extent ps) ≡ from + (total q.front + size q.end) + extent ps = omega arith in
+    let moved : from + (bytes_of q + extent ps) ≡ from + (total q.front + size_of_op q.end) + extent ps = omega arith in
     rw moved (line_behind from (extent ps) true q.front q.end (flat (ps ++ p ∷ qs)) lines h.0.front h.0.end
-    ∙ line_at (from + (total q.front + size q.end)) ps p qs (drop 1 lines) h.1 ∙ dropped lines (length ps))
+    ∙ line_at (from + (total q.front + size_of_op q.end)) ps p qs (drop 1 lines) h.1 ∙ dropped lines (length ps))
   where
     dropped : (xs : List ℕ) (n : ℕ) → slice_get (drop 1 xs) n ≡ slice_get xs (suc n)
     dropped [] n = refl
@@ -155,34 +155,34 @@ pub line_at_end :
     → line_placed from true (flat ps) lines (from + extent ps) ≡ None
 line_at_end from [] lines h = refl
 line_at_end from (q ∷ ps) lines h =
-    let moved : from + (bytes_of q + extent ps) ≡ from + (total q.front + size q.end) + extent ps = omega arith in
+    let moved : from + (bytes_of q + extent ps) ≡ from + (total q.front + size_of_op q.end) + extent ps = omega arith in
     rw moved (line_behind from (extent ps) true q.front q.end (flat ps) lines h.0.front h.0.end
-    ∙ line_at_end (from + (total q.front + size q.end)) ps (drop 1 lines) h.1)
+    ∙ line_at_end (from + (total q.front + size_of_op q.end)) ps (drop 1 lines) h.1)
 
 -- the offset of a statement
 offset_behind :
     (at n : ℕ) (front : List OpData) (op : OpData) (ys : List OpData) → AllByRecursion IsPreparing front → op.last ≡ true
-    → offset_from at false (front ++ op ∷ ys) n ≡ offset_from (at + (total front + size op)) true ys n
-unfolding size op_bytes
+    → offset_from at false (front ++ op ∷ ys) n ≡ offset_from (at + (total front + size_of_op op)) true ys n
+unfolding size_of_op op_bytes
 offset_behind at n [] op ys fs last =
-    let same : total [] + size op ≡ size op = omega arith in
+    let same : total [] + size_of_op op ≡ size_of_op op = omega arith in
     rw same (rw last refl)
 offset_behind at n (x ∷ front) op ys fs last =
-    let moved : at + (size x + total front + size op) ≡ at + size x + (total front + size op) = omega arith in
-    rw moved (rw fs.0 (offset_behind (at + size x) n front op ys fs.1 last))
+    let moved : at + (size_of_op x + total front + size_of_op op) ≡ at + size_of_op x + (total front + size_of_op op) = omega arith in
+    rw moved (rw fs.0 (offset_behind (at + size_of_op x) n front op ys fs.1 last))
 
 pub offset_next :
     (at n : ℕ) (p : Parted) (ys : List OpData) → IsStatement p
     → offset_from at true (p.front ++ p.end ∷ ys) (suc n) ≡ offset_from (at + bytes_of p) true ys n
-unfolding size op_bytes
+unfolding size_of_op op_bytes
 offset_next at n p ys h = by p.front h.front
   where
     by : (front : List OpData) → AllByRecursion IsPreparing front
-        → offset_from at true (front ++ p.end ∷ ys) (suc n) ≡ offset_from (at + (total front + size p.end)) true ys n
-    by [] fs = let same : total [] + size p.end ≡ size p.end = omega arith in rw same (rw h.end refl)
+        → offset_from at true (front ++ p.end ∷ ys) (suc n) ≡ offset_from (at + (total front + size_of_op p.end)) true ys n
+    by [] fs = let same : total [] + size_of_op p.end ≡ size_of_op p.end = omega arith in rw same (rw h.end refl)
     by (x ∷ front) fs =
-        let moved : at + (size x + total front + size p.end) ≡ at + size x + (total front + size p.end) = omega arith in
-        rw moved (rw fs.0 (offset_behind (at + size x) n front p.end ys fs.1 h.end))
+        let moved : at + (size_of_op x + total front + size_of_op p.end) ≡ at + size_of_op x + (total front + size_of_op p.end) = omega arith in
+        rw moved (rw fs.0 (offset_behind (at + size_of_op x) n front p.end ys fs.1 h.end))
 
 pub offset_is :
     (at : ℕ) (ps : List Parted) (ys : List Parted) → AreStatements ps

@@ -6,16 +6,16 @@ use Rattle.std.specs.List.{AllByRecursion}
 use Rattle.std.proofs.lemmas.Bool.{eqb-true, eqb-false}
 use Rattle.std.proofs.lemmas.List.{length-map}
 use Rattle.plc_base.specs.Kinds.{is_code}
-use Rattle.flat_code.specs.Blocks.{Around, is_ju_operand, leads, is_bad_list, jump_fault, call_fault, mark_fault, bracket_fault, zone_fault, at_offset, op_faults, faults_over, block_faults}
-use Rattle.flat_code.specs.Codes.{size, overlong, first_found, is_nowhere, are_ops, code_bytes, ends_by_be as ends_right, last_place, stop_at, code_layout}
-use Rattle.flat_code.specs.Image.{IsRight, record_of_block, block_rows, plain_block, code_block_layout as whole_block, code_and_lines, after_block, code_blocks, body_rows, records, body}
+use Rattle.flat_code.specs.Blocks.{Environment, is_ju_operand, leads_to_target, is_bad_list, jump_fault, call_fault, mark_fault, bracket_fault, zone_fault, at_offset, op_faults, faults_over, block_faults}
+use Rattle.flat_code.specs.Codes.{size_of_op, overlong_statement, first_found, is_nowhere, are_ops, code_bytes, ends_by_be as ends_right, last_place, stop_at, code_layout}
+use Rattle.flat_code.specs.Image.{IsRight, record_of_block, block_rows, plain_block, code_block_layout as whole_block, code_and_lines, after_block, code_blocks_layout, body_rows, records_layout, body_layout}
 use Rattle.flat_code.specs.Instr.{Instr, Passing, Does, Jumps, JumpsByList, Calls, Returns}
 use Rattle.flat_code.specs.Kinds.{jump_number}
 use Rattle.flat_code.specs.Layout.{good_many}
-use Rattle.flat_code.specs.Loading.{AreVerified, lens_of, around_block}
+use Rattle.flat_code.specs.Loading.{AreVerified, lens_of, environment_of_block}
 use Rattle.flat_code.specs.OpCodes.{op_code_of as code_of_operation}
 use Rattle.flat_code.specs.Ops.{OpData}
-use Rattle.flat_code.specs.Placed.{Placed, StatementSpot, ops_placed, brackets_after, before_next, spots, zones_behind_op}
+use Rattle.flat_code.specs.Placed.{PlacedOp, StatementSpot, ops_placed, brackets_after, before_next, statement_spots, zones_behind_op}
 use Rattle.flat_code.specs.Programs.{Program}
 use Rattle.flat_code.specs.Records.{BlockRecord}
 use Rattle.flat_code.specs.declared.image_fields.OpenBracket.{OpenBracket}
@@ -25,7 +25,7 @@ use Rattle.flat_code.specs.declared.operands.Operand.{Operand}
 use Rattle.flat_code.specs.declared.operands.Operand.TheVariants as operand
 use Rattle.flat_code.specs.declared.operations.EndOperation.TheVariants as ends
 use Rattle.flat_code.specs.declared.operations.Operation.TheVariants as operation
-use Rattle.stl_ast.specs.Statements.{is_empty}
+use Rattle.stl_ast.specs.Statements.{is_empty_statement}
 use Rattle.stl_ast.specs.declared.blocks.Block.{Block}
 use Rattle.stl_ast.specs.declared.blocks.Tree.{Tree}
 use Rattle.stl_ast.specs.declared.statements.Statement.{Statement}
@@ -37,12 +37,12 @@ use Rattle.sem_kept.proofs.accepted.Accepted.{all_sorted, none_left, none_right}
 use Rattle.plc_base.proofs.TruthLemmas.{and_first, and_second}
 use Rattle.stl_types.specs.Bodies.{first_context}
 use Rattle.stl_types.specs.Context.{Context}
-use Rattle.stl_codegen.specs.Compiled.{Stated, StatedBlock, compiled, code_in, ops_in, offset_from, offset_of, aimed, aimed_op}
-use Rattle.stl_codegen.specs.Emitted.{preparing, ending, passing, jump_op, call_op, end_op}
+use Rattle.stl_codegen.specs.Compiled.{SourceInstruction, StatedBlock, compiled_block, code_in, ops_in, offset_from, offset_of_statement, operand_with_target, op_with_target}
+use Rattle.stl_codegen.specs.Emitted.{preparing_op, op_with_end_mark, pass_ops, jump_op, call_op, end_op}
 use Rattle.stl_codegen.specs.Generated.{stated_from, statements_of, code_block, code_block_of, each_block, code_blocks_of, program_of}
 use Rattle.stl_codegen.specs.Order.{is_code_before}
 use Rattle.stl_codegen.specs.Instruction.{numbers_from, instruction}
-use Rattle.sem_kept.specs.Back.{is_target, is_ju, IsJu, IsList, IsCompiled, AreCompiled}
+use Rattle.sem_kept.specs.Back.{is_target, is_ju, IsJu, IsList, IsGeneratedInstruction, AreCompiled}
 use Rattle.sem_kept.specs.Statements.{IsCompilable}
 use Rattle.sem_kept.specs.Verified.{VerifiedIsCompilable}
 use Rattle.sem_kept.proofs.compiled.Instructions.{IsMade, instruction_made}
@@ -51,16 +51,16 @@ use Rattle.sem_kept.proofs.compiled.Runs.{total, size_aimed, total_aimed, Parted
 
 -- ---- what the source gives
 
-abbrev AreMade : (n : ℕ) → List Stated → Type 0
+abbrev AreMade : (n : ℕ) → List SourceInstruction → Type 0
 AreMade n [] = Unit {0}
 AreMade n (s ∷ ss) = IsMade n s.instr × AreMade (suc n) ss
 
 -- the last statement of a block returns
-abbrev returning : ℕ → Stated
+abbrev returning : ℕ → SourceInstruction
 returning line = record { instr = Returns ends.Be; line = line }
 
 record IsMadeBlock (b : StatedBlock) : Type 0 where
-  inner : List Stated
+  inner : List SourceInstruction
   line : ℕ
   whole : b.statements ≡ inner ++ returning line ∷ []
   made : AreMade 0 inner
@@ -69,7 +69,7 @@ stated_made : (c : Context) (all : List Statement) (n : ℕ) (ss : List Statemen
     → AreMade n (stated_from c all n ss)
 stated_made c all n [] = tt
 stated_made c all n (s ∷ ss) =
-    by (is_empty s.code) (stated_made c all n ss) (stated_made c all (suc n) ss)
+    by (is_empty_statement s.code) (stated_made c all n ss) (stated_made c all (suc n) ss)
   where
     by : (empty : Bool) → AreMade n (stated_from c all n ss)
         → AreMade (suc n) (stated_from c all (suc n) ss)
@@ -124,14 +124,14 @@ no_fault at None e = refl
 no_fault at (Some code) e = absurd cc
 
 -- ops at an offset, of which none has a fault
-record IsClean (around : Around) (statements : List StatementSpot) (at : ℕ) (ops : List OpData) : Type 0 where
+record IsClean (around : Environment) (statements : List StatementSpot) (at : ℕ) (ops : List OpData) : Type 0 where
   brackets : List OpenBracket
   zones : List ℕ
   before : List OpData
   none : faults_over around statements 0 (ops_placed at brackets zones before ops) ≡ []
 
-clean_next : (a : Around) (ss : List StatementSpot) (at : ℕ) (op : OpData) (ops : List OpData)
-    → IsClean a ss at (op ∷ ops) → IsClean a ss (at + size op) ops
+clean_next : (a : Environment) (ss : List StatementSpot) (at : ℕ) (op : OpData) (ops : List OpData)
+    → IsClean a ss at (op ∷ ops) → IsClean a ss (at + size_of_op op) ops
 clean_next a ss at op ops h = record {
   brackets = brackets_after at op.code h.brackets;
   zones = zones_behind_op at op.code h.zones;
@@ -145,40 +145,40 @@ clean_next a ss at op ops h = record {
     rest = ops;
   }))
       (faults_over a ss 0
-      (ops_placed (at + size op) (brackets_after at op.code h.brackets) (zones_behind_op at op.code h.zones) (before_next op h.before) ops)) h.none;
+      (ops_placed (at + size_of_op op) (brackets_after at op.code h.brackets) (zones_behind_op at op.code h.zones) (before_next op h.before) ops)) h.none;
 }
 
-clean_behind : (a : Around) (ss : List StatementSpot) (at : ℕ) (front ops : List OpData)
+clean_behind : (a : Environment) (ss : List StatementSpot) (at : ℕ) (front ops : List OpData)
     → IsClean a ss at (front ++ ops) → IsClean a ss (at + total front) ops
 clean_behind a ss at [] ops h = subst (λ (k : ℕ). IsClean a ss k ops) (omega arith) h
 clean_behind a ss at (op ∷ front) ops h =
     subst (λ (k : ℕ). IsClean a ss k ops) (omega arith)
-    (clean_behind a ss (at + size op) front ops (clean_next a ss at op (front ++ ops) h))
+    (clean_behind a ss (at + size_of_op op) front ops (clean_next a ss at op (front ++ ops) h))
 
 -- the list of a JL
-leads_by : (a : Around) (ss : List StatementSpot) (p : Placed) (target : ℕ)
-    → jump_fault ss p 1 target ≡ None → leads 255 target (p.at + size p.op) p.rest ≡ true
-leads_by a ss p target e = by (leads 255 target (p.at + size p.op) p.rest) refl e
+leads_by : (a : Environment) (ss : List StatementSpot) (p : PlacedOp) (target : ℕ)
+    → jump_fault ss p 1 target ≡ None → leads_to_target 255 target (p.at + size_of_op p.op) p.rest ≡ true
+leads_by a ss p target e = by (leads_to_target 255 target (p.at + size_of_op p.op) p.rest) refl e
   where
-    by : (led : Bool) → leads 255 target (p.at + size p.op) p.rest ≡ led
-        → jump_fault ss p 1 target ≡ None → leads 255 target (p.at + size p.op) p.rest ≡ true
+    by : (led : Bool) → leads_to_target 255 target (p.at + size_of_op p.op) p.rest ≡ led
+        → jump_fault ss p 1 target ≡ None → leads_to_target 255 target (p.at + size_of_op p.op) p.rest ≡ true
     by true is h = is
     by false is h =
         let bad : is_bad_list p 1 target ≡ true = ap not is in
         let fault : jump_fault ss p 1 target ≡ Some 6 = rw bad refl in
         absurd cc
 
-clean_leads : (a : Around) (ss : List StatementSpot) (at code target : ℕ) (last : Bool) (ops : List OpData)
+clean_leads : (a : Environment) (ss : List StatementSpot) (at code target : ℕ) (last : Bool) (ops : List OpData)
     → IsClean a ss at (record { code = code; last = last; operand = operand.Jump 1 target } ∷ ops)
-    → leads 255 target
-    (at + size (record { code = code; last = last; operand = operand.Jump 1 target })) ops ≡ true
+    → leads_to_target 255 target
+    (at + size_of_op (record { code = code; last = last; operand = operand.Jump 1 target })) ops ≡ true
 unfolding op_faults
 clean_leads a ss at code target last ops h = leads_by a ss here target judged
   where
     op : OpData
     op = record { code = code; last = last; operand = operand.Jump 1 target }
 
-    here : Placed
+    here : PlacedOp
     here = record { at = at; brackets = h.brackets; zones = h.zones; before = h.before; op = op; rest = ops }
 
     one : List (ℕ × ℕ)
@@ -204,7 +204,7 @@ clean_leads a ss at code target last ops h = leads_by a ss here target judged
         (none_left (((one ++ two) ++ three) ++ four) five
         (none_left ((((one ++ two) ++ three) ++ four) ++ five)
         (faults_over a ss 0
-        (ops_placed (at + size op) (brackets_after at code h.brackets) (zones_behind_op at code h.zones) (before_next op h.before) ops)) h.none)))))
+        (ops_placed (at + size_of_op op) (brackets_after at code h.brackets) (zones_behind_op at code h.zones) (before_next op h.before) ops)) h.none)))))
 
 -- ---- positions
 
@@ -213,9 +213,9 @@ offset_least : (at : ℕ) (begins : Bool) (ops : List OpData) (n : ℕ)
 offset_least at begins [] n = omega arith
 offset_least at true (op ∷ ops) zero = omega arith
 offset_least at true (op ∷ ops) (suc n) =
-    let more = offset_least (at + size op) op.last ops n in omega (arith, more)
+    let more = offset_least (at + size_of_op op) op.last ops n in omega (arith, more)
 offset_least at false (op ∷ ops) n =
-    let more = offset_least (at + size op) op.last ops n in omega (arith, more)
+    let more = offset_least (at + size_of_op op) op.last ops n in omega (arith, more)
 
 offset_first : (at : ℕ) (p : Parted) (ops : List OpData)
     → offset_from at true (p.front ++ p.end ∷ ops) 0 ≡ at
@@ -243,9 +243,9 @@ offset_one at (suc n) (p ∷ ps) q qs h k e =
     ap suc (offset_one (at + bytes_of p) n ps q qs h.1 k
     (sym (offset_next at n p (flat (ps ++ q ∷ qs)) h.0) ∙ e ∙ omega arith))
 
-position_one : (front : List Stated) (s : Stated) (rest : List Stated) (n : ℕ)
+position_one : (front : List SourceInstruction) (s : SourceInstruction) (rest : List SourceInstruction) (n : ℕ)
     → position (front ++ s ∷ rest) n ≡ ends_at front → n ≡ length front
-unfolding offset_of
+unfolding offset_of_statement
 position_one front s rest n e =
     let same : ops_in (front ++ s ∷ rest) ≡ flat (parts front ++ parted s.instr ∷ parts rest)
     = ops_in_parts (front ++ s ∷ rest) ∙ ap flat (parts_append front (s ∷ rest)) in
@@ -257,17 +257,17 @@ position_one front s rest n e =
 -- ---- jump lists
 
 leads_here : (most target from : ℕ) (op : OpData) (ops : List OpData)
-    → is_ju_operand op.operand ≡ false → leads most target from (op ∷ ops) ≡ true
+    → is_ju_operand op.operand ≡ false → leads_to_target most target from (op ∷ ops) ≡ true
     → from ≡ target
 leads_here zero target from op ops other e = eqb-true from target e
 leads_here (suc most) target from op ops other e = by (eqb from target) refl e
   where
     by : (t : Bool) → eqb from target ≡ t
-        → (t || is_ju_operand op.operand && leads most target (from + size op) ops) ≡ true
+        → (t || is_ju_operand op.operand && leads_to_target most target (from + size_of_op op) ops) ≡ true
         → from ≡ target
     by true is h = eqb-true from target is
     by false is h =
-        let none : (is_ju_operand op.operand && leads most target (from + size op) ops) ≡ false
+        let none : (is_ju_operand op.operand && leads_to_target most target (from + size_of_op op) ops) ≡ false
         = rw other refl in
         absurd cc
 
@@ -275,26 +275,26 @@ leads_here (suc most) target from op ops other e = by (eqb from target) refl e
 data Listed (most target from : ℕ) (op : OpData) (ops : List OpData) : Type 0 where
   Here : (same : from ≡ target) → Listed most target from op ops
   Behind : (fewer : ℕ) (is : most ≡ suc fewer)
-      (more : leads fewer target (from + size op) ops ≡ true) → Listed most target from op ops
+      (more : leads_to_target fewer target (from + size_of_op op) ops ≡ true) → Listed most target from op ops
 
 leads_on : (most target from : ℕ) (op : OpData) (ops : List OpData)
-    → leads most target from (op ∷ ops) ≡ true → Listed most target from op ops
+    → leads_to_target most target from (op ∷ ops) ≡ true → Listed most target from op ops
 leads_on zero target from op ops e = Here (eqb-true from target e)
 leads_on (suc most) target from op ops e = by (eqb from target) refl e
   where
     by : (t : Bool) → eqb from target ≡ t
-        → (t || is_ju_operand op.operand && leads most target (from + size op) ops) ≡ true
+        → (t || is_ju_operand op.operand && leads_to_target most target (from + size_of_op op) ops) ≡ true
         → Listed (suc most) target from op ops
     by true is h = Here (eqb-true from target is)
     by false is h = further (is_ju_operand op.operand) h
       where
-        further : (j : Bool) → (j && leads most target (from + size op) ops) ≡ true
+        further : (j : Bool) → (j && leads_to_target most target (from + size_of_op op) ops) ≡ true
             → Listed (suc most) target from op ops
         further true g = Behind most refl g
         further false g = absurd cc
 
 no_jump : (f : ℕ → ℕ) (o : Operand) → is_target o ≡ false
-    → is_ju_operand (aimed f o) ≡ false
+    → is_ju_operand (operand_with_target f o) ≡ false
 no_jump f (operand.Jump kind target) h = absurd cc
 no_jump f operand.Nothing h = refl
 no_jump f _ h = refl
@@ -309,13 +309,13 @@ ops_with f i rest = (aimed_part f (parted i)).front ++ (aimed_part f (parted i))
 
 -- a statement that isn't JU ends the list
 list_stops : (f : ℕ → ℕ) (n most target from : ℕ) (i : Instr) (rest : List OpData)
-    → IsMade n i → is_ju i ≡ false → leads most target from (ops_with f i rest) ≡ true
+    → IsMade n i → is_ju i ≡ false → leads_to_target most target from (ops_with f i rest) ≡ true
     → from ≡ target
 list_stops f n most target from (Does None w o) rest made other e =
-    leads_here most target from (aimed_op f (ending w o)) rest (no_jump f o made.1) e
+    leads_here most target from (op_with_target f (op_with_end_mark w o)) rest (no_jump f o made.1) e
 list_stops f n most target from (Does (Some number) w o) rest made other e =
-    leads_here most target from (preparing operation.UseDb (operand.UseDb number))
-    (aimed_op f (ending w o) ∷ rest) refl e
+    leads_here most target from (preparing_op operation.UseDb (operand.UseDb number))
+    (op_with_target f (op_with_end_mark w o) ∷ rest) refl e
 list_stops f n most target from (Jumps how there) rest made other e =
     leads_here most target from (jump_op how (f there)) rest (other_jump how (f there) (no_ju how other)) e
   where
@@ -328,7 +328,7 @@ list_stops f n most target from (JumpsByList targets otherwise) rest made other 
 list_stops f n most target from (Calls how block instance []) rest made other e =
     leads_here most target from (call_op how block instance) rest refl e
 list_stops f n most target from (Calls how block instance (p ∷ ps)) rest made other e =
-    leads_here most target from (preparing operation.Pass (operand.Pass p.index p.actual))
+    leads_here most target from (preparing_op operation.Pass (operand.Pass p.index p.actual))
     ((aimed_part f (parted (Calls how block instance ps))).front
     ++ call_op how block instance ∷ rest) refl e
 list_stops f n most target from (Returns how) rest made other e =
@@ -338,7 +338,7 @@ list_stops f n most target from (Returns how) rest made other e =
 data Goes (f : ℕ → ℕ) (most target from : ℕ) (i : Instr) (rest : List OpData) : Type 0 where
   Ends : (same : from ≡ target) → Goes f most target from i rest
   On : (fewer : ℕ) (is : most ≡ suc fewer) (ju : is_ju i ≡ true)
-      (more : leads fewer target (from + bytes_of (parted i)) rest ≡ true)
+      (more : leads_to_target fewer target (from + bytes_of (parted i)) rest ≡ true)
       → Goes f most target from i rest
 
 ju_goes : (f : ℕ → ℕ) (most target from there : ℕ) (rest : List OpData)
@@ -347,13 +347,13 @@ ju_goes : (f : ℕ → ℕ) (most target from there : ℕ) (rest : List OpData)
 ju_goes f most target from there rest (Here same) = Ends same
 ju_goes f most target from there rest (Behind fewer is more) =
     let long = size_aimed f (jump_op jump.Ju there) in
-    let same : from + size (jump_op jump.Ju (f there)) ≡ from + bytes_of (parted (Jumps jump.Ju there))
+    let same : from + size_of_op (jump_op jump.Ju (f there)) ≡ from + bytes_of (parted (Jumps jump.Ju there))
     = omega (arith, long) in
     On fewer is refl
-    (ap (λ (k : ℕ). leads fewer target k rest) (sym same) ∙ more)
+    (ap (λ (k : ℕ). leads_to_target fewer target k rest) (sym same) ∙ more)
 
 list_goes : (f : ℕ → ℕ) (n most target from : ℕ) (i : Instr) (rest : List OpData)
-    → IsMade n i → leads most target from (ops_with f i rest) ≡ true
+    → IsMade n i → leads_to_target most target from (ops_with f i rest) ≡ true
     → Goes f most target from i rest
 list_goes f n most target from (Jumps jump.Ju there) rest made e =
     ju_goes f most target from there rest
@@ -362,14 +362,14 @@ list_goes f n most target from i rest made e =
     Ends (list_stops f n most target from i rest made refl e)
 
 -- the statements up to a target are JU
-record Lists (most target first : ℕ) (behind : List Stated) : Type 0 where
+record Lists (most target first : ℕ) (behind : List SourceInstruction) : Type 0 where
   count : ℕ
   at : target ≡ first + count
   few : count ≤ most
   there : count ≤ length behind
   jumps : AllByRecursion IsJu (take count behind)
 
-lists_none : (most target first : ℕ) (behind : List Stated) → target ≡ first
+lists_none : (most target first : ℕ) (behind : List SourceInstruction) → target ≡ first
     → Lists most target first behind
 lists_none most target first behind e = record {
   count = 0;
@@ -379,7 +379,7 @@ lists_none most target first behind e = record {
   jumps = tt;
 }
 
-lists_more : (most target first : ℕ) (s : Stated) (behind : List Stated) → is_ju s.instr ≡ true
+lists_more : (most target first : ℕ) (s : SourceInstruction) (behind : List SourceInstruction) → is_ju s.instr ≡ true
     → Lists most target (suc first) behind → Lists (suc most) target first (s ∷ behind)
 lists_more most target first s behind ju h = record {
   count = suc h.count;
@@ -389,10 +389,10 @@ lists_more most target first s behind ju h = record {
   jumps = (ju, h.jumps);
 }
 
-lists_step : (f : ℕ → ℕ) (most target from first n : ℕ) (s : Stated) (behind : List Stated)
+lists_step : (f : ℕ → ℕ) (most target from first n : ℕ) (s : SourceInstruction) (behind : List SourceInstruction)
     (rest : List OpData)
     → (from ≡ f target → target ≡ first)
-    → ((fewer : ℕ) → leads fewer (f target) (from + bytes_of (parted s.instr)) rest ≡ true
+    → ((fewer : ℕ) → leads_to_target fewer (f target) (from + bytes_of (parted s.instr)) rest ≡ true
     → Lists fewer target (suc first) behind)
     → Goes f most (f target) from s.instr rest → Lists most target first (s ∷ behind)
 lists_step f most target from first n s behind rest one more (Ends same) =
@@ -401,34 +401,34 @@ lists_step f most target from first n s behind rest one more (On fewer is ju led
     subst (λ (k : ℕ). Lists k target first (s ∷ behind)) (sym is)
     (lists_more fewer target first s behind ju (more fewer led))
 
-one_longer : (front : List Stated) (s : Stated) → length (front ++ s ∷ []) ≡ suc (length front)
+one_longer : (front : List SourceInstruction) (s : SourceInstruction) → length (front ++ s ∷ []) ≡ suc (length front)
 one_longer front s = length-append front (s ∷ []) ∙ omega arith
 
-one_further : (front : List Stated) (s : Stated)
+one_further : (front : List SourceInstruction) (s : SourceInstruction)
     → ends_at (front ++ s ∷ []) ≡ ends_at front + bytes_of (parted s.instr)
 one_further front s = ends_append front (s ∷ []) ∙ omega arith
 
-listed : (whole front behind : List Stated) (line n most target : ℕ)
+listed : (whole front behind : List SourceInstruction) (line n most target : ℕ)
     → whole ≡ front ++ (behind ++ returning line ∷ []) → AreMade n behind
-    → leads most (position whole target) (ends_at front)
+    → leads_to_target most (position whole target) (ends_at front)
     (the_code (position whole) (behind ++ returning line ∷ [])) ≡ true
     → Lists most target (length front) (behind ++ returning line ∷ [])
 listed whole front [] line n most target e made led =
     let here = leads_here most (position whole target) (ends_at front) (end_op ends.Be) [] refl led in
     lists_none most target (length front) (returning line ∷ [])
     (position_one front (returning line) [] target
-    (ap (λ (z : List Stated). position z target) (sym e) ∙ sym here))
+    (ap (λ (z : List SourceInstruction). position z target) (sym e) ∙ sym here))
 listed whole front (s ∷ behind) line n most target e made led =
     lists_step (position whole) most target (ends_at front) (length front) n s
     (behind ++ returning line ∷ [])
     (the_code (position whole) (behind ++ returning line ∷ []))
     (λ here. position_one front s (behind ++ returning line ∷ []) target
-    (ap (λ (z : List Stated). position z target) (sym e) ∙ sym here))
+    (ap (λ (z : List SourceInstruction). position z target) (sym e) ∙ sym here))
     (λ fewer more.
     subst (λ (k : ℕ). Lists fewer target k (behind ++ returning line ∷ [])) (one_longer front s)
     (listed whole (front ++ s ∷ []) behind line (suc n) fewer target
     (e ∙ sym (append_assoc front (s ∷ []) (behind ++ returning line ∷ []))) made.1
-    (ap (λ (k : ℕ). leads fewer (position whole target) k
+    (ap (λ (k : ℕ). leads_to_target fewer (position whole target) k
     (the_code (position whole) (behind ++ returning line ∷ []))) (one_further front s) ∙ more)))
     (list_goes (position whole) n most (position whole target) (ends_at front) s.instr
     (the_code (position whole) (behind ++ returning line ∷ [])) made.0 led)
@@ -437,7 +437,7 @@ numbers_count : (n count : ℕ) → length (numbers_from n count) ≡ count
 numbers_count n zero = refl
 numbers_count n (suc count) = ap suc (numbers_count (suc n) count)
 
-is_list : (n otherwise : ℕ) (targets : List ℕ) (behind : List Stated)
+is_list : (n otherwise : ℕ) (targets : List ℕ) (behind : List SourceInstruction)
     → targets ≡ numbers_from (suc n) (otherwise - suc n)
     → Lists 255 otherwise (suc n) behind → IsList n targets otherwise behind
 is_list n otherwise targets behind made h = record {
@@ -456,7 +456,7 @@ is_list n otherwise targets behind made h = record {
 
 record IsShort (ops : List OpData) : Type 0 where
   at : ℕ
-  none : overlong 0 at ops ≡ None
+  none : overlong_statement 0 at ops ≡ None
 
 -- what stands before the last op of a statement
 record IsFew (count : ℕ) (front rest : List OpData) : Type 0 where
@@ -465,32 +465,32 @@ record IsFew (count : ℕ) (front rest : List OpData) : Type 0 where
 
 few_in : (count at : ℕ) (front : List OpData) (op : OpData) (rest : List OpData)
     → AllByRecursion IsPreparing front → op.last ≡ true → count ≤ 64
-    → overlong count at (front ++ op ∷ rest) ≡ None → IsFew count front rest
+    → overlong_statement count at (front ++ op ∷ rest) ≡ None → IsFew count front rest
 few_in count at [] op rest fs last most e = by (eqb count 64) refl e
   where
     by : (t : Bool) → eqb count 64 ≡ t
-        → (if t then Some at else overlong (if op.last then 0 else suc count) (at + size op) rest) ≡ None
+        → (if t then Some at else overlong_statement (if op.last then 0 else suc count) (at + size_of_op op) rest) ≡ None
         → IsFew count [] rest
     by true is h = absurd cc
     by false is h =
         let other = eqb-false count 64 is in
-        let same : overlong 0 (at + size op) rest ≡ None
-        = ap (λ (t : Bool). overlong (if t then 0 else suc count) (at + size op) rest) (sym last) ∙ h in
-        record { few = omega (arith, other, most); more = record { at = at + size op; none = same } }
+        let same : overlong_statement 0 (at + size_of_op op) rest ≡ None
+        = ap (λ (t : Bool). overlong_statement (if t then 0 else suc count) (at + size_of_op op) rest) (sym last) ∙ h in
+        record { few = omega (arith, other, most); more = record { at = at + size_of_op op; none = same } }
 few_in count at (x ∷ front) op rest fs last most e =
-    by (eqb count 64) refl e (few_in (suc count) (at + size x) front op rest fs.1 last)
+    by (eqb count 64) refl e (few_in (suc count) (at + size_of_op x) front op rest fs.1 last)
   where
     by : (t : Bool) → eqb count 64 ≡ t
         → (if t then Some at
-        else overlong (if x.last then 0 else suc count) (at + size x) (front ++ op ∷ rest)) ≡ None
-        → (suc count ≤ 64 → overlong (suc count) (at + size x) (front ++ op ∷ rest) ≡ None
+        else overlong_statement (if x.last then 0 else suc count) (at + size_of_op x) (front ++ op ∷ rest)) ≡ None
+        → (suc count ≤ 64 → overlong_statement (suc count) (at + size_of_op x) (front ++ op ∷ rest) ≡ None
         → IsFew (suc count) front rest)
         → IsFew count (x ∷ front) rest
     by true is h more = absurd cc
     by false is h more =
         let other = eqb-false count 64 is in
-        let same : overlong (suc count) (at + size x) (front ++ op ∷ rest) ≡ None
-        = ap (λ (t : Bool). overlong (if t then 0 else suc count) (at + size x) (front ++ op ∷ rest)) (sym fs.0) ∙ h in
+        let same : overlong_statement (suc count) (at + size_of_op x) (front ++ op ∷ rest) ≡ None
+        = ap (λ (t : Bool). overlong_statement (if t then 0 else suc count) (at + size_of_op x) (front ++ op ∷ rest)) (sym fs.0) ∙ h in
         let r = more (omega (arith, other, most)) same in
         let few = r.few in
         record { few = omega (arith, few); more = r.more }
@@ -502,29 +502,29 @@ few_of f i rest h =
     few_in 0 h.at (aimed_part f (parted i)).front (aimed_part f (parted i)).end rest is.front is.end
     (omega arith) h.none
 
-passing_count : (ps : List Passing) → length (passing ps) ≡ length ps
+passing_count : (ps : List Passing) → length (pass_ops ps) ≡ length ps
 passing_count [] = refl
 passing_count (p ∷ ps) = ap suc (passing_count ps)
 
 passed_few : (f : ℕ → ℕ) (ps : List Passing) (rest : List OpData)
-    → IsFew 0 (map (aimed_op f) (passing ps)) rest → length ps ≤ 63
+    → IsFew 0 (map (op_with_target f) (pass_ops ps)) rest → length ps ≤ 63
 passed_few f ps rest h =
     let few = h.few in
-    let same = length-map (passing ps) (aimed_op f) in
+    let same = length-map (pass_ops ps) (op_with_target f) in
     let count = passing_count ps in
     omega (arith, few, same, count)
 
 -- ---- a block
 
-one_compiled : (a : Around) (ss : List StatementSpot) (whole front : List Stated) (s : Stated)
-    (behind : List Stated) (line : ℕ) (i : Instr)
+one_compiled : (a : Environment) (ss : List StatementSpot) (whole front : List SourceInstruction) (s : SourceInstruction)
+    (behind : List SourceInstruction) (line : ℕ) (i : Instr)
     → whole ≡ front ++ s ∷ (behind ++ returning line ∷ []) → s.instr ≡ i
     → IsMade (length front) i → AreMade (suc (length front)) behind
     → IsClean a ss (ends_at front)
     (ops_with (position whole) i (the_code (position whole) (behind ++ returning line ∷ [])))
     → IsFew 0 (aimed_part (position whole) (parted i)).front
     (the_code (position whole) (behind ++ returning line ∷ []))
-    → IsCompiled (length front) i (behind ++ returning line ∷ [])
+    → IsGeneratedInstruction (length front) i (behind ++ returning line ∷ [])
 one_compiled a ss whole front s behind line (Does use_db w o) e is made more clean few = made
 one_compiled a ss whole front s behind line (Jumps how target) e is made more clean few = made
 one_compiled a ss whole front s behind line (Returns how) e is made more clean few = tt
@@ -539,7 +539,7 @@ one_compiled a ss whole front s behind line (JumpsByList targets otherwise) e is
     (subst (λ (k : ℕ). Lists 255 otherwise k (behind ++ returning line ∷ [])) (one_longer front s)
     (listed whole (front ++ s ∷ []) behind line (suc (length front)) 255 otherwise
     (e ∙ sym (append_assoc front (s ∷ []) (behind ++ returning line ∷ []))) more
-    (ap (λ (k : ℕ). leads 255 (f otherwise) k rest) from
+    (ap (λ (k : ℕ). leads_to_target 255 (f otherwise) k rest) from
     ∙ clean_leads a ss (ends_at front) (code_of_operation operation.Jump) (f otherwise) true rest clean)))
   where
     f : ℕ → ℕ
@@ -548,7 +548,7 @@ one_compiled a ss whole front s behind line (JumpsByList targets otherwise) e is
     rest : List OpData
     rest = the_code (position whole) (behind ++ returning line ∷ [])
 
-    from : ends_at (front ++ s ∷ []) ≡ ends_at front + size (jump_op jump.Jl (f otherwise))
+    from : ends_at (front ++ s ∷ []) ≡ ends_at front + size_of_op (jump_op jump.Jl (f otherwise))
     from =
         let long = size_aimed f (jump_op jump.Jl otherwise) in
         let same : bytes_of (parted s.instr) ≡ bytes_of (parted (JumpsByList targets otherwise))
@@ -556,18 +556,18 @@ one_compiled a ss whole front s behind line (JumpsByList targets otherwise) e is
         let further = one_further front s in
         omega (arith, long, same, further)
 
-clean_part : (a : Around) (ss : List StatementSpot) (f : ℕ → ℕ) (at : ℕ) (i : Instr) (rest : List OpData)
+clean_part : (a : Environment) (ss : List StatementSpot) (f : ℕ → ℕ) (at : ℕ) (i : Instr) (rest : List OpData)
     → IsClean a ss at (ops_with f i rest) → IsClean a ss (at + bytes_of (parted i)) rest
 clean_part a ss f at i rest h =
     let p = aimed_part f (parted i) in
     let front = total_aimed f (parted i).front in
     let end = size_aimed f (parted i).end in
-    let same : at + total p.front + size p.end ≡ at + bytes_of (parted i) = omega (arith, front, end) in
+    let same : at + total p.front + size_of_op p.end ≡ at + bytes_of (parted i) = omega (arith, front, end) in
     subst (λ (k : ℕ). IsClean a ss k rest) same
     (clean_next a ss (at + total p.front) p.end rest
     (clean_behind a ss at p.front (p.end ∷ rest) h))
 
-compiled_from : (a : Around) (ss : List StatementSpot) (whole front behind : List Stated) (line : ℕ)
+compiled_from : (a : Environment) (ss : List StatementSpot) (whole front behind : List SourceInstruction) (line : ℕ)
     → whole ≡ front ++ (behind ++ returning line ∷ []) → AreMade (length front) behind
     → IsClean a ss (ends_at front) (the_code (position whole) (behind ++ returning line ∷ []))
     → IsShort (the_code (position whole) (behind ++ returning line ∷ []))
@@ -592,9 +592,9 @@ compiled_from a ss whole front (s ∷ behind) line e made clean short = (
 
 -- its code has no fault, and no statement of more than 64 ops
 record IsRightCode (code : List OpData) : Type 0 where
-  around_block : Around
+  around_block : Environment
   statements : List StatementSpot
-  clean : IsClean around_block statements 0 code
+  clean : IsClean environment_of_block statements 0 code
   short : IsShort code
 
 block_compilable : (b : StatedBlock) → IsMadeBlock b → IsRightCode (code_in b.statements)
@@ -605,7 +605,7 @@ block_compilable b made right =
     (subst (λ (z : List OpData). IsClean right.around right.statements 0 z) same right.clean)
     (subst IsShort same right.short))
   where
-    whole : List Stated
+    whole : List SourceInstruction
     whole = made.inner ++ returning made.line ∷ []
 
     same : code_in b.statements ≡ the_code (position whole) whole
@@ -621,7 +621,7 @@ code_short : (count : ℕ) (ops : List OpData) → (code_layout true count).good
 unfolding code_layout
 code_short count ops e = record {
   at = 0;
-  none = first_none (overlong 0 0 ops) (if ends_right ops then None else Some (last_place 0 ops))
+  none = first_none (overlong_statement 0 0 ops) (if ends_right ops then None else Some (last_place 0 ops))
       (and_second (are_ops ops) (is_nowhere (stop_at true ops []))
       (and_first (are_ops ops && is_nowhere (stop_at true ops [])) (eqb (length (code_bytes ops)) count) e));
 }
@@ -642,25 +642,25 @@ blocks_short before (suc n) (b ∷ bs) e = (
 
 program_short : (p : Program) → IsRight p
     → AllByRecursion (λ b. IsShort b.code) (map record_of_block p.code_blocks)
-unfolding body records body_rows code_blocks
+unfolding body_layout records_layout body_rows code_blocks_layout
 program_short p e =
     blocks_short (0, 0) _ (map record_of_block p.code_blocks)
     (and_first _ _ (and_second _ _ e))
 
-code_clean : (a : Around) (ops : List OpData) → block_faults a 0 ops ≡ [] → IsClean a (spots ops) 0 ops
+code_clean : (a : Environment) (ops : List OpData) → block_faults a 0 ops ≡ [] → IsClean a (statement_spots ops) 0 ops
 unfolding block_faults
 code_clean a ops e = record { brackets = []; zones = []; before = []; none = none_left _ _ (none_left _ _ e) }
 
 right_codes : (lens : List (ℕ × ℕ)) (all : List BlockRecord) (bs : List StatedBlock)
-    → AreVerified lens all (map record_of_block (map compiled bs))
-    → AllByRecursion (λ b. IsShort b.code) (map record_of_block (map compiled bs))
+    → AreVerified lens all (map record_of_block (map compiled_block bs))
+    → AllByRecursion (λ b. IsShort b.code) (map record_of_block (map compiled_block bs))
     → AllByRecursion (λ b. IsRightCode (code_in b.statements)) bs
 right_codes lens all [] clean short = tt
 right_codes lens all (b ∷ bs) clean short = (
   record {
-    around = around_block (Some lens) all (record_of_block (compiled b));
-    statements = spots (code_in b.statements);
-    clean = code_clean (around_block (Some lens) all (record_of_block (compiled b)))
+    around = environment_of_block (Some lens) all (record_of_block (compiled_block b));
+    statements = statement_spots (code_in b.statements);
+    clean = code_clean (environment_of_block (Some lens) all (record_of_block (compiled_block b)))
         (code_in b.statements) clean.0;
     short = short.0;
   },
@@ -677,7 +677,7 @@ pub verified_is_compilable : VerifiedIsCompilable
 verified_is_compilable t symbols layouts verified =
     all_compilable blocks (blocks_made t symbols layouts)
     (right_codes (lens_of (program_of t symbols layouts).data_blocks)
-    (map record_of_block (map compiled blocks)) blocks verified.blocks
+    (map record_of_block (map compiled_block blocks)) blocks verified.blocks
     (program_short (program_of t symbols layouts) verified.right))
   where
     blocks : List StatedBlock

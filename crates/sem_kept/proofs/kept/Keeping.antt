@@ -3,22 +3,22 @@ use Rattle.std.proofs.Common.{ℕ, ap, ◌∙◌}
 use Rattle.plc_base.specs.declared.BlockId.{BlockId}
 use Rattle.plc_base.specs.declared.Profile.{Profile}
 use Rattle.machine.specs.Code.{Code}
-use Rattle.machine.specs.Moved.{Follows}
+use Rattle.machine.specs.Moved.{FollowsCode}
 use Rattle.controller.specs.Moved.{EntriesMove, HistoriesMove}
-use Rattle.controller.specs.Replay.{Happened, happens, replay}
+use Rattle.controller.specs.Replay.{EntryResult, entry_result, replay}
 use Rattle.controller.specs.State.{State}
-use Rattle.sem_kept.specs.Kept.{IsKept}
+use Rattle.sem_kept.specs.Kept.{BehavesAlike}
 
 pub kept_by :
     (profile : Profile) (f : BlockId → ℕ → ℕ) (c d : Code)
-    → EntriesMove → HistoriesMove → Follows f c d → IsKept profile c d
+    → EntriesMove → HistoriesMove → FollowsCode f c d → BehavesAlike profile c d
 kept_by profile f c d entries histories follows = record {
   world = λ history. ap (λ (s : State). s.world) (histories profile f c d history follows);
   mode = λ history. ap (λ (s : State). s.mode) (histories profile f c d history follows);
   sched = λ history. ap (λ (s : State). s.sched) (histories profile f c d history follows);
   diagnostics = λ history. ap (λ (s : State). s.diagnostics) (histories profile f c d history follows);
-  reply = λ history entry. ap (λ (s : State). (happens d s entry).reply) (histories profile f c d history follows)
-      ∙ ap (λ (h : Happened). h.reply) (entries f c d (replay profile c history) entry follows);
-  seen = λ history entry. ap (λ (s : State). (happens d s entry).seen) (histories profile f c d history follows)
-      ∙ ap (λ (h : Happened). h.seen) (entries f c d (replay profile c history) entry follows);
+  reply = λ history entry. ap (λ (s : State). (entry_result d s entry).reply) (histories profile f c d history follows)
+      ∙ ap (λ (h : EntryResult). h.reply) (entries f c d (replay profile c history) entry follows);
+  seen = λ history entry. ap (λ (s : State). (entry_result d s entry).seen) (histories profile f c d history follows)
+      ∙ ap (λ (h : EntryResult). h.seen) (entries f c d (replay profile c history) entry follows);
 }

@@ -1,11 +1,11 @@
 use Rattle.std.proofs.Common.{◌≡◌, drop, ◌≤◌}
-use Rattle.block_layout.specs.Paths.{IsSoundAt, leaves}
-use Rattle.block_layout.specs.Sizes.{largest}
+use Rattle.block_layout.specs.Paths.{IsSoundAt, leaves_array}
+use Rattle.block_layout.specs.Sizes.{largest_size}
 use Rattle.block_layout.proofs.beyond.leaves.Given as goal
 
 abbrev pub invariant-loop-next : goal.invariant-loop-next
 invariant-loop-next l = record {
-  rest : leaves l.layouts l.spot (drop l.next-index l.path) ≡ leaves l.layouts l.fn.start l.path;
-  near : l.spot.offset ≤ largest;
+  rest : leaves_array l.layouts l.spot (drop l.next-index l.path) ≡ leaves_array l.layouts l.fn.start l.path;
+  near : l.spot.offset ≤ largest_size;
   sound : IsSoundAt l.layouts l.spot;
 }

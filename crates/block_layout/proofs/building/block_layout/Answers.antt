@@ -4,14 +4,14 @@ use Rattle.stl_ast.specs.declared.blocks.Block.{Block}
 use Rattle.block_layout.specs.Blocks.{id_of}
 use Rattle.block_layout.specs.Facts.{outline_of}
 use Rattle.block_layout.specs.Layouts.{block_layout, is_broken}
-use Rattle.block_layout.specs.Lengths.{length_of, local_len, shape_of}
+use Rattle.block_layout.specs.Lengths.{length_of_block, local_len, shape_of}
 use Rattle.block_layout.specs.Types.{Types}
 use Rattle.block_layout.specs.declared.blocks.Shape.{Shape}
 use Rattle.block_layout.specs.declared.outlines.Outline.{Outline}
 use Rattle.block_layout.proofs.building.block_layout.Goals as goal
 
 made : (y : Types) (blocks some : List Block) (b : Block) (i : Option BlockId) (broken : Bool) (s : Shape) (o : Outline) (local len : ℕ) → i ≡ id_of y.symbols b →
-    broken ≡ is_broken y blocks some b → s ≡ shape_of y b → o ≡ outline_of y b → local ≡ local_len y b → len ≡ length_of y blocks b →
+    broken ≡ is_broken y blocks some b → s ≡ shape_of y b → o ≡ outline_of y b → local ≡ local_len y b → len ≡ length_of_block y blocks b →
     record { id = i; broken = broken; shape = s; components = o.components; temps = o.temps; local_len = local; length = len } ≡ block_layout y blocks some b
 unfolding block_layout
 made y blocks some b i broken s o local len is_id is_broken_ is_shape is_outline is_local is_len =

@@ -5,7 +5,7 @@ use Rattle.stl_ast.specs.declared.blocks.Block.{Block}
 use Rattle.block_layout.specs.declared.blocks.BlockLayout.{BlockLayout}
 use Rattle.block_layout.specs.Facts.{outline_of}
 use Rattle.block_layout.specs.Layouts.{layouts_by}
-use Rattle.block_layout.specs.Lengths.{length_of, local_len}
+use Rattle.block_layout.specs.Lengths.{length_of_block, local_len}
 use Rattle.block_layout.specs.Rule43.{contains_itself}
 use Rattle.block_layout.proofs.HeadLemmas.{mapped_at}
 use Rattle.block_layout.proofs.LayoutLemmas.{AreLaid, itself_at, laid_end, laid_first, laid_next}
@@ -59,8 +59,8 @@ loop-outline-preserved c =
     ∙ ap (λ (x : Block). contains_itself y blocks at.some x) (sym c.index-blocks-place.is) in
     let local : c.number_at-local.result ≡ local_len y block =
     c.number_at-local.ensures ∙ ap (λ (l : List ℕ). get_or l place 0) c.deref-in-loop-outline.ensures.value ∙ mapped_at (local_len y) blocks _ place block facts.local_lens within c.index-blocks-place.is in
-    let len : c.number_at-len.result ≡ length_of y blocks block =
-    c.number_at-len.ensures ∙ ap (λ (l : List ℕ). get_or l place 0) c.deref-in-loop-outline-2.ensures.value ∙ mapped_at (length_of y blocks) blocks _ place block facts.lengths within c.index-blocks-place.is in
+    let len : c.number_at-len.result ≡ length_of_block y blocks block =
+    c.number_at-len.ensures ∙ ap (λ (l : List ℕ). get_or l place 0) c.deref-in-loop-outline-2.ensures.value ∙ mapped_at (length_of_block y blocks) blocks _ place block facts.lengths within c.index-blocks-place.is in
     let one = c.block_layout-layout.ensures blocks at.some is_outline (record { itself = itself; locals = local; bytes = len }) at.known in
     let pushed = c.in_ok-push.ensures.items in record {
       turns = ap length pushed ∙ length-append done (c.block_layout-layout.result ∷ []) ∙ ap (λ (n : ℕ). n + 1) turns ∙ sym (length-append c.loop-outline.yielded (c.in-Some.outline ∷ []));

@@ -2,7 +2,7 @@ use Rattle.std.proofs.Common.{rules, ◌≡◌, ◌++◌, [], ◌∷◌, List, �
 use Rattle.std.proofs.Math.ListN.{drop_of_length-le}
 use Rattle.std.proofs.lemmas.List.{append-nil}
 use Rattle.stl_ast.specs.declared.blocks.Block.{Block}
-use Rattle.block_layout.specs.Heads.{flagged}
+use Rattle.block_layout.specs.Heads.{breach_flags}
 use Rattle.block_layout.specs.Rule43.{contains_itself}
 use Rattle.block_layout.specs.Cycles.{uses_of_all}
 use Rattle.block_layout.proofs.CycleLemmas.{flags_next}
@@ -26,5 +26,5 @@ loop-i-preserved c =
 pub returns : goal.returns
 returns c =
     sym (append-nil c.loop-i.flags.items)
-    ∙ ap (λ (l : List Block). c.loop-i.flags.items ++ flagged (contains_itself c.args.types.now c.args.blocks.now) c.loop-i.invariant.0 l)
+    ∙ ap (λ (l : List Block). c.loop-i.flags.items ++ breach_flags (contains_itself c.args.types.now c.args.blocks.now) c.loop-i.invariant.0 l)
     (sym (drop_of_length-le c.args.blocks.now c.loop-i-test.false)) ∙ c.loop-i.invariant.1.1

@@ -1,6 +1,6 @@
 use Rattle.std.proofs.Common.{rules, arith, ◌≡◌, ◌∷◌, [], ℕ, List, Bool, false, get_or, length, map, refl, sym, ◌∙◌, ap, subst, replicate, add-one}
 use Rattle.stl_ast.specs.declared.blocks.Block.{Block}
-use Rattle.block_layout.specs.Cycles.{spread}
+use Rattle.block_layout.specs.Cycles.{with_uses_marked}
 use Rattle.block_layout.specs.Rule43.{leads_to}
 use Rattle.block_layout.proofs.CycleLemmas.{IsRound, all_rounds, ended, first_round, later_round, length-uses, next_round, none_there, written}
 use Rattle.block_layout.proofs.cycles.leads_back.Goals as goal
@@ -15,7 +15,7 @@ loop-step-init c = λ y blocks are.
 pub loop-step-preserved : goal.loop-step-preserved
 loop-step-preserved c = λ y blocks are.
     let held = c.loop-step.invariant y blocks are in
-    let after : (c.used_next.new.reached, c.in_ok-next.next.items) ≡ spread (map (λ u. u.items) c.args.uses.now) (c.loop-step.reached.items, []) c.loop-step.found.items = search rules in
+    let after : (c.used_next.new.reached, c.in_ok-next.next.items) ≡ with_uses_marked (map (λ u. u.items) c.args.uses.now) (c.loop-step.reached.items, []) c.loop-step.found.items = search rules in
     let r = next_round y blocks c.args.to c.loop-step.step (map (λ u. u.items) c.args.uses.now) c.loop-step.reached.items c.loop-step.found.items (c.used_next.new.reached, c.in_ok-next.next.items) are after held in
     let long : length c.used_next.new.reached ≡ c.loop-step.reached.len = r.size ∙ sym held.size ∙ sym c.loop-step.reached.ok.0 in
     later_round y blocks c.args.to c.loop-step.step _ c.used_next.new.reached c.in_ok-next.next.items (written c.loop-step.reached.len c.used_next.new.reached c.loop-step.reached.items long) r
@@ -23,7 +23,7 @@ loop-step-preserved c = λ y blocks are.
 pub returns-then-is_empty : goal.returns-then-is_empty
 returns-then-is_empty c = λ y blocks are.
     let held = c.loop-step.invariant y blocks are in
-    let after : (c.used_next.new.reached, c.in_ok-next.next.items) ≡ spread (map (λ u. u.items) c.args.uses.now) (c.loop-step.reached.items, []) c.loop-step.found.items = search rules in
+    let after : (c.used_next.new.reached, c.in_ok-next.next.items) ≡ with_uses_marked (map (λ u. u.items) c.args.uses.now) (c.loop-step.reached.items, []) c.loop-step.found.items = search rules in
     let r = next_round y blocks c.args.to c.loop-step.step (map (λ u. u.items) c.args.uses.now) c.loop-step.reached.items c.loop-step.found.items (c.used_next.new.reached, c.in_ok-next.next.items) are after held in
     let long : length c.used_next.new.reached ≡ c.loop-step.reached.len = r.size ∙ sym held.size ∙ sym c.loop-step.reached.ok.0 in
     let none = none_there c.in_ok-next.next.items c.in_ok-next.next.len (sym c.is_empty.ensures ∙ c.if-is_empty.true) c.in_ok-next.next.ok.0 in

@@ -1,5 +1,5 @@
 use Rattle.std.proofs.Common.{sym, subst, arith}
-use Rattle.flat_code.specs.Loading.{faults_of, Gives}
+use Rattle.flat_code.specs.Loading.{faults_of, GivesProgram}
 use Rattle.image_file.proofs.LeastLemmas.{kept_is_least}
 use Rattle.image_file.proofs.LoadLemmas.{image_loads}
 use Rattle.image_file.proofs.loading.load.Goals as goal
@@ -23,6 +23,6 @@ returns-in_ok-loaded-in-Clean-clause-gives c =
     let e = c.in_ok-loaded-in-Clean.ensures in
     record {
       stamp = image.stamp;
-      given = subst (Gives c.args.bytes.now image.stamp) (sym e.program) loads.gives;
+      given = subst (GivesProgram c.args.bytes.now image.stamp) (sym e.program) loads.gives;
       profile = e.profile;
     }

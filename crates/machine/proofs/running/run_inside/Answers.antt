@@ -1,13 +1,13 @@
 use Rattle.std.proofs.Common.{◌∙◌, ap, rules}
 use Rattle.machine.specs.Flat.{code_of}
 use Rattle.machine.specs.Silent.{shows_nothing, is_silent, is_still_inside}
-use Rattle.machine.specs.Statement.{world}
+use Rattle.machine.specs.Statement.{global_store}
 use Rattle.machine.proofs.SilentLemmas.{runs_next, runs_still, stops_at, stops_nowhere}
 use Rattle.machine.proofs.running.run_inside.Goals as goal
 
 pub returns-in_default-clause-stops : goal.returns-in_default-clause-stops
 returns-in_default-clause-stops c = λ no less.
-    stops_nowhere c.args.c.now.program is_silent c.args.a.now (world c.args.m.now c.args.t.now c.args.n.now) (search rules)
+    stops_nowhere c.args.c.now.program is_silent c.args.a.now (global_store c.args.m.now c.args.t.now c.args.n.now) (search rules)
 
 pub returns-in-Across-clause-runs : goal.returns-in-Across-clause-runs
 returns-in-Across-clause-runs c =

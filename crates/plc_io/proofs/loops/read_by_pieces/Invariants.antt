@@ -1,5 +1,5 @@
 use Rattle.std.proofs.Common.{◌+◌, ℕ, ◌-◌, ◌≤◌, List, length, vec_len}
-use Rattle.plc_io.specs.FileCalls.{Unchanged}
+use Rattle.plc_io.specs.FileCalls.{AreFilesUnchanged}
 use Rattle.plc_io.specs.Moments.{FilesAt}
 use Rattle.plc_io.proofs.OutsideLemmas.{HasRead}
 use Rattle.plc_io.proofs.loops.read_by_pieces.Given as goal
@@ -8,7 +8,7 @@ use Rattle.plc_io.proofs.loops.read_by_pieces.Given as goal
 pub record IsReading (before now : FilesAt) (name bytes : List ℕ) (limit : ℕ) : Type 0 where
   pub within : length bytes ≤ limit + 1
   pub front : HasRead before.contents name bytes
-  pub same : Unchanged before now
+  pub same : AreFilesUnchanged before now
 
 abbrev pub invariant-loop-bytes : goal.invariant-loop-bytes
 invariant-loop-bytes g l = IsReading (g.F.Files.shown l.fn.files) (g.F.Files.shown l.files) l.name l.bytes.items l.limit

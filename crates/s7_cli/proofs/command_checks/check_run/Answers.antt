@@ -4,7 +4,7 @@ use Rattle.flat_code.specs.Programs.{NameEntry}
 use Rattle.image_file.specs.Loaded.{LoadedProgram}
 use Rattle.var_access.specs.History.{History}
 use Rattle.event_text.specs.TextFault.{IsTextFault}
-use Rattle.event_text.specs.Texts.{history_of}
+use Rattle.event_text.specs.Texts.{history_of_text}
 use Rattle.s7_cli.proofs.SaysLemmas.{image-refused, run-refused}
 use Rattle.s7_cli.proofs.command_checks.check_run.Goals as goal
 
@@ -20,5 +20,5 @@ returns-in_err-entries-clause-refused c =
     let p = c.in_ok-program.program in
     run-refused (LoadedProgram × History) c.args.image.now p c.args.history.now _ _
     (fault.1 ∙ ap Err fault.2) c.in_ok-program.ensures.loads
-    (subst (λ (names : List NameEntry). IsTextFault (history_of names c.args.history.now) c.in_err-entries.field-0.0)
+    (subst (λ (names : List NameEntry). IsTextFault (history_of_text names c.args.history.now) c.in_err-entries.field-0.0)
     c.names.ensures c.in_err-entries.ensures.refused)

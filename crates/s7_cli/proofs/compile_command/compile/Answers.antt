@@ -2,7 +2,7 @@ use Rattle.std.proofs.Common.{ap, sym, ◌∙◌, List, [], ℕ, Option, Err, ap
 use Rattle.std.specs.Option.{option_map}
 use Rattle.std.proofs.lemmas.Result.{err_from_is_err_and}
 use Rattle.s7_cli.specs.Command.{Compile, Input, program_inputs}
-use Rattle.s7_cli.specs.Texts.{contents_of}
+use Rattle.s7_cli.specs.Texts.{file_contents_of}
 use Rattle.s7_cli.proofs.ComesLemmas.{comes-unread}
 use Rattle.s7_cli.proofs.SaysLemmas.{within}
 use Rattle.s7_cli.proofs.compile_command.compile.Goals as goal
@@ -12,7 +12,7 @@ returns-in_err-text g c =
     let fault = err_from_is_err_and c.from_residual.result c.from_residual.ensures.1 in
     let symbols : Option (List ℕ) = option_map (λ s. s.now) c.args.symbols in
     let inputs : List Input = program_inputs c.args.src.now symbols in
-    comes-unread contents_of (Compile c.args.src.now symbols c.args.german c.args.img.now) _ _ _ inputs [] _ _ (sym (append-nil inputs))
+    comes-unread file_contents_of (Compile c.args.src.now symbols c.args.german c.args.img.now) _ _ _ inputs [] _ _ (sym (append-nil inputs))
     (fault.1 ∙ ap Err fault.2) c.in_err-text.ensures
 
 pub compile_text-requires : goal.compile_text-requires

@@ -2,7 +2,7 @@ use Rattle.std.proofs.Common.{◌∙◌, ap, subst, Err, List, arith, map}
 use Rattle.std.proofs.lemmas.Result.{err_from_is_err_and}
 use Rattle.var_access.specs.declared.Entry.{Entry}
 use Rattle.s7_cli.specs.declared.command_checks.LiveWork.{LiveWork}
-use Rattle.s7_cli.specs.LiveTexts.{TextSays}
+use Rattle.s7_cli.specs.LiveTexts.{LiveTextSays}
 use Rattle.s7_cli.specs.Living.{IsLive}
 use Rattle.s7_cli.proofs.LiveLemmas.{live-said, refused-on}
 use Rattle.s7_cli.proofs.live_command.lived.Goals as goal
@@ -10,7 +10,7 @@ use Rattle.s7_cli.proofs.live_command.lived.Goals as goal
 pub returns-in_err-program-clause-refused : goal.returns-in_err-program-clause-refused
 returns-in_err-program-clause-refused g c =
     let fault = err_from_is_err_and c.from_residual.result c.from_residual.ensures.1 in
-    refused-on LiveWork _ (TextSays c.args.steps c.args.text.now) _ _ (fault.1 ∙ ap Err fault.2) (c.in_err-program.ensures.refused c.args.steps)
+    refused-on LiveWork _ (LiveTextSays c.args.steps c.args.text.now) _ _ (fault.1 ∙ ap Err fault.2) (c.in_err-program.ensures.refused c.args.steps)
 
 pub returns-clause-says : goal.returns-clause-says
 returns-clause-says g c =

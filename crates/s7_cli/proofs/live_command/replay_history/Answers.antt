@@ -3,7 +3,7 @@ use Rattle.std.proofs.lemmas.Result.{err_from_is_err_and}
 use Rattle.image_file.specs.Loaded.{LoadedProgram}
 use Rattle.machine.specs.Flat.{code_of}
 use Rattle.var_access.specs.declared.Entry.{Entry}
-use Rattle.s7_cli.specs.run_text.Behind.{program_of}
+use Rattle.s7_cli.specs.run_text.Behind.{program_of_recording}
 use Rattle.s7_cli.specs.run_text.RunText.{run_text}
 use Rattle.s7_cli.proofs.run.WritingLemmas.{goes-first, goes-last, wrote-none}
 use Rattle.s7_cli.proofs.live_command.replay_history.Goals as goal
@@ -18,7 +18,7 @@ returns-in_err-entries g c =
 
 pub returns : goal.returns
 returns g c =
-    let p = program_of c.args.controller in
+    let p = program_of_recording c.args.controller in
     let h = c.args.controller.history in
     goes-last _ (run_of p h) _ _ _ _ _ (goes-first (run_of p h) _)
     (ap₂ run_of c.into_program.ensures (c.in_ok-entries.ensures ∙ c.runs.ensures.out))

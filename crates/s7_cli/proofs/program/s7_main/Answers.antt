@@ -3,11 +3,11 @@ use Rattle.std.specs.Prelude.{string_bytes}
 use Rattle.std.specs.Option.{option_map}
 use Rattle.plc_io.specs.Moments.{FilesAt, SinkAt}
 use Rattle.s7_cli.specs.declared.failures.Failure.TheVariants.{WordsRefused, NoMemory}
-use Rattle.s7_cli.specs.Answer.{words_refused}
+use Rattle.s7_cli.specs.Answer.{words_refused_answer}
 use Rattle.s7_cli.specs.Command.{Command}
-use Rattle.s7_cli.specs.Ends.{Ended, taking}
-use Rattle.s7_cli.specs.Inner.{Comes}
-use Rattle.s7_cli.specs.Reading.{disk}
+use Rattle.s7_cli.specs.Ends.{EndsWithStatus, sink_moments}
+use Rattle.s7_cli.specs.Inner.{ComesOutAs}
+use Rattle.s7_cli.specs.Reading.{disk_moments}
 use Rattle.s7_cli.specs.StatusTable.{StatusTable}
 use Rattle.s7_cli.specs.Words.{command_of, command_value}
 use Rattle.s7_cli.proofs.ComesLemmas.{only-reads, unchanged, wanting}
@@ -15,10 +15,10 @@ use Rattle.s7_cli.proofs.LimitLemmas.{read-limits}
 use Rattle.s7_cli.proofs.program.s7_main.Goals as goal
 
 words-refused : (command : Option Command) (files : FilesAt) (out : SinkAt) → None ≡ command
-    → Comes command (disk files files) (taking out out) (Err WordsRefused)
+    → ComesOutAs command (disk_moments files files) (sink_moments out out) (Err WordsRefused)
 words-refused command files out is =
-    subst (λ (c : Option Command). Comes c (disk files files) (taking out out) (Err WordsRefused)) is (record {
-      line = words_refused.text;
+    subst (λ (c : Option Command). ComesOutAs c (disk_moments files files) (sink_moments out out) (Err WordsRefused)) is (record {
+      line = words_refused_answer.text;
       has_line = refl;
       answers = refl;
       sink = refl;
@@ -27,8 +27,8 @@ words-refused command files out is =
     })
 
 -- memory was wanting while the words were read
-words-unread : (command : Option Command) (files : FilesAt) (out : SinkAt) → Comes command (disk files files) (taking out out) (Err NoMemory)
-words-unread command files out = wanting command (disk files files) out (only-reads files files (unchanged files))
+words-unread : (command : Option Command) (files : FilesAt) (out : SinkAt) → ComesOutAs command (disk_moments files files) (sink_moments out out) (Err NoMemory)
+words-unread command files out = wanting command (disk_moments files files) out (only-reads files files (unchanged files))
 
 pub returns-in-Ok-None-clause-ends : goal.returns-in-Ok-None-clause-ends
 returns-in-Ok-None-clause-ends g c =
@@ -51,8 +51,8 @@ returns-in-Ok-Some-clause-ends g c =
     let is : Some (command_value c.in-Ok-Some.asked) ≡ command_of (map string_bytes c.args.words.now) =
     sym (ap (option_map command_value) c.in-Ok-Some.field-0-is) ∙ c.in-Ok-Some.ensures in
     subst
-    (λ (k : Option Command). Ended k (disk (g.F.Files.shown c.args.files.now) (g.F.Files.shown c.carry_out.new.files))
-    (taking (g.K.Sink.shown c.args.out.now) (g.K.Sink.shown c.carry_out.new.out)) c.carry_out.result.code)
+    (λ (k : Option Command). EndsWithStatus k (disk_moments (g.F.Files.shown c.args.files.now) (g.F.Files.shown c.carry_out.new.files))
+    (sink_moments (g.K.Sink.shown c.args.out.now) (g.K.Sink.shown c.carry_out.new.out)) c.carry_out.result.code)
     is c.carry_out.ensures.ends
 
 pub returns-in-Ok-Some-clause-table : goal.returns-in-Ok-Some-clause-table
@@ -60,6 +60,6 @@ returns-in-Ok-Some-clause-table g c =
     let is : Some (command_value c.in-Ok-Some.asked) ≡ command_of (map string_bytes c.args.words.now) =
     sym (ap (option_map command_value) c.in-Ok-Some.field-0-is) ∙ c.in-Ok-Some.ensures in
     subst
-    (λ (k : Option Command). StatusTable k (disk (g.F.Files.shown c.args.files.now) (g.F.Files.shown c.carry_out.new.files))
-    (taking (g.K.Sink.shown c.args.out.now) (g.K.Sink.shown c.carry_out.new.out)) c.carry_out.result.code)
+    (λ (k : Option Command). StatusTable k (disk_moments (g.F.Files.shown c.args.files.now) (g.F.Files.shown c.carry_out.new.files))
+    (sink_moments (g.K.Sink.shown c.args.out.now) (g.K.Sink.shown c.carry_out.new.out)) c.carry_out.result.code)
     is c.carry_out.ensures.table

@@ -1,6 +1,6 @@
 use Rattle.std.proofs.Common.{◌∙◌, ap, sym, subst, Err, List, rules}
 use Rattle.std.proofs.lemmas.Result.{err_from_is_err_and}
-use Rattle.stack_bound.specs.CertificateText.{Spells}
+use Rattle.stack_bound.specs.CertificateText.{SpellsCertificate}
 use Rattle.stack_bound.specs.declared.certificates.Bound.{Bound}
 use Rattle.s7_cli.proofs.BoundLemmas.{certificate-refused, no-said, recheck-refused}
 use Rattle.s7_cli.proofs.recheck_command.check_recheck.Goals as goal
@@ -21,5 +21,5 @@ pub returns-clause-refused : goal.returns-clause-refused
 returns-clause-refused c =
     let loaded = c.in_ok-loaded.loaded in
     no-said c.args.image.now loaded c.args.certificate.now c.deref.result.now c.holds.result c.in_ok-loaded.ensures.loads
-    (subst (λ (list : List Bound). Spells loaded.program c.args.certificate.now list) (sym c.deref.ensures.value) c.in_ok-list.ensures.spelled)
+    (subst (λ (list : List Bound). SpellsCertificate loaded.program c.args.certificate.now list) (sym c.deref.ensures.value) c.in_ok-list.ensures.spelled)
     c.holds.ensures.value (search rules)

@@ -6,7 +6,7 @@ use Rattle.var_access.specs.History.{History as EntryHistory}
 use Rattle.s7_cli.specs.run_text.RunText.{run_text}
 use Rattle.s7_cli.specs.Answer.{Answer}
 use Rattle.s7_cli.specs.Command.{Run}
-use Rattle.s7_cli.specs.Says.{RunSays, ran}
+use Rattle.s7_cli.specs.Says.{RunSays, run_outcome}
 use Rattle.s7_cli.proofs.ComesLemmas.{comes-refused, comes-written}
 use Rattle.s7_cli.proofs.run_command.run_along.Goals as goal
 
@@ -22,5 +22,5 @@ returns g c img hist at start read =
     let l : LoadedProgram = c.in_ok-program.program in
     let entries = c.in_ok-program.entries.entries in
     comes-written (Run img hist) start at _ (c.args.image.now ∷ c.args.history.now ∷ []) (run_text l.profile (code_of l.program) entries) _ refl read
-    (Ok l, c.in_ok-program.ensures.loads, ap (ran l) (sym c.in_ok-program.ensures.spells))
+    (Ok l, c.in_ok-program.ensures.loads, ap (run_outcome l) (sym c.in_ok-program.ensures.spells))
     (c.written.ensures _ _ _ c.replay_text.ensures)

@@ -1,7 +1,7 @@
 use Rattle.std.proofs.Common.{◌≡◌, ap, refl, sym, subst, ◌∙◌, List, [], ◌∷◌, ℕ, Vec, Global, Err}
 use Rattle.std.proofs.lemmas.Result.{err_from_is_err_and}
 use Rattle.de_mnemonics.specs.Translation.{IsTranslation}
-use Rattle.s7_cli.specs.Answer.{Answer, done}
+use Rattle.s7_cli.specs.Answer.{Answer, done_answer}
 use Rattle.s7_cli.specs.Command.{Translate}
 use Rattle.s7_cli.specs.Lines.{ok_line}
 use Rattle.s7_cli.specs.Translating.{NotTranslated}
@@ -16,7 +16,7 @@ returns-in_err-text g c src start read =
     comes-refused (Vec ℕ Global) (Translate c.args.language src c.args.translation.now) start _ _ (source ∷ [])
     (NotTranslated c.args.language source) _ _ (fault.1 ∙ ap Err fault.2) read
     (λ (a : Answer) told.
-    translated-weaker c.args.language source (λ text b. ⊥) (λ text b. b ≡ done ok_line) (λ text b none. absurd none) a told)
+    translated-weaker c.args.language source (λ text b. ⊥) (λ text b. b ≡ done_answer ok_line) (λ text b none. absurd none) a told)
     c.in_err-text.ensures.refused
 
 pub returns : goal.returns
@@ -27,5 +27,5 @@ returns g c src start read =
     c.write_output.ensures (Translate c.args.language src c.args.translation.now) (source ∷ []) (record {
       outputs = refl;
       writes = (refl, subst (λ (bytes : List ℕ). IsTranslation c.args.language source bytes) (sym c.deref.ensures.value) is);
-      says = says-translated c.args.language source text (λ t a. a ≡ done ok_line) (done ok_line) is c.in_ok-text.ensures.fits refl;
+      says = says-translated c.args.language source text (λ t a. a ≡ done_answer ok_line) (done_answer ok_line) is c.in_ok-text.ensures.fits refl;
     }) start read

@@ -5,7 +5,7 @@ use Rattle.flat_code.specs.Programs.{NameEntry}
 use Rattle.image_file.specs.Refusing.{IsLoadError}
 use Rattle.event_text.specs.TextFault.{IsTextFault}
 use Rattle.event_text.specs.Texts.{stimuli_of}
-use Rattle.event_text.specs.WatchedVars.{vars_of}
+use Rattle.event_text.specs.WatchedVars.{watched_vars_of}
 use Rattle.s7_cli.specs.declared.watch_checks.WatchWork.{WatchWork}
 use Rattle.s7_cli.specs.LiveSays.{scripts_from}
 use Rattle.s7_cli.specs.LiveTexts.{TellsScript}
@@ -39,7 +39,7 @@ returns-in_err-vars-clause-refused c =
     watch-vars-refused _ c.args.text.now p c.in-Ok.entries.items told.0 _ (fault.1 ∙ ap Err (fault.2 ∙ told.2))
     (subst (λ (bytes : List ℕ). LoadsAs bytes (Ok p)) c.deref.ensures.value c.in_ok-program.ensures.loads)
     (ap stimuli_of (sym c.deref-2.ensures.value) ∙ c.in-Ok.ensures.spelled)
-    (ap₂ vars_of (sym c.names.ensures) (sym c.deref-3.ensures.value) ∙ told.1)
+    (ap₂ watched_vars_of (sym c.names.ensures) (sym c.deref-3.ensures.value) ∙ told.1)
 
 pub returns-in_err-scripts-clause-refused : goal.returns-in_err-scripts-clause-refused
 returns-in_err-scripts-clause-refused c =
@@ -48,7 +48,7 @@ returns-in_err-scripts-clause-refused c =
     watch-scripts-refused _ c.args.text.now p c.in-Ok.entries.items c.in_ok-vars.vars _ _ (fault.1 ∙ ap Err fault.2)
     (subst (λ (bytes : List ℕ). LoadsAs bytes (Ok p)) c.deref.ensures.value c.in_ok-program.ensures.loads)
     (ap stimuli_of (sym c.deref-2.ensures.value) ∙ c.in-Ok.ensures.spelled)
-    (ap₂ vars_of (sym c.names.ensures) (sym c.deref-3.ensures.value) ∙ c.in_ok-vars.ensures.spells)
+    (ap₂ watched_vars_of (sym c.names.ensures) (sym c.deref-3.ensures.value) ∙ c.in_ok-vars.ensures.spells)
     (subst (λ (names : List NameEntry). TellsScript (scripts_from names 1 (watch_scripts c.args.text.now)) c.in_err-scripts.field-0.0) c.names-2.ensures
     (subst (λ (texts : List (Vec ℕ Global)). TellsScript (scripts_from c.names-2.result.now 1 (all_bytes texts)) c.in_err-scripts.field-0.0) c.deref-4.ensures.value
     c.in_err-scripts.ensures.refused))
@@ -58,7 +58,7 @@ returns-clause-finds c =
     let p = c.in_ok-program.program in record {
       loads = subst (λ (bytes : List ℕ). LoadsAs bytes (Ok p)) c.deref.ensures.value c.in_ok-program.ensures.loads;
       are_stimuli = ap stimuli_of (sym c.deref-2.ensures.value) ∙ c.in-Ok.ensures.spelled;
-      are_vars = ap₂ vars_of (sym c.names.ensures) (sym c.deref-3.ensures.value) ∙ c.in_ok-vars.ensures.spells;
+      are_vars = ap₂ watched_vars_of (sym c.names.ensures) (sym c.deref-3.ensures.value) ∙ c.in_ok-vars.ensures.spells;
       are_scripts = ap (λ (names : List NameEntry). scripts_from names 1 (watch_scripts c.args.text.now)) (sym c.names-2.ensures)
           ∙ ap (λ (texts : List (Vec ℕ Global)). scripts_from c.names-2.result.now 1 (all_bytes texts)) (sym c.deref-4.ensures.value)
           ∙ c.in_ok-scripts.ensures.spells;

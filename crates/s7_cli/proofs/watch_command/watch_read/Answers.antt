@@ -5,7 +5,7 @@ use Rattle.s7_cli.specs.Answer.{Answer}
 use Rattle.s7_cli.specs.Command.{Watch}
 use Rattle.s7_cli.specs.WatchSays.{watch_text}
 use Rattle.s7_cli.specs.WatchTexts.{WatchTextSays, watch_contents}
-use Rattle.s7_cli.specs.run_text.Behind.{program_of}
+use Rattle.s7_cli.specs.run_text.Behind.{program_of_recording}
 use Rattle.s7_cli.proofs.ComesLemmas.{comes-refused, comes-written}
 use Rattle.s7_cli.proofs.watch_command.watch_read.Goals as goal
 
@@ -19,5 +19,5 @@ pub returns : goal.returns
 returns g c img stim vars ops at start read =
     let made = c.in_ok-watched.watched in
     comes-written (Watch img stim vars ops c.args.steps) start at _ (watch_contents c.args.text.now)
-    (watch_text (program_of made.controller) made.controller.history made.vars made.views.items) _ refl
+    (watch_text (program_of_recording made.controller) made.controller.history made.vars made.views.items) _ refl
     read c.in_ok-watched.ensures.says (c.written.ensures _ _ _ c.write_watch.ensures)

@@ -1,5 +1,5 @@
 use Rattle.std.proofs.Common.{is_ok, map, replicate}
-use Rattle.s7_cli.specs.Watching.{reading}
+use Rattle.s7_cli.specs.Watching.{read_entry_of}
 use Rattle.s7_cli.proofs.WatchingLemmas.{whole_published, whole_views, worked_behind}
 use Rattle.s7_cli.proofs.WorkingLemmas.{at_ok}
 use Rattle.s7_cli.proofs.watching.watch_station.Goals as goal
@@ -8,7 +8,7 @@ pub returns-clause-made : goal.returns-clause-made
 returns-clause-made g c =
     let w = c.work_beside_watch-worked.ensures in
     let t = c.together.ensures in
-    let e = reading c.args.p.number c.args.vars.now in
+    let e = read_entry_of c.args.p.number c.args.vars.now in
     let worked = c.work_beside_watch-worked.result.0 in
     let ended = c.end_views-ended.result in
     worked_behind c.args.s.now c.args.passes.items c.args.p worked.0 c.work_beside_watch-worked.new.p c.together.result.0 c.args.steps c.args.stimuli.now
@@ -21,5 +21,5 @@ pub returns-clause-views : goal.returns-clause-views
 returns-clause-views g c =
     let w = c.work_beside_watch-worked.ensures in
     let t = c.together.ensures in
-    whole_views c.args.s.now (reading c.args.p.number c.args.vars.now) 100 100 c.work_beside_watch-worked.new.p c.together.result.0 _ _ _ _ _ _ _ _ c.work_beside_watch-worked.result.0.1
+    whole_views c.args.s.now (read_entry_of c.args.p.number c.args.vars.now) 100 100 c.work_beside_watch-worked.new.p c.together.result.0 _ _ _ _ _ _ _ _ c.work_beside_watch-worked.result.0.1
     c.end_views-ended.result c.together.result.1 t.ok c.end_views-ended.ensures.ok w.published w.viewed c.end_views-ended.ensures.seen t.others

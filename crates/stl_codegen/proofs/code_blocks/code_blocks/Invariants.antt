@@ -1,5 +1,5 @@
 use Rattle.std.proofs.Common.{[], drop, map}
-use Rattle.stl_codegen.specs.Compiled.{compiled}
+use Rattle.stl_codegen.specs.Compiled.{compiled_block}
 use Rattle.stl_codegen.specs.Generated.{code_block_of, each_block}
 use Rattle.stl_codegen.proofs.AppendLemmas.{Between}
 use Rattle.stl_codegen.proofs.code_blocks.code_blocks.Given as goal
@@ -7,5 +7,5 @@ use Rattle.stl_codegen.proofs.code_blocks.code_blocks.Given as goal
 abbrev pub invariant-loop-place : goal.invariant-loop-place
 invariant-loop-place l =
     Between [] l.made.items
-    (map compiled (each_block (λ c b l. code_block_of c b l l.id) (record l.scope { block = l.place }) (drop l.place l.blocks) (drop l.place l.layouts)))
-    (map compiled (each_block (λ c b l. code_block_of c b l l.id) (record l.scope { block = 0 }) l.blocks l.layouts))
+    (map compiled_block (each_block (λ c b l. code_block_of c b l l.id) (record l.scope { block = l.place }) (drop l.place l.blocks) (drop l.place l.layouts)))
+    (map compiled_block (each_block (λ c b l. code_block_of c b l l.id) (record l.scope { block = 0 }) l.blocks l.layouts))

@@ -2,7 +2,7 @@ use Rattle.std.proofs.Common.{List, sym, ap, subst, ◌∙◌}
 use Rattle.std.specs.List.{AllByRecursion}
 use Rattle.flat_code.specs.Programs.{CodeBlock}
 use Rattle.stl_codegen.specs.Fitting.{BlockFits}
-use Rattle.stl_codegen.specs.Order.{is_block_before, sorted}
+use Rattle.stl_codegen.specs.Order.{is_block_before, sorted_list}
 use Rattle.stl_codegen.proofs.ProgramLemmas.{blocks_here, blocks_sorted, no_program}
 use Rattle.stl_codegen.proofs.generating.ordered_code_blocks.Goals as goal
 
@@ -16,4 +16,4 @@ pub returns-clause-blocks : goal.returns-clause-blocks
 returns-clause-blocks c =
     let same = blocks_here c.args.tree.now c.args.symbols.now c.args.layouts.now c.new-scope.result c.as_slice-blocks.result.now c.list.result.now c.new-scope.ensures c.as_slice-blocks.ensures c.list.ensures in
     let found = rw c.in-Some.is at c.in_ok-list.ensures.value in
-    c.in_ok-sort_code_blocks.ensures ∙ ap (λ (z : List CodeBlock). sorted is_block_before z) (found ∙ same) ∙ sym (blocks_sorted c.args.tree.now c.args.symbols.now c.args.layouts.now)
+    c.in_ok-sort_code_blocks.ensures ∙ ap (λ (z : List CodeBlock). sorted_list is_block_before z) (found ∙ same) ∙ sym (blocks_sorted c.args.tree.now c.args.symbols.now c.args.layouts.now)

@@ -1,9 +1,9 @@
 use Rattle.std.proofs.Common.{◌≡◌, drop, false, length, replicate}
 use Rattle.std.specs.List.{fold}
-use Rattle.stl_list.specs.Joined.{is_int, marked}
+use Rattle.stl_list.specs.Joined.{is_int_kind, marks_after_link}
 use Rattle.stl_list.proofs.chains.int_marks.Given as goal
 
 abbrev pub invariant-loop-link : goal.invariant-loop-link
 invariant-loop-link l =
-    fold (marked is_int l.labels) l.marks.items (drop l.link-index l.links)
-    ≡ fold (marked is_int l.labels) (replicate (length l.labels) false) l.links
+    fold (marks_after_link is_int_kind l.labels) l.marks.items (drop l.link-index l.links)
+    ≡ fold (marks_after_link is_int_kind l.labels) (replicate (length l.labels) false) l.links

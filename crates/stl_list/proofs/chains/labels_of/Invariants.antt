@@ -1,8 +1,8 @@
 use Rattle.std.proofs.Common.{◌≡◌, drop}
 use Rattle.std.specs.List.{fold, range_with_len}
-use Rattle.stl_list.specs.Joined.{relinked}
+use Rattle.stl_list.specs.Joined.{labels_after_link}
 use Rattle.stl_list.proofs.chains.labels_of.Given as goal
 
 abbrev pub invariant-loop-link : goal.invariant-loop-link
 invariant-loop-link l =
-    fold relinked l.labels.items (drop l.link-index l.links) ≡ fold relinked (range_with_len 0 l.count) l.links
+    fold labels_after_link l.labels.items (drop l.link-index l.links) ≡ fold labels_after_link (range_with_len 0 l.count) l.links

@@ -1,7 +1,7 @@
 use Rattle.std.proofs.Common.{◌≡◌, ◌-◌, ◌/◌, ◌^◌, ◌++◌}
-use Rattle.stl_print.specs.Digits.{digits}
+use Rattle.stl_print.specs.Digits.{digits_in_base}
 use Rattle.stl_print.proofs.digits.append_binary_digits.Given as goal
 
 -- the digits above the next place stand behind the text
 abbrev pub invariant-loop-place : goal.invariant-loop-place
-invariant-loop-place l = l.out.items ≡ l.initial.out.items ++ digits 2 (l.count - l.place) (l.number / 2 ^ l.place)
+invariant-loop-place l = l.out.items ≡ l.initial.out.items ++ digits_in_base 2 (l.count - l.place) (l.number / 2 ^ l.place)

@@ -4,11 +4,11 @@ use Rattle.plc_base.specs.Folding.{upper_case_name}
 use Rattle.plc_base.specs.Least.{broken_if, least}
 use Rattle.plc_base.proofs.GatheredLemmas.{gathered_done, gathered_next}
 use Rattle.plc_base.proofs.LeastLemmas.{lesser_first}
-use Rattle.stl_types.specs.Calls.{is_supplied_twice, supplied_twice}
+use Rattle.stl_types.specs.Calls.{is_supplied_twice, actuals_supplied_twice}
 use Rattle.stl_types.proofs.calls.least_supplied_twice.Goals as goal
 
 pub loop-actual-init : goal.loop-actual-init
-loop-actual-init c = lesser_first _ ∙ ap (λ (l : List (List ℕ)). least (supplied_twice c.args.formals.now l c.args.actuals.now)) c.new-before.ensures
+loop-actual-init c = lesser_first _ ∙ ap (λ (l : List (List ℕ)). least (actuals_supplied_twice c.args.formals.now l c.args.actuals.now)) c.new-before.ensures
 
 pub loop-actual-preserved : goal.loop-actual-preserved
 loop-actual-preserved c =

@@ -3,21 +3,21 @@ use Rattle.stl_ast.specs.declared.statements.Statement.{Statement}
 use Rattle.plc_base.specs.Least.{broken_if, least}
 use Rattle.plc_base.proofs.GatheredLemmas.{gathered_done, gathered_next}
 use Rattle.plc_base.proofs.LeastLemmas.{lesser_first}
-use Rattle.stl_types.specs.Zones.{is_ninth, with_zones, zones_behind}
+use Rattle.stl_types.specs.Zones.{is_ninth_zone, with_zones, zones_behind}
 use Rattle.stl_types.proofs.zones.ninth.Goals as goal
 
 pub loop-statement-init : goal.loop-statement-init
 loop-statement-init c =
-    lesser_first _ ∙ ap (λ (l : List ℕ). least (with_zones (λ zones s. broken_if (is_ninth zones s) s.line 49) l c.args.body.now)) c.new-zones.ensures.items
+    lesser_first _ ∙ ap (λ (l : List ℕ). least (with_zones (λ zones s. broken_if (is_ninth_zone zones s) s.line 49) l c.args.body.now)) c.new-zones.ensures.items
 
 pub loop-statement-preserved : goal.loop-statement-preserved
 loop-statement-preserved c =
     let one = c.broken_if.ensures ∙ ap (λ (v : Bool). least (broken_if v c.statement-item.result.line 49)) (let a = c.as_slice.ensures.value in let k = c.is_ninth-wrong.ensures in cc) in
-    gathered_next (λ s. false) (λ zones (s : Statement). broken_if (is_ninth zones s) s.line 49) zones_behind
+    gathered_next (λ s. false) (λ zones (s : Statement). broken_if (is_ninth_zone zones s) s.line 49) zones_behind
     c.loop-statement.zones.items c.pass_zones.new.zones.items c.args.body.now c.loop-statement.statement-index c.statement-item.result _ _ _ _ c.loop-statement-test.true c.statement-item.is refl
     one c.lesser-found.ensures c.in_ok-pass_zones.ensures c.loop-statement.invariant
 
 pub returns : goal.returns
 returns c =
-    gathered_done (λ s. false) (λ zones (s : Statement). broken_if (is_ninth zones s) s.line 49) zones_behind
+    gathered_done (λ s. false) (λ zones (s : Statement). broken_if (is_ninth_zone zones s) s.line 49) zones_behind
     c.loop-statement.zones.items c.args.body.now _ _ _ c.loop-statement-test.false c.loop-statement.invariant

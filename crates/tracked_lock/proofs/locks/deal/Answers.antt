@@ -1,5 +1,5 @@
 use Rattle.std.proofs.Common.{rules, ◌≡◌, ◌∙◌, ap, sym, arith, length, [], ◌∷◌, false}
-use Rattle.tracked_lock.specs.Passes.{Locked, fresh_pass}
+use Rattle.tracked_lock.specs.Passes.{LockView, fresh_pass}
 use Rattle.tracked_lock.specs.Views.{view}
 use Rattle.tracked_lock.proofs.Numbers.{length_fresh}
 use Rattle.tracked_lock.proofs.Fresh.{cut_rest, cut_last, passes_more}
@@ -24,7 +24,7 @@ loop-left-preserved g c =
     let left = c.loop-left.left in
     let cut = cut_rest _ _ _ left i.0 (ap (λ m. m.0) i.3) in
     let slots = ap (λ m. m.1) i.3 in
-    let lock : Locked g.row.V-Origin.Denot = record { table = c.args.steps.now.table_id; origin = g.V.Storied.origin c.args.key.now.first.value ∷ []; passes = c.args.n } in
+    let lock : LockView g.row.V-Origin.Denot = record { table = c.args.steps.now.table_id; origin = g.V.Storied.origin c.args.key.now.first.value ∷ []; passes = c.args.n } in
     let same : c.first_pass.result ≡ fresh_pass lock left = search rules in
     let put : c.insert.new.self.items ≡ c.first_pass.result ∷ c.loop-left.passes.items = search rules in (
       omega (arith, c.loop-left-test.true),

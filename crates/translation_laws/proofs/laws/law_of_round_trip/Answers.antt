@@ -1,4 +1,4 @@
-use Rattle.de_mnemonics.specs.Words.{written}
+use Rattle.de_mnemonics.specs.Words.{translated_word}
 use Rattle.translation_laws.proofs.AlikeLemmas.{trees_alike}
 use Rattle.translation_laws.proofs.RewrittenLemmas.{rewritten_tokens}
 use Rattle.translation_laws.proofs.RoundTripLemmas.{round_trips}
@@ -6,7 +6,7 @@ use Rattle.translation_laws.proofs.WrittenLemmas.{instruction_quiet, operand_qui
 use Rattle.translation_laws.proofs.laws.law_of_round_trip.Goals as goal
 
 pub returns : goal.returns
-unfolding written
+unfolding translated_word
 returns c =
     round_trips
     (record {

@@ -1,5 +1,5 @@
 use Rattle.std.proofs.Common.{◌≡◌, ◌∙◌, ◌-◌, ◌++◌, ◌∷◌, [], refl, sym, ap, subst, arith, vec_len}
-use Rattle.var_access.specs.Runs.{AreRuns, written_out}
+use Rattle.var_access.specs.Runs.{AreRuns, entries_of_runs}
 use Rattle.var_access.proofs.RunLemmas.{IsLast, apart_written, last_few, last_kept, last_runs, last_written, next_runs, none_there, one_run, only_runs}
 use Rattle.var_access.proofs.runs.add.Goals as goal
 use Rattle.var_access.proofs.runs.add.Goals.{in-Some+else-joins, in_default}
@@ -36,7 +36,7 @@ kept c = elim c.match-last_mut.branch [
 
 pub returns-clause-written : goal.returns-clause-written
 returns-clause-written c =
-    ap written_out (c.push_reserved.ensures.items ∙ ap (λ runs. runs ++ one_run c.args.entry.now c.args.first c.args.count ∷ []) (kept c))
+    ap entries_of_runs (c.push_reserved.ensures.items ∙ ap (λ runs. runs ++ one_run c.args.entry.now c.args.first c.args.count ∷ []) (kept c))
     ∙ apart_written c.args.runs.now.items c.args.entry.now c.args.first c.args.count
 
 pub returns-clause-are : goal.returns-clause-are

@@ -3,14 +3,14 @@ use Rattle.std.specs.List.{flat_map}
 use Rattle.plc_base.specs.declared.refusals.Refusal.{Refusal}
 use Rattle.stl_ast.specs.declared.statements.Actual.{Actual}
 use Rattle.plc_base.specs.Least.{least, lesser}
-use Rattle.block_layout.specs.Operands.{Judged}
+use Rattle.block_layout.specs.Operands.{OperandAtLine}
 use Rattle.block_layout.specs.Rule23.{operand_23}
 use Rattle.block_layout.proofs.OperandLemmas.{least_of_statement}
 use Rattle.block_layout.proofs.rules.rule_23.least_in_statement.Goals as goal
 
 pub returns : goal.returns
 returns c =
-    let broken : Judged → List Refusal = operand_23 c.args.types.now in
+    let broken : OperandAtLine → List Refusal = operand_23 c.args.types.now in
     let actuals : c.least_in_actuals.result ≡ least (flat_map (λ a. broken (record { line = a.line; operand = a.value })) c.args.statement.now.actuals) =
     c.least_in_actuals.ensures ∙ ap (λ (xs : List Actual). least (flat_map (λ a. broken (record { line = a.line; operand = a.value })) xs)) c.as_slice.ensures in
     c.lesser.ensures ∙ ap (λ (o : Option Refusal). lesser c.unknown_in.result o) actuals

@@ -2,8 +2,8 @@ use Rattle.std.proofs.Common.{◌≡◌, ◌+◌, ◌&&◌, ℕ, Bool, [], ◌�
 use Rattle.plc_base.specs.Kinds.{is_data_block}
 use Rattle.plc_base.specs.Least.{broken_if, least}
 use Rattle.plc_base.proofs.LeastLemmas.{lesser_first}
-use Rattle.block_layout.specs.Lengths.{length_of}
-use Rattle.block_layout.specs.Rule54.{data_length, exceeds_total, rule_54, total}
+use Rattle.block_layout.specs.Lengths.{length_of_block}
+use Rattle.block_layout.specs.Rule54.{data_length, exceeds_total, rule_54, total_data_length}
 use Rattle.block_layout.proofs.HeadLemmas.{heads_end, heads_turn, mapped_at, total_more}
 use Rattle.block_layout.proofs.rules.rule_54.least_exceeding.Goals as goal
 
@@ -15,13 +15,13 @@ loop-place-preserved c = λ y are.
     let held = c.loop-place.invariant y are in
     let block = c.index-blocks-place.result in
     let blocks = c.args.blocks.now in
-    let len : c.number_at.result ≡ length_of y blocks block =
-    c.number_at.ensures ∙ mapped_at (length_of y blocks) blocks c.args.lens.now _ block are c.loop-place-test.true c.index-blocks-place.is in
+    let len : c.number_at.result ≡ length_of_block y blocks block =
+    c.number_at.ensures ∙ mapped_at (length_of_block y blocks) blocks c.args.lens.now _ block are c.loop-place-test.true c.index-blocks-place.is in
     let added : c.data_len-len.result ≡ data_length y blocks block =
     c.data_len-len.ensures ∙ ap (λ (n : ℕ). if is_data_block block.kind then n else 0) len in
     let exceeds : c.exceeds-is_exceeding.result ≡ exceeds_total y blocks held.0 block =
-    c.exceeds-is_exceeding.ensures (total y blocks held.0) held.1
-    ∙ ap (λ (n : ℕ). is_data_block block.kind && nat_lt 2097152 (total y blocks held.0 + n)) added in
+    c.exceeds-is_exceeding.ensures (total_data_length y blocks held.0) held.1
+    ∙ ap (λ (n : ℕ). is_data_block block.kind && nat_lt 2097152 (total_data_length y blocks held.0 + n)) added in
     let one = c.broken_if.ensures ∙ ap (λ (v : Bool). least (broken_if v block.line 54)) exceeds in (
       block ∷ held.0,
       total_more y blocks block held.0 _ _ _ _ held.1 added c.saturating_add-before.ensures,

@@ -5,7 +5,7 @@ use Rattle.machine.specs.Code.{Code}
 use Rattle.machine.specs.Flat.{code_of}
 use Rattle.var_access.specs.History.{History}
 use Rattle.var_access.specs.declared.Entry.{Entry}
-use Rattle.controller.specs.Replay.{happens, last_seen, replay}
+use Rattle.controller.specs.Replay.{entry_result, last_observed, replay}
 use Rattle.controller.specs.Shown.{watched_state}
 use Rattle.controller.specs.State.{State}
 use Rattle.controller.specs.Views.{cpu_state}
@@ -28,9 +28,9 @@ invariant_of-self c =
     let s : State = cpu_state c.self.inside.cpu in
     let t : State = cpu_state c.enter-mon.new.self in
     let entries : c.push.new.self.entries ≡ history ++ c.args.e.now ∷ [] = ap (λ (kept : History). kept.entries) c.push.ensures in
-    let seen : (happens code s c.args.e.now.what).seen ≡ last_seen profile code (entry_events c.push.new.self.entries) =
+    let seen : (entry_result code s c.args.e.now.what).seen ≡ last_observed profile code (entry_events c.push.new.self.entries) =
     seen_next profile code history c.args.e.now s c.continues_replay.ensures.seen c.self.invariant.state
-    ∙ ap (λ (es : List Entry). last_seen profile code (entry_events es)) (sym entries) in
+    ∙ ap (λ (es : List Entry). last_observed profile code (entry_events es)) (sym entries) in
     record {
       verifies = c.self.invariant.verifies;
       state =

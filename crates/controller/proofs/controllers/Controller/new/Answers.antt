@@ -5,9 +5,9 @@ use Rattle.machine.specs.Code.{Code}
 use Rattle.machine.specs.Flat.{code_of}
 use Rattle.var_access.specs.History.{History}
 use Rattle.var_access.specs.declared.Entry.{Entry}
-use Rattle.controller.specs.Replay.{last_seen, replay}
+use Rattle.controller.specs.Replay.{last_observed, replay}
 use Rattle.controller.specs.Shown.{nothing_shown, watched_state}
-use Rattle.controller.specs.Start.{start}
+use Rattle.controller.specs.Start.{initial_state}
 use Rattle.controller.specs.State.{State}
 use Rattle.controller.specs.Views.{cpu_state}
 use Rattle.controller.specs.declared.observing.Observed.{Observed}
@@ -21,11 +21,11 @@ invariant_of-result c =
     let code : Code = code_of p in
     let s : State = cpu_state c.in_ok-cpu.cpu in
     let profile : Profile = c.args.program.profile in
-    let started : s ≡ start profile code =
-    c.in_ok-cpu.ensures ∙ ap (λ (f : Profile). start f code) c.profile.ensures in
+    let started : s ≡ initial_state profile code =
+    c.in_ok-cpu.ensures ∙ ap (λ (f : Profile). initial_state f code) c.profile.ensures in
     let entries : c.new.result.entries ≡ [] = ap (λ (kept : History). kept.entries) c.new.ensures in
-    let seen : nothing_shown ≡ last_seen profile code (entry_events c.new.result.entries) =
-    none_seen profile code ∙ ap (λ (es : List Entry). last_seen profile code (entry_events es)) (sym entries) in
+    let seen : nothing_shown ≡ last_observed profile code (entry_events c.new.result.entries) =
+    none_seen profile code ∙ ap (λ (es : List Entry). last_observed profile code (entry_events es)) (sym entries) in
     record {
       verifies = c.law_of_verifying.ensures;
       state = started ∙ starts profile code ∙ ap (λ (es : List Entry). replay profile code (entry_events es)) (sym entries);

@@ -7,7 +7,7 @@ use Rattle.var_access.specs.History.{History}
 use Rattle.var_access.specs.declared.Entry.{Entry}
 use Rattle.var_access.specs.declared.What.TheVariants.{Step}
 use Rattle.controller.specs.Quiet.{ShowNothing, steps_quietly}
-use Rattle.controller.specs.Replay.{last_seen, replay, run_from}
+use Rattle.controller.specs.Replay.{last_observed, replay, state_after_entries}
 use Rattle.controller.specs.Shown.{watched_state}
 use Rattle.controller.specs.State.{State}
 use Rattle.controller.specs.Views.{cpu_state}
@@ -43,7 +43,7 @@ invariant_of-self-2 c =
           c.step_quietly-made.ensures.outputs c.step_quietly-made.ensures.mode
           ∙ ap (λ (o : Observed). watched_state t o)
           (seen-behind c.continues_replay.ensures.more_seen profile code history more s made c.self.invariant.state steps c.step_quietly-made.ensures.nothing some
-          ∙ ap (λ (es : List Entry). last_seen profile code (entry_events es)) (sym entries));
+          ∙ ap (λ (es : List Entry). last_observed profile code (entry_events es)) (sym entries));
       numbers = c.self.invariant.numbers;
     }
 
@@ -63,8 +63,8 @@ returns-clause-state c =
     let more : List Entry = replicate made c.args.step.now in
     ap (λ (kept : History). replay profile code (entry_events kept.entries)) c.push.ensures
     ∙ replay-more c.continues_replay.ensures.more profile code history more
-    ∙ ap (run_from code (replay profile code (entry_events history))) (steps-are c.args.step.now made c.requires.step)
-    ∙ ap (λ (r : Recording). run_from (code_of r.program) (final_state r) (replicate made Step)) c.self.view_is
+    ∙ ap (state_after_entries code (replay profile code (entry_events history))) (steps-are c.args.step.now made c.requires.step)
+    ∙ ap (λ (r : Recording). state_after_entries (code_of r.program) (final_state r) (replicate made Step)) c.self.view_is
 
 pub returns-clause-stops : goal.returns-clause-stops
 returns-clause-stops c = λ less.

@@ -2,7 +2,7 @@ use Rattle.std.proofs.Common.{sym, ap, ◌∙◌}
 use Rattle.status_word.specs.declared.Regs.{Regs}
 use Rattle.machine.specs.Code.{Code}
 use Rattle.machine.specs.Flat.{code_of}
-use Rattle.machine.specs.Statement.{world}
+use Rattle.machine.specs.Statement.{global_store}
 use Rattle.controller.specs.Leaves.{record_of_statement}
 use Rattle.controller.specs.State.{State}
 use Rattle.controller.specs.Views.{cpu_state}
@@ -14,14 +14,14 @@ pub finish-regs-requires-clause-stack : goal.finish-regs-requires-clause-stack
 finish-regs-requires-clause-stack c =
     step_stands c.args.self.now.mode (code_of c.args.program.now.program)
     c.args.self.now.activations c.step-done.new.self (cpu_state c.args.self.now).world
-    (world c.step-done.new.m c.step-done.new.t c.step-done.new.n) c.in-Some.done c.in-Some.ensures
+    (global_store c.step-done.new.m c.step-done.new.t c.step-done.new.n) c.in-Some.done c.in-Some.ensures
     c.requires.stack
 
 pub returns-in-Some-clause-state : goal.returns-in-Some-clause-state
 returns-in-Some-clause-state c =
     c.finish-regs.ensures.state
     ∙ sym (stepped_from (code_of c.args.program.now.program) (cpu_state c.args.self.now)
-    c.step-done.new.self (world c.step-done.new.m c.step-done.new.t c.step-done.new.n)
+    c.step-done.new.self (global_store c.step-done.new.m c.step-done.new.t c.step-done.new.n)
     c.in-Some.done c.in-Some.ensures)
 
 pub returns-in-Some-clause-record : goal.returns-in-Some-clause-record
@@ -32,4 +32,4 @@ returns-in-Some-clause-record c =
     ∙ ap (λ (regs : Regs). record_of_statement code s.monitored c.in-Some.done.0 regs)
     c.finish-regs.ensures.regs
     ∙ step_recorded code s c.step-done.new.self
-    (world c.step-done.new.m c.step-done.new.t c.step-done.new.n) c.in-Some.done c.in-Some.ensures
+    (global_store c.step-done.new.m c.step-done.new.t c.step-done.new.n) c.in-Some.done c.in-Some.ensures

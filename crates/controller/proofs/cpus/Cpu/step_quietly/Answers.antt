@@ -1,6 +1,6 @@
 use Rattle.std.proofs.Common.{refl, sym, ◌∙◌, is_some, not}
 use Rattle.machine.specs.Flat.{code_of}
-use Rattle.machine.specs.Statement.{world}
+use Rattle.machine.specs.Statement.{global_store}
 use Rattle.ob_sched.specs.Request.{best_of}
 use Rattle.controller.specs.State.{is_stop}
 use Rattle.controller.specs.Views.{cpu_state}
@@ -23,7 +23,7 @@ returns c =
     } in
     let steps = steps_quietly (code_of c.args.program.now.program) c.run_quietly-done.result
     (cpu_state c.args.self.now) c.run_quietly-done.new.self
-    (world c.run_quietly-done.new.m c.run_quietly-done.new.t c.run_quietly-done.new.n) quiet
+    (global_store c.run_quietly-done.new.m c.run_quietly-done.new.t c.run_quietly-done.new.n) quiet
     c.run_quietly-done.ensures.runs in
     record {
       few = c.run_quietly-done.ensures.few;

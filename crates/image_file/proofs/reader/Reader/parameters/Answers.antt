@@ -1,12 +1,12 @@
 use Rattle.std.proofs.Common.{◌∙◌, arith, ℕ}
 use Rattle.std.proofs.lemmas.Result.{err_from_is_err_and}
-use Rattle.flat_code.specs.Image.{parameter_layout, parameters, same_state}
+use Rattle.flat_code.specs.Image.{parameter_layout, parameters_layout, same_state}
 use Rattle.image_file.specs.Running.{reader_cursor, log_of}
 use Rattle.image_file.proofs.RunLemmas.{more_goes, more_stops, more_done}
 use Rattle.image_file.proofs.reader.Reader.parameters.Goals as goal
 
 pub returns-in_err-param-clause-read : goal.returns-in_err-param-clause-read
-unfolding parameters
+unfolding parameters_layout
 returns-in_err-param-clause-read c =
     let p = err_from_is_err_and c.from_residual.result c.from_residual.ensures.1 in
     rw (p.1, p.2) (more_stops (λ (s : ℕ). parameter_layout c.args.head.kind c.args.head.instance_bytes) same_state 0 c.args.head.parameter_count c.loop.counter (reader_cursor c.loop.self) (log_of c.loop.self) (log_of c.parameter.new.self) c.loop.params.items _ c.loop-test.true c.in_err-param.ensures.read c.loop.invariant.read)
@@ -20,5 +20,5 @@ loop-preserved c = record {
 }
 
 pub returns-clause-read : goal.returns-clause-read
-unfolding parameters
+unfolding parameters_layout
 returns-clause-read c = more_done (λ (s : ℕ). parameter_layout c.args.head.kind c.args.head.instance_bytes) same_state 0 c.args.head.parameter_count c.loop.counter (reader_cursor c.loop.self) (log_of c.loop.self) c.loop.params.items _ c.loop-test.false c.loop.invariant.read

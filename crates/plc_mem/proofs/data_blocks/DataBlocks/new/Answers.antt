@@ -2,7 +2,7 @@ use Rattle.std.proofs.Common.{refl, sym, ap, subst, ◌∙◌, take, drop, suc, 
 use Rattle.std.specs.FinMap as map
 use Rattle.std.specs.List.{IsDistinct}
 use Rattle.plc_mem.specs.Blocks.{data_block_map, bytes_by_number, block_numbers}
-use Rattle.plc_mem.specs.Places.{AreBytes}
+use Rattle.plc_mem.specs.Places.{AreByteValues}
 use Rattle.plc_mem.proofs.Kept.{no_blocks, block_more}
 use Rattle.plc_mem.proofs.BlockLemmas.{inserted, one_more, split_at_item, take_item}
 use Rattle.plc_mem.proofs.data_blocks.DataBlocks.new.Goals as goal
@@ -18,7 +18,7 @@ loop-number-preserved c =
     let x = c.loop-number-item.result in
     let differ = subst (λ es. IsDistinct nat_eq (block_numbers es)) (sym (split_at_item xs i x c.loop-number-test.true c.loop-number-item.is)) c.requires in
     let items = c.in_ok-copied.ensures.items ∙ c.deref.ensures.value in
-    let small = subst AreBytes (sym c.in_ok-copied.ensures.items) c.in_ok-copied.ensures.bytes in
+    let small = subst AreByteValues (sym c.in_ok-copied.ensures.items) c.in_ok-copied.ensures.bytes in
     let more = one_more c.loop-number.by_number c.insert.new.self x.0 x.1 c.in_ok-copied.field-0 (take i xs) (drop (suc i) xs) differ c.loop-number.invariant.entries c.in_ok-insert.ensures.updates items in
     record {
       entries = more ∙ ap (λ es. map.from_entries (bytes_by_number es)) (take_item xs i x c.loop-number-test.true c.loop-number-item.is);

@@ -1,7 +1,7 @@
 use Rattle.std.proofs.Common.{◌-◌, drop, length}
 use Rattle.std.specs.List.{flat_map}
 use Rattle.controller.specs.Replayed.{final_data_blocks}
-use Rattle.s7_cli.specs.run_text.RunText.{block_text}
+use Rattle.s7_cli.specs.run_text.RunText.{data_block_text}
 use Rattle.s7_cli.proofs.run.WritingLemmas.{GoesOn}
 use Rattle.s7_cli.proofs.run_text.closing.write_blocks.Given as goal
 
@@ -9,8 +9,8 @@ use Rattle.s7_cli.proofs.run_text.closing.write_blocks.Given as goal
 abbrev pub invariant-loop-number : goal.invariant-loop-number
 invariant-loop-number g l =
     GoesOn
-    (flat_map block_text (final_data_blocks l.controller))
-    (flat_map block_text (drop l.place (final_data_blocks l.controller)))
+    (flat_map data_block_text (final_data_blocks l.controller))
+    (flat_map data_block_text (drop l.place (final_data_blocks l.controller)))
     (g.K.Sink.shown l.fn.out)
     (g.K.Sink.shown l.out)
 

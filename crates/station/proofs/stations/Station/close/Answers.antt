@@ -2,7 +2,7 @@ use Rattle.std.proofs.Common.{◌≡◌, ap, sym, subst, ◌∙◌, ◌++◌, dr
 use Rattle.std.proofs.lemmas.List.{take-append-drop}
 use Rattle.var_access.specs.declared.Entry.{Entry}
 use Rattle.controller.specs.Recording.{Recording}
-use Rattle.tracked_lock.specs.Passes.{missing}
+use Rattle.tracked_lock.specs.Passes.{missing_number_count}
 use Rattle.station.specs.declared.shared.Opening.{Opening}
 use Rattle.station.specs.Openings.{the_opening}
 use Rattle.station.specs.Closing.{IsGivenBack}
@@ -14,7 +14,7 @@ returns-in-Ok-clause-ok c =
     let s = c.in-Ok.shared in
     let history : List Entry = s.controller.value.history in
     let origin = ap the_opening (e.origin ∙ ap (λ l. l.origin) c.self.view_is) in (
-      subst (λ n. missing n c.args.p.made ≡ 0) (ap (λ l. l.passes) c.self.view_is) e.numbers,
+      subst (λ n. missing_number_count n c.args.p.made ≡ 0) (ap (λ l. l.passes) c.self.view_is) e.numbers,
       subst (λ (r : Recording). IsGivenBack (the_opening c.args.self.origin) r c.args.p) (sym c.into_controller.ensures) record {
         program = ap (λ (o : Opening). o.program) origin;
         profile = ap (λ (o : Opening). o.profile) origin;

@@ -1,5 +1,5 @@
 use Rattle.std.proofs.Common.{sym, ◌∙◌, ap, subst}
-use Rattle.watch_board.specs.BoardList.{Known, MayFollow}
+use Rattle.watch_board.specs.BoardList.{KnownBoard, MayFollow}
 use Rattle.watch_board.proofs.AppendLemmas.{appends_moves}
 use Rattle.watch_board.proofs.prefixes.Prefix.with.Goals as goal
 
@@ -13,7 +13,7 @@ compare_exchange-found-requires c =
     let book = ap (λ s. s.book) again ∙ ap (λ k. k.board) c.self.view_is ∙ sym c.requires.board ∙ sym c.count.view_is in
     let item = c.args.item.now in
     let list = c.self.inside.seen.log in
-    let may : MayFollow list item = subst (λ (k : Known). MayFollow k.list item) (sym c.self.view_is) c.requires.rises in (
+    let may : MayFollow list item = subst (λ (k : KnownBoard). MayFollow k.list item) (sym c.self.view_is) c.requires.rises in (
       ap (λ w. w.tracked) count,
       book,
       pen.0 ∙ book,
