@@ -16,7 +16,7 @@ use Rattle.block_layout.specs.Types.{Types}
 use Rattle.stl_ast.specs.declared.blocks.Part.{Part}
 use Rattle.block_layout.specs.declared.sections.Declared.{Declared}
 use Rattle.block_layout.specs.declared.verdicts.Frame.{Frame}
-use Rattle.block_layout.specs.Verdicts.{AreOpen, JudgedOnto, SectionAdded, by_verdicts, twice_by, deep_by, cell_with, cells_by, verdicts_of}
+use Rattle.block_layout.specs.Verdicts.{AreOpen, CheckedOnto, SectionAdded, by_verdicts, twice_by, deep_by, cell_with, cells_by, verdicts_of}
 
 pub by_verdicts_next : (broken : Verdict → Declaration → List Refusal) (vs : List Verdict) (ds : List Declaration) (i : ℕ) (v : Verdict) (d : Declaration) (found one next : Option Refusal) (whole : Option Refusal) →
     i < length ds → length vs ≡ length ds → (e : Verdict) → v ≡ get_or vs i e → d ≡ get_or ds i d → one ≡ least (broken v (get_or ds i d)) → next ≡ lesser found one →
@@ -97,7 +97,7 @@ deep_same y o before [] = refl
 deep_same y o before (d ∷ ds) = ap (λ (l : List Refusal). broken_56 y o before d ++ l) (deep_same y o (d ∷ before) ds)
 
 pub section_added : (y : Types) (o : Outside) (before : List Declaration) (p : Part) (old new : Declared) (open_ : List Frame) (vs us : List Verdict) (ds : List Declaration) →
-    ds ≡ p.items → us ≡ vs → JudgedOnto y o before ds vs open_ →
+    ds ≡ p.items → us ≡ vs → CheckedOnto y o before ds vs open_ →
     new.components.items ≡ old.components.items ++ (if is_temp p.kind then [] else cells_by y p.kind false us p.items) →
     new.temps.items ≡ old.temps.items ++ (if is_temp p.kind then cells_by y p.kind false us p.items else []) →
     new.twice ≡ lesser old.twice (least (by_verdicts twice_by us ds)) → new.deep ≡ lesser old.deep (least (by_verdicts deep_by us ds)) →

@@ -17,7 +17,7 @@ use Rattle.block_layout.specs.Measures.{capped_depth}
 use Rattle.block_layout.specs.Rule21.{is_twice, names_before}
 use Rattle.block_layout.specs.Rule56.{own_depth, depth_around, depth_of_holders, is_too_deep}
 use Rattle.block_layout.specs.Types.{Types}
-use Rattle.block_layout.specs.Verdicts.{AreOpen, JudgedOnto, breaks_in, frames_behind, frame_of, inner_frame, is_deep_in, verdict_in, verdict_of, verdicts_of, with_name}
+use Rattle.block_layout.specs.Verdicts.{AreOpen, CheckedOnto, breaks_in, frames_behind, frame_of, inner_frame, is_deep_in, verdict_in, verdict_of, verdicts_of, with_name}
 
 -- depths beyond 8 may count as 9
 pub deep_same : (a own : ℕ) → is_deep_in (capped_depth a) (capped_depth own) ≡ is_deep_in a own
@@ -170,7 +170,7 @@ judged_next y o ds i d open_ opened vs ws whole v end within is_d there is_opene
 
 pub judged_done : (y : Types) (o : Outside) (before ds : List Declaration) (i : ℕ) (open_ : List Frame) (vs : List Verdict) → length ds ≤ i →
     (now : List Declaration) × (AreOpen y o now open_ × (declarations_before_next now (drop i ds) ≡ declarations_before_next before ds) × (vs ++ verdicts_of y o now (drop i ds) ≡ verdicts_of y o before ds)) →
-    JudgedOnto y o before ds vs open_
+    CheckedOnto y o before ds vs open_
 judged_done y o before ds i open_ vs over (now, (are, to_end, so_far)) =
     let none : drop i ds ≡ [] = drop_of_length-le ds over in
     record {

@@ -89,7 +89,7 @@ pub record AreOpen (y : Types) (o : Outside) (before : List Declaration) (open_ 
   pub frames : (level : ℕ) (f : Frame) → level < length open_ → get_or open_ level f ≡ frame_of y o before level
 
 -- these are the verdicts of declarations, and the lists behind them are open
-pub record JudgedOnto (y : Types) (o : Outside) (before ds : List Declaration) (vs : List Verdict)
+pub record CheckedOnto (y : Types) (o : Outside) (before ds : List Declaration) (vs : List Verdict)
     (open_ : List Frame) : Type 0 where
   pub verdicts : vs ≡ verdicts_of y o before ds
   pub lists : AreOpen y o (declarations_before_next before ds) open_

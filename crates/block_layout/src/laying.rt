@@ -113,13 +113,13 @@ impl Layouts {
 
 /// The layouts of the blocks, and the least refusal.
 #[derive(Drop)]
-struct Judged {
+struct CheckedLayouts {
     layouts: Vec<BlockLayout>,
     refusal: Option<Refusal>,
 }
 
 /// The blocks laid out and checked.
-fn judge(alloc: Global, types: &Types, blocks: &[Block]) -> Result<Judged, AllocError>
+fn check_layouts(alloc: Global, types: &Types, blocks: &[Block]) -> Result<CheckedLayouts, AllocError>
     ensures layouts { IfOk result (λ j. j.layouts.items ≡ layouts_by types.now blocks.now) }
     ensures refusal { IfOk result (λ j. j.refusal
         ≡ least (refusals_of_blocks types.now (layouts_by types.now blocks.now) blocks.now)) }
@@ -136,7 +136,7 @@ fn judge(alloc: Global, types: &Types, blocks: &[Block]) -> Result<Judged, Alloc
         twice,
         deep,
     )?;
-    Ok(Judged { layouts, refusal })
+    Ok(CheckedLayouts { layouts, refusal })
 }
 
 #[derive(Drop)]
@@ -154,7 +154,7 @@ fn lay(alloc: Global, tree: &Tree, symbols: &Symbols) -> Result<Laid, AllocError
 {
     let blocks = tree.blocks.as_slice();
     let types = types_of(alloc, symbols, blocks)?;
-    let Judged { layouts, refusal } = judge(alloc, &types, blocks)?;
+    let CheckedLayouts { layouts, refusal } = check_layouts(alloc, &types, blocks)?;
     let Types { directory, .. } = types;
     Ok(Laid {
         layouts: Layouts::new(layouts, directory),

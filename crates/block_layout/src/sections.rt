@@ -24,7 +24,7 @@ use crate::making::add_cells;
 use crate::rules::rule_21::least_twice;
 use crate::rules::rule_56::least_deep;
 use crate::types::Types;
-use crate::verdicts::{Frame, Verdict, judge_all};
+use crate::verdicts::{Frame, Verdict, check_all};
 use plc_base::{Refusal, lesser};
 use std::alloc::{AllocError, Global};
 use stl_ast::{Block, Name, Part, PartKind, Sequence, Simple};
@@ -103,7 +103,7 @@ fn section(
         → SectionAdded types.now o before part.now into.old into.new open_.new.items) }
 {
     let declarations = part.items.as_slice();
-    let verdicts = judge_all(alloc, types, open_, declarations)?;
+    let verdicts = check_all(alloc, types, open_, declarations)?;
     add_section(alloc, types, part, &verdicts, into)?;
     into.twice = lesser(into.twice, least_twice(declarations, &verdicts));
     into.deep = lesser(into.deep, least_deep(declarations, &verdicts));
@@ -190,7 +190,7 @@ pub(crate) fn structure_verdicts(
 {
     let mut open_ = Vec::new(alloc);
     open_.push(structure_frame(alloc))?;
-    judge_all(alloc, types, &mut open_, block.components.as_slice())
+    check_all(alloc, types, &mut open_, block.components.as_slice())
 }
 
 /// What the declarations of a block come to.

@@ -4,7 +4,7 @@ ghost use Rattle.stl_ast.specs.declared.declarations.Declaration.{Declaration};
 ghost use Rattle.plc_base.specs.Folding.{upper_case_name};
 ghost use Rattle.block_layout.specs.Around.{Outside};
 ghost use Rattle.block_layout.specs.declared.verdicts.Frame.{Frame};
-ghost use Rattle.block_layout.specs.Verdicts.{AreOpen, JudgedOnto, frames_behind, verdict_in};
+ghost use Rattle.block_layout.specs.Verdicts.{AreOpen, CheckedOnto, frames_behind, verdict_in};
 
 use crate::declarations::{breaks_alone, deep, own_depth, uses_oversized};
 use crate::types::Types;
@@ -35,7 +35,7 @@ pub(crate) struct Verdict {
 
 /// What a declaration is by the list that it goes on; `name` is its name in upper case.
 #[tactic(auto, unfolding(crate::specs::Verdicts::verdict_in))]
-fn judge(types: &Types, frame: &Frame, name: &[u8], declaration: &Declaration) -> Verdict
+fn check_layouts(types: &Types, frame: &Frame, name: &[u8], declaration: &Declaration) -> Verdict
     requires { name.now ≡ upper_case_name declaration.now.name }
     ensures { result ≡ verdict_in types.now frame.now declaration.now }
 {
@@ -80,7 +80,7 @@ fn enter(
     let level = declaration.level as usize;
     open_.truncate(level + 1);
     let mut frame = open_.remove(level);
-    let verdict = judge(types, &frame, &name, declaration);
+    let verdict = check_layouts(types, &frame, &name, declaration);
     let sound = stays_sound(verdict, &frame);
     frame.names.add(alloc, &name)?;
     open_.push(frame)?;
@@ -93,7 +93,7 @@ fn enter(
 }
 
 /// The verdicts of declarations that stand one behind the other, on the lists that are open.
-pub(crate) fn judge_all(
+pub(crate) fn check_all(
     alloc: Global,
     types: &Types,
     open_: &mut Vec<Frame>,
@@ -105,7 +105,7 @@ pub(crate) fn judge_all(
     ensures count { IfOk result (λ v. length v.items ≡ length declarations.now) }
     ensures verdicts { IfOk result (λ v. (o : Outside) (before : List Declaration)
         → AreOpen types.now o before open_.old.items
-        → JudgedOnto types.now o before declarations.now v.items open_.new.items) }
+        → CheckedOnto types.now o before declarations.now v.items open_.new.items) }
 {
     let mut verdicts = Vec::with_capacity(alloc, declarations.len())?;
     for declaration in declarations {

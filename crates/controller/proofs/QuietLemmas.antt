@@ -134,7 +134,7 @@ step_seen code s a next below then quiet were goes =
 -- ---- quiet statements one after another
 
 -- what so many steps come to
-pub record StepQuietly (code : Code) (s : State) (w : GlobalStore) (activations : List Activation)
+pub record StepSilently (code : Code) (s : State) (w : GlobalStore) (activations : List Activation)
     (count : ℕ) : Type 0 where
   pub nothing : ShowNothing code s (replicate count what.Step)
   pub state : state_after_entries code s (replicate count what.Step)
@@ -142,7 +142,7 @@ pub record StepQuietly (code : Code) (s : State) (w : GlobalStore) (activations 
   pub outputs : w.memory.peripheral_outputs ≡ s.world.memory.peripheral_outputs
 
 nothing_done : (code : Code) (s : State) (w : GlobalStore) (activations : List Activation)
-    → activations ≡ s.activations → w ≡ s.world → StepQuietly code s w activations zero
+    → activations ≡ s.activations → w ≡ s.world → StepSilently code s w activations zero
 nothing_done code s w activations are is =
     let same : s.entries ≡ s.entries + 0 = omega arith in
     record {
@@ -157,8 +157,8 @@ nothing_done code s w activations are is =
 one_more_step : (code : Code) (s : State) (a next : Activation) (below activations : List Activation)
     (then w : GlobalStore) (count : ℕ) → IsQuiet s → s.activations ≡ a ∷ below
     → GoesSilently (statement_step code a s.world) s.world next then
-    → StepQuietly code (gone_on s then (next ∷ below) 1) w activations count
-    → StepQuietly code s w activations (suc count)
+    → StepSilently code (gone_on s then (next ∷ below) 1) w activations count
+    → StepSilently code s w activations (suc count)
 one_more_step code s a next below activations then w count quiet were goes rest =
     let on : (entry_result code s what.Step).state ≡ gone_on s then (next ∷ below) 1 =
     step_state code s a next below then quiet were goes in
@@ -178,7 +178,7 @@ one_more_step code s a next below activations then w count quiet were goes rest 
 
 runs_on : (code : Code) (count : ℕ) (s : State) (a b : Activation) (below activations : List Activation)
     (w : GlobalStore) → IsQuiet s → s.activations ≡ a ∷ below → activations ≡ b ∷ below
-    → RunsSilently code count a b s.world w → StepQuietly code s w activations count
+    → RunsSilently code count a b s.world w → StepSilently code s w activations count
 runs_on code zero s a b below activations w quiet were are runs =
     nothing_done code s w activations
     (are ∙ ap (λ (c : Activation). c ∷ below) runs.0 ∙ sym were) runs.1
@@ -189,16 +189,16 @@ runs_on code (suc count) s a b below activations w quiet were are (next, then, g
 
 goes_on : (code : Code) (count : ℕ) (s : State) (old new : List Activation) (w : GlobalStore) → IsQuiet s
     → s.activations ≡ old → GoesOnQuietly code count old new s.world w
-    → StepQuietly code s w new count
+    → StepSilently code s w new count
 goes_on code count s [] new w quiet were runs =
-    subst (λ (n : ℕ). StepQuietly code s w new n) (sym runs.0)
+    subst (λ (n : ℕ). StepSilently code s w new n) (sym runs.0)
     (nothing_done code s w new (runs.1 ∙ sym were) runs.2)
 goes_on code count s (a ∷ below) new w quiet were (b, are, runs) =
     runs_on code count s a b below new w quiet were are runs
 
 pub steps_quietly : (code : Code) (count : ℕ) (s : State) (new : List Activation) (w : GlobalStore)
     → IsQuiet s → GoesOnQuietly code count s.activations new s.world w
-    → StepQuietly code s w new count
+    → StepSilently code s w new count
 steps_quietly code count s new w quiet runs =
     goes_on code count s s.activations new w quiet refl runs
 

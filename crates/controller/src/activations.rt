@@ -332,7 +332,7 @@ impl Activations {
 
     /// Executes statements of the running activation one after another, as `machine::run`; none where
     /// nothing runs.
-    pub(crate) fn run_quietly(
+    pub(crate) fn run_silently(
         &mut self,
         program: &Loaded,
         m: &mut Memory,

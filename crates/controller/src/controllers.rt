@@ -154,7 +154,7 @@ impl Controller {
     /// answer is how often. It stops only before a step that isn't a statement of the silent kind
     /// (`machine::run`) with which the running activation goes on, in STOP, where a block
     /// is monitored, or where a request waits: what it leaves is for `enter`. Takes no memory.
-    pub fn step_quietly(&mut self, step: &Entry, most: u64) -> u64
+    pub fn step_silently(&mut self, step: &Entry, most: u64) -> u64
         requires step { step.now.what ≡ Step }
         requires room { most ≤ self.old.spare }
         ensures few { result ≤ most }
@@ -173,7 +173,7 @@ impl Controller {
         crate::laws::counts_entries();
         self.history.law_of_room();
         crate::laws::what_runs_goes_on();
-        let made = self.cpu.step_quietly(&self.program, most);
+        let made = self.cpu.step_silently(&self.program, most);
         if made == 0 {
             return 0;
         }

@@ -16,7 +16,7 @@ impl Cpu {
     /// is how many. It stops only before a step that isn't a statement of the silent kind
     /// (`machine::run`) with which the running activation goes on, in STOP, where a block
     /// is monitored, or where a request waits: what it leaves is for `enter`.
-    pub fn step_quietly(&mut self, program: &Loaded, most: u64) -> u64
+    pub fn step_silently(&mut self, program: &Loaded, most: u64) -> u64
         requires fit { IsFit program.now.program (cpu_state self.old) }
         requires few { self.old.entries + most < 2 ^ 64 }
         ensures few { result ≤ most }
@@ -36,7 +36,7 @@ impl Cpu {
         program.law_of_verifying();
         machine::laws::what_fits_goes();
         machine::laws::what_fits_lasts();
-        let done = self.activations.run_quietly(
+        let done = self.activations.run_silently(
             program,
             &mut self.memory,
             &mut self.timers,

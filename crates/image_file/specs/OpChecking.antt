@@ -7,11 +7,11 @@ use Rattle.flat_code.specs.declared.image_fields.ParameterRecord.{ParameterRecor
 use Rattle.flat_code.specs.Blocks.{Environment, CalleeSeen}
 use Rattle.flat_code.specs.Ops.{OpData}
 use Rattle.flat_code.specs.Placed.{PlacedOp}
-use Rattle.image_file.specs.declared.surroundings.Surroundings.{Surroundings}
+use Rattle.image_file.specs.declared.environments.BlockEnvironment.{BlockEnvironment}
 use Rattle.image_file.specs.declared.verifying.Place.{Place}
 
 -- what the faults of a block depend on besides its ops, by the record of the code
-abbrev pub around_of : Surroundings → Environment
+abbrev pub around_of : BlockEnvironment → Environment
 around_of s = record { kind = s.kind; local_len = s.local_len; params = s.params.now; blocks = s.blocks.now; data_lens = option_map (λ d. d.now) s.data_lens }
 
 -- what is called, by its kind, its instance bytes and its parameters as the code finds them

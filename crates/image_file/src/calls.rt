@@ -6,7 +6,7 @@ ghost use Rattle.image_file.specs.OpChecking.{around_of};
 
 use crate::numbers::FUNCTION_BLOCK;
 use crate::operands::{is_passed, misfits_parameter};
-use crate::surroundings::{DataLens, Surroundings, callee};
+use crate::environments::{DataLens, BlockEnvironment, callee};
 use flat_code::{Op, Operand, ParameterRecord, Passed};
 
 /// Whether an instance is absent or shorter than the function block's.
@@ -54,7 +54,7 @@ fn are_passed(params: &[ParameterRecord], before: &[Op]) -> bool
 /// Whether a block is called that is absent or has other parameters, or with an instance that
 /// doesn't fit.
 pub(crate) fn is_bad_call(
-    around: &Surroundings,
+    around: &BlockEnvironment,
     lens: &DataLens,
     kind: u8,
     number: u16,
@@ -73,7 +73,7 @@ pub(crate) fn is_bad_call(
     }
 }
 
-fn misfits_index(around: &Surroundings, parameter: Option<ParameterRecord>, actual: Passed) -> bool
+fn misfits_index(around: &BlockEnvironment, parameter: Option<ParameterRecord>, actual: Passed) -> bool
     ensures { result ≡ misfits_index (around_of around.now) parameter actual }
 {
     match parameter {
@@ -83,7 +83,7 @@ fn misfits_index(around: &Surroundings, parameter: Option<ParameterRecord>, actu
 }
 
 /// Whether what is passed doesn't fit the parameter of the block that the statement's last op calls.
-pub(crate) fn misfits_call(around: &Surroundings, last: &Op, index: u8, actual: Passed) -> bool
+pub(crate) fn misfits_call(around: &BlockEnvironment, last: &Op, index: u8, actual: Passed) -> bool
     ensures { result ≡ misfits_call (around_of around.now) last.now.operand index actual }
 {
     match last.operand {

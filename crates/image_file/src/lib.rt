@@ -25,7 +25,7 @@ mod records;
 mod refusing;
 mod statement_table;
 mod stops;
-mod surroundings;
+mod environments;
 mod tables;
 mod typing;
 mod verifying;

@@ -19,7 +19,7 @@ use crate::reader::Reader;
 use crate::records::{BlockRead, FoundRead, NameRead, Started};
 use crate::refusing::LoadError;
 use crate::stops::Stop;
-use crate::surroundings::{DataLens, SignatureRead, Signatures, Surroundings};
+use crate::environments::{DataLens, SignatureRead, Signatures, BlockEnvironment};
 use crate::typing::program;
 use crate::verifying::check_block;
 use crate::writing::write_stamped;
@@ -130,7 +130,7 @@ fn check_started(
     }) started.now.start started.now.block.code)) }
 {
     let block = &started.block;
-    let around = Surroundings {
+    let around = BlockEnvironment {
         kind: block.kind,
         local_len: block.local_len,
         params: block.params.as_slice(),

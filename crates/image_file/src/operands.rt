@@ -10,7 +10,7 @@ ghost use Rattle.flat_code.specs.Blocks.{is_odd_bit, is_past_locals, is_bad_plac
 ghost use Rattle.image_file.specs.OpChecking.{around_of};
 
 use crate::numbers::{CALL, EDGE_NEGATIVE, FUNCTION, JUMP, TRANSFER};
-use crate::surroundings::Surroundings;
+use crate::environments::BlockEnvironment;
 use flat_code::{Op, Operand, ParameterRecord, Passed, SECTION_IN, taken_by};
 use plc_base::{Area, Width};
 
@@ -25,7 +25,7 @@ fn is_odd_bit(width: Width, bit: u8) -> bool
 }
 
 /// Whether a place is a local byte past those of the block.
-fn is_past_locals(around: &Surroundings, area: Area, width: Width, byte: u16) -> bool
+fn is_past_locals(around: &BlockEnvironment, area: Area, width: Width, byte: u16) -> bool
     ensures { result ≡ is_past_locals (around_of around.now) area width byte }
 {
     match area {
@@ -35,7 +35,7 @@ fn is_past_locals(around: &Surroundings, area: Area, width: Width, byte: u16) ->
 }
 
 pub(crate) fn is_bad_place(
-    around: &Surroundings,
+    around: &BlockEnvironment,
     area: Area,
     width: Width,
     byte: u16,
@@ -62,7 +62,7 @@ pub(crate) fn writes(code: u8) -> bool
 }
 
 /// The parameter of the function that runs.
-pub(crate) fn own_parameter(around: &Surroundings, index: u8) -> Option<ParameterRecord>
+pub(crate) fn own_parameter(around: &BlockEnvironment, index: u8) -> Option<ParameterRecord>
     ensures { result ≡ parameter_meant (around_of around.now) index }
 {
     if around.kind == FUNCTION {
@@ -170,7 +170,7 @@ pub(crate) fn is_stray_pass(before: &[Op], last: &Op, index: u8) -> bool
     last.code != CALL || !is_above(index, pass_before(before))
 }
 
-pub(crate) fn is_bad_actual(around: &Surroundings, actual: Passed) -> bool
+pub(crate) fn is_bad_actual(around: &BlockEnvironment, actual: Passed) -> bool
     ensures { result ≡ is_bad_actual (around_of around.now) actual }
 {
     match actual {
@@ -205,7 +205,7 @@ fn literal_fits(width: u8, value: u32) -> bool
 
 /// Whether what is passed doesn't fit its parameter.
 pub(crate) fn misfits_parameter(
-    around: &Surroundings,
+    around: &BlockEnvironment,
     parameter: ParameterRecord,
     actual: Passed,
 ) -> bool

@@ -18,7 +18,7 @@ use crate::faults::{LoadFault, VerifyFault};
 use crate::loaded::Loaded;
 use crate::loading::lens_of;
 use crate::refusing::VerifyError;
-use crate::surroundings::{DataLens, SignatureRead, Signatures, Surroundings};
+use crate::environments::{DataLens, SignatureRead, Signatures, BlockEnvironment};
 use crate::verifying::check_block;
 use crate::writing::code_len;
 use flat_code::{CodeBlock, DataBlock, Field, Op, Param, ParameterRecord, Program};
@@ -161,7 +161,7 @@ fn check_count(block: &CodeBlock) -> Option<LoadFault>
 #[tactic(auto, using(crate::proofs::ProgramFaultLemmas::coded, crate::proofs::ProgramFaultLemmas::uncoded))]
 fn check_code_block(
     alloc: Global,
-    around: &Surroundings,
+    around: &BlockEnvironment,
     block: &CodeBlock,
 ) -> Result<Option<LoadFault>, NoMemory>
     requires { BlockFitsFields block.now }
@@ -194,7 +194,7 @@ fn block_fault(
     }) (record_of_block block.now))) }
 {
     let params = records_of_params(alloc, block.params.as_slice())?;
-    let around = Surroundings {
+    let around = BlockEnvironment {
         kind: block.id.kind.number(),
         local_len: block.local_len,
         params: params.as_slice(),

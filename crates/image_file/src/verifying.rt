@@ -20,7 +20,7 @@ use crate::operands::{
 };
 use crate::reader::lesser;
 use crate::statement_table::Statements;
-use crate::surroundings::{DataLens, Surroundings};
+use crate::environments::{DataLens, BlockEnvironment};
 use arrayvec::ArrayVec;
 use flat_code::{Op, OpenBracket, Operand};
 use plc_base::NoMemory;
@@ -105,7 +105,7 @@ fn jump_fault(statements: &Statements, op: &Op, place: &Place, kind: u8, target:
 
 /// The fault of an op's operand by itself.
 fn operand_fault(
-    around: &Surroundings,
+    around: &BlockEnvironment,
     statements: &Statements,
     op: &Op,
     place: &Place,
@@ -141,7 +141,7 @@ fn operand_fault(
     }
 }
 
-fn call_fault_among(around: &Surroundings, lens: &DataLens, op: &Op, place: &Place) -> Option<u16>
+fn call_fault_among(around: &BlockEnvironment, lens: &DataLens, op: &Op, place: &Place) -> Option<u16>
     ensures { result ≡ call_fault_among (around_of around.now) lens.now
         (placed_of op.now place.now) op.now.operand }
 {
@@ -160,7 +160,7 @@ fn call_fault_among(around: &Surroundings, lens: &DataLens, op: &Op, place: &Pla
 }
 
 /// The fault of a call, where calls are checked.
-fn call_fault(around: &Surroundings, op: &Op, place: &Place) -> Option<u16>
+fn call_fault(around: &BlockEnvironment, op: &Op, place: &Place) -> Option<u16>
     ensures { result ≡ call_fault (around_of around.now) (around_of around.now).data_lens
         (placed_of op.now place.now) }
 {
@@ -173,7 +173,7 @@ fn call_fault(around: &Surroundings, op: &Op, place: &Place) -> Option<u16>
 /// The lesser of the fault so far and those of an op.
 #[tactic(auto, unfolding(flat_code::specs::Blocks::op_faults), using(crate::proofs::CheckLemmas::five))]
 fn check_op(
-    around: &Surroundings,
+    around: &BlockEnvironment,
     statements: &Statements,
     start: u32,
     op: &Op,
@@ -250,7 +250,7 @@ fn check_nesting(
 /// The lesser of the fault so far and those of the ops of a block with these statements.
 fn check_ops(
     alloc: Global,
-    around: &Surroundings,
+    around: &BlockEnvironment,
     statements: &Statements,
     start: u32,
     ops: &[Op],
@@ -284,7 +284,7 @@ fn check_ops(
 /// The lesser of the fault so far and those of the ops of a block whose code begins at an offset.
 pub(crate) fn check_block(
     alloc: Global,
-    around: &Surroundings,
+    around: &BlockEnvironment,
     start: u32,
     ops: &[Op],
     least: Option<LoadFault>,

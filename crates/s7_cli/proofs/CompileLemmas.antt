@@ -23,7 +23,7 @@ use Rattle.stl_codegen.specs.Generated.{program_of}
 use Rattle.sem_kept.specs.Agreement.{AreFiles, KeepsSourceIn, ProgramsRun}
 use Rattle.sem_kept.specs.Compiles.{CompilesTo, IsProgramUnique}
 use Rattle.sem_kept.specs.Stages.{HaveOutcomeInTurn}
-use Rattle.sem_kept.specs.Meaning.{HasSymbolsIn, HasTokens, HasTreeOrRefusal, refusals_of, sound_by, IsSound, IsJudgedWith, IsJudgedIn, ExcludesRefusal, InSource, InSymbols, MeansCodeIn, stated_code_of_tree}
+use Rattle.sem_kept.specs.Meaning.{HasSymbolsIn, HasTokens, HasTreeOrRefusal, refusals_of, sound_by, IsSound, IsCheckedWith, IsCheckedIn, ExcludesRefusal, InSource, InSymbols, MeansCodeIn, stated_code_of_tree}
 use Rattle.stl_symbols.specs.declared.languages.Language.{Language}
 use Rattle.stl_symbols.specs.declared.languages.Language.TheVariants.{English}
 use Rattle.s7_cli.specs.declared.compiling.LaidSource.{LaidSource}
@@ -107,21 +107,21 @@ symbols_refused language symbols found.NoMemory h = tt
 
 pub by_symbols : (language : Language) (source symbols : List ℕ) (fault : CompileFault)
     → RefusesSymbols language symbols fault → RefusesIn language source symbols fault
-unfolding IsJudgedIn
+unfolding IsCheckedIn
 by_symbols language source symbols (compiling.Symbols refusal) h = inl (refusal, refl, h)
 by_symbols language source symbols (compiling.Source refusal) h = absurd h
 by_symbols language source symbols compiling.NoMemory h = tt
 
 with_tree : (source : List ℕ) (symbols : List Symbol) (refusal : Refusal)
     → HaveOutcomeInTurn HasTokens (HasTreeOrRefusal source) source (Err refusal)
-    → IsJudgedWith source symbols (Err refusal)
+    → IsCheckedWith source symbols (Err refusal)
 with_tree source symbols refusal (inl refused) = inl refused
 with_tree source symbols refusal (inr (tokens, are, refused)) = inr (tokens, are, inl refused)
 
 pub tree_fault : (source : List ℕ) (list : List Symbol) (fault : SourceFault)
     → MakesOrRefuses (HaveOutcomeInTurn HasTokens (HasTreeOrRefusal source) source) (Err fault)
     → RefusesWith source list (fault_in_source fault)
-unfolding IsJudgedIn
+unfolding IsCheckedIn
 tree_fault source list (found.Refused refusal) h = λ language symbols has.
     inr (list, has, (refusal, refl, with_tree source list refusal h))
 tree_fault source list found.NoMemory h = λ language symbols has. tt
@@ -129,7 +129,7 @@ tree_fault source list found.NoMemory h = λ language symbols has. tt
 pub program_fault : (source : List ℕ) (list : List Symbol) (tree : Tree) (fault : SourceFault)
     → HaveOutcomeInTurn HasTokens (HasTreeOrRefusal source) source (Ok tree) → IsRefusedByFault list tree fault
     → RefusesWith source list (fault_in_source fault)
-unfolding IsJudgedIn
+unfolding IsCheckedIn
 program_fault source list tree (found.Refused refusal) (tokens, are, is) h = λ language symbols has.
     inr (list, has, (refusal, refl, inr (tokens, are, inr (tree, is, inl h))))
 program_fault source list tree found.NoMemory at h = λ language symbols has. tt
@@ -235,7 +235,7 @@ one_program one_list one_tree language source symbols p q a b =
 means : (language : Language) (source symbols : List ℕ) (p : Program)
     → (a : CompilesTo language source symbols p)
     → MeansCodeIn language source symbols (stated_code_of_tree a.list a.tree)
-unfolding IsJudgedIn
+unfolding IsCheckedIn
 means language source symbols p a = (
   a.list,
   a.named,

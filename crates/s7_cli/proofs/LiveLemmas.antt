@@ -134,7 +134,7 @@ behind lists (Ok more) = Ok (lists ++ more)
 behind lists (Err script) = Err script
 
 -- of all scripts these are left, from a number on, and those before them gave these lists
-pub record AreJudged (names : List NameEntry) (all : List (List ℕ)) (number : ℕ) (rest : List (List ℕ)) (lists : List (List Entry)) : Type 0 where
+pub record AreChecked (names : List NameEntry) (all : List (List ℕ)) (number : ℕ) (rest : List (List ℕ)) (lists : List (List Entry)) : Type 0 where
   pub spells : scripts_from names 1 all ≡ behind lists (scripts_from names number rest)
   pub within : AreScriptsWithin rest
   pub many : length lists + 1 ≡ number
@@ -145,8 +145,8 @@ behind-none : (r : Result (List (List Entry)) RefusedScript) → r ≡ behind []
 behind-none (Ok lists) = refl
 behind-none (Err script) = refl
 
-pub judged-first : (names : List NameEntry) (all : List (List ℕ)) → AreScriptsWithin all → AreJudged names all 1 all []
-judged-first names all within = record {
+pub checked-first : (names : List NameEntry) (all : List (List ℕ)) → AreScriptsWithin all → AreChecked names all 1 all []
+checked-first names all within = record {
   spells = behind-none (scripts_from names 1 all);
   within = within;
   many = refl;
@@ -174,14 +174,14 @@ length-one : {A : Type 0} (xs : List A) (x : A) → length (xs ++ x ∷ []) ≡ 
 length-one [] x = refl
 length-one (y ∷ xs) x = omega (arith, length-one xs x)
 
-pub judged-next : (names : List NameEntry) (all : List (List ℕ)) (number next : ℕ) (rest : List (List ℕ)) (bytes : List ℕ) (more : List (List ℕ))
+pub checked-next : (names : List NameEntry) (all : List (List ℕ)) (number next : ℕ) (rest : List (List ℕ)) (bytes : List ℕ) (more : List (List ℕ))
     (lists after : List (List Entry)) (list : List Entry)
-    → AreJudged names all number rest lists → rest ≡ bytes ∷ more → next ≡ number + 1 → after ≡ lists ++ list ∷ []
+    → AreChecked names all number rest lists → rest ≡ bytes ∷ more → next ≡ number + 1 → after ≡ lists ++ list ∷ []
     → script_of (number + 2) names bytes ≡ Ok list → All (IsRegularOf (number + 2)) list → 4 * length list ≤ length bytes
-    → AreJudged names all next more after
-judged-next names all number next rest bytes more lists after list so_far first is are spelled regular few =
-    subst (λ (n : ℕ). AreJudged names all n more after) (sym is)
-    (subst (λ (l : List (List Entry)). AreJudged names all (number + 1) more l) (sym are) (record {
+    → AreChecked names all next more after
+checked-next names all number next rest bytes more lists after list so_far first is are spelled regular few =
+    subst (λ (n : ℕ). AreChecked names all n more after) (sym is)
+    (subst (λ (l : List (List Entry)). AreChecked names all (number + 1) more l) (sym are) (record {
       spells = so_far.spells ∙ ap (λ (r : List (List ℕ)). behind lists (scripts_from names number r)) first
           ∙ ap (λ (s : Result (List Entry) Refusal). behind lists (script_first number s (scripts_from names (number + 1) more))) spelled
           ∙ behind-one number lists list (scripts_from names (number + 1) more);
@@ -196,12 +196,12 @@ judged-next names all number next rest bytes more lists after list so_far first 
 
 -- the script in front is within its limit
 pub next-within : (names : List NameEntry) (all : List (List ℕ)) (number : ℕ) (rest : List (List ℕ)) (bytes : List ℕ) (more : List (List ℕ))
-    (lists : List (List Entry)) → AreJudged names all number rest lists → rest ≡ bytes ∷ more → length bytes ≤ 1048576
+    (lists : List (List Entry)) → AreChecked names all number rest lists → rest ≡ bytes ∷ more → length bytes ≤ 1048576
 next-within names all number rest bytes more lists so_far first = (subst AreScriptsWithin first so_far.within).0
 
-pub judged-last : (names : List NameEntry) (all : List (List ℕ)) (number : ℕ) (rest : List (List ℕ)) (lists : List (List Entry))
-    → AreJudged names all number rest lists → rest ≡ [] → scripts_from names 1 all ≡ Ok lists
-judged-last names all number rest lists so_far none =
+pub checked-last : (names : List NameEntry) (all : List (List ℕ)) (number : ℕ) (rest : List (List ℕ)) (lists : List (List Entry))
+    → AreChecked names all number rest lists → rest ≡ [] → scripts_from names 1 all ≡ Ok lists
+checked-last names all number rest lists so_far none =
     so_far.spells ∙ ap (λ (r : List (List ℕ)). behind lists (scripts_from names number r)) none ∙ ap Ok (append-nil lists)
 
 tells-script : (names : List NameEntry) (number : ℕ) (bytes : List ℕ) (more : List (List ℕ)) (lists : List (List Entry)) (fault : TextFault)
@@ -214,11 +214,11 @@ tells-script names number bytes more lists (broken.BadLine line rule) is = inr (
 )
 tells-script names number bytes more lists broken.NoMemory is = inl refl
 
-pub judged-cut : (names : List NameEntry) (all : List (List ℕ)) (number : ℕ) (rest : List (List ℕ)) (bytes : List ℕ) (more : List (List ℕ))
-    (lists : List (List Entry)) (fault : TextFault) (failure : Failure) → AreJudged names all number rest lists → rest ≡ bytes ∷ more
+pub checked-cut : (names : List NameEntry) (all : List (List ℕ)) (number : ℕ) (rest : List (List ℕ)) (bytes : List ℕ) (more : List (List ℕ))
+    (lists : List (List Entry)) (fault : TextFault) (failure : Failure) → AreChecked names all number rest lists → rest ≡ bytes ∷ more
     → failure ≡ failure_of_text (Script number) fault → IsTextFault (script_of (number + 2) names bytes) fault
     → TellsScript (scripts_from names 1 all) failure
-judged-cut names all number rest bytes more lists fault failure so_far first fails is =
+checked-cut names all number rest bytes more lists fault failure so_far first fails is =
     subst (λ (f : Failure). TellsScript (scripts_from names 1 all) f) (sym fails)
     (subst (λ (s : Result (List (List Entry)) RefusedScript). TellsScript s (failure_of_text (Script number) fault))
     (sym (so_far.spells ∙ ap (λ (r : List (List ℕ)). behind lists (scripts_from names number r)) first))

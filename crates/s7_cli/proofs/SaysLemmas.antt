@@ -17,7 +17,7 @@ use Rattle.machine.specs.Flat.{code_of}
 use Rattle.generator.specs.History.{generated_history}
 use Rattle.generator.specs.Source.{source_text}
 use Rattle.sem_kept.specs.Agreement.{names_read_in}
-use Rattle.sem_kept.specs.Meaning.{HasSymbolsIn, IsJudgedIn, IsMeaningUnique, ExcludesRefusal, IsRefusalUnique, RefusedFile, InSymbols, InSource, MeansCodeIn}
+use Rattle.sem_kept.specs.Meaning.{HasSymbolsIn, IsCheckedIn, IsMeaningUnique, ExcludesRefusal, IsRefusalUnique, RefusedFile, InSymbols, InSource, MeansCodeIn}
 use Rattle.stl_symbols.specs.Symbol.{Symbol}
 use Rattle.stl_symbols.specs.Symbols.{symbols_in}
 use Rattle.stl_symbols.specs.declared.languages.Language.{Language}
@@ -60,8 +60,8 @@ use Rattle.s7_cli.proofs.WatchSaysLemmas.{watch-one, watch-verdict}
 -- a source with its symbols means one code, or is refused in one way
 abbrev pub MeansOne : Type 0
 MeansOne =
-    (language : Language) (source symbols : List ℕ) (v w : Result Code RefusedFile) → IsJudgedIn language source symbols v
-    → IsJudgedIn language source symbols w → v ≡ w
+    (language : Language) (source symbols : List ℕ) (v w : Result Code RefusedFile) → IsCheckedIn language source symbols v
+    → IsCheckedIn language source symbols w → v ≡ w
 
 pub means-one : IsMeaningUnique → ExcludesRefusal → IsRefusalUnique → MeansOne
 means-one meaning excludes refusal language source symbols (Ok c) (Ok d) p q = ap Ok (meaning language source symbols c d p q)
@@ -221,13 +221,13 @@ go-verdict german source symbols history a said =
     english-verdict german source symbols (λ text. SourceSays (language_of german) Large text symbols history)
     (λ text b says. told-verdict b says.0 (history_of_text (names_read_in (language_of german) symbols) history) says.2) a said
 
-judged-verdict : (a : Answer) (v : Result Code RefusedFile) → a ≡ check_answer v → IsVerdict a
-judged-verdict a (Err why) gives = refused-verdict a why gives
-judged-verdict a (Ok code) gives = inl (ok_line, gives)
+checked-verdict : (a : Answer) (v : Result Code RefusedFile) → a ≡ check_answer v → IsVerdict a
+checked-verdict a (Err why) gives = refused-verdict a why gives
+checked-verdict a (Ok code) gives = inl (ok_line, gives)
 
 check-verdict : (german : Bool) (source symbols : List ℕ) (a : Answer) → CheckSays german source symbols a → IsVerdict a
 check-verdict german source symbols a said =
-    english-verdict german source symbols (ChecksAs (language_of german) symbols) (λ text b says. judged-verdict b says.0 says.2) a said
+    english-verdict german source symbols (ChecksAs (language_of german) symbols) (λ text b says. checked-verdict b says.0 says.2) a said
 
 translate-verdict : (language : Language) (source : List ℕ) (a : Answer) → TranslateSays language source a → IsVerdict a
 translate-verdict language source a said =
@@ -443,7 +443,7 @@ text-refused V source symbols text list fault r fails has is refuses =
 -- the symbols that were read
 pub means-symbols : (language : Language) (source symbols : List ℕ) (code : Code) → MeansCodeIn language source symbols code
     → (list : List Symbol) × HasSymbolsIn language symbols (Ok list)
-unfolding IsJudgedIn
+unfolding IsCheckedIn
 means-symbols language source symbols code means = (means.0, means.1)
 
 pub checks-ok : (german : Bool) (source symbols text : List ℕ) (code : Code) → MeansCodeIn (language_of german) text symbols code

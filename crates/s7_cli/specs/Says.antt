@@ -15,7 +15,7 @@ use Rattle.generator.specs.Source.{source_text}
 use Rattle.de_mnemonics.specs.Translation.{IsTranslation}
 use Rattle.stl_symbols.specs.declared.languages.Language.{Language}
 use Rattle.sem_kept.specs.Agreement.{names_read_in}
-use Rattle.sem_kept.specs.Meaning.{IsJudged, IsJudgedIn, IsRefusedSourceIn, RefusedFile, InSymbols, InSource}
+use Rattle.sem_kept.specs.Meaning.{IsChecked, IsCheckedIn, IsRefusedSourceIn, RefusedFile, InSymbols, InSource}
 use Rattle.event_text.specs.Texts.{history_of_text}
 use Rattle.s7_cli.specs.run_text.RunText.{run_text}
 use Rattle.s7_cli.specs.declared.failures.File.TheVariants.{Source, Symbols, History}
@@ -51,8 +51,8 @@ check_answer (Ok code) = done_answer ok_line
 -- symbols
 abbrev pub SourceSays : Language → Profile → (source symbols history : List ℕ) → Answer → Type 0
 SourceSays language profile source symbols history answer =
-    (judged : Result Code RefusedFile) × IsJudgedIn language source symbols judged
-    × (answer ≡ go_answer profile judged (history_of_text (names_read_in language symbols) history))
+    (outcome : Result Code RefusedFile) × IsCheckedIn language source symbols outcome
+    × (answer ≡ go_answer profile outcome (history_of_text (names_read_in language symbols) history))
 
 -- what `go` answers, of the English text of the source: it has the sizes of the large profile
 abbrev pub GoSays : (german : Bool) → (source symbols history : List ℕ) → Answer → Type 0
@@ -99,14 +99,14 @@ gen_answer number (Ok code) = done_answer (summary_text number Large code (gener
 -- what `gen` answers; it reads no file
 abbrev pub GenSays : (number : ℕ) → Answer → Type 0
 GenSays number answer =
-    (judged : Result Code RefusedFile) × IsJudged (source_text number) [] judged
-    × (answer ≡ gen_answer number judged)
+    (outcome : Result Code RefusedFile) × IsChecked (source_text number) [] outcome
+    × (answer ≡ gen_answer number outcome)
 
 -- what is said of an English text with symbols in a language
 abbrev pub ChecksAs : Language → (symbols text : List ℕ) → Answer → Type 0
 ChecksAs language symbols text answer =
-    (judged : Result Code RefusedFile) × IsJudgedIn language text symbols judged
-    × (answer ≡ check_answer judged)
+    (outcome : Result Code RefusedFile) × IsCheckedIn language text symbols outcome
+    × (answer ≡ check_answer outcome)
 
 -- what `check` and `compile` answer, over the contents of their files
 abbrev pub CheckSays : (german : Bool) → (source symbols : List ℕ) → Answer → Type 0

@@ -16,11 +16,11 @@ ghost use Rattle.s7_cli.specs.Says.{GoSays, IsUpgraded, RefusedProgram, RunSays,
 ghost use Rattle.s7_cli.specs.Texts.{AreFilesWithinLimits, symbols_text_of};
 ghost use Rattle.s7_cli.specs.Translating.{HasProgramOf, IsSourceImage, KeepsText, language_of};
 
-use crate::compiling::{compiled, compiled_image, judged};
+use crate::compiling::{compiled, compiled_image, check_source};
 use crate::failures::{Failure, File, failure_of_text};
 use crate::files::{LiveText, ProgramText};
 use crate::lists::add;
-use crate::translating::{compiled_german, image_german, judged_german};
+use crate::translating::{compiled_german, image_german, check_german_source};
 use event_text::{read_history, read_script, read_stimuli};
 use flat_code::Names;
 use image_file::{LoadError, Loaded, load, write_image2};
@@ -37,9 +37,9 @@ pub fn check_program(alloc: Global, text: &ProgramText, german: bool) -> Result<
         (RefusedProgram german text.now.source.items (symbols_text_of text.now)) result }
 {
     if german {
-        return judged_german(alloc, text);
+        return check_german_source(alloc, text);
     }
-    Ok(judged(alloc, &text.source, text.symbols())?)
+    Ok(check_source(alloc, &text.source, text.symbols())?)
 }
 
 /// Checks a source with its symbols, and makes the image of its program.

@@ -211,7 +211,7 @@ pub(crate) fn law_of_files(source: &[u8], symbols: &[u8])
 
 /// Checks a source with symbols that were read, in either language. No program is made: that a source
 /// which breaks no rule has one that verifies and runs as it means is proved.
-pub(crate) fn judged_with(
+pub(crate) fn check_source_with(
     alloc: Global,
     source: &[u8],
     symbols: Symbols,
@@ -251,7 +251,7 @@ pub(crate) fn program_with(
 ///
 /// Those of `compiled`: `Symbols` or `Source` with the refusal exactly where the symbols file or the
 /// source with these symbols is refused; or `NoMemory`.
-pub fn judged(alloc: Global, source: &[u8], symbols: &[u8]) -> Result<(), CompileFault>
+pub fn check_source(alloc: Global, source: &[u8], symbols: &[u8]) -> Result<(), CompileFault>
     requires source { length source.now ≤ source_limit }
     requires symbols { length symbols.now ≤ symbols_limit }
     ensures ok { IfOk result (λ done.
@@ -261,7 +261,7 @@ pub fn judged(alloc: Global, source: &[u8], symbols: &[u8]) -> Result<(), Compil
 {
     law_of_files(source, symbols);
     let list = symbols_in(alloc, Language::English, symbols)?;
-    judged_with(alloc, source, list)
+    check_source_with(alloc, source, list)
 }
 
 /// The program of a source with its symbols.

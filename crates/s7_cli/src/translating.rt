@@ -17,7 +17,7 @@ ghost use Rattle.s7_cli.specs.Translating.{
   NotTranslated,
 };
 
-use crate::compiling::{judged_with, law_of_files, loaded_large, program_with, symbols_in};
+use crate::compiling::{check_source_with, law_of_files, loaded_large, program_with, symbols_in};
 use crate::failures::{Failure, File};
 use crate::files::{ProgramText, limit_of};
 use de_mnemonics::{to_english, to_german};
@@ -92,7 +92,7 @@ fn english_program(alloc: Global, text: &ProgramText) -> Result<EnglishProgram, 
 }
 
 /// Checks a German source with its symbols.
-pub(crate) fn judged_german(alloc: Global, text: &ProgramText) -> Result<(), Failure>
+pub(crate) fn check_german_source(alloc: Global, text: &ProgramText) -> Result<(), Failure>
     requires { AreFilesWithinLimits text.now }
     ensures accepted { IfOk result
         (λ done. HasProgramOf true text.now.source.items (symbols_text_of text.now)) }
@@ -101,7 +101,7 @@ pub(crate) fn judged_german(alloc: Global, text: &ProgramText) -> Result<(), Fai
 {
     let EnglishProgram { source, symbols } = english_program(alloc, text)?;
     law_of_files(&source, text.symbols());
-    Ok(judged_with(alloc, &source, symbols)?)
+    Ok(check_source_with(alloc, &source, symbols)?)
 }
 
 /// The program of a German source with its symbols.

@@ -11,7 +11,7 @@ use Rattle.stl_symbols.specs.Symbol.{Symbol}
 use Rattle.stl_symbols.specs.Symbols.{symbols_in, with_lines}
 use Rattle.stl_symbols.specs.declared.languages.Language.{Language}
 use Rattle.sem_kept.specs.Stages.{HaveOutcomeInTurn, TellsRefusalOf, HasOneOutcome, HasOutcome}
-use Rattle.sem_kept.specs.Meaning.{HasSymbolsIn, HasTokens, HasTreeOrRefusal, refusals_of, sound_by, IsSound, stated_code_of_tree, HasCode, IsJudgedWith, RefusedFile, InSymbols, InSource, IsJudgedIn, MeansCodeIn, IsRefusedSourceIn, IsMeaningUnique, ExcludesRefusal, IsRefusalUnique, HasEachSourceOutcome, NoFileHasNone}
+use Rattle.sem_kept.specs.Meaning.{HasSymbolsIn, HasTokens, HasTreeOrRefusal, refusals_of, sound_by, IsSound, stated_code_of_tree, HasCode, IsCheckedWith, RefusedFile, InSymbols, InSource, IsCheckedIn, MeansCodeIn, IsRefusedSourceIn, IsMeaningUnique, ExcludesRefusal, IsRefusalUnique, HasEachSourceOutcome, NoFileHasNone}
 use Rattle.sem_kept.proofs.StageLemmas.{same_refusal, one_by_parts, in_turn_one, in_turn_some, told_one, told_some}
 
 -- what is known of tokens and of clauses
@@ -59,7 +59,7 @@ sound_one symbols tree x y is_x is_y = is_x ∙ sym is_y
 code_one : (symbols : List Symbol) → HasOneOutcome (HasCode symbols)
 code_one symbols tree x y is_x is_y = is_x ∙ sym is_y
 
-with_one : Laws → (source : List ℕ) → HasOneOutcome (IsJudgedWith source)
+with_one : Laws → (source : List ℕ) → HasOneOutcome (IsCheckedWith source)
 with_one laws source symbols =
     in_turn_one HasTokens (HaveOutcomeInTurn (HasTreeOrRefusal source) (HaveOutcomeInTurn (IsSound symbols) (HasCode symbols)))
     (tokens_one laws)
@@ -72,12 +72,12 @@ symbols_one : (language : Language) → HasOneOutcome (HasSymbolsIn language)
 symbols_one language bytes x y is_x is_y = is_x ∙ sym is_y
 
 judged_one : Laws → (language : Language) (source symbols : List ℕ) (x y : Result Code RefusedFile)
-    → IsJudgedIn language source symbols x → IsJudgedIn language source symbols y → x ≡ y
-unfolding IsJudgedIn
+    → IsCheckedIn language source symbols x → IsCheckedIn language source symbols y → x ≡ y
+unfolding IsCheckedIn
 judged_one laws language source =
-    in_turn_one (TellsRefusalOf InSymbols (HasSymbolsIn language)) (TellsRefusalOf InSource (IsJudgedWith source))
+    in_turn_one (TellsRefusalOf InSymbols (HasSymbolsIn language)) (TellsRefusalOf InSource (IsCheckedWith source))
     (told_one InSymbols (HasSymbolsIn language) (symbols_one language))
-    (told_one InSource (IsJudgedWith source) (with_one laws source))
+    (told_one InSource (IsCheckedWith source) (with_one laws source))
 
 pub one_meaning : Laws → IsMeaningUnique
 one_meaning laws language source symbols c d means_c means_d =
@@ -125,7 +125,7 @@ sound_some symbols tree = (sound_by tree (least (refusals_of symbols tree)), ref
 code_some : (symbols : List Symbol) → HasOutcome (HasCode symbols)
 code_some symbols tree = (Ok (stated_code_of_tree symbols tree), refl)
 
-with_some : Laws → (source : List ℕ) → HasOutcome (IsJudgedWith source)
+with_some : Laws → (source : List ℕ) → HasOutcome (IsCheckedWith source)
 with_some laws source symbols =
     in_turn_some HasTokens (HaveOutcomeInTurn (HasTreeOrRefusal source) (HaveOutcomeInTurn (IsSound symbols) (HasCode symbols)))
     (tokens_some laws)
@@ -139,12 +139,12 @@ symbols_some : (language : Language) → HasOutcome (HasSymbolsIn language)
 symbols_some language bytes = (symbols_in language bytes, refl)
 
 judged_some : Laws → (language : Language) (source symbols : List ℕ)
-    → (x : Result Code RefusedFile) × IsJudgedIn language source symbols x
-unfolding IsJudgedIn
+    → (x : Result Code RefusedFile) × IsCheckedIn language source symbols x
+unfolding IsCheckedIn
 judged_some laws language source =
-    in_turn_some (TellsRefusalOf InSymbols (HasSymbolsIn language)) (TellsRefusalOf InSource (IsJudgedWith source))
+    in_turn_some (TellsRefusalOf InSymbols (HasSymbolsIn language)) (TellsRefusalOf InSource (IsCheckedWith source))
     (told_some InSymbols (HasSymbolsIn language) (symbols_some language))
-    (told_some InSource (IsJudgedWith source) (with_some laws source))
+    (told_some InSource (IsCheckedWith source) (with_some laws source))
 
 abbrev Judged : Language → (source symbols : List ℕ) → Type 0
 Judged language source symbols =
@@ -152,7 +152,7 @@ Judged language source symbols =
     ⊎ ((refused : RefusedFile) × IsRefusedSourceIn language source symbols refused)
 
 by_outcome : (language : Language) (source symbols : List ℕ)
-    → (x : Result Code RefusedFile) × IsJudgedIn language source symbols x
+    → (x : Result Code RefusedFile) × IsCheckedIn language source symbols x
     → Judged language source symbols
 by_outcome language source symbols (Ok code, judged) = inl (code, judged)
 by_outcome language source symbols (Err refused, judged) = inr (refused, judged)

@@ -68,8 +68,8 @@ HasCode symbols tree outcome = outcome ≡ Ok (stated_code_of_tree symbols tree)
 
 -- a source with these symbols is checked by its tokens, its clauses, and its layout together with
 -- its statements; where it breaks no rule, it means its statements
-abbrev pub IsJudgedWith : (source : List ℕ) → List Symbol → Result Code Refusal → Type 0
-IsJudgedWith source symbols outcome =
+abbrev pub IsCheckedWith : (source : List ℕ) → List Symbol → Result Code Refusal → Type 0
+IsCheckedWith source symbols outcome =
     HaveOutcomeInTurn HasTokens (HaveOutcomeInTurn (HasTreeOrRefusal source) (HaveOutcomeInTurn (IsSound symbols) (HasCode symbols)))
     source outcome
 
@@ -79,25 +79,25 @@ pub data RefusedFile : Type 0 where
   InSource : (refusal : Refusal) → RefusedFile
 
 -- the symbols are checked first, and then the source with them
-unfoldable pub IsJudgedIn : Language → (source symbols : List ℕ) → Result Code RefusedFile → Type 0
-IsJudgedIn language source symbols outcome =
-    HaveOutcomeInTurn (TellsRefusalOf InSymbols (HasSymbolsIn language)) (TellsRefusalOf InSource (IsJudgedWith source)) symbols
+unfoldable pub IsCheckedIn : Language → (source symbols : List ℕ) → Result Code RefusedFile → Type 0
+IsCheckedIn language source symbols outcome =
+    HaveOutcomeInTurn (TellsRefusalOf InSymbols (HasSymbolsIn language)) (TellsRefusalOf InSource (IsCheckedWith source)) symbols
     outcome
 
 -- this source with these symbols means this code
 abbrev pub MeansCodeIn : Language → (source symbols : List ℕ) → Code → Type 0
-MeansCodeIn language source symbols code = IsJudgedIn language source symbols (Ok code)
+MeansCodeIn language source symbols code = IsCheckedIn language source symbols (Ok code)
 
 -- this source with these symbols is refused so
 abbrev pub IsRefusedSourceIn : Language → (source symbols : List ℕ) → RefusedFile → Type 0
 IsRefusedSourceIn language source symbols refused =
-    IsJudgedIn language source symbols (Err refused)
+    IsCheckedIn language source symbols (Err refused)
 
 -- ---- in English
 
 -- what a source with English mnemonics comes to: its code, or its refusal
-abbrev pub IsJudged : (source symbols : List ℕ) → Result Code RefusedFile → Type 0
-IsJudged source symbols outcome = IsJudgedIn English source symbols outcome
+abbrev pub IsChecked : (source symbols : List ℕ) → Result Code RefusedFile → Type 0
+IsChecked source symbols outcome = IsCheckedIn English source symbols outcome
 
 -- a source with English mnemonics means a code
 abbrev pub MeansCode : (source symbols : List ℕ) → Code → Type 0

@@ -7,7 +7,7 @@ mod Histories
 mod CallLemmas
 mod CertificateLemmas
 mod HoldLemmas
-mod JudgeLemmas
+mod CheckLemmas
 mod RankLemmas
 mod DeepestLemmas
 mod ChainLemmas

@@ -8,7 +8,7 @@ use Rattle.plc_base.specs.Kinds.{kind_order}
 use Rattle.plc_base.specs.declared.blocks.BlockId.{BlockId}
 use Rattle.image_file.specs.Readers.{is_same_id}
 use Rattle.stack_bound.specs.Certificates.{bound_of}
-use Rattle.stack_bound.specs.Judging.{has_each_block_once}
+use Rattle.stack_bound.specs.Checking.{has_each_block_once}
 use Rattle.stack_bound.specs.Order.{IsHalved, bound_at, stands_before_bounds, is_before, are_blocks_rising}
 use Rattle.stack_bound.specs.declared.certificates.Bound.{Bound}
 

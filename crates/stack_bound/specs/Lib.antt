@@ -5,7 +5,7 @@ pub mod CertificateText
 pub mod Certificates
 pub mod Deepest
 pub mod Finding
-pub mod Judging
+pub mod Checking
 pub mod Layers
 pub mod Marks
 pub mod Order

@@ -3,7 +3,7 @@ ghost use Rattle.std.specs.Prelude.{◌≡◌, true};
 ghost use Rattle.std.specs.List.{position_from};
 ghost use Rattle.image_file.specs.Readers.{is_same_id};
 ghost use Rattle.stack_bound.specs.Certificates.{bound_of};
-ghost use Rattle.stack_bound.specs.Judging.{has_each_block_once};
+ghost use Rattle.stack_bound.specs.Checking.{has_each_block_once};
 ghost use Rattle.stack_bound.specs.Order.{IsHalved, bound_at, stands_before_bounds, is_before, are_blocks_rising};
 ghost use Rattle.stack_bound.specs.Places.{place_of_bound};
 
@@ -143,7 +143,7 @@ impl<'a> Bounds<'a> {
     ghost use Rattle.std.specs.Prelude.{◌≡◌};
     ghost use Rattle.stack_bound.specs.Places.{place_of_bound};
     ghost use Rattle.stack_bound.specs.Certificates.{bound_of};
-    ghost use Rattle.stack_bound.specs.Judging.{has_each_block_once};
+    ghost use Rattle.stack_bound.specs.Checking.{has_each_block_once};
 
     /// The bounds of a list.
     pub(crate) fn new(list: &'a [Bound]) -> Self

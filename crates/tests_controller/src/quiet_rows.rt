@@ -66,7 +66,7 @@ fn pass_steps(
         who: 1,
         what: What::Step,
     };
-    let passed = controller.step_quietly(&step, most);
+    let passed = controller.step_silently(&step, most);
     same(rt, when, passed, u64::from(made));
     Ok(())
 }

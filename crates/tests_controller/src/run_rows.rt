@@ -122,7 +122,7 @@ fn pass_steps(
     if let What::Step = entry.what {
         assert!(rt; controller.history_len() < MOST_ENTRIES && count <= MOST_MADE);
         controller.reserve(count)?;
-        return Ok(controller.step_quietly(entry, count));
+        return Ok(controller.step_silently(entry, count));
     }
     Ok(0)
 }

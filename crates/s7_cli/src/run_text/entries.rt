@@ -169,7 +169,7 @@ fn write_steps<K: Sink>(
     controller::laws::continues_replay();
     let mut left = count;
     loop {
-        left -= controller.step_quietly(step, left);
+        left -= controller.step_silently(step, left);
         if left == 0 {
             return Ok(());
         }

@@ -961,7 +961,7 @@ data_seen symbols t tree k a name steps there known stays =
 -- ---- operands
 
 -- what the rules leave of an operand
-pub record IsJudged (symbols : List Symbol) (t : Tree) (k : ℕ) (o : Operand) : Type 0 where
+pub record IsChecked (symbols : List Symbol) (t : Tree) (k : ℕ) (o : Operand) : Type 0 where
   pub well_formed : IsOperand o
   pub known : is_unknown (resolution_of (context_at symbols t k) o) ≡ false
   pub there : names_unknown (types_of_source symbols t.blocks) o ≡ false
@@ -992,7 +992,7 @@ module _ (symbols : List Symbol) (t : Tree) (tree : IsSoundTree symbols t)
   path_fits (head.Symbol name) steps known there inside =
       symbol_fits name (symbol_named name symbols) refl known
 
-  pub operand_seen : (o : Operand) → IsJudged symbols t k o → names_called_block o ≡ false
+  pub operand_seen : (o : Operand) → IsChecked symbols t k o → names_called_block o ≡ false
       → local_end o ≤ a.local_len → IsSeen a (resolution_of (context_at symbols t k) o)
   unfolding resolution_of
   operand_seen operand.Nothing h other ends = record { view = view.Nothing; is = refl; fits = tt }

@@ -10,16 +10,16 @@ use Rattle.s7_cli.proofs.command_checks.check_program.Goals as goal
 
 pub returns-then-german-clause-accepted : goal.returns-then-german-clause-accepted
 returns-then-german-clause-accepted c =
-    subst (λ (g : Bool). IfOk c.judged_german.result (λ done. HasProgramOf g c.args.text.now.source.items (symbols_text_of c.args.text.now)))
-    (sym c.if-german.true) c.judged_german.ensures.accepted
+    subst (λ (g : Bool). IfOk c.check_german_source.result (λ done. HasProgramOf g c.args.text.now.source.items (symbols_text_of c.args.text.now)))
+    (sym c.if-german.true) c.check_german_source.ensures.accepted
 
-pub returns-in_err-judged-clause-refused : goal.returns-in_err-judged-clause-refused
-returns-in_err-judged-clause-refused c =
+pub returns-in_err-check_source-clause-refused : goal.returns-in_err-check_source-clause-refused
+returns-in_err-check_source-clause-refused c =
     let fault = err_from_is_err_and c.from_residual.result c.from_residual.ensures.1 in
     subst (λ (g : Bool). SaysRefusal (RefusedProgram g c.args.text.now.source.items (symbols_text_of c.args.text.now)) c.from_residual.result)
     (sym c.if-german.false)
-    (program-refused Unit _ _ _ _ c.in_err-judged.field-0.0 _ c.deref.ensures.value c.symbols.ensures
-    (fault.1 ∙ ap Err fault.2) c.in_err-judged.ensures.refused)
+    (program-refused Unit _ _ _ _ c.in_err-check_source.field-0.0 _ c.deref.ensures.value c.symbols.ensures
+    (fault.1 ∙ ap Err fault.2) c.in_err-check_source.ensures.refused)
 
 pub returns-clause-accepted : goal.returns-clause-accepted
 returns-clause-accepted c =
@@ -29,5 +29,5 @@ returns-clause-accepted c =
       source,
       refl,
       subst (λ (s : List ℕ). HasProgram s symbols) c.deref.ensures.value
-          (subst (HasProgram c.deref.result.now) c.symbols.ensures c.in_ok-judged.ensures.ok),
+          (subst (HasProgram c.deref.result.now) c.symbols.ensures c.in_ok-check_source.ensures.ok),
     )

@@ -2,7 +2,7 @@ use Rattle.std.proofs.Common.{◌∙◌, ap, refl, sym, subst, ℕ, ◌+◌, ◌
 use Rattle.plc_base.proofs.ListLemmas.{drop_next}
 use Rattle.var_access.specs.declared.Entry.{Entry}
 use Rattle.event_text.specs.Texts.{script_of}
-use Rattle.s7_cli.proofs.LiveLemmas.{judged-next, map-behind}
+use Rattle.s7_cli.proofs.LiveLemmas.{checked-next, map-behind}
 use Rattle.s7_cli.proofs.command_checks.check_scripts.Goals as goal
 
 abbrev bytes_of : Vec ℕ Global → List ℕ
@@ -15,7 +15,7 @@ pub loop-place-preserved : goal.loop-place-preserved
 loop-place-preserved c =
     let place = c.loop-place.place in
     let text = c.index-texts-place.result in
-    judged-next c.args.names.now (map bytes_of c.args.texts.now) (place + 1) _ _ text.items _ (map list_of c.loop-place.scripts.items) _ c.in-Ok.entries.items
+    checked-next c.args.names.now (map bytes_of c.args.texts.now) (place + 1) _ _ text.items _ (map list_of c.loop-place.scripts.items) _ c.in-Ok.entries.items
     c.loop-place.invariant
     (ap (map bytes_of) (drop_next c.args.texts.now place text c.loop-place-test.true (search rules)))
     refl

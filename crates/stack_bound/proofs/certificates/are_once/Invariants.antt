@@ -1,5 +1,5 @@
 use Rattle.std.proofs.Common.{◌≡◌, length}
-use Rattle.stack_bound.specs.Judging.{has_each_block_once}
+use Rattle.stack_bound.specs.Checking.{has_each_block_once}
 use Rattle.stack_bound.proofs.certificates.are_once.Given as goal
 
 -- what is left decides
