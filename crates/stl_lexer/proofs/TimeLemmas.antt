@@ -224,7 +224,7 @@ sound_step u us bound below others text n e = elim (cases_Bool (is_part u text))
     | inr some ↦ more yes_ (milliseconds us (behind_underscore (behind_part text))) refl (rw (yes_, some) at e)
   ]
 ] where
-  p : Part
+  p : TimePart
   p = record { digits = part_digits text; letters = part_letters text; unit = u }
 
   last : is_part u text ≡ true → (length (behind_part text) == 0) ≡ true → Some (part_value u (part_digits text)) ≡ Some n → TimeBelow bound text n

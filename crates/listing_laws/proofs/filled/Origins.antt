@@ -169,7 +169,7 @@ source_instance source file symbols t accepted bytes k b l id h is db n instance
     cells : cells_at ls q false ≡ has.layout.components
     cells = ap (cells_in false) has.there
 
-    laid : IsLaidInstance has.layout (compiled (code_block (context_at symbols t q) found.block has.layout (function_block n)))
+    laid : IsLaidInstance has.layout (compiled_block (code_block (context_at symbols t q) found.block has.layout (function_block n)))
     laid = laid_instance symbols t q found.block has.layout (function_block n) found.sound has.is refl refl
 
     there : IsThere symbols t is_data_block k

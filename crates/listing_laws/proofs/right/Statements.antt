@@ -410,12 +410,12 @@ called_right y c listed sur f k s how id instance callee types has h e is_call s
     called = called_formals sur.signatures id
 
     again : Statement
-    again = statement sur k (run_of f (Calls how id instance ps))
+    again = listed_statement sur k (run_of f (Calls how id instance ps))
 
-    sees_source : seen c s.operand ≡ Resolved (view.Called id instance)
+    sees_source : resolution_of c s.operand ≡ Resolved (view.Called id instance)
     sees_source = what_seen c s (view.Called id instance) e
 
-    rule : rule_of (form_of s.code) (view.Called id instance) ≡ None
+    rule : rule_of_resolved_operand (form_of s.code) (view.Called id instance) ≡ None
     rule = rule_called c (form_of s.code) s.operand (view.Called id instance) is_call (rule_broken c s (view.Called id instance) e) sees_source
 
     callable : is_callable id.kind ≡ true
@@ -427,23 +427,23 @@ called_right y c listed sur f k s how id instance callee types has h e is_call s
     instance_there : IsInstanceThere listed instance
     instance_there n at = let found = names.number n at in has.data_blocks found.0 n found.1
 
-    listing : (again.code ≡ s.code) × (again.actuals ≡ actuals_before again.line sur.formals called (passing ps))
+    listing : (again.code ≡ s.code) × (again.actuals ≡ actuals_before again.line sur.formals called (pass_ops ps))
     listing = statements_listed sur k f s.code how id instance ps callable h
 
     word : again.code ≡ s.code
     word = listing.0
 
-    shown : again.operand ≡ operand.Called (block.Number id) (option_map data_block_name instance)
+    shown : again.operand ≡ operand.Called (block.Number id) (option_map name_of_data_block instance)
     shown = calls_listed sur.formals sur.starts f how id instance ps callable (λ at. zero_none listed (instance_there 0 at))
 
     there : IsThere listed id
-    there = callee_there listed id q.found (callee_is listed id (option_map data_block_name instance) q.found q.is)
+    there = callee_there listed id q.found (callee_is listed id (option_map name_of_data_block instance) q.found q.is)
 
-    sees_called : seen listed (operand.Called (block.Number id) (option_map data_block_name instance)) ≡ Resolved (view.Called id instance)
+    sees_called : resolution_of listed (operand.Called (block.Number id) (option_map name_of_data_block instance)) ≡ Resolved (view.Called id instance)
     sees_called = called_seen_again listed id instance there.whole instance_there
 
-    sees_again : seen listed again.operand ≡ Resolved (view.Called id instance)
-    sees_again = ap (seen listed) shown ∙ sees_called
+    sees_again : resolution_of listed again.operand ≡ Resolved (view.Called id instance)
+    sees_again = ap (resolution_of listed) shown ∙ sees_called
 
     is_listed : IsListedCall listed sur.formals called q.found ps again
     is_listed = record { actuals = listing.1; order = q.order; named = q.named; passable = q.passable; rising = q.rising }
@@ -451,7 +451,7 @@ called_right y c listed sur f k s how id instance callee types has h e is_call s
     breaks : BreaksNone listed q.found again
     breaks = actuals_right listed sur.formals called q.found ps again is_listed
 
-    undated_in : (p : Passing) (g : Formal) → slice_get called p.index ≡ Some g → FitsListed listed sur.formals g p.actual → sees_date (seen listed (passed_operand sur.formals g p.actual)) ≡ false
+    undated_in : (p : Passing) (g : Formal) → slice_get called p.index ≡ Some g → FitsListed listed sur.formals g p.actual → sees_date (resolution_of listed (passed_operand sur.formals g p.actual)) ≡ false
     undated_in p g at fits = undated listed sur.formals g p.actual fits
 
     sound_call : IsSoundCall listed q.found again
@@ -464,7 +464,7 @@ called_right y c listed sur f k s how id instance callee types has h e is_call s
       fits = breaks.by_37;
       instance =
           ap (has_wrong_instance listed q.found) shown
-          ∙ instances_right listed q.found (block.Number id) (option_map data_block_name instance) instances;
+          ∙ instances_right listed q.found (block.Number id) (option_map name_of_data_block instance) instances;
       bare =
           calls_whole callee q.found s again word q.same
           (ap has_no_instance shown ∙ lacks_again id instance ∙ sym names.none) q.size sound.bare;

@@ -151,7 +151,7 @@ use_db_fine a lens ss at number brackets zones w o rest db = record {
   mark = refl;
 }
   where
-    here : Placed
+    here : PlacedOp
     here = record {
       at = at;
       brackets = brackets;
@@ -206,7 +206,7 @@ pass_fine a lens ss at brackets zones before p ps block instance rest above bad 
   mark = refl;
 }
   where
-    here : Placed
+    here : PlacedOp
     here = record {
       at = at;
       brackets = brackets;
