@@ -331,9 +331,9 @@ are_good r = (records_layout true).good r ≡ true
 -- the records that were found without fault
 record FromRecords (p : Program) (notes : List Note) : Type 0 where
   records : Records
-  program : program_of_records records_layout ≡ p
-  good : are_good records_layout
-  told : told_in notes ≡ told_of records_layout
+  program : program_of_records records ≡ p
+  good : are_good records
+  told : told_in notes ≡ told_of records
 
 body_from : (cur : Cursor) (p : Program) (end : Cursor) → IsBytes cur.rest → ((body_layout true).read cur).found ≡ Some (p, end) → faults_in ((body_layout true).read cur).notes ≡ [] → FromRecords p ((body_layout true).read cur).notes
 unfolding body_layout

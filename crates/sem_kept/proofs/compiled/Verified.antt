@@ -594,7 +594,7 @@ compiled_from a ss whole front (s ∷ behind) line e made clean short = (
 record IsRightCode (code : List OpData) : Type 0 where
   around_block : Environment
   statements : List StatementSpot
-  clean : IsClean environment_of_block statements 0 code
+  clean : IsClean around_block statements 0 code
   short : IsShort code
 
 block_compilable : (b : StatedBlock) → IsMadeBlock b → IsRightCode (code_in b.statements)
