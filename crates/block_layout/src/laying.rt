@@ -119,7 +119,11 @@ struct CheckedLayouts {
 }
 
 /// The blocks laid out and checked.
-fn check_layouts(alloc: Global, types: &Types, blocks: &[Block]) -> Result<CheckedLayouts, AllocError>
+fn check_layouts(
+    alloc: Global,
+    types: &Types,
+    blocks: &[Block],
+) -> Result<CheckedLayouts, AllocError>
     ensures layouts { IfOk result (λ j. j.layouts.items ≡ layouts_by types.now blocks.now) }
     ensures refusal { IfOk result (λ j. j.refusal
         ≡ least (refusals_of_blocks types.now (layouts_by types.now blocks.now) blocks.now)) }

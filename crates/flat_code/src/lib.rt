@@ -32,8 +32,8 @@ pub use kinds::{CONDITIONS, JUMPS, JumpOperation, condition_of, flag_of, jump_of
 pub use names::{NameEntry, Names, ends_blank, is_name_before, is_upper_case, order_of};
 pub use operands::{Operand, Passed};
 pub use operations::{
-    Adding, CallOperation, EndOperation, Logic, Number, OPERATIONS, Operation, PointerOperation,
-    RelayOperation, Shift, operation_of,
+    AccuOperation, AddConstant, CallOperation, EndOperation, Logic, OPERATIONS, Operation,
+    PointerOperation, RelayOperation, Shift, operation_of,
 };
 pub use ops::Op;
 pub use programs::{CodeBlock, DataBlock, Param, Program};
@@ -42,5 +42,5 @@ pub use record_numbers::{
 };
 pub use stamps::Stamp;
 pub use system_functions::{system_function_params, system_function_records};
-pub use table::{Takes, taken_by, taken_by_operation};
+pub use table::{OperandForms, taken_by, taken_by_operation};
 pub use unchecked_decoding::{decode_op_unchecked, decode_part_unchecked};

@@ -6,7 +6,7 @@ use plc_base::{Check, Compare, TimerKind};
 /// The instructions on the accumulators that take no operand. `AddI` to `DivI` are +I, -I, *I and
 /// /I, `AddD` to `DivD` the same with D.
 #[derive(Clone, Copy)]
-pub enum Number {
+pub enum AccuOperation {
     Tak,
     Push,
     Pop,
@@ -37,7 +37,7 @@ pub enum Number {
 /// The instructions that add a constant to accumulator 1: INC and DEC on its lowest byte, + with
 /// a constant of 16 bits on its low word, + with one of 32 bits on the whole.
 #[derive(Clone, Copy)]
-pub enum Adding {
+pub enum AddConstant {
     Inc,
     Dec,
     Word,
@@ -162,9 +162,9 @@ pub enum Operation {
     /// An instruction on the address registers.
     Pointer(PointerOperation),
     /// An instruction on the accumulators.
-    Number(Number),
+    Number(AccuOperation),
     /// The addition of a constant.
-    Add(Adding),
+    Add(AddConstant),
     /// ==I to <=I.
     CompareInt(Compare),
     /// ==D to <=D.
@@ -220,7 +220,7 @@ pub static OPERATIONS: [Operation; 128] = [
     Operation::Check(Check::X),
     Operation::Check(Check::Xn),
     Operation::OrBare,
-    Operation::Add(Adding::Dword),
+    Operation::Add(AddConstant::Dword),
     Operation::Nest(Check::A),
     Operation::Nest(Check::An),
     Operation::Nest(Check::O),
@@ -256,24 +256,24 @@ pub static OPERATIONS: [Operation; 128] = [
     Operation::Pointer(PointerOperation::Car),
     Operation::Pointer(PointerOperation::AddAr1),
     Operation::Pointer(PointerOperation::AddAr2),
-    Operation::Number(Number::Tak),
-    Operation::Number(Number::Push),
-    Operation::Number(Number::Pop),
-    Operation::Number(Number::Caw),
-    Operation::Number(Number::Cad),
-    Operation::Add(Adding::Inc),
-    Operation::Add(Adding::Dec),
+    Operation::Number(AccuOperation::Tak),
+    Operation::Number(AccuOperation::Push),
+    Operation::Number(AccuOperation::Pop),
+    Operation::Number(AccuOperation::Caw),
+    Operation::Number(AccuOperation::Cad),
+    Operation::Add(AddConstant::Inc),
+    Operation::Add(AddConstant::Dec),
     // 40 to 4F
-    Operation::Add(Adding::Word),
-    Operation::Number(Number::AddI),
-    Operation::Number(Number::SubI),
-    Operation::Number(Number::MulI),
-    Operation::Number(Number::DivI),
-    Operation::Number(Number::AddD),
-    Operation::Number(Number::SubD),
-    Operation::Number(Number::MulD),
-    Operation::Number(Number::DivD),
-    Operation::Number(Number::Mod),
+    Operation::Add(AddConstant::Word),
+    Operation::Number(AccuOperation::AddI),
+    Operation::Number(AccuOperation::SubI),
+    Operation::Number(AccuOperation::MulI),
+    Operation::Number(AccuOperation::DivI),
+    Operation::Number(AccuOperation::AddD),
+    Operation::Number(AccuOperation::SubD),
+    Operation::Number(AccuOperation::MulD),
+    Operation::Number(AccuOperation::DivD),
+    Operation::Number(AccuOperation::Mod),
     Operation::CompareInt(Compare::Eq),
     Operation::CompareInt(Compare::Ne),
     Operation::CompareInt(Compare::Gt),
@@ -287,15 +287,15 @@ pub static OPERATIONS: [Operation; 128] = [
     Operation::CompareDint(Compare::Lt),
     Operation::CompareDint(Compare::Ge),
     Operation::CompareDint(Compare::Le),
-    Operation::Number(Number::Bti),
-    Operation::Number(Number::Itb),
-    Operation::Number(Number::Btd),
-    Operation::Number(Number::Dtb),
-    Operation::Number(Number::Itd),
-    Operation::Number(Number::Invi),
-    Operation::Number(Number::Invd),
-    Operation::Number(Number::Negi),
-    Operation::Number(Number::Negd),
+    Operation::Number(AccuOperation::Bti),
+    Operation::Number(AccuOperation::Itb),
+    Operation::Number(AccuOperation::Btd),
+    Operation::Number(AccuOperation::Dtb),
+    Operation::Number(AccuOperation::Itd),
+    Operation::Number(AccuOperation::Invi),
+    Operation::Number(AccuOperation::Invd),
+    Operation::Number(AccuOperation::Negi),
+    Operation::Number(AccuOperation::Negd),
     Operation::Logic(Logic::Aw),
     // 60 to 6F
     Operation::Logic(Logic::Ow),
@@ -311,8 +311,8 @@ pub static OPERATIONS: [Operation; 128] = [
     Operation::Shift(Shift::Srd),
     Operation::Shift(Shift::Rld),
     Operation::Shift(Shift::Rrd),
-    Operation::Number(Number::Rlda),
-    Operation::Number(Number::Rrda),
+    Operation::Number(AccuOperation::Rlda),
+    Operation::Number(AccuOperation::Rrda),
     Operation::Jump,
     // 70 to 7F
     Operation::Start(TimerKind::Sp),

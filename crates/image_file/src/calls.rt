@@ -4,9 +4,9 @@ ghost use Rattle.flat_code.specs.Placed.{is_empty_list, PlacedOp, last_op};
 ghost use Rattle.flat_code.specs.Blocks.{CalleeSeen, is_short_instance, is_bad_instance, is_bad_call, are_all_passed, misfits_index, misfits_callee, misfits_call, callee_among};
 ghost use Rattle.image_file.specs.OpChecking.{around_of};
 
+use crate::environments::{BlockEnvironment, DataLens, callee};
 use crate::numbers::FUNCTION_BLOCK;
 use crate::operands::{is_passed, misfits_parameter};
-use crate::environments::{DataLens, BlockEnvironment, callee};
 use flat_code::{Op, Operand, ParameterRecord, Passed};
 
 /// Whether an instance is absent or shorter than the function block's.
@@ -73,7 +73,11 @@ pub(crate) fn is_bad_call(
     }
 }
 
-fn misfits_index(around: &BlockEnvironment, parameter: Option<ParameterRecord>, actual: Passed) -> bool
+fn misfits_index(
+    around: &BlockEnvironment,
+    parameter: Option<ParameterRecord>,
+    actual: Passed,
+) -> bool
     ensures { result ≡ misfits_index (around_of around.now) parameter actual }
 {
     match parameter {

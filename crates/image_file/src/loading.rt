@@ -13,13 +13,13 @@ ghost use Rattle.image_file.specs.Refusing.{IsLoadError};
 ghost use Rattle.image_file.specs.Running.{started_block, found_values, checked_faults, run_of_read, log_of, program_read, HoldsAll, IsCheckResult, SeesFound};
 ghost use Rattle.image_file.specs.Typing.{AreFew};
 
+use crate::environments::{BlockEnvironment, DataLens, SignatureRead, Signatures};
 use crate::faults::LoadFault;
 use crate::loaded::Loaded;
 use crate::reader::Reader;
 use crate::records::{BlockRead, FoundRead, NameRead, Started};
 use crate::refusing::LoadError;
 use crate::stops::Stop;
-use crate::environments::{DataLens, SignatureRead, Signatures, BlockEnvironment};
 use crate::typing::program;
 use crate::verifying::check_block;
 use crate::writing::write_stamped;

@@ -9,8 +9,8 @@ ghost use Rattle.flat_code.specs.Placed.{is_empty_list, ending_op};
 ghost use Rattle.flat_code.specs.Blocks.{is_odd_bit, is_past_locals, is_bad_place, lacks_width, writes_operand, parameter_meant, lacks_own_parameter, is_in_parameter, is_in_db, pass_index, pass_before, is_above, is_bad_actual, literal_fits, misfits_parameter, is_index, is_passed, is_ju_operand, leads_to_target};
 ghost use Rattle.image_file.specs.OpChecking.{around_of};
 
-use crate::numbers::{CALL, EDGE_NEGATIVE, FUNCTION, JUMP, TRANSFER};
 use crate::environments::BlockEnvironment;
+use crate::numbers::{CALL, EDGE_NEGATIVE, FUNCTION, JUMP, TRANSFER};
 use flat_code::{Op, Operand, ParameterRecord, Passed, SECTION_IN, taken_by};
 use plc_base::{Area, Width};
 

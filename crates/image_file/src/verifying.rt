@@ -12,6 +12,7 @@ use crate::checking::{
     Nesting, Statement, bracket_fault, few, lesser_if, mark_fault, prepare, same_codes, seven_if,
     zone_fault,
 };
+use crate::environments::{BlockEnvironment, DataLens};
 use crate::faults::LoadFault;
 use crate::numbers::{CALL, JUMP_LIST};
 use crate::operands::{
@@ -20,7 +21,6 @@ use crate::operands::{
 };
 use crate::reader::lesser;
 use crate::statement_table::Statements;
-use crate::environments::{DataLens, BlockEnvironment};
 use arrayvec::ArrayVec;
 use flat_code::{Op, OpenBracket, Operand};
 use plc_base::NoMemory;
@@ -141,7 +141,12 @@ fn operand_fault(
     }
 }
 
-fn call_fault_among(around: &BlockEnvironment, lens: &DataLens, op: &Op, place: &Place) -> Option<u16>
+fn call_fault_among(
+    around: &BlockEnvironment,
+    lens: &DataLens,
+    op: &Op,
+    place: &Place,
+) -> Option<u16>
     ensures { result ≡ call_fault_among (around_of around.now) lens.now
         (placed_of op.now place.now) op.now.operand }
 {

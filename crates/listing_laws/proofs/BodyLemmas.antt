@@ -14,9 +14,9 @@ use Rattle.flat_code.specs.Forms.{passed_coding, actual_fits, is_crossing_area, 
 use Rattle.flat_code.specs.Operations.{operation_of}
 use Rattle.flat_code.specs.Ops.{IsOp, OpData, is_op}
 use Rattle.flat_code.specs.Table.{admits, is_call_form, is_open, is_pass, is_use_db, takes_condition, takes_direct, takes_indirect, takes_kind, takes_literal, takes_nothing, takes_of}
-use Rattle.flat_code.specs.declared.table.Takes.{Takes}
-use Rattle.flat_code.specs.declared.table.Takes.TheVariants as takes
-use Rattle.flat_code.specs.declared.operations.Adding.TheVariants as adding
+use Rattle.flat_code.specs.declared.table.OperandForms.{OperandForms}
+use Rattle.flat_code.specs.declared.table.OperandForms.TheVariants as takes
+use Rattle.flat_code.specs.declared.operations.AddConstant.TheVariants as adding
 use Rattle.flat_code.specs.declared.operations.Logic.TheVariants as logic
 use Rattle.flat_code.specs.declared.operations.PointerOperation.TheVariants as pointers
 use Rattle.plc_base.specs.Bits.{has_bit}
@@ -202,7 +202,7 @@ implied_printed _ = tt
 
 -- ---- what stands behind the word of an op code
 
-abbrev is_plain_takes : Takes → Bool
+abbrev is_plain_takes : OperandForms → Bool
 is_plain_takes takes.NoCode = false
 is_plain_takes takes.Nothing = false
 is_plain_takes takes.UseDb = false
@@ -271,14 +271,14 @@ second_true false b h = h
 
 -- ---- what an instruction takes
 
-literal_plain : (t : Takes) (value : ℕ) → takes_literal t value ≡ true → is_plain_takes t ≡ true
+literal_plain : (t : OperandForms) (value : ℕ) → takes_literal t value ≡ true → is_plain_takes t ≡ true
 literal_plain (takes.Number most) value h = refl
 literal_plain (takes.NothingOrNumber most) value h = refl
 literal_plain takes.Load value h = refl
 literal_plain takes.Pointer value h = refl
 literal_plain _ value h = absurd (false≢true h)
 
-indirect_plain : (t : Takes) → takes_indirect t ≡ true → is_plain_takes t ≡ true
+indirect_plain : (t : OperandForms) → takes_indirect t ≡ true → is_plain_takes t ≡ true
 indirect_plain takes.NoCode h = absurd (false≢true h)
 indirect_plain takes.Nothing h = absurd (false≢true h)
 indirect_plain takes.UseDb h = absurd (false≢true h)
@@ -288,7 +288,7 @@ indirect_plain takes.Call h = absurd (false≢true h)
 indirect_plain takes.Open h = absurd (false≢true h)
 indirect_plain _ h = refl
 
-direct_plain : (t : Takes) → takes_direct t ≡ true → is_plain_takes t ≡ true
+direct_plain : (t : OperandForms) → takes_direct t ≡ true → is_plain_takes t ≡ true
 direct_plain takes.NoCode h = absurd (false≢true h)
 direct_plain takes.Nothing h = absurd (false≢true h)
 direct_plain takes.UseDb h = absurd (false≢true h)
@@ -298,7 +298,7 @@ direct_plain takes.Call h = absurd (false≢true h)
 direct_plain takes.Open h = absurd (false≢true h)
 direct_plain _ h = refl
 
-condition_plain : (t : Takes) → takes_condition t ≡ true → is_plain_takes t ≡ true
+condition_plain : (t : OperandForms) → takes_condition t ≡ true → is_plain_takes t ≡ true
 condition_plain takes.Check h = refl
 condition_plain _ h = absurd (false≢true h)
 
@@ -308,7 +308,7 @@ neither true false h = false≢true h
 neither false true h = false≢true h
 neither false false h = false≢true h
 
-kind_plain : (t : Takes) (kind : ℕ) → takes_kind t kind ≡ true → is_plain_takes t ≡ true
+kind_plain : (t : OperandForms) (kind : ℕ) → takes_kind t kind ≡ true → is_plain_takes t ≡ true
 kind_plain takes.NoCode kind h = absurd (neither (kind == 1) (kind == 2) h)
 kind_plain takes.Nothing kind h = absurd (neither (kind == 1) (kind == 2) h)
 kind_plain takes.UseDb kind h = absurd (neither (kind == 1) (kind == 2) h)

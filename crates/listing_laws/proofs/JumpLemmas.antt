@@ -10,7 +10,7 @@ use Rattle.plc_base.specs.Least.{broken_if}
 use Rattle.flat_code.specs.Instr.{Instr, Does, Jumps, JumpsByList, Calls, Returns}
 use Rattle.flat_code.specs.declared.operands.Operand.{Operand as FlatOperand}
 use Rattle.flat_code.specs.declared.operands.Operand.TheVariants as flat
-use Rattle.flat_code.specs.declared.operations.Adding.TheVariants as adding
+use Rattle.flat_code.specs.declared.operations.AddConstant.TheVariants as adding
 use Rattle.flat_code.specs.declared.operations.Logic.TheVariants as logic
 use Rattle.flat_code.specs.declared.operations.Operation.{Operation}
 use Rattle.flat_code.specs.declared.operations.Operation.TheVariants as operation

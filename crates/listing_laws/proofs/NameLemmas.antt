@@ -8,7 +8,7 @@ use Rattle.plc_base.proofs.ListLemmas.{all_append}
 use Rattle.plc_base.specs.Kinds.{is_function, is_same_block, is_system_function}
 use Rattle.plc_base.specs.declared.blocks.BlockId.{BlockId}
 use Rattle.flat_code.specs.Programs.{CodeBlock}
-use Rattle.flat_code.specs.declared.operations.Adding.TheVariants as adding
+use Rattle.flat_code.specs.declared.operations.AddConstant.TheVariants as adding
 use Rattle.flat_code.specs.declared.operations.Logic.TheVariants as logic
 use Rattle.flat_code.specs.declared.operations.Operation.TheVariants as operation
 use Rattle.flat_code.specs.declared.operations.Operation.{Operation}

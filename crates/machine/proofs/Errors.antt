@@ -19,10 +19,10 @@ use Rattle.frames.specs.declared.bindings.Binding.{Binding}
 use Rattle.frames.specs.declared.bindings.Binding.TheVariants as binding
 use Rattle.flat_code.specs.declared.operands.Operand.{Operand}
 use Rattle.flat_code.specs.declared.operands.Operand.TheVariants as operand
-use Rattle.flat_code.specs.declared.table.Takes.{Takes}
-use Rattle.flat_code.specs.declared.table.Takes.TheVariants as takes
-use Rattle.flat_code.specs.declared.operations.Number.{Number}
-use Rattle.flat_code.specs.declared.operations.Number.TheVariants as number_word
+use Rattle.flat_code.specs.declared.table.OperandForms.{OperandForms}
+use Rattle.flat_code.specs.declared.table.OperandForms.TheVariants as takes
+use Rattle.flat_code.specs.declared.operations.AccuOperation.{AccuOperation}
+use Rattle.flat_code.specs.declared.operations.AccuOperation.TheVariants as number_word
 use Rattle.flat_code.specs.declared.operations.PointerOperation.{PointerOperation}
 use Rattle.flat_code.specs.declared.operations.PointerOperation.TheVariants as pointers
 use Rattle.plc_base.specs.declared.TimerKind.{TimerKind}
@@ -269,7 +269,7 @@ loaded_told (operand.Parameter index width) s m t n h has = number_told (operand
 loaded_told _ s m t n h has = absurd cc
 
 -- a timer or counter
-numbered_by : (o : Operand) (t : Takes) → (t ≡ takes.Numbered) ⊎ ((t ≡ takes.Timer) ⊎ (t ≡ takes.Counter)) → admits t o ≡ true → IsNumbered o
+numbered_by : (o : Operand) (t : OperandForms) → (t ≡ takes.Numbered) ⊎ ((t ≡ takes.Timer) ⊎ (t ≡ takes.Counter)) → admits t o ≡ true → IsNumbered o
 unfolding admits
 numbered_by (operand.Numbered kind number) t is h = tt
 numbered_by (operand.NumberedBy kind from byte) t is h = tt
@@ -284,7 +284,7 @@ bcd_loaded_told (operand.NumberedBy kind from byte) s m t n has =
     then_told (pointer_number from byte widths.Word s m) (λ number. bcd_of_numbered kind number t n) (pointer_told from byte widths.Word s m) (λ number. bcd_told kind number t n)
 bcd_loaded_told _ s m t n has = absurd has
 
-pub kind_none : (kind : ℕ) (t : Takes) → takes_timer t ≡ false → takes_counter t ≡ false → (kind == 1 && takes_timer t || kind == 2 && takes_counter t) ≡ true → ⊥
+pub kind_none : (kind : ℕ) (t : OperandForms) → takes_timer t ≡ false → takes_counter t ≡ false → (kind == 1 && takes_timer t || kind == 2 && takes_counter t) ≡ true → ⊥
 kind_none kind t a b h = none (kind == 1) (kind == 2) (rw (a, b) at h)
   where
     none : (x y : Bool) → (x && false || y && false) ≡ true → ⊥
@@ -294,7 +294,7 @@ kind_none kind t a b h = none (kind == 1) (kind == 2) (rw (a, b) at h)
     none false false e = cc
 
 -- an operand that is written
-written_place : (o : Operand) (t : Takes) (s : Local) → (t ≡ takes.Transfer) ⊎ (t ≡ takes.Bit) → admits t o ≡ true → ParamHas s true o → HasPlace s o
+written_place : (o : Operand) (t : OperandForms) (s : Local) → (t ≡ takes.Transfer) ⊎ (t ≡ takes.Bit) → admits t o ≡ true → ParamHas s true o → HasPlace s o
 unfolding admits
 written_place (operand.Direct area width byte bit) t s is h has = tt
 written_place (operand.ByMemory area width from byte) t s is h has = tt
@@ -463,7 +463,7 @@ bcd_given : (o : Option Regs) → IfTold (from_bcd o)
 bcd_given (Some r) = tt
 bcd_given None = refl
 
-counted_told : (what : Number) (r : Regs) → IfTold (number_effect what r)
+counted_told : (what : AccuOperation) (r : Regs) → IfTold (number_effect what r)
 unfolding number_effect
 counted_told number_word.Bti r = bcd_given _
 counted_told number_word.Btd r = bcd_given _

@@ -29,8 +29,8 @@ use Rattle.flat_code.specs.declared.operations.EndOperation.TheVariants as ends
 use Rattle.flat_code.specs.declared.operations.CallOperation.TheVariants as calls
 use Rattle.flat_code.specs.declared.operations.RelayOperation.{RelayOperation}
 use Rattle.flat_code.specs.declared.operations.RelayOperation.TheVariants as relay
-use Rattle.flat_code.specs.declared.table.Takes.{Takes}
-use Rattle.flat_code.specs.declared.table.Takes.TheVariants as takes
+use Rattle.flat_code.specs.declared.table.OperandForms.{OperandForms}
+use Rattle.flat_code.specs.declared.table.OperandForms.TheVariants as takes
 use Rattle.flat_code.specs.declared.operations.TheConstants.{OPERATIONS}
 use Rattle.flat_code.specs.declared.operations.Operation.{Operation}
 use Rattle.flat_code.specs.declared.operations.Operation.TheVariants as operation
@@ -912,7 +912,7 @@ plain_lasts l p a w at v o is o_is goes other =
     does_lasts l p a w at v (statement_effect u v o parts) is goes (does_with_keeps u v o parts)
     (erring u v o parts s (λ opening.
     let none : is_in_db at.here.run.last.operand ≡ false =
-    ap is_in_db o_is ∙ nothing_in_db o (ap (λ (t : Takes). admits t o) (sym (opening_takes v opening)) ∙ s.admitted) in
+    ap is_in_db o_is ∙ nothing_in_db o (ap (λ (t : OperandForms). admits t o) (sym (opening_takes v opening)) ∙ s.admitted) in
     no_use_db l p at.here.stood.b at.here.run.last at.here.run.before none at.here.ran.passes))
 
 -- ---- all

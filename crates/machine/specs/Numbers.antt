@@ -5,10 +5,10 @@ use Rattle.plc_base.specs.ErrorCodes as errors
 use Rattle.status_word.specs.declared.Regs.{Regs}
 use Rattle.flat_code.specs.declared.operands.Operand.{Operand}
 use Rattle.flat_code.specs.declared.operands.Operand.TheVariants as operand
-use Rattle.flat_code.specs.declared.operations.Number.{Number}
-use Rattle.flat_code.specs.declared.operations.Number.TheVariants as number
-use Rattle.flat_code.specs.declared.operations.Adding.{Adding}
-use Rattle.flat_code.specs.declared.operations.Adding.TheVariants as adding
+use Rattle.flat_code.specs.declared.operations.AccuOperation.{AccuOperation}
+use Rattle.flat_code.specs.declared.operations.AccuOperation.TheVariants as number
+use Rattle.flat_code.specs.declared.operations.AddConstant.{AddConstant}
+use Rattle.flat_code.specs.declared.operations.AddConstant.TheVariants as adding
 use Rattle.flat_code.specs.declared.operations.Logic.{Logic}
 use Rattle.flat_code.specs.declared.operations.Logic.TheVariants as logic
 use Rattle.flat_code.specs.declared.operations.Shift.{Shift}
@@ -27,7 +27,7 @@ abbrev pub from_bcd : Option Regs → Result Regs ℕ
 from_bcd found = ok_or found errors.bad_bcd
 
 -- instructions without operand
-unfoldable pub number_effect : Number → Regs → Result Regs ℕ
+unfoldable pub number_effect : AccuOperation → Regs → Result Regs ℕ
 number_effect number.Tak r = Ok (accumulators_toggled r)
 number_effect number.Push r = Ok (accumulator_pushed r)
 number_effect number.Pop r = Ok (accumulator_popped r)
@@ -65,7 +65,7 @@ constant_or_zero w (operand.Literal value) = value % 2 ^ w
 constant_or_zero w _ = 0
 
 -- INC, DEC, and + with 16 or 32 bits
-unfoldable pub with_constant : Adding → Operand → Regs → Regs
+unfoldable pub with_constant : AddConstant → Operand → Regs → Regs
 with_constant adding.Inc o r = accumulator_increased 8 (constant_or_zero 8 o) r
 with_constant adding.Dec o r = accumulator_decreased 8 (constant_or_zero 8 o) r
 with_constant adding.Word o r = accumulator_increased 16 (constant_or_zero 16 o) r

@@ -3,114 +3,114 @@ ghost use Rattle.std.specs.Prelude.{◌≡◌, ◌<◌, ◌^◌, ◌%◌, Ok, Er
 ghost use Rattle.machine.specs.Outcomes.{ChangesRegs};
 ghost use Rattle.machine.specs.Numbers.{number_effect, constant_in, constant_or_zero as literal_of, with_constant, word_logic_effect, shift_effect};
 
-use flat_code::{Adding, Logic, Number, Operand, Shift};
+use flat_code::{AccuOperation, AddConstant, Logic, Operand, Shift};
 use plc_base::error_codes;
 use status_word::Regs;
 
 /// An instruction on the accumulators without operand.
 #[tactic(auto, unfolding(crate::specs::Numbers::number_effect))]
 #[inline(never)]
-pub(crate) fn number(what: Number, r: &mut Regs) -> Result<(), u8>
+pub(crate) fn number(what: AccuOperation, r: &mut Regs) -> Result<(), u8>
     ensures { ChangesRegs (number_effect what r.old) r.old r.new result }
 {
     match what {
-        Number::Tak => {
+        AccuOperation::Tak => {
             alu::tak(r);
             Ok(())
         }
-        Number::Push => {
+        AccuOperation::Push => {
             alu::push(r);
             Ok(())
         }
-        Number::Pop => {
+        AccuOperation::Pop => {
             alu::pop(r);
             Ok(())
         }
-        Number::Caw => {
+        AccuOperation::Caw => {
             alu::caw(r);
             Ok(())
         }
-        Number::Cad => {
+        AccuOperation::Cad => {
             alu::cad(r);
             Ok(())
         }
-        Number::AddI => {
+        AccuOperation::AddI => {
             alu::add_i(r);
             Ok(())
         }
-        Number::SubI => {
+        AccuOperation::SubI => {
             alu::sub_i(r);
             Ok(())
         }
-        Number::MulI => {
+        AccuOperation::MulI => {
             alu::mul_i(r);
             Ok(())
         }
-        Number::DivI => {
+        AccuOperation::DivI => {
             alu::div_i(r);
             Ok(())
         }
-        Number::AddD => {
+        AccuOperation::AddD => {
             alu::add_d(r);
             Ok(())
         }
-        Number::SubD => {
+        AccuOperation::SubD => {
             alu::sub_d(r);
             Ok(())
         }
-        Number::MulD => {
+        AccuOperation::MulD => {
             alu::mul_d(r);
             Ok(())
         }
-        Number::DivD => {
+        AccuOperation::DivD => {
             alu::div_d(r);
             Ok(())
         }
-        Number::Mod => {
+        AccuOperation::Mod => {
             alu::mod_d(r);
             Ok(())
         }
-        Number::Bti => match alu::bti(r) {
+        AccuOperation::Bti => match alu::bti(r) {
             Ok(()) => Ok(()),
             Err(_) => Err(error_codes::BAD_BCD),
         },
-        Number::Itb => {
+        AccuOperation::Itb => {
             alu::itb(r);
             Ok(())
         }
-        Number::Btd => match alu::btd(r) {
+        AccuOperation::Btd => match alu::btd(r) {
             Ok(()) => Ok(()),
             Err(_) => Err(error_codes::BAD_BCD),
         },
-        Number::Dtb => {
+        AccuOperation::Dtb => {
             alu::dtb(r);
             Ok(())
         }
-        Number::Itd => {
+        AccuOperation::Itd => {
             alu::itd(r);
             Ok(())
         }
-        Number::Invi => {
+        AccuOperation::Invi => {
             alu::inv_i(r);
             Ok(())
         }
-        Number::Invd => {
+        AccuOperation::Invd => {
             alu::inv_d(r);
             Ok(())
         }
-        Number::Negi => {
+        AccuOperation::Negi => {
             alu::neg_i(r);
             Ok(())
         }
-        Number::Negd => {
+        AccuOperation::Negd => {
             alu::neg_d(r);
             Ok(())
         }
-        Number::Rlda => {
+        AccuOperation::Rlda => {
             alu::rlda(r);
             Ok(())
         }
-        Number::Rrda => {
+        AccuOperation::Rrda => {
             alu::rrda(r);
             Ok(())
         }
@@ -180,14 +180,14 @@ fn literal8(operand: &Operand) -> u8
 /// INC, DEC and +.
 #[tactic(auto, unfolding(crate::specs::Numbers::with_constant))]
 #[inline(never)]
-pub(crate) fn add(what: Adding, operand: &Operand, r: &mut Regs)
+pub(crate) fn add(what: AddConstant, operand: &Operand, r: &mut Regs)
     ensures { r.new ≡ with_constant what operand.now r.old }
 {
     match what {
-        Adding::Inc => alu::inc(r, literal8(operand)),
-        Adding::Dec => alu::dec(r, literal8(operand)),
-        Adding::Word => alu::add_const(r, literal16(operand)),
-        Adding::Dword => alu::add_const_wide(r, literal(operand)),
+        AddConstant::Inc => alu::inc(r, literal8(operand)),
+        AddConstant::Dec => alu::dec(r, literal8(operand)),
+        AddConstant::Word => alu::add_const(r, literal16(operand)),
+        AddConstant::Dword => alu::add_const_wide(r, literal(operand)),
     }
 }
 

@@ -16,11 +16,11 @@ ghost use Rattle.s7_cli.specs.Says.{GoSays, IsUpgraded, RefusedProgram, RunSays,
 ghost use Rattle.s7_cli.specs.Texts.{AreFilesWithinLimits, symbols_text_of};
 ghost use Rattle.s7_cli.specs.Translating.{HasProgramOf, IsSourceImage, KeepsText, language_of};
 
-use crate::compiling::{compiled, compiled_image, check_source};
+use crate::compiling::{check_source, compiled, compiled_image};
 use crate::failures::{Failure, File, failure_of_text};
 use crate::files::{LiveText, ProgramText};
 use crate::lists::add;
-use crate::translating::{compiled_german, image_german, check_german_source};
+use crate::translating::{check_german_source, compiled_german, image_german};
 use event_text::{read_history, read_script, read_stimuli};
 use flat_code::Names;
 use image_file::{LoadError, Loaded, load, write_image2};

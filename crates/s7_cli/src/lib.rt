@@ -41,7 +41,7 @@ mod working;
 pub use bound_command::cmd_bound;
 pub use checking::cmd_check;
 pub use compile_command::cmd_compile;
-pub use compiling::{compiled, compiled_image, compiles_to, check_source};
+pub use compiling::{check_source, compiled, compiled_image, compiles_to};
 pub use failures::{Failure, File, Status};
 pub use faults::CompileFault;
 pub use gen_command::cmd_gen;

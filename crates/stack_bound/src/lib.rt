@@ -5,9 +5,9 @@ mod callers;
 mod calls;
 mod certificates;
 mod chain_text;
+mod checking;
 mod deepest;
 mod finding;
-mod checking;
 pub mod laws;
 mod layers;
 mod marks;
@@ -16,6 +16,6 @@ mod texts;
 
 pub use certificates::Bound;
 pub use chain_text::write_chain;
-pub use finding::{Found, find};
 pub use checking::holds;
+pub use finding::{Found, find};
 pub use texts::{CertificateFault, read_certificate, write_certificate};

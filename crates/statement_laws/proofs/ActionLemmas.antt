@@ -25,7 +25,7 @@ use Rattle.timers_counters.specs.declared.faults.TimerFault.TheVariants.{BadBcd,
 use Rattle.frames.specs.Relay.{zone_ended, zone_opened}
 use Rattle.flat_code.specs.Placed.{is_empty_list}
 use Rattle.flat_code.specs.declared.operands.Operand.{Operand}
-use Rattle.flat_code.specs.declared.operations.Adding.TheVariants as adding
+use Rattle.flat_code.specs.declared.operations.AddConstant.TheVariants as adding
 use Rattle.flat_code.specs.declared.operations.Logic.{Logic}
 use Rattle.flat_code.specs.declared.operations.Operation.{Operation}
 use Rattle.flat_code.specs.declared.operations.Operation.TheVariants as operation

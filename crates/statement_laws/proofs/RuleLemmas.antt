@@ -3,7 +3,7 @@ use Rattle.std.proofs.Common.{ℕ, ◌≡◌, nat_eq, Bool, true, false, Option,
 use Rattle.plc_base.specs.declared.places.Area.{Area}
 use Rattle.plc_base.specs.declared.places.Area.TheVariants as area
 use Rattle.plc_base.specs.declared.places.Width.{Width}
-use Rattle.flat_code.specs.declared.operations.Adding.TheVariants as adding
+use Rattle.flat_code.specs.declared.operations.AddConstant.TheVariants as adding
 use Rattle.flat_code.specs.declared.operations.Operation.TheVariants as operation
 use Rattle.stl_ast.specs.declared.declarations.Simple.{Simple}
 use Rattle.stl_ast.specs.declared.literals.Literal.{Literal}

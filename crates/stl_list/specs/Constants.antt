@@ -2,7 +2,7 @@
 use Rattle.std.specs.Prelude.{ℕ, ◌/◌, ◌%◌, ◌^◌, nat_lt, ◌==◌, List, codes, pos, Option, Some, None, if◌then◌else◌}
 use Rattle.std.specs.Int.{cast_signed, w16, w32}
 use Rattle.plc_base.specs.Bits.{has_bit}
-use Rattle.flat_code.specs.declared.operations.Adding.TheVariants as adding
+use Rattle.flat_code.specs.declared.operations.AddConstant.TheVariants as adding
 use Rattle.flat_code.specs.declared.operations.Logic.TheVariants as logic
 use Rattle.flat_code.specs.declared.operations.Operation.{Operation}
 use Rattle.flat_code.specs.declared.operations.Operation.TheVariants as operation

@@ -11,7 +11,7 @@ ghost use Rattle.stl_list.specs.Constants.{
   word_constant,
 };
 
-use flat_code::{Adding, Logic, Operation};
+use flat_code::{AddConstant, Logic, Operation};
 use plc_base::{NoMemory, has_bit};
 use std::alloc::Global;
 use stl_ast::{Letters, Literal, Name, Operand, Simple};
@@ -102,11 +102,11 @@ fn logic_constant(logic: Logic, bits: u32) -> Operand
     }
 }
 
-fn adding_constant(adding: Adding, bits: u32) -> Operand
+fn adding_constant(adding: AddConstant, bits: u32) -> Operand
     ensures { result ≡ instruction_constant (Operation.Add adding) bits }
 {
     match adding {
-        Adding::Dword => constant(Literal::Long {
+        AddConstant::Dword => constant(Literal::Long {
             value: bits.cast_signed(),
         }),
         _ => decimal_constant(bits),

@@ -5,8 +5,8 @@ ghost use Rattle.std.specs.Prelude.{◌<◌};
 
 use crate::compare::same;
 use flat_code::{
-    Adding, CallOperation, EndOperation, Logic, Number, Operand, Operation, Passed,
-    PointerOperation, RelayOperation, Shift, Takes, operation_of, taken_by,
+    AccuOperation, AddConstant, CallOperation, EndOperation, Logic, Operand, OperandForms,
+    Operation, Passed, PointerOperation, RelayOperation, Shift, operation_of, taken_by,
 };
 use plc_base::{Area, Check, Compare, TimerKind, Width};
 use std::alloc::{AllocError, Global};
@@ -168,41 +168,41 @@ fn nest_name(with: Check) -> &'static str {
     }
 }
 
-fn number_name(what: Number) -> &'static str {
+fn number_name(what: AccuOperation) -> &'static str {
     match what {
-        Number::Tak => "TAK",
-        Number::Push => "PUSH",
-        Number::Pop => "POP",
-        Number::Caw => "CAW",
-        Number::Cad => "CAD",
-        Number::AddI => "+I",
-        Number::SubI => "-I",
-        Number::MulI => "*I",
-        Number::DivI => "/I",
-        Number::AddD => "+D",
-        Number::SubD => "-D",
-        Number::MulD => "*D",
-        Number::DivD => "/D",
-        Number::Mod => "MOD",
-        Number::Bti => "BTI",
-        Number::Itb => "ITB",
-        Number::Btd => "BTD",
-        Number::Dtb => "DTB",
-        Number::Itd => "ITD",
-        Number::Invi => "INVI",
-        Number::Invd => "INVD",
-        Number::Negi => "NEGI",
-        Number::Negd => "NEGD",
-        Number::Rlda => "RLDA",
-        Number::Rrda => "RRDA",
+        AccuOperation::Tak => "TAK",
+        AccuOperation::Push => "PUSH",
+        AccuOperation::Pop => "POP",
+        AccuOperation::Caw => "CAW",
+        AccuOperation::Cad => "CAD",
+        AccuOperation::AddI => "+I",
+        AccuOperation::SubI => "-I",
+        AccuOperation::MulI => "*I",
+        AccuOperation::DivI => "/I",
+        AccuOperation::AddD => "+D",
+        AccuOperation::SubD => "-D",
+        AccuOperation::MulD => "*D",
+        AccuOperation::DivD => "/D",
+        AccuOperation::Mod => "MOD",
+        AccuOperation::Bti => "BTI",
+        AccuOperation::Itb => "ITB",
+        AccuOperation::Btd => "BTD",
+        AccuOperation::Dtb => "DTB",
+        AccuOperation::Itd => "ITD",
+        AccuOperation::Invi => "INVI",
+        AccuOperation::Invd => "INVD",
+        AccuOperation::Negi => "NEGI",
+        AccuOperation::Negd => "NEGD",
+        AccuOperation::Rlda => "RLDA",
+        AccuOperation::Rrda => "RRDA",
     }
 }
 
-fn adding_name(what: Adding) -> &'static str {
+fn adding_name(what: AddConstant) -> &'static str {
     match what {
-        Adding::Inc => "INC",
-        Adding::Dec => "DEC",
-        Adding::Word | Adding::Dword => "+",
+        AddConstant::Inc => "INC",
+        AddConstant::Dec => "DEC",
+        AddConstant::Word | AddConstant::Dword => "+",
     }
 }
 
@@ -369,7 +369,7 @@ static LITERALS: [u32; 19] = [
 ];
 
 /// The greatest of those literals that is taken.
-fn greatest_literal(takes: Takes) -> Option<u32> {
+fn greatest_literal(takes: OperandForms) -> Option<u32> {
     let mut greatest = None;
     for value in &LITERALS {
         if takes.admits(&Operand::Literal { value: *value }) {
@@ -469,7 +469,7 @@ static WIDTHS: [(Width, u8); 4] = [
 ];
 
 /// The widths of operands in memory.
-fn put_widths(out: &mut String, takes: Takes) -> Result<(), AllocError> {
+fn put_widths(out: &mut String, takes: OperandForms) -> Result<(), AllocError> {
     out.push_str(" /")?;
     for (width, bits) in &WIDTHS {
         if takes.has_width(*width) {
@@ -480,7 +480,7 @@ fn put_widths(out: &mut String, takes: Takes) -> Result<(), AllocError> {
 }
 
 /// The operands that are taken, beside the widths of those in memory.
-fn put_operands(out: &mut String, takes: Takes) -> Result<(), AllocError> {
+fn put_operands(out: &mut String, takes: OperandForms) -> Result<(), AllocError> {
     if takes.admits(&Operand::Nothing) {
         out.push_str(" 00")?;
     }

@@ -3,7 +3,7 @@
 use crate::compare::same;
 use flat_code::Operand::Literal;
 use flat_code::{
-    Adding, Logic, Operand, Operation, PointerOperation, RelayOperation, Shift, ends_blank,
+    AddConstant, Logic, Operand, Operation, PointerOperation, RelayOperation, Shift, ends_blank,
     is_name_before, is_upper_case, taken_by_operation,
 };
 use plc_base::TimerKind;
@@ -28,7 +28,7 @@ static OPERATIONS: [(Operation, Operand, Operand); 17] = [
         Literal { value: 4 },
     ),
     (
-        Operation::Add(Adding::Word),
+        Operation::Add(AddConstant::Word),
         Literal { value: 65_535 },
         Literal { value: 65_536 },
     ),

@@ -4,7 +4,7 @@
 use crate::building::bytes_of;
 use crate::compare::same;
 use flat_code::{
-    Adding, CallOperation, EndOperation, Logic, Number, Op, Operand, Operation, Passed,
+    AddConstant, CallOperation, EndOperation, Logic, Number, Op, Operand, Operation, Passed,
     PointerOperation, RelayOperation, Shift, encode_op,
 };
 use plc_base::{Area, Check, TimerKind, Width};
@@ -103,7 +103,7 @@ static PLAIN: [Row; 15] = [
     ),
     (Operation::Logic(Logic::Aw), Operand::Nothing, 2, "5F 00"),
     (
-        Operation::Number(Number::Rrda),
+        Operation::Number(AccuOperation::Rrda),
         Operand::Nothing,
         2,
         "6E 00",
@@ -127,7 +127,7 @@ static PLAIN: [Row; 15] = [
         "6C 01 00000020",
     ),
     (
-        Operation::Add(Adding::Word),
+        Operation::Add(AddConstant::Word),
         Operand::Literal { value: 0xFFFF },
         6,
         "40 01 0000FFFF",
@@ -402,7 +402,7 @@ static LACKED: [Refused; 13] = [
     (Operation::Bld, Operand::Literal { value: 256 }),
     (Operation::LoadOpenBlock, Operand::Literal { value: 4 }),
     (
-        Operation::Add(Adding::Word),
+        Operation::Add(AddConstant::Word),
         Operand::Literal { value: 0x1_0000 },
     ),
     (Operation::Shift(Shift::Ssi), Operand::Literal { value: 16 }),

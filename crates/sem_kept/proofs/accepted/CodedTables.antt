@@ -8,14 +8,14 @@ use Rattle.flat_code.specs.OpCodes.{op_code_of}
 use Rattle.flat_code.specs.Ops.{is_op, is_instruction}
 use Rattle.flat_code.specs.Table.{admits, takes_of_operation}
 use Rattle.flat_code.specs.declared.operands.Operand.{Operand as FlatOperand}
-use Rattle.flat_code.specs.declared.table.Takes.TheVariants as takes
-use Rattle.flat_code.specs.declared.operations.Adding.TheVariants as adding
+use Rattle.flat_code.specs.declared.table.OperandForms.TheVariants as takes
+use Rattle.flat_code.specs.declared.operations.AddConstant.TheVariants as adding
 use Rattle.flat_code.specs.declared.operations.CallOperation.TheVariants as calls
 use Rattle.plc_base.specs.declared.Compare.TheVariants as compare
 use Rattle.flat_code.specs.declared.operations.EndOperation.TheVariants as ends
 use Rattle.plc_base.specs.declared.Check.TheVariants as check
 use Rattle.flat_code.specs.declared.operations.Logic.TheVariants as logic
-use Rattle.flat_code.specs.declared.operations.Number.TheVariants as number
+use Rattle.flat_code.specs.declared.operations.AccuOperation.TheVariants as number
 use Rattle.flat_code.specs.declared.operations.PointerOperation.TheVariants as pointers
 use Rattle.flat_code.specs.declared.operations.RelayOperation.TheVariants as relay
 use Rattle.flat_code.specs.declared.operations.Shift.TheVariants as shifts

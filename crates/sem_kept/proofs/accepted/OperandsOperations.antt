@@ -9,7 +9,7 @@ use Rattle.flat_code.specs.Blocks.{Environment, is_bad_place, is_in_parameter as
 use Rattle.flat_code.specs.OpCodes.{op_code_of}
 use Rattle.flat_code.specs.Table.{has_memory_width as has_width_of, takes_of}
 use Rattle.flat_code.specs.Operations.{operation_of as operation_of_code}
-use Rattle.flat_code.specs.declared.table.Takes.{Takes}
+use Rattle.flat_code.specs.declared.table.OperandForms.{OperandForms}
 use Rattle.flat_code.specs.declared.operands.Operand.TheVariants as flat
 use Rattle.flat_code.specs.declared.operations.Operation.{Operation}
 use Rattle.stl_ast.specs.declared.blocks.PartKind.{PartKind}
@@ -189,12 +189,12 @@ memory_form f (view.ByRegister a w r bits) h k = other f k
     other _ k = k
 memory_form f _ h k = absurd cc
 
-bit_only : (t : Takes) → has_width_of t width.Bit ≡ true → (w : Width) → is_bit (Some w) ≡ true
+bit_only : (t : OperandForms) → has_width_of t width.Bit ≡ true → (w : Width) → is_bit (Some w) ≡ true
     → has_width_of t w ≡ true
 bit_only t e width.Bit k = e
 bit_only t e _ k = absurd cc
 
-no_bit : (t : Takes) → has_width_of t width.Byte ≡ true → has_width_of t width.Word ≡ true
+no_bit : (t : OperandForms) → has_width_of t width.Byte ≡ true → has_width_of t width.Word ≡ true
     → has_width_of t width.Dword ≡ true → (w : Width) → not (is_bit (Some w)) ≡ true
     → has_width_of t w ≡ true
 no_bit t e f g width.Bit k = absurd cc
@@ -202,13 +202,13 @@ no_bit t e f g width.Byte k = e
 no_bit t e f g width.Word k = f
 no_bit t e f g width.Dword k = g
 
-dword_only : (t : Takes) → has_width_of t width.Dword ≡ true → (w : Width)
+dword_only : (t : OperandForms) → has_width_of t width.Dword ≡ true → (w : Width)
     → is_double_word (Some w) ≡ true → has_width_of t w ≡ true
 dword_only t e width.Dword k = e
 dword_only t e _ k = absurd cc
 
 -- what the operation of a mnemonic takes
-abbrev operation_takes : Mnemonic → Operand → Takes
+abbrev operation_takes : Mnemonic → Operand → OperandForms
 operation_takes m o = takes_of (op_code_of (operation_for m o in_memory))
 
 widths : (m : Mnemonic) (o : Operand) (w : Width) → takes_operand (form_of m) in_memory ≡ true
