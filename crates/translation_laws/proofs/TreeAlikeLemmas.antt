@@ -150,7 +150,7 @@ module _ (frame : Frame) (s e : List ℕ) where
   weak_walk pl b (p ∷ []) h = (tt, tt)
   weak_walk pl b (p ∷ q ∷ ps) h = (
     (λ named isnt. opens_none s e q (name_opens_none s e pl b (class_in s p.left) (class_in s q.left) p h.0 named isnt)),
-    weak_walk (behind pl b (class_in s p.left) (text_of s p.left) (class_in s q.left)) (class_in s p.left) (q ∷ ps) h.1,
+    weak_walk (place_behind pl b (class_in s p.left) (text_of s p.left) (class_in s q.left)) (class_in s p.left) (q ∷ ps) h.1,
   )
 
   -- what follows some tokens
@@ -328,7 +328,7 @@ module _ (frame : Frame) (s e : List ℕ) where
   other_step k c next rest b p ps code plain h found may =
       let there = frame.body_step s k p.left (lefts ps) c rest false next b (next_class s (lefts ps)) code plain found may in
       let weak = weak_walk place.Start b (p ∷ ps) h in
-      joined (clause_place.Body k) c next rest (p ∷ ps) ps 1 (behind place.Start b (class_in s p.left) (text_of s p.left) (next_class s (lefts ps))) (class_in s p.left)
+      joined (clause_place.Body k) c next rest (p ∷ ps) ps 1 (place_behind place.Start b (class_in s p.left) (text_of s p.left) (next_class s (lefts ps))) (class_in s p.left)
       (body_gives s e (IsTail (p ∷ ps)) (tail_closed (p ∷ ps)) (tail_apart (p ∷ ps)) k next p ps (whole p ps weak) weak (start_front s e b (next_class s (lefts ps)) p h.0) (c, rest, false)
       (λ n cut y runs. absurd (no_runs c y plain runs)) may found)
       refl (sym there.0) h.1 there.1

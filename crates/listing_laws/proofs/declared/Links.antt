@@ -441,7 +441,7 @@ all_good lens blocks first front (b ∷ bs) codes (one, more) e are =
     all_append (IsGoodLink (widths blocks)) (block_links blocks first b.code) (links_from blocks (first + length b.params) bs)
     (block_good (environment_of_block (Some lens) (map record_of_block blocks) (record_of_block b)) lens blocks first b refl
     (record { params = refl; others = refl; codes = codes; own = own_place }) one)
-    (all_good lens blocks (first + length b.params) (front ++ own) bs codes more (omega (arith, e, size_of_op, few)) (are ∙ sym (append_assoc front own (widths bs))))
+    (all_good lens blocks (first + length b.params) (front ++ own) bs codes more (omega (arith, e, size, few)) (are ∙ sym (append_assoc front own (widths bs))))
   where
     own : List Width
     own = map (λ (p : Param). p.width) b.params

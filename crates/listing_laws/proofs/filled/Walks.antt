@@ -78,10 +78,10 @@ static_found at place i (d ∷ ds) (p ∷ ps) c (one, more) (here, others) name 
     passed_by at place (upper_case_name static_name) d (ds ++ c ∷ []) (not_both (nat_eq d.level 0) (bytes_eq (upper_case_name static_name) d.name) (λ e. other))
     ∙ ap (λ n. component_of_name 0 n (place + 1) (upper_case_name static_name) (ds ++ c ∷ [])) (past_any at d (ds ++ c ∷ []) here.kind here.cell)
     ∙ static_found (past_cell at d) (place + 1) (suc i) ds ps c more others name outer opens
-    ∙ (λ j. Some (record { place = holds_where_reached place (length ds) j; offset = next_multiple (sym (end_past at d ds here.kind here.cell) j) 16 }))
+    ∙ (λ j. Some (record { place = further place (length ds) j; offset = next_multiple (sym (end_past at d ds here.kind here.cell) j) 16 }))
   where
     further : (m n : ℕ) → m + 1 + n ≡ m + suc n
-    holds_where_reached m n = omega arith
+    further m n = omega arith
 
 no_less : (n : ℕ) → int_lt (pos n) (pos 0) ≡ false
 no_less n = grind arith

@@ -531,7 +531,7 @@ settles symbols t h (element.Udt name) few = by (data_type_place (types_of_sourc
         laid = layout_of_block symbols t h v from.of from.there
 
         type : IsType (types_of_source symbols t.blocks) from.of
-        type = type_of_block (types_of_source symbols t.blocks) from.of layout_element.2.well_formed kind
+        type = type_of_block (types_of_source symbols t.blocks) from.of laid.2.well_formed kind
 
         same : get_or (types_of_source symbols t.blocks).bits v 0
             ≡ structure_bits (cells_at (layouts_of t symbols) v false)
@@ -539,17 +539,17 @@ settles symbols t h (element.Udt name) few = by (data_type_place (types_of_sourc
             measured symbols t.blocks v from.of from.there (omega (arith, few))
             ∙ type_bits_are (types_of_source symbols t.blocks) from.of kind
             ∙ ap (λ (cs : List Cell). structure_bits cs)
-            (sym (cells_are symbols t v from.of layout_element.0 layout_element.2 false ∙ type.components))
+            (sym (cells_are symbols t v from.of laid.0 laid.2 false ∙ type.components))
 
         small : get_or (types_of_source symbols t.blocks).depths v 0 ≤ 8
             → get_or (types_of_source symbols t.blocks).bits v 0
             ≡ structure_bits (cells_at (layouts_of t symbols) v false)
             → get_or (types_of_source symbols t.blocks).bits v 0 ≤ 131072
         small few same =
-            let most = small_type (types_of_source symbols t.blocks) t.blocks from.of kind type layout_element.2.head.by_51 in
+            let most = small_type (types_of_source symbols t.blocks) t.blocks from.of kind type laid.2.head.by_51 in
             let is : structure_bits (cells_at (layouts_of t symbols) v false)
             ≡ structure_bits (components_of (types_of_source symbols t.blocks) from.of)
-            = ap (λ (cs : List Cell). structure_bits cs) (cells_are symbols t v from.of layout_element.0 layout_element.2 false) in
+            = ap (λ (cs : List Cell). structure_bits cs) (cells_are symbols t v from.of laid.0 laid.2 false) in
             omega (arith, same, most, is)
 
     by : (o : Option ℕ) → data_type_place (types_of_source symbols t.blocks) name ≡ o
@@ -582,19 +582,19 @@ are_right symbols t h block place temporary c e =
         let none : slice_get (cells_in temporary None) place ≡ Some c
         = ap (λ (o : Option BlockLayout). slice_get (cells_in temporary o) place) (sym is) ∙ e in
         absurd cc
-    by (Some l) is = each temporary (ap (λ (cs : List Cell). slice_get cs place) (sym (cells_are symbols t block layout_element.block l layout_element.sound temporary)) ∙ e)
+    by (Some l) is = each temporary (ap (λ (cs : List Cell). slice_get cs place) (sym (cells_are symbols t block laid.block l laid.sound temporary)) ∙ e)
       where
         laid : IsLaid symbols t block l
         laid = block_of_layout symbols t h block l is
 
-        unbroken : IsUnbroken (types_of_source symbols t.blocks) layout_element.block
-        unbroken = block_unbroken (types_of_source symbols t.blocks) layout_element.block layout_element.sound.declarations
+        unbroken : IsUnbroken (types_of_source symbols t.blocks) laid.block
+        unbroken = block_unbroken (types_of_source symbols t.blocks) laid.block laid.sound.declarations
 
         each : (temporary : Bool)
-            → slice_get (if temporary then temps_of (types_of_source symbols t.blocks) layout_element.block
-            else components_of (types_of_source symbols t.blocks) layout_element.block) place ≡ Some c
+            → slice_get (if temporary then temps_of (types_of_source symbols t.blocks) laid.block
+            else components_of (types_of_source symbols t.blocks) laid.block) place ≡ Some c
             → IsRightCell (layouts_of t symbols) c
-        each true f = all_there (IsRightCell (layouts_of t symbols)) (temps_of (types_of_source symbols t.blocks) layout_element.block) place c
-            (temps_right (layouts_of t symbols) (types_of_source symbols t.blocks) layout_element.block (settles symbols t h) unbroken) f
-        each false f = all_there (IsRightCell (layouts_of t symbols)) (components_of (types_of_source symbols t.blocks) layout_element.block) place c
-            (components_right (layouts_of t symbols) (types_of_source symbols t.blocks) layout_element.block (settles symbols t h) unbroken) f
+        each true f = all_there (IsRightCell (layouts_of t symbols)) (temps_of (types_of_source symbols t.blocks) laid.block) place c
+            (temps_right (layouts_of t symbols) (types_of_source symbols t.blocks) laid.block (settles symbols t h) unbroken) f
+        each false f = all_there (IsRightCell (layouts_of t symbols)) (components_of (types_of_source symbols t.blocks) laid.block) place c
+            (components_right (layouts_of t symbols) (types_of_source symbols t.blocks) laid.block (settles symbols t h) unbroken) f

@@ -219,7 +219,7 @@ view_passes a c f r o (view.Direct place w side declared) e fits h taken = recor
   where
     same : not (r.width == width_number w) ≡ false
     same = width_same r f w h (typed_width f w declared
-        (and_first (fits_type f w declared) (takes_side f.section side) taken) fits_elementary_type.1)
+        (and_first (fits_type f w declared) (takes_side f.section side) taken) fits.1)
 view_passes a c f r o (view.Parameter index own declared) e fits h taken = record {
   actual = passed.Parameter index (width_of declared);
   is = ap (passed_seen o) e;
