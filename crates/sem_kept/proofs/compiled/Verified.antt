@@ -592,9 +592,9 @@ compiled_from a ss whole front (s ∷ behind) line e made clean short = (
 
 -- its code has no fault, and no statement of more than 64 ops
 record IsRightCode (code : List OpData) : Type 0 where
-  around_block : Environment
+  around : Environment
   statements : List StatementSpot
-  clean : IsClean around_block statements 0 code
+  clean : IsClean around statements 0 code
   short : IsShort code
 
 block_compilable : (b : StatedBlock) → IsMadeBlock b → IsRightCode (code_in b.statements)
