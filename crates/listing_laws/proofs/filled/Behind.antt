@@ -118,8 +118,8 @@ module _ (low : ℕ) (near : low ≤ largest_size) where
   elements_behind : (bounds : List Bounds) (element : ℕ) (starts : List ℕ) → StartBehind low starts → StartBehind low (element_starts bounds element starts)
   elements_behind [] element starts h = h
   elements_behind (b ∷ bs) element starts h =
-      elements_behind bs element (flat_map (in_steps (array_bits bs element) (count b)) starts)
-      (all_flat (λ s. low ≤ s) (λ s. low ≤ s) (in_steps (array_bits bs element) (count b)) (λ s k. steps_behind (array_bits bs element) (count b) s k) starts h)
+      elements_behind bs element (flat_map (in_steps (array_bits bs element) (element_count b)) starts)
+      (all_flat (λ s. low ≤ s) (λ s. low ≤ s) (in_steps (array_bits bs element) (element_count b)) (λ s k. steps_behind (array_bits bs element) (element_count b) s k) starts h)
 
   filled_behind : (bounds : List Bounds) (element : ℕ) (starts : List ℕ) → StartBehind low starts → StartBehind low (filled_starts bounds element starts)
   filled_behind bounds element starts h = by (nat_eq element 0)
