@@ -1,3 +1,4 @@
+-- Quotient and remainder of integers as the code works them out in 64 bits.
 use Rattle.std.proofs.Common.{◌≡◌, zero, suc, ◌^◌, ◌≤◌, false, ℤ, pos, negsuc, nat_abs, refl, ◌∙◌, arith}
 use Rattle.std.specs.Int.RustNames.{int_div, int_rem, FitsSigned}
 use Rattle.std.specs.Int.{w64, cast_signed, cast_unsigned}

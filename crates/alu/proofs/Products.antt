@@ -1,3 +1,4 @@
+-- A product of two 32-bit integers fits 64 bits, and so is what the code works out.
 use Rattle.std.proofs.Common.{◌≡◌, ◌^◌, ◌≤◌, ℤ, ◌*ℤ◌, nat_abs, arith}
 use Rattle.std.specs.Int.RustNames.{FitsSigned}
 use Rattle.std.specs.Int.{w64, cast_signed, cast_unsigned}

@@ -1,3 +1,4 @@
+-- The first of some zeros are zeros.
 use Rattle.std.proofs.Common.{◌≡◌, ℕ, ◌≤◌, take, replicate}
 use Rattle.std.proofs.lemmas.List.{take-replicate}
 

@@ -21,11 +21,12 @@ frames_of a = if a.left then [] else a.running.frame ∷ a.below
 abbrev pub frame_at : Activation → ℕ → Option Frame
 frame_at a place = slice_get (reverse (frames_of a)) place
 
--- it is the frame at a place
+-- a result is the frame at a place of a list of frames; places count from 0 at the outermost frame
 abbrev pub IsFrameIn : List Frame → ℕ → Option (Bor Frame) → Type 0
 IsFrameIn frames place result = option_map (λ f. f.now) result ≡ slice_get (reverse frames) place
 
--- the same of an activation; None where no frame has the place, so always where none stands
+-- a result is the frame of an activation at a place, counted from 0 at the outermost frame; None where no
+-- frame has the place, so always where none stands
 abbrev pub IsFrame : Activation → ℕ → Option (Bor Frame) → Type 0
 IsFrame a place result = IsFrameIn (frames_of a) place result
 
@@ -98,7 +99,8 @@ LeavesFrameTo (f ∷ rest) old new (Some frame) =
     × (new.profile ≡ old.profile)
 LeavesFrameTo standing old new answer = ⊥
 
--- the same by the frames that stand; without one the answer is None, and nothing changes
+-- what leaving the innermost frame of an activation does and answers; where no frame stands, the answer is
+-- None, and nothing changes
 abbrev pub LeavesFrame : (old new : Activation) → Option Frame → Type 0
 LeavesFrame old new answer = LeavesFrameTo (frames_of old) old new answer
 

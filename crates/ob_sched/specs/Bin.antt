@@ -21,11 +21,12 @@ abbrev pub bitmap_of : List Bin → ℕ
 bitmap_of [] = 0
 bitmap_of (bin ∷ rest) = waiting_bit bin.waiting.items + 2 * bitmap_of rest
 
--- each of these requests is of an OB that can wait, and of this class in RUN
+-- each of some requests is of an OB that can wait, and of one class in RUN
 abbrev pub are_of_class : ℕ → List Request → Bool
 are_of_class class waiting = list_all (λ request. can_wait request.0 && priority_class request.0 == class) waiting
 
--- so it is in each bin: the first one has this class, each further one a class that is one higher
+-- each bin of a list holds requests of one class: the first bin those of the class that is named, each further
+-- one those of the next higher class
 abbrev pub are_placed_from : ℕ → List Bin → Bool
 are_placed_from class [] = true
 are_placed_from class (bin ∷ rest) = are_of_class class bin.waiting.items && are_placed_from (class + 1) rest
@@ -47,7 +48,7 @@ IsListedByClass bins pending =
 abbrev pub IsBitmapOf : ℕ → List Bin → Type 0
 IsBitmapOf map bins = (n : ℕ) → n < 32 → (bit_at map n ≡ 1) ↔ (0 < length (waiting_in bins n))
 
--- it is the highest bin that holds a request
+-- a bin is the highest one that holds a request
 pub record IsHighest (bins : List Bin) (n : ℕ) : Type 0 where
   -- it is one of the 32 bins
   pub within : n < 32

@@ -27,16 +27,17 @@ is_interrupt ob = is_time_of_day ob || is_delay ob || is_cyclic ob || is_hardwar
 abbrev pub is_error : ℕ → Bool
 is_error ob = ob == 80 || ob == 85
 
--- those that can wait for their start: the program cycle OB 1, the interrupts, OB 80 and OB 85
+-- the organization blocks that can wait for their start: the program cycle OB 1, the interrupts, OB 80 and OB 85
 abbrev pub can_wait : ℕ → Bool
 can_wait ob = ob == 1 || is_interrupt ob || is_error ob
 
--- those with a priority class of their own: also OB 100, startup, which starts at once
+-- the organization blocks with a priority class of their own: those that can wait, and OB 100, startup, which
+-- starts at once
 abbrev pub has_priority_class : ℕ → Bool
 has_priority_class ob = can_wait ob || ob == 100
 
--- all of them: also OB 121 and 122, synchronous errors, which start at once in the class of the
--- activation in which the error came
+-- the numbers of all organization blocks of the profile: also OB 121 and 122, synchronous errors, which start
+-- at once in the class of the activation in which the error came
 abbrev pub is_ob : ℕ → Bool
 is_ob ob = has_priority_class ob || ob == 121 || ob == 122
 

@@ -14,7 +14,7 @@ pub record NumberedRequest : Type 0 where
   -- the request
   pub request : Request
 
--- its priority class in an operating mode
+-- the priority class of a numbered request in an operating mode
 abbrev pub rank_in : Mode → NumberedRequest → ℕ
 rank_in mode one = priority_class_in mode one.request.0
 
@@ -24,7 +24,7 @@ Outranks mode one other =
     (rank_in mode other < rank_in mode one)
     ⊎ ((rank_in mode one ≡ rank_in mode other) × (one.arrival < other.arrival))
 
--- it outranks each of the others, if there are any
+-- a request outranks each of some others, if there are any
 abbrev pub OutranksAll : Mode → NumberedRequest → List NumberedRequest → Type 0
 OutranksAll mode one [] = Unit {0}
 OutranksAll mode one (other ∷ rest) = Outranks mode one other × OutranksAll mode one rest

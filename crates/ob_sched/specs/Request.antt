@@ -23,7 +23,7 @@ request_queued request (first ∷ rest) =
 abbrev pub waiting_count : ℕ → List Request → ℕ
 waiting_count ob pending = count_by (λ request. request.0 == ob) pending
 
--- its queue has no room
+-- the queue of an OB has no room for one more request
 abbrev pub is_queue_full : ℕ → List Request → Bool
 is_queue_full ob pending = nat_le (queue_length ob) (waiting_count ob pending)
 
@@ -32,6 +32,6 @@ abbrev pub best_of : Mode → List Request → Option Pending
 best_of mode [] = None
 best_of mode (first ∷ rest) = Some (record { ob = first.0; class = priority_class_in mode first.0; info = first.1 })
 
--- it is the best request
+-- a request is the best of those that wait: the first of them
 abbrev pub IsBest : Pending → List Request → Type 0
 IsBest best pending = slice_get pending 0 ≡ Some (best.ob, best.info)

@@ -27,7 +27,7 @@ latest_records records one = (if nat_lt (length records) 100 then records else d
 abbrev pub with_record : ℕ → ℕ → TickResult → TickResult
 with_record code info passed = record passed { records = record { items = latest_records passed.records.items (code, info) } }
 
--- the same in a tick, whose scheduler stays
+-- a tick with one more record, a code and its detail; its scheduler stays
 abbrev pub record_made : ℕ → ℕ → TickState → TickState
 record_made code info c = record c { passed = with_record code info c.passed }
 
@@ -35,7 +35,7 @@ record_made code info c = record c { passed = with_record code info c.passed }
 abbrev pub with_stop : ℕ → TickResult → TickResult
 with_stop cause passed = record passed { stop = Some cause }
 
--- the same in a tick, whose scheduler, milliseconds and records stay
+-- a tick with STOP by a cause; its scheduler, milliseconds and records stay
 abbrev pub stopped_by : ℕ → TickState → TickState
 stopped_by cause c = record c { passed = with_stop cause c.passed }
 

@@ -1,3 +1,4 @@
+-- The least refusal of a list, taken part by part as a loop takes it.
 use Rattle.std.proofs.Common.{ℕ, ◌≡◌, ◌<◌, ◌≤◌, ◌+◌, List, [], ◌∷◌, ◌++◌, Option, Some, None, true, false, refl, sym, ◌∙◌, ap, arith, length, drop, get_or, drop-cons, add-one, drop_of_length-le, subst, ⊎_elim}
 use Rattle.std.specs.List.{flat_map, AllByRecursion}
 use Rattle.std.proofs.lemmas.List.Elements.{Contains-append_right}

@@ -21,7 +21,7 @@ contents_of files = record { told = true; at = bytes_of files }
 abbrev pub bytes_or_empty : List (List ℕ × List ℕ) → List ℕ → List ℕ
 bytes_or_empty files name = unwrap_or (bytes_of files name) []
 
--- the same files, where an absent name is an empty file
+-- the contents of named files where an absent name is an empty file
 abbrev pub sure_contents_of : List (List ℕ × List ℕ) → Contents
 sure_contents_of files = record { told = true; at = λ name. Some (bytes_or_empty files name) }
 
@@ -39,6 +39,6 @@ told_files contents failed_reads failed_writes =
 abbrev pub memory_files : List (List ℕ × List ℕ) → (failed_reads failed_writes : ℕ) → FilesAt
 memory_files files = told_files (contents_of files)
 
--- and those of which no call fails
+-- files in memory at one moment of which no call fails
 abbrev pub sure_files : List (List ℕ × List ℕ) → FilesAt
 sure_files files = told_files (sure_contents_of files) 0 0

@@ -4,7 +4,7 @@ use Rattle.plc_io.specs.declared.faults.IoFault.{IoFault}
 use Rattle.plc_io.specs.Counts.{CountsFailure}
 use Rattle.plc_io.specs.Moments.{SinkAt}
 
--- these bytes were taken, behind those before
+-- a sink took some bytes, behind those that it had taken before
 abbrev pub TookBytes : SinkAt → SinkAt → List ℕ → Type 0
 TookBytes before after bytes = after.taken ≡ option_map (λ had. had ++ bytes) before.taken
 

@@ -37,7 +37,7 @@ ReadsWhereEachBitExists m =
     (place : Place) (width : Width)
     → IsSome (number_at_place m place width) ↔ EachBitExists m (region_read place) place width
 
--- the same of writing
+-- a number can be written exactly where each bit of its place exists
 abbrev pub WritesWhereEachBitExists : Areas → Type 0
 WritesWhereEachBitExists m =
     (place : Place) (width : Width) (value : ℕ)

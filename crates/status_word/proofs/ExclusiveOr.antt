@@ -1,3 +1,4 @@
+-- Two truth values differ exactly where their exclusive or is true.
 use Rattle.std.proofs.Common.{◌≡◌, Bool, true, false, not, refl}
 use Rattle.std.specs.Bool.{beq}
 use Rattle.status_word.specs.Check.{exclusive_or}

@@ -1,3 +1,4 @@
+-- The status word as a number of nine bits, there and back.
 use Rattle.std.proofs.Common.{◌≡◌, ℕ, ◌/◌, ◌%◌, ◌^◌, ◌≤◌, Bool, true, false, nat_eq, ap, arith}
 use Rattle.plc_base.specs.Bits.{has_bit}
 use Rattle.status_word.specs.declared.statuses.Status.{Status}

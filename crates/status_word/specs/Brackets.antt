@@ -18,7 +18,7 @@ bracket_begun r = record r { status = record r.status { or = false; sta = true; 
 abbrev pub bracket_restored : Bracket → Regs → Regs
 bracket_restored b r = record r { status = record r.status { rlo = b.rlo; or = b.or; fc = b.fc } }
 
--- the same registers with STA 1
+-- registers with STA 1
 abbrev pub with_sta : Regs → Regs
 with_sta r = record r { status = record r.status { sta = true } }
 

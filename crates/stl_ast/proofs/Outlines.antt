@@ -1,3 +1,4 @@
+-- The outline of declarations with one more at the end.
 use Rattle.std.proofs.Common.{ℕ, ◌≤◌, ◌≡◌, List, [], ◌∷◌, ◌++◌, refl}
 use Rattle.stl_ast.specs.declared.declarations.Declaration.{Declaration}
 use Rattle.stl_ast.specs.Outline.{level_behind, IsOutline, deepest_behind}

@@ -17,7 +17,7 @@ inner_components level none = none
 inner_components level (more d components behind) =
     if nat_lt level d.level then more d components (inner_components level behind) else none
 
--- and those from the first on that doesn't stand deeper
+-- of components in the order of a text, those from the first one on that stands no deeper than a level
 abbrev pub outer_components : ℕ → Components → Components
 outer_components level none = none
 outer_components level (more d components behind) =
@@ -39,7 +39,7 @@ abbrev pub MayHoldComponents : ElementType → Components → Type 0
 MayHoldComponents element.Structure components = Unit {0}
 MayHoldComponents _ components = components ≡ none
 
--- these stand at a level, and the components of each one level deeper
+-- each of some components stands at a level, and the components of each one level deeper
 abbrev pub AreAtLevel : ℕ → Components → Type 0
 AreAtLevel level none = Unit {0}
 AreAtLevel level (more d components behind) =

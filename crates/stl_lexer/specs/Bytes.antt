@@ -82,7 +82,7 @@ delete_byte = 127
 unfoldable pub is_word_start : ℕ → Bool
 is_word_start b = is_ascii_alphabetic b || b == underscore
 
--- and goes on with letters, digits and `_`
+-- a word goes on with letters, digits and `_`
 unfoldable pub is_word_byte : ℕ → Bool
 is_word_byte b = is_word_start b || is_ascii_digit b
 

@@ -47,7 +47,7 @@ tokens_of from line (p ∷ ps) =
     ∷ tokens_of (from + length p.gap + length p.text)
     (line + sum_by newlines_of p.gap + sum_by newlines_of p.text) ps
 
--- these tokens have the kinds and the bytes of these pieces
+-- some tokens of a source have the kinds and the bytes of some pieces, one by one
 abbrev pub ShowPieces : List ℕ → List Piece → List Token → Type 0
 ShowPieces source [] [] = Unit {0}
 ShowPieces source (p ∷ ps) (t ∷ ts) = (t.kind ≡ p.kind) × (text_of source t ≡ p.text) × ShowPieces source ps ts
@@ -72,7 +72,7 @@ DoWordsStand =
     → begins_with (codes "TITLE") (word ++ after) ≡ false
     → IsLongestToken (word ++ after) Word (length word)
 
--- and so is a number
+-- a number before what stops a token is the longest token there
 abbrev pub DoNumbersStand : Type 0
 DoNumbersStand =
     (digits after : List ℕ) → is_number digits ≡ true → stops_token after ≡ true

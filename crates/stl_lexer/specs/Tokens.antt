@@ -69,7 +69,7 @@ abbrev pub FindsNextToken : List ℕ → ℕ → Bool → Result (Option Token) 
 FindsNextToken source from minus found =
     MatchResult found (λ next. MatchOption next (IsEndOfTokens source from) (IsNextToken source from minus)) (λ refusal. BreaksTokenRule source from minus refusal.line refusal.rule)
 
--- these tokens follow one another behind `from`, and then `rest` holds at the end of the last
+-- some tokens follow one another behind `from`, and then `rest` holds at the end of the last
 abbrev pub TokensFollow : List ℕ → (ℕ → Bool → Type 0) → ℕ → Bool → List Token → Type 0
 TokensFollow source rest from minus [] = rest from minus
 TokensFollow source rest from minus (t ∷ ts) = IsNextToken source from minus t × TokensFollow source rest t.end (is_minus t.kind (text_of source t)) ts
@@ -91,7 +91,7 @@ IsRefused source NoMemory = Unit {0}
 abbrev pub AreTokensUnique : Type 0
 AreTokensUnique = (source : List ℕ) (ts us : List Token) → AreTokens source ts → AreTokens source us → ts ≡ us
 
--- and none where there is a violation
+-- a source with a violation has no list of tokens
 abbrev pub ExcludesViolation : Type 0
 ExcludesViolation = (source : List ℕ) (ts : List Token) (line rule : ℕ) → AreTokens source ts → IsViolation source line rule → ⊥
 
@@ -103,6 +103,6 @@ IsViolationUnique = (source : List ℕ) (line rule line' rule' : ℕ) → IsViol
 abbrev pub HasTokensOrViolation : List ℕ → Type 0
 HasTokensOrViolation source = ((ts : List Token) × AreTokens source ts) ⊎ ((line : ℕ) × (rule : ℕ) × IsViolation source line rule)
 
--- so it is with every source, whatever bytes it has and however long it is
+-- every source has tokens or a violation, whatever bytes it has and however long it is
 abbrev pub IsLexingTotal : Type 0
 IsLexingTotal = (source : List ℕ) → HasTokensOrViolation source

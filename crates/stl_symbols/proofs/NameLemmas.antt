@@ -1,3 +1,4 @@
+-- What a map from names to places knows when one more name is added.
 use Rattle.std.proofs.Common.{ℕ, ◌≡◌, List, [], ◌∷◌, ◌++◌, Option, Some, None, Bool, true, false, cond, sym, ◌∙◌, ap, subst, arith, length, map, if◌then◌else◌, Vec, ⊎_elim}
 use Rattle.std.proofs.lemmas.List.{map-append, length-map}
 use Rattle.std.specs.Option.{option_or, IsSome}

@@ -1,3 +1,4 @@
+-- What a map from numbers to places knows when one more number is added.
 use Rattle.std.proofs.Common.{ℕ, ◌≡◌, ◌<◌, nat_eq, nat_lt, List, [], ◌∷◌, ◌++◌, Option, Some, None, true, false, cond, sym, ◌∙◌, ap, subst, arith, length, if◌then◌else◌, ⊎_elim}
 use Rattle.std.specs.Option.{option_or, IsSome}
 use Rattle.std.specs.Ordering.{is_eq, nat_cmp}

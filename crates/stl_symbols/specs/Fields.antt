@@ -42,11 +42,11 @@ is_line_end byte = byte == 13 || byte == 10
 abbrev pub record_from : State → List (List ℕ) → List ℕ → List ℕ → Option (List (List ℕ))
 record_from s fields field left = lone_record (next_record default_config s fields field left)
 
--- the same where the record has these fields, and this is behind it
+-- the fields of a line of one record: those that were read, where only line ends are left; else None
 abbrev pub record_before : List (List ℕ) → List ℕ → Option (List (List ℕ))
 record_before fields left = if list_all is_line_end left then Some fields else None
 
--- the same at what a byte ended, if it ended something
+-- the fields of a line of one record, read on behind a byte that ended a field, the record or nothing
 abbrev pub record_at : Option Ending → State → (fields : List (List ℕ)) → (field rest : List ℕ)
     → Option (List (List ℕ))
 record_at None s fields field rest = record_from s fields field rest
@@ -54,7 +54,7 @@ record_at (Some ending.Field) s fields field rest =
     record_from state.StartField (fields ++ field ∷ []) [] rest
 record_at (Some ending.Record) s fields field rest = record_before (fields ++ field ∷ []) rest
 
--- the same where a field has ended
+-- the fields of a line of one record, read on where a field has ended
 abbrev pub record_behind : List (List ℕ) → Behind → Option (List (List ℕ))
 record_behind fields (behind.Field rest) = record_from state.StartField fields [] rest.now
 record_behind fields behind.Nothing = Some fields

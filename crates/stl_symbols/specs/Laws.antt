@@ -16,7 +16,7 @@ SymbolNamesDiffer (x ∷ xs) =
 abbrev pub EachBytePasses : (ℕ → Bool) → List ℕ → Type 0
 EachBytePasses test text = AllByRecursion (λ b. test b ≡ true) text
 
--- these may be the symbols of a file: at most so many, each as a line declares it, no two of one
+-- what holds of the symbols of a file: they are at most so many, each as a line declares it, no two of one
 -- name, and in their names no byte that the file hasn't
 pub record AreSymbols (file : List ℕ) (symbols : List Symbol) : Type 0 where
   pub few : length symbols ≤ most_symbols

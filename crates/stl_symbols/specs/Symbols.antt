@@ -20,7 +20,7 @@ use Rattle.stl_symbols.specs.declared.languages.Language.TheVariants.{English}
 abbrev pub symbols_limit : ℕ
 symbols_limit = 1048576
 
--- and so many symbols
+-- a symbols file declares at most so many symbols
 abbrev pub most_symbols : ℕ
 most_symbols = 65535
 
@@ -49,8 +49,8 @@ symbol_declaration language name address kind =
     (address_of language address)
     else None
 
--- the same of the columns of a line: blanks and tabs at the end of name and type are dropped, and
--- all those of the address
+-- what the columns of a line declare, None where they are wrong: blanks and tabs at the end of name and type
+-- are dropped, and all those of the address
 unfoldable pub declaration_in_columns : Language → Columns → Option (Option Symbol)
 declaration_in_columns language line =
     symbol_declaration language (without_last_blanks line.name) (without_blanks line.address)
@@ -71,13 +71,14 @@ with_declaration symbols None = Err 15
 with_declaration symbols (Some None) = Ok symbols
 with_declaration symbols (Some (Some symbol)) = with_symbol symbols symbol
 
--- the same, and 14 where the line isn't one record of four fields
+-- the symbols with what the columns of a line declare, or the rule that it breaks: 14 where the line isn't one
+-- record of four fields
 abbrev pub with_columns : Language → List Symbol → Option Columns → Result (List Symbol) ℕ
 with_columns language symbols None = Err 14
 with_columns language symbols (Some line) =
     with_declaration symbols (declaration_in_columns language line)
 
--- the same of a line; an empty one declares nothing
+-- the symbols with what a line declares, or the rule that it breaks; an empty line declares nothing
 unfoldable pub with_line : Language → List Symbol → List ℕ → Result (List Symbol) ℕ
 with_line language symbols [] = Ok symbols
 with_line language symbols (byte ∷ line) = with_columns language symbols (columns_of_line (byte ∷ line))
@@ -102,7 +103,7 @@ with_lines language number symbols (line ∷ more) =
 unfoldable pub symbols_in : Language → List ℕ → Result (List Symbol) Refusal
 symbols_in language bytes = with_lines language 1 [] (lines bytes)
 
--- the same in English
+-- the symbols of a file in English, or its first refusal
 abbrev pub symbols_of : List ℕ → Result (List Symbol) Refusal
 symbols_of bytes = symbols_in English bytes
 

@@ -13,10 +13,10 @@ InstructionsKeepSize A =
     (effect : A → Option A) (old new : List A) (number : ℕ) (result : Result Unit TimerFault)
     → LeavesTable old new result (change_at_number effect old number) → length new ≡ length old
 
--- so does each number of milliseconds
+-- milliseconds that pass, however many, leave as many timers as there were
 abbrev pub TimeKeepsSize : Type 0
 TimeKeepsSize = (n : ℕ) (timers : List Timer) → length (iterate (map timer_after_ms) n timers) ≡ length timers
 
--- and so does a warm restart
+-- a warm restart leaves as many counters as there were
 abbrev pub RestartKeepsSize : Type 0
 RestartKeepsSize = (counters : List Counter) → length (counters_retained counters) ≡ length counters

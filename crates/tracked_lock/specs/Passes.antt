@@ -13,7 +13,8 @@ pub record LockView (O : Type 0) : Type 0 where
   pub origin : List O
   pub passes : ℕ
 
--- its lock, its number, whether a value is out with it, the list that it has seen, and the entries under each of its numbers, its own first
+-- what contracts see of a pass: its lock, its number, whether a value is out with it, the list that it has seen,
+-- and the entries under each of its numbers, its own first
 pub record PassView (O E : Type 0) : Type 0 where
   pub lock : LockView O
   pub number : ℕ

@@ -39,7 +39,7 @@ abbrev pub StandsApart : Run → List Run → Type 0
 StandsApart r [] = Unit {0}
 StandsApart r (next ∷ rest) = are_steps_of_one_worker r.entry next.entry ≡ false
 
--- so it is with each of them
+-- no two runs of a list that stand side by side are steps of one worker
 abbrev pub StandApart : List Run → Type 0
 StandApart [] = Unit {0}
 StandApart (r ∷ rest) = StandsApart r rest × StandApart rest
@@ -50,7 +50,7 @@ pub record AreRuns (runs : List Run) : Type 0 where
   pub follow : FollowFrom 0 runs
   pub apart : StandApart runs
 
--- the same among further runs; `best` where none of them does
+-- the last of some further runs that begins at a number or before it; `best` where none of them does
 abbrev pub run_behind : (best : Option Run) → List Run → (i : ℕ) → Option Run
 run_behind best [] i = best
 run_behind best (r ∷ rest) i = if nat_le r.first i then run_behind (Some r) rest i else best
