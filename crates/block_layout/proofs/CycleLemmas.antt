@@ -1,3 +1,4 @@
+-- Marking blocks step by step finds those to which uses of data types lead.
 use Rattle.std.proofs.Common.{ℕ, zero, suc, ◌≡◌, ◌<◌, ◌≤◌, ◌+◌, ◌⊎◌, inl, inr, ⊎_elim, true≢false, List, [], ◌∷◌, Some, Bool, true, false, ◌||◌, nat_eq, nat_lt, refl, sym, ◌∙◌, ap, arith, length, map, get_or, replicate, slice_set, Vec, ◌++◌, ◌-◌, append_assoc, drop, subst, take}
 use Rattle.std.specs.Prelude.{◌&&◌, not}
 use Rattle.std.proofs.lemmas.Bool.{and_from, and_parts, cases_eq, cond_both, eq-eqb, eqb-true, not_from_false, or_cases, or_left, or_right, true_from_ne_false}

@@ -1,3 +1,4 @@
+-- The first places of numbers among blocks, kept as the blocks are gone through.
 use Rattle.std.proofs.Common.{ℕ, ◌≡◌, ◌<◌, nat_eq, nat_lt, List, [], ◌∷◌, ◌++◌, Option, Some, None, true, false, cond, refl, sym, ◌∙◌, ap, subst, arith, length, if◌then◌else◌, ⊎_elim}
 use Rattle.std.specs.Option.{option_or, IsSome}
 use Rattle.std.specs.Ordering.{is_eq, nat_cmp}

@@ -1,3 +1,4 @@
+-- The length of the structure of a block, by the declarations of all blocks.
 use Rattle.std.proofs.Common.{ℕ, zero, suc, ◌≡◌, ◌/◌, List, [], ◌∷◌, Option, Some, None, true, ◌<◌, length, get_or, arith, map, refl, sym, ◌∙◌, ap}
 use Rattle.std.proofs.lemmas.List.{length-map}
 use Rattle.std.specs.List.{slice_get}

@@ -1,3 +1,4 @@
+-- Depths and sizes of data types by rounds, which may end once a round changes nothing.
 use Rattle.std.proofs.Common.{ℕ, zero, suc, ◌≡◌, ◌≤◌, ◌+◌, ◌-◌, sym, List, [], ◌∷◌, refl, ◌∙◌, ap, arith, max, map, add-one}
 use Rattle.stl_ast.specs.declared.declarations.Declaration.{Declaration}
 use Rattle.block_layout.specs.Around.{of_structure}

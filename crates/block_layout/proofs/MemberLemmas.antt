@@ -1,3 +1,4 @@
+-- The components of a structure and their names, in a walk over the cells, and one by its name.
 use Rattle.std.proofs.Common.{ℕ, suc, ◌≡◌, ◌<◌, ◌≤◌, ◌+◌, List, [], ◌∷◌, ◌++◌, append_assoc, Option, Some, None, true, false, nat_eq, nat_lt, ◌&&◌, refl, sym, ◌∙◌, ap, subst, arith, length, drop, get_or, ⊎_elim}
 use Rattle.std.specs.Option.{option_map, option_and_then, IfSome}
 use Rattle.std.specs.List.{slice_get}

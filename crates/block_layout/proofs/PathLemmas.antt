@@ -1,3 +1,4 @@
+-- Where a name behind a structure leads, found among the components that are kept of it.
 use Rattle.std.proofs.Common.{ℕ, zero, suc, ◌≡◌, ◌+◌, List, [], ◌∷◌, Option, Some, refl, sym, ◌∙◌, ap, drop, get_or}
 use Rattle.std.specs.List.{slice_get}
 use Rattle.block_layout.specs.declared.cells.Cell.{Cell}

@@ -1,3 +1,4 @@
+-- What the rules find of a declaration by the lists that are open is what they find by its past.
 use Rattle.std.proofs.Common.{ℕ, ◌≡◌, ◌<◌, ◌≤◌, ◌+◌, List, [], ◌∷◌, ◌++◌, append_assoc, Bool, true, false, nat_eq, nat_lt, ◌||◌, not, refl, sym, ◌∙◌, ap, subst, arith, length, drop, take, get_or, ⊎_elim}
 use Rattle.std.proofs.lemmas.Bool.{cases_Bool}
 use Rattle.std.proofs.lemmas.Bool.Decides.{nat_tests}

@@ -14,12 +14,12 @@ breaks_by y alone.UnknownType d = is_unknown_type y d.of.of
 breaks_by y alone.UnfitValue d = not (init_fits d)
 breaks_by y alone.UpsideDown d = has_upside_down d
 
--- the number of the rule
+-- the number of the rule that a declaration breaks by itself
 abbrev pub rule_by : Alone → ℕ
 rule_by alone.UnknownType = 23
 rule_by alone.UnfitValue = 41
 rule_by alone.UpsideDown = 42
 
--- the refusal at the line of a declaration that breaks it
+-- the refusal of a declaration that breaks this one of the rules, at its line
 abbrev pub broken_by : Types → Alone → Declaration → List Refusal
 broken_by y a d = broken_if (breaks_by y a d) d.line (rule_by a)

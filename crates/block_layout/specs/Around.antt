@@ -7,7 +7,7 @@ use Rattle.stl_ast.specs.declared.declarations.Declaration.{Declaration}
 use Rattle.stl_ast.specs.declared.declarations.Simple.{Simple}
 use Rattle.plc_base.specs.Gathered.{refusals_along}
 
--- a declaration with those before it
+-- a declaration with those before it, the nearest first
 pub record Holder : Type 0 where
   pub declaration : Declaration
   pub before : List Declaration
@@ -20,7 +20,8 @@ structures_around level (d ∷ ds) =
     if nat_lt d.level level then record { declaration = d; before = ds } ∷ structures_around d.level ds
     else structures_around level ds
 
--- those before what follows some declarations
+-- what stands before the declaration that follows these, the nearest first: these, and those in
+-- `before`
 abbrev pub declarations_before_next : (before : List Declaration) → List Declaration → List Declaration
 declarations_before_next before [] = before
 declarations_before_next before (d ∷ ds) = declarations_before_next (d ∷ before) ds
@@ -39,7 +40,8 @@ abbrev pub returned_names : Option Simple → List (List ℕ)
 returned_names None = []
 returned_names (Some kind) = ret_val ∷ []
 
--- the sections of a block make one list, in which a function has its return value
+-- what the declarations in the sections of a block stand in: one list, in which a function has its
+-- return value
 abbrev pub of_sections : Block → Outside
 of_sections b = record { names = returned_names b.result; depth = 0 }
 
@@ -47,28 +49,29 @@ of_sections b = record { names = returned_names b.result; depth = 0 }
 abbrev pub section_declarations : Block → List Declaration
 section_declarations b = flat_map (λ p. p.items) b.parts
 
--- the components of a data block or a data type stand in its structure
+-- what the components of a data block or a data type stand in: its structure
 abbrev pub of_structure : Outside
 of_structure = record { names = []; depth = 1 }
 
--- what breaks a rule of declarations, of all that follow some declarations
+-- the refusals by a rule of declarations, of all declarations that follow those in `before`
 abbrev pub refusals_in_rest : (List Declaration → Declaration → List Refusal) → (before : List Declaration)
     → List Declaration → List Refusal
 refusals_in_rest broken before ds = refusals_along (λ d. false) broken (λ before d. d ∷ before) before ds
 
--- and of all that stand in a list
+-- the refusals by a rule of declarations, of all declarations that stand in a list
 abbrev pub refusals_in_list : (List Declaration → Declaration → List Refusal) → List Declaration
     → List Refusal
 refusals_in_list broken ds = refusals_in_rest broken [] ds
 
--- and of all declarations of a block
+-- the refusals by a rule of declarations, of all declarations of a block: those of its sections,
+-- then the components of its structure
 abbrev pub refusals_in_block : (Outside → List Declaration → Declaration → List Refusal) → Block
     → List Refusal
 refusals_in_block broken b =
     refusals_in_list (broken (of_sections b)) (section_declarations b)
     ++ refusals_in_list (broken of_structure) b.components
 
--- and of all declarations of a source, block by block
+-- the refusals by a rule of declarations, of all declarations of a source, block by block
 abbrev pub refusals_in_blocks : (Outside → List Declaration → Declaration → List Refusal) → List Block
     → List Refusal
 refusals_in_blocks broken blocks = flat_map (refusals_in_block broken) blocks

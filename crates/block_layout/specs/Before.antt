@@ -6,7 +6,8 @@ use Rattle.block_layout.specs.Rule54.{total_data_length}
 use Rattle.block_layout.specs.Types.{Types}
 use Rattle.block_layout.specs.declared.broken.Before.{Before}
 
--- how many there are, how many of them are data blocks, and the bytes of these, or the greatest number
+-- of the blocks before one, how many there are, how many of them are data blocks, and the bytes of
+-- these together, or the greatest number of 64 bits
 pub record IsBefore (y : Types) (blocks before : List Block) (b : Before) : Type 0 where
   pub count : b.blocks ≡ length before
   pub data_count : b.data_blocks ≡ data_blocks before

@@ -41,7 +41,7 @@ is_block_number kind.Db n = lies_within 1 2047 n
 is_block_number kind.Udt n = lies_within 1 2047 n
 is_block_number kind.Sfc n = false
 
--- a symbol that stands for a block
+-- the block that the target of a symbol is; none where it is something else
 abbrev pub block_of : Option Target → Option BlockId
 block_of (Some (target.Block id)) = Some id
 block_of _ = None
@@ -51,7 +51,7 @@ abbrev pub named_block : List Symbol → BlockName → Option BlockId
 named_block symbols (Number id) = Some id
 named_block symbols (Quoted name) = block_of (option_map (λ s. s.target) (symbol_named name symbols))
 
--- where it is of one of these kinds
+-- a block, where it is of one of these kinds; none where it isn't
 abbrev pub of_kind : (BlockKind → Bool) → Option BlockId → Option BlockId
 of_kind kinds None = None
 of_kind kinds (Some id) = if kinds id.kind then Some id else None

@@ -32,7 +32,9 @@ breaks_rule y o before d =
     is_twice o before d || is_unknown_type y d.of.of || not (init_fits d) || has_upside_down d
     || is_too_deep y o before d
 
--- its data type breaks rule 51. One that contains itself, or leads to one that does, has no end, so its use is too deep
+-- the data type at this place in the source breaks rule 51, by the bits of all blocks; without a
+-- place none does. One that contains itself, or leads to one that does, has no end, so its use is
+-- too deep
 abbrev pub is_oversized : List ℕ → Option ℕ → Bool
 is_oversized bits None = false
 is_oversized bits (Some block) = nat_lt most_bits (get_or bits block 0)
@@ -85,7 +87,7 @@ cells_of y o section before [] = []
 cells_of y o section before (d ∷ ds) =
     cell_of y o section before d ∷ cells_of y o section (d ∷ before) ds
 
--- the first component of a section begins at an even byte
+-- the cells of a section, of which the first sound one is marked, as it begins at an even byte
 abbrev pub with_first_cell_opening : List Cell → List Cell
 with_first_cell_opening [] = []
 with_first_cell_opening (c ∷ cs) = if c.sound then record c { opens = true } ∷ cs else c ∷ with_first_cell_opening cs
@@ -103,7 +105,7 @@ section_cells y o wanted before (p ∷ ps) =
     (if wanted p.kind then with_first_cell_opening (cells_of y o p.kind before p.items) else [])
     ++ section_cells y o wanted (declarations_before_next before p.items) ps
 
--- the return value of a function is an output parameter named RET_VAL
+-- the cell of the return value of a function, an output parameter named RET_VAL; none without one
 abbrev pub returned_cells : Option Simple → List Cell
 returned_cells None = []
 returned_cells (Some kind) = record {
@@ -123,6 +125,6 @@ components_of y b =
     returned_cells b.result ++ section_cells y (of_sections b) (λ k. not (is_temp k)) [] b.parts
     ++ cells_of y of_structure part.Static [] b.components
 
--- and its temporary variables
+-- the temporary variables of a block, as cells in their order
 abbrev pub temps_of : Types → Block → List Cell
 temps_of y b = section_cells y (of_sections b) is_temp [] b.parts

@@ -17,17 +17,18 @@ Marks = List Bool × List ℕ
 abbrev pub is_new : List Bool → ℕ → Bool
 is_new reached block = nat_lt block (length reached) && not (get_or reached block false)
 
--- with a block marked and found, if it wasn't marked
+-- the marks with this block marked and found, if it wasn't marked
 abbrev pub with_mark : Marks → ℕ → Marks
 with_mark marks block =
     if is_new marks.0 block then (slice_set marks.0 block true, marks.1 ++ block ∷ []) else marks
 
--- and with several, one after the other; a block that stands twice among them is found once
+-- the marks with these blocks marked and found, one after the other; a block that stands twice
+-- among them is found once
 abbrev pub with_marks : Marks → List ℕ → Marks
 with_marks marks [] = marks
 with_marks marks (block ∷ blocks) = with_marks (with_mark marks block) blocks
 
--- with all that some blocks use
+-- the marks with all blocks marked and found that some blocks use
 abbrev pub with_uses_marked : (uses : List (List ℕ)) → Marks → (blocks : List ℕ) → Marks
 with_uses_marked uses marks [] = marks
 with_uses_marked uses marks (block ∷ blocks) =

@@ -19,7 +19,8 @@ is_unknown_type y _ = false
 abbrev pub is_upside_down : Bounds → Bool
 is_upside_down b = int_lt b.high b.low
 
--- one of the arrays of a declaration, in whichever dimension, has such bounds
+-- one of the arrays of a declaration, in whichever dimension, has the upper bound below the lower
+-- one
 abbrev pub has_upside_down : Declaration → Bool
 has_upside_down d = list_any is_upside_down d.of.arrays
 
@@ -33,7 +34,7 @@ settable_count [] = Some 1
 settable_count (b ∷ []) = Some (element_count b)
 settable_count _ = None
 
--- n (value) sets n elements
+-- how many elements an initial value sets: n (value) sets n, a value alone one
 abbrev pub repetition_factor : Option ℕ → ℕ
 repetition_factor None = 1
 repetition_factor (Some n) = n
@@ -42,7 +43,7 @@ repetition_factor (Some n) = n
 abbrev pub elements_set_by : List Init → ℕ
 elements_set_by init = sum_by (λ i. repetition_factor i.count) init
 
--- so many values aren't more than there is room for; in an array of arrays there is no room
+-- so many values aren't more than the elements that can be set; in an array of arrays none can
 abbrev pub are_within : ℕ → Option ℕ → Bool
 are_within n None = false
 are_within n (Some most) = nat_le n most

@@ -15,20 +15,20 @@ fits_decimal (pos n) simple.Byte = nat_le n 255
 fits_decimal (negsuc n) simple.Int = nat_lt n 32768
 fits_decimal _ _ = false
 
--- 2#: each of BYTE, WORD, DWORD that holds the value
+-- a constant with 2# fits each of BYTE, WORD, DWORD that holds the value
 abbrev pub fits_binary : ℕ → Simple → Bool
 fits_binary n simple.Byte = nat_le n 255
 fits_binary n simple.Word = nat_le n 65535
 fits_binary n simple.Dword = true
 fits_binary _ _ = false
 
--- W#16#: WORD, and BYTE if the value fits
+-- a constant with W#16# fits WORD, and BYTE if the value is no more than 255
 abbrev pub fits_word : ℕ → Simple → Bool
 fits_word n simple.Byte = nat_le n 255
 fits_word n simple.Word = true
 fits_word _ _ = false
 
--- characters: CHAR, WORD, DWORD by their count
+-- so many characters fit CHAR, WORD, DWORD, which hold 1, 2, 4
 abbrev pub fits_characters : ℕ → Simple → Bool
 fits_characters n simple.Char = nat_eq n 1
 fits_characters n simple.Word = nat_eq n 2
@@ -86,12 +86,12 @@ fits_elementary_type (literal.S5time ms) k = is_s5time_type k || is_word_type k
 fits_elementary_type (literal.Characters bytes) k = fits_characters (length bytes) k
 fits_elementary_type (literal.Bytes bytes) k = false
 
--- two's complement
+-- the bits of an integer in the two's complement of this width
 abbrev pub twos_complement_bits : (width : ℕ) → ℤ → ℕ
 twos_complement_bits width (pos n) = n
 twos_complement_bits width (negsuc n) = 2 ^ width - (n + 1)
 
--- the first byte is the highest
+-- a number with these bytes behind it, the highest first
 abbrev pub number_from : ℕ → List ℕ → ℕ
 number_from n [] = n
 number_from n (b ∷ bs) = number_from (256 * n + b) bs

@@ -12,7 +12,7 @@ on_heads breaks rule blocks =
     refusals_along (λ b. false) (λ before b. broken_if (breaks before b) b.line rule)
     (λ before b. b ∷ before) [] blocks
 
--- of each block whether it breaks such a rule
+-- of each block whether it breaks a rule of heads; those in `before` stand before the first
 abbrev pub breach_flags : (breaks : List Block → Block → Bool) → (before : List Block) → List Block
     → List Bool
 breach_flags breaks before [] = []

@@ -20,13 +20,13 @@ use Rattle.block_layout.specs.Measures.{measuring_rounds}
 use Rattle.block_layout.specs.Paths.{folded_path, cells_at, structure_of, path_end_in_data_block, elementary_at}
 use Rattle.block_layout.specs.Sizes.{plain_bits, capped_size, next_multiple, alignment, array_bits, element_of, end_behind_cell, cell_bits}
 
--- a value of so many bits, so many bits from the start
+-- a value of `width` bits that is written `offset` bits from the start of a data block
 pub record Write : Type 0 where
   pub offset : ℕ
   pub width : ℕ
   pub value : ℕ
 
--- so many places, of which each is a step behind the one before it
+-- so many offsets in bits from `start` on, each a step behind the one before it, up to the cap
 abbrev pub in_steps : (step count start : ℕ) → List ℕ
 in_steps step count start = map (λ k. capped_size (start + capped_size (k * step))) (range_with_len 0 count)
 
@@ -37,12 +37,13 @@ element_starts [] element starts = starts
 element_starts (b ∷ bs) element starts =
     element_starts bs element (flat_map (in_steps (array_bits bs element) (element_count b)) starts)
 
--- elements of no bits hold no values
+-- where the elements of arrays begin that themselves begin at these places; none where an element
+-- takes no bits, as it holds no value
 abbrev pub filled_starts : List Bounds → (element : ℕ) → (starts : List ℕ) → List ℕ
 filled_starts bounds element starts =
     if nat_eq element 0 then [] else element_starts bounds element starts
 
--- one value after the other to one element after the other
+-- the writes of one of these values after the other, of `width` bits, at one offset after the other
 abbrev pub writes_at : (width : ℕ) → (offsets values : List ℕ) → List Write
 writes_at width offsets values =
     map (λ e. record { offset = e.0; width = width; value = e.1 }) (zip offsets values)
@@ -51,8 +52,8 @@ writes_at width offsets values =
 abbrev pub preset_values : List Preset → List ℕ
 preset_values presets = flat_map (λ p. replicate p.count p.value) presets
 
--- a component that begins at each of these places, with the bits of an element: its own initial values, or those of its
--- components in all of its elements
+-- the writes of a component that begins at each of these places, with `element` as the bits of an
+-- element: its own initial values, or those of its components in all of its elements
 abbrev pub component_writes : (inside : List ℕ → List Write) → (of_type : ℕ → List ℕ → List Write)
     → Cell → (element : ℕ) → (starts : List ℕ) → Element → List Write
 component_writes inside of_type c element starts (Plain kind) =
@@ -68,7 +69,7 @@ component_writes inside of_type c element starts _ = []
 abbrev pub component_starts : (at : ℕ) → Cell → (starts : List ℕ) → List ℕ
 component_starts at c starts = map (λ s. capped_size (s + next_multiple at (alignment c))) starts
 
--- a cell, if it is a sound component at this level
+-- the writes of a cell, if it is a sound component at this level; of another cell none
 abbrev pub cell_writes : (inside : List ℕ → List Write) → (of_type : ℕ → List ℕ → List Write)
     → (level at : ℕ) → (starts : List ℕ) → Cell → (element : ℕ) → List Write
 cell_writes inside of_type level at starts c element =
@@ -76,7 +77,8 @@ cell_writes inside of_type level at starts c element =
     then component_writes inside of_type c element (component_starts at c starts) c.of
     else []
 
--- the components at a level, of structures that begin at these places: one component after the other, each in all of them
+-- the writes of the components at a level, of structures that begin at these places: one component
+-- after the other, each in all of them
 abbrev pub writes_from : (of_type : ℕ → List ℕ → List Write) → (level : ℕ) → (starts : List ℕ)
     → (at : ℕ) → List Cell → List Write
 writes_from of_type level starts at [] = []
@@ -85,7 +87,8 @@ writes_from of_type level starts at (c ∷ cs) =
     else cell_writes (λ inner. writes_from of_type (c.level + 1) inner 0 cs) of_type level at
     starts c (element_of c cs) ++ writes_from of_type level starts (end_behind_cell level at c (cell_bits c cs)) cs
 
--- structures of a block that begin at these places; data types in it are nested at most eight deep
+-- the writes of structures of a block that begin at these places; data types in it are nested at
+-- most eight deep
 unfoldable pub type_writes : List BlockLayout → (depth : ℕ) → (block : ℕ) → (starts : List ℕ)
     → List Write
 type_writes l zero block starts = []
@@ -98,19 +101,19 @@ abbrev pub structure_writes : List BlockLayout → Option ℕ → List Write
 structure_writes l None = []
 structure_writes l (Some block) = type_writes l measuring_rounds block (0 ∷ [])
 
--- a value in the bits of an elementary type, so many bits from the start; nothing of another type
+-- the write of a value of an elementary type, so many bits from the start; none of another type
 abbrev pub write_of : ℕ → ℕ → Option Simple → List Write
 write_of offset value None = []
 write_of offset value (Some kind) =
     record { offset = offset; width = plain_bits kind; value = value } ∷ []
 
--- a setting, by where its path leads: nothing where that is no elementary component
+-- the write of a setting, by where its path leads: none where that is no elementary component
 abbrev pub setting_write : List BlockLayout → Literal → PathEnd → List Write
 setting_write l value (walk.Reaches spot) =
     write_of spot.offset (bits_of value) (elementary_at l spot)
 setting_write l value _ = []
 
--- the settings of the data block at this place, in the order of the text
+-- the writes of the settings of the data block at this place, in the order of the text
 abbrev pub setting_writes : List BlockLayout → (block : ℕ) → List Setting → List Write
 setting_writes l block settings =
     flat_map (λ s. setting_write l s.value (path_end_in_data_block l block (folded_path s.path))) settings

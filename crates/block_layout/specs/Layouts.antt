@@ -60,7 +60,7 @@ layouts_by y blocks = layouts_from y blocks [] blocks
 unfoldable pub layouts_of : Tree → List Symbol → List BlockLayout
 layouts_of t symbols = layouts_by (types_of_source symbols t.blocks) t.blocks
 
--- the layout of the block that is meant
+-- the layout of the block of this kind and number; none where the source has no such block
 abbrev pub layout_of : BlockId → List BlockLayout → Option BlockLayout
 layout_of id l = option_and_then (slice_get l) (known_block id (map (λ b. b.id) l))
 

@@ -60,7 +60,8 @@ bits_of_cells (Some cells) = structure_bits cells
 abbrev pub block_bits : Types → Option Block → ℕ
 block_bits y b = bits_of_cells (option_map (components_of y) b)
 
--- a data block that refers to another block is as long as the structure of that one
+-- the bits of the structure of a block; a data block that refers to another block is as long as the
+-- structure of that one
 abbrev pub shape_bits : Types → List Block → Block → Shape → ℕ
 shape_bits y blocks b shape.Own = block_bits y (Some b)
 shape_bits y blocks b (shape.Of block) = block_bits y (slice_get blocks block)
@@ -79,27 +80,30 @@ abbrev pub is_local_data_letter : Letters → Bool
 is_local_data_letter letters.L = true
 is_local_data_letter _ = false
 
--- the end of a direct operand in the local data
+-- the end of a direct operand in the local data, in bytes; 0 of another operand
 abbrev pub local_end : Operand → ℕ
 local_end (operand.Direct name area width byte bit) =
     if is_local_data_letter area then byte + byte_count width else 0
 local_end _ = 0
 
--- the farthest end of such operands among actual parameters, in bytes; 0 where there is none
+-- the farthest end of direct operands in the local data among actual parameters, in bytes; 0 where
+-- there is none
 abbrev pub farthest_actual_end : List Actual → ℕ
 farthest_actual_end [] = 0
 farthest_actual_end (a ∷ behind) = max (local_end a.value) (farthest_actual_end behind)
 
--- of the operands of a body the farthest end, actual parameters included
+-- the farthest end of direct operands in the local data in a body, in bytes, actual parameters
+-- included
 abbrev pub farthest_operand_end : List Statement → ℕ
 farthest_operand_end [] = 0
 farthest_operand_end (s ∷ ss) = max (max (local_end s.operand) (farthest_actual_end s.actuals)) (farthest_operand_end ss)
 
--- the start information of an organization block takes 20 bytes
+-- the least local data of a block in bytes: the start information of an organization block takes 20
 abbrev pub least_local : BlockKind → ℕ
 least_local k = if is_organization_block k then 20 else 0
 
--- the temporary variables or the farthest direct operand, up to an even byte
+-- the length of the local data of a code block in bytes: the temporary variables or the farthest
+-- direct operand, up to an even byte, in an organization block at least 20; 0 of another block
 unfoldable pub local_len : Types → Block → ℕ
 local_len y b =
     if is_code b.kind

@@ -41,26 +41,30 @@ elementary_place a number bits None = None
 elementary_place a number bits (Some kind) =
     if nat_le (bits / 8) 65535 then Some (place_at a number bits, width_of kind) else None
 
--- the same where a path leads; none where it reaches no component, or no elementary one
+-- place and width of the elementary component that a path leads to; none where it leads to no
+-- component, or to one of another type
 abbrev pub place_at_path_end : List BlockLayout → Area → (number : ℕ) → PathEnd → Option (Place × Width)
 place_at_path_end l a number (walk.Reaches spot) = elementary_place a number spot.offset (elementary_at l spot)
 place_at_path_end l a number _ = None
 
--- a component of a data block, in that block
+-- place and width of an elementary component of a data block, in that block; none where an index is
+-- outside its array
 abbrev pub component_place : List BlockLayout → (number block : ℕ) → List PathStep
     → Option (Place × Width)
 component_place l number block path =
     if leaves_judged l (structure_of l block) path then None
     else place_at_path_end l area.Db number (path_end_in_data_block l block path)
 
--- a variable of a code block, in an area
+-- place and width of an elementary variable of a code block, in an area; none where an index is
+-- outside its array
 abbrev pub variable_place : List BlockLayout → Area → (block : ℕ) → (temporary : Bool) → List PathStep
     → Option (Place × Width)
 variable_place l a block temporary path =
     if leaves_from l block temporary path then None
     else place_at_path_end l a 0 (path_end_in_block l block temporary path)
 
--- the variables of a function block lie in the block of the DI register, and temporary ones in the local data
+-- place and width of what a path in a section of the block at this place leads to: the variables of
+-- a function block lie in the block of the DI register, temporary ones in the local data
 abbrev pub place_in_section : List BlockLayout → BlockId → Section → List PathStep → ℕ
     → Option (Place × Width)
 place_in_section l id section.Global path block =
@@ -70,7 +74,8 @@ place_in_section l id section.Instance path block =
 place_in_section l id section.Temp path block =
     if is_code id.kind then variable_place l area.L block true path else None
 
--- none where the block isn't there or is broken, or the path leads to no elementary component
+-- place and width of what a path in a section of a block leads to; none where the block isn't there
+-- or is broken, or the path leads to no elementary component
 unfoldable pub place_of_path : List BlockLayout → BlockId → Section → List PathStep
     → Option (Place × Width)
 place_of_path l id s path =

@@ -16,6 +16,6 @@ operands_of s =
     record { line = s.line; operand = s.operand } ∷ map
     (λ a. record { line = a.line; operand = a.value }) s.actuals
 
--- what breaks a rule of operands, of all operands and actual parameters of a body
+-- the refusals by a rule of operands, of all operands and actual parameters of a body
 abbrev pub in_body : (OperandAtLine → List Refusal) → List Statement → List Refusal
 in_body broken body = flat_map (λ s. flat_map broken (operands_of s)) body

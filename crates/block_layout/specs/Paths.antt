@@ -21,7 +21,7 @@ use Rattle.block_layout.specs.declared.walks.PathEnd.TheVariants as walk
 use Rattle.block_layout.specs.Members.{component_of_name}
 use Rattle.block_layout.specs.Sizes.{capped_size, array_bits, element_of}
 
--- the steps of a path of the source, with their names in upper case
+-- a step of a path of the source, a name in upper case
 abbrev pub folded_step : PathStep → PathStep
 folded_step (step.Named name) = step.Named (upper_case_name name)
 folded_step (step.Index at) = step.Index at
@@ -30,16 +30,18 @@ folded_step (step.Index at) = step.Index at
 abbrev pub folded_path : List PathStep → List PathStep
 folded_path path = map folded_step path
 
--- the declarations of a block that a path is in
+-- the declarations of a block that a path is in: its temporary variables, or its components
 abbrev pub cells_in : (temporary : Bool) → Option BlockLayout → List Cell
 cells_in temporary None = []
 cells_in temporary (Some b) = if temporary then b.temps else b.components
 
--- the same of the block at this place in the source; none where there is no such block
+-- the declarations that a path is in, of the block at this place in the source; none where there is
+-- no such block
 abbrev pub cells_at : List BlockLayout → (block : ℕ) → (temporary : Bool) → List Cell
 cells_at l block temporary = cells_in temporary (slice_get l block)
 
--- a declaration that breaks a rule itself isn't gone through
+-- where a path to a cell leads, which stands at this place and offset; one that breaks a rule
+-- itself isn't gone through
 abbrev pub path_end_at_cell : (block : ℕ) → (temporary : Bool) → (place offset : ℕ) → Option Cell → PathEnd
 path_end_at_cell block temporary place offset None = walk.Unknown
 path_end_at_cell block temporary place offset (Some c) =
@@ -52,7 +54,8 @@ path_end_at_cell block temporary place offset (Some c) =
       offset = offset;
     }) else walk.Rests
 
--- a component, whose place counts from `first` on and whose offset from that of the structure
+-- where a path to a component leads, whose place counts from `first` on and whose offset from that
+-- of the structure
 abbrev pub path_end_at_member : List Cell → (block : ℕ) → (temporary : Bool) → (first offset : ℕ)
     → Option Member → PathEnd
 path_end_at_member cells block temporary first offset None = walk.Unknown
@@ -60,14 +63,15 @@ path_end_at_member cells block temporary first offset (Some m) =
     path_end_at_cell block temporary (first + m.place) (capped_size (offset + capped_size m.offset))
     (slice_get cells (first + m.place))
 
--- a name in the outermost declarations of a block
+-- where a name in the outermost declarations of a block leads
 unfoldable pub outermost_path_end : List BlockLayout → (block : ℕ) → (temporary : Bool) → (offset : ℕ)
     → List ℕ → PathEnd
 outermost_path_end l block temporary offset name =
     path_end_at_member (cells_at l block temporary) block temporary 0 offset
     (component_of_name 0 0 0 name (cells_at l block temporary))
 
--- a name behind a component: of a structure its own components, of a data type those of the block that declares it
+-- where a name behind a component leads: of a structure to its own components, of a data type to
+-- those of the block that declares it
 abbrev pub named_in : List BlockLayout → ComponentAt → List ℕ → Cell → Element → PathEnd
 named_in l spot name c Structure =
     path_end_at_member (cells_at l spot.block spot.temporary) spot.block spot.temporary
@@ -77,13 +81,14 @@ named_in l spot name c Structure =
 named_in l spot name c (Udt block bits) = outermost_path_end l block false spot.offset name
 named_in l spot name c _ = walk.Unknown
 
--- once all its indices are there
+-- where a name behind a component leads that has all its indices; behind another one it is unknown
 abbrev pub named_behind : List BlockLayout → ComponentAt → List ℕ → Option Cell → PathEnd
 named_behind l spot name None = walk.Unknown
 named_behind l spot name (Some c) =
     if nat_eq spot.depth (length c.bounds) then named_in l spot name c c.of else walk.Unknown
 
--- a name behind a spot; where an index is lacking, or what is there has no components, it's unknown
+-- where a name behind a spot leads; where an index is lacking, or what is there has no components,
+-- it is unknown
 unfoldable pub path_end_by_name : List BlockLayout → ComponentAt → List ℕ → PathEnd
 path_end_by_name l spot name =
     named_behind l spot name (slice_get (cells_at l spot.block spot.temporary) spot.place)
@@ -92,8 +97,8 @@ path_end_by_name l spot name =
 abbrev pub is_beyond : Bounds → ℤ → Bool
 is_beyond b at = int_lt at b.low || int_lt b.high at
 
--- an index behind a component with these bounds left. One outside them leads on as the first element does, so that a
--- declaration further on that breaks a rule is seen
+-- where an index behind a component with these bounds left leads. One outside them leads on as the
+-- first element does, so that a declaration further on that breaks a rule is seen
 abbrev pub path_end_in_bounds : ComponentAt → Cell → (behind : List Cell) → ℤ → Option Bounds → PathEnd
 path_end_in_bounds spot c behind at None = walk.Unknown
 path_end_in_bounds spot c behind at (Some b) =
@@ -105,19 +110,21 @@ path_end_in_bounds spot c behind at (Some b) =
           (element_of c behind)));
     })
 
--- an index behind a component that stands among `cells`, for the first bounds without an index yet
+-- where an index behind a component that stands among `cells` leads, for the first bounds without
+-- an index yet
 abbrev pub indexed_behind : ComponentAt → (cells : List Cell) → ℤ → Option Cell → PathEnd
 indexed_behind spot cells at None = walk.Unknown
 indexed_behind spot cells at (Some c) =
     path_end_in_bounds spot c (drop (spot.place + 1) cells) at (slice_get c.bounds spot.depth)
 
--- an index behind a spot; behind what is no array, or has all its indices, it is unknown
+-- where an index behind a spot leads; behind what is no array, or has all its indices, it is
+-- unknown
 unfoldable pub path_end_by_index : List BlockLayout → ComponentAt → ℤ → PathEnd
 path_end_by_index l spot at =
     indexed_behind spot (cells_at l spot.block spot.temporary) at
     (slice_get (cells_at l spot.block spot.temporary) spot.place)
 
--- one step of a path behind a spot
+-- where one step of a path behind a spot leads
 unfoldable pub path_end_by_step : List BlockLayout → ComponentAt → PathStep → PathEnd
 path_end_by_step l spot (step.Named name) = path_end_by_name l spot name
 path_end_by_step l spot (step.Index at) = path_end_by_index l spot at
@@ -128,12 +135,12 @@ path_end_and_then (walk.Reaches spot) next = next spot
 path_end_and_then walk.Unknown next = walk.Unknown
 path_end_and_then walk.Rests next = walk.Rests
 
--- the steps behind a component
+-- where the steps behind a component lead
 abbrev pub path_end_behind : List BlockLayout → ComponentAt → List PathStep → PathEnd
 path_end_behind l spot [] = walk.Reaches spot
 path_end_behind l spot (s ∷ ss) = path_end_and_then (path_end_by_step l spot s) (λ next. path_end_behind l next ss)
 
--- a whole path in the outermost declarations of a block begins with a name
+-- where a whole path in the outermost declarations of a block leads, which begins with a name
 abbrev pub path_end_in_block : List BlockLayout → (block : ℕ) → (temporary : Bool) → List PathStep → PathEnd
 path_end_in_block l block temporary (step.Named name ∷ ss) =
     path_end_and_then (outermost_path_end l block temporary 0 name) (λ spot. path_end_behind l spot ss)
@@ -144,7 +151,8 @@ abbrev pub is_beyond_left : Option Bounds → ℤ → Bool
 is_beyond_left None at = false
 is_beyond_left (Some b) at = is_beyond b at
 
--- the same of a component with so many of its indices there; a place without one has no bounds
+-- an index is outside the next bounds of a component that has `depth` indices already; where there
+-- is no component it isn't
 abbrev pub is_beyond_in : (depth : ℕ) → Option Cell → ℤ → Bool
 is_beyond_in depth None at = false
 is_beyond_in depth (Some c) at = is_beyond_left (slice_get c.bounds depth) at
@@ -166,7 +174,8 @@ leaves_array l spot [] = false
 leaves_array l spot (s ∷ ss) =
     step_is_beyond l spot s || holds_where_reached (path_end_by_step l spot s) (λ next. leaves_array l next ss)
 
--- the same of a whole path in the outermost declarations of a block, which begins with a name
+-- whether a whole path in the outermost declarations of a block, which begins with a name, has an
+-- index outside its array
 abbrev pub leaves_from : List BlockLayout → (block : ℕ) → (temporary : Bool) → List PathStep → Bool
 leaves_from l block temporary (step.Named name ∷ ss) =
     holds_where_reached (outermost_path_end l block temporary 0 name) (λ spot. leaves_array l spot ss)
@@ -182,11 +191,11 @@ abbrev pub whole_block : Option BlockLayout → Option BlockLayout
 whole_block None = None
 whole_block (Some b) = if b.broken then None else Some b
 
--- the same by its place in the source; none where there is no such block
+-- the block at this place in the source, where it is there and isn't broken
 abbrev pub whole_at : List BlockLayout → ℕ → Option BlockLayout
 whole_at l block = whole_block (slice_get l block)
 
--- that place, where the block is there and isn't broken
+-- the place of a block in the source, where the block is there and isn't broken
 abbrev pub if_whole : List BlockLayout → ℕ → Option ℕ
 if_whole l block = if is_some (whole_at l block) then Some block else None
 
@@ -200,7 +209,7 @@ shape_block l block shape.Unknown = None
 abbrev pub structure_of : List BlockLayout → ℕ → Option ℕ
 structure_of l block = option_and_then (λ b. shape_block l block b.shape) (whole_at l block)
 
--- a path in the components that this block declares; where none declares them it rests
+-- where a path in the components that this block declares leads; where none declares them it rests
 abbrev pub path_end_or_rests : List BlockLayout → Option ℕ → List PathStep → PathEnd
 path_end_or_rests l None path = walk.Rests
 path_end_or_rests l (Some block) path = path_end_in_block l block false path
@@ -211,7 +220,7 @@ abbrev pub setting_structure : List BlockLayout → ℕ → Option ℕ
 setting_structure l block =
     option_and_then (λ b. shape_block l block b.shape) (slice_get l block)
 
--- the target of a setting
+-- where the path of a setting leads, also in a data block that is broken
 unfoldable pub path_end_of_setting : List BlockLayout → (block : ℕ) → List PathStep → PathEnd
 path_end_of_setting l block path = path_end_or_rests l (setting_structure l block) path
 
@@ -221,29 +230,32 @@ leaves_judged l None path = false
 leaves_judged l (Some block) path =
     is_judged (path_end_in_block l block false path) && leaves_from l block false path
 
--- a path into a data block
+-- where a path into a data block leads; it rests where that block, or the one that declares its
+-- components, is broken
 unfoldable pub path_end_in_data_block : List BlockLayout → (block : ℕ) → List PathStep → PathEnd
 path_end_in_data_block l block path = path_end_or_rests l (structure_of l block) path
 
--- a name in the sections of a block: of two that are the same the first one is meant, and VAR_TEMP is the last section
+-- where a name in the sections of a block leads: of two that are the same the first one is meant,
+-- and VAR_TEMP is the last section
 abbrev pub in_sections : List BlockLayout → (block : ℕ) → List ℕ → PathEnd
 in_sections l block name =
     if is_some (component_of_name 0 0 0 name (cells_at l block false))
     then outermost_path_end l block false 0 name
     else outermost_path_end l block true 0 name
 
--- a path in the body of a block, into its own variables
+-- where a path in the body of a block leads, into its own variables, with a name before the steps
 unfoldable pub walked_local : List BlockLayout → (block : ℕ) → List ℕ → List PathStep → PathEnd
 walked_local l block name path =
     if is_some (whole_at l block)
     then path_end_and_then (in_sections l block name) (λ spot. path_end_behind l spot path) else walk.Rests
 
--- whether it leaves an array: in the sections in which the name is
+-- whether a path in the body of a block leaves an array, in the sections in which its name is
 abbrev pub leaves_sections : List BlockLayout → (block : ℕ) → List ℕ → List PathStep → Bool
 leaves_sections l block name path =
     holds_where_reached (in_sections l block name) (λ spot. leaves_array l spot path)
 
--- the same, unless the path rests on what breaks a rule itself
+-- whether a path in the body of a block leaves an array, unless it rests on what breaks a rule
+-- itself
 abbrev pub leaves_local : List BlockLayout → (block : ℕ) → List ℕ → List PathStep → Bool
 leaves_local l block name path =
     is_judged (walked_local l block name path) && leaves_sections l block name path
@@ -262,7 +274,7 @@ kind_of spot (Some c) = if nat_eq spot.depth (length c.bounds) then plain_kind c
 abbrev pub elementary_at : List BlockLayout → ComponentAt → Option Simple
 elementary_at l spot = kind_of spot (slice_get (cells_at l spot.block spot.temporary) spot.place)
 
--- an offset isn't above the cap
+-- the offset of the component that a path reaches isn't above the cap
 abbrev pub OffsetIsNear : PathEnd → Type 0
 OffsetIsNear (walk.Reaches spot) = spot.offset ≤ largest_size
 OffsetIsNear _ = Unit {0}

@@ -34,7 +34,7 @@ AreOffsets end (s ∷ ss) (place ∷ places) = IsLeastPlace end s.align place
     × AreOffsets (place + s.bits) ss places
 AreOffsets end _ _ = ⊥
 
--- there is such a cell, and it is sound, so that it takes a place
+-- a cell that is there and is sound, so that it takes a place
 abbrev pub is_sound_cell : Option Cell → Bool
 is_sound_cell None = false
 is_sound_cell (Some c) = c.sound
@@ -44,7 +44,8 @@ abbrev pub sound_members : ℕ → List Cell → List Member
 sound_members level cells =
     filter (λ m. is_sound_cell (slice_get cells m.place)) (members_of level 0 0 cells)
 
--- and the offsets that the layout gives them
+-- the offsets that the layout gives the sound components at a level, of which these cells are the
+-- first
 abbrev pub sound_offsets : ℕ → List Cell → List ℕ
 sound_offsets level cells = map (λ m. m.offset) (sound_members level cells)
 

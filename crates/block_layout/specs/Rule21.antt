@@ -20,7 +20,7 @@ names_before outer level [] = outer
 names_before outer level (d ∷ ds) =
     if nat_lt d.level level then [] else names_before outer level ds ++ declaration_name_here level d
 
--- its name stands before it in its list
+-- the name of a declaration stands before it in its list
 abbrev pub is_twice : Outside → List Declaration → Declaration → Bool
 is_twice o before d = is_some (name_place (upper_case_name d.name) (names_before o.names d.level before))
 

@@ -12,7 +12,8 @@ abbrev pub is_earlier : Option ℕ → ℕ → Bool
 is_earlier None place = false
 is_earlier (Some first) place = nat_lt first place
 
--- the first block with its kind and number has an earlier place. `before` are those before it
+-- the first block with the kind and number of this one has an earlier place; `before` are those
+-- before it
 abbrev pub is_block_twice : Types → (before : List Block) → Block → Bool
 is_block_twice y before b =
     is_earlier (option_and_then (λ id. place_of_block id y.ids) (id_of y.symbols b)) (length before)

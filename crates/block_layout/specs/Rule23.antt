@@ -29,11 +29,12 @@ abbrev pub is_unknown_shape : Shape → Bool
 is_unknown_shape shape.Unknown = true
 is_unknown_shape _ = false
 
--- a head: its own quoted name, and the function block or data type that a data block is of; the line is that of the head
+-- the head of a block names what is unknown: by its own quoted name, or the function block or data
+-- type that a data block is of; the line is that of the head
 abbrev pub has_unknown_head : Types → Block → Bool
 has_unknown_head y b = is_none (id_of y.symbols b) || is_unknown_shape (shape_of y b)
 
--- a declaration, by its data type
+-- the refusal of a declaration whose data type is unknown, at its line
 abbrev pub broken_23 : Types → Outside → List Declaration → Declaration → List Refusal
 broken_23 y o before d = broken_if (is_unknown_type y d.of.of) d.line 23
 
@@ -46,22 +47,24 @@ abbrev pub is_unknown_instance : Types → Option BlockName → Bool
 is_unknown_instance y None = false
 is_unknown_instance y (Some name) = is_unknown_data y name
 
--- a called block: no block, or one that the source hasn't, but for system functions
+-- a called block is unknown: it is no block, or one that the source hasn't, but for system
+-- functions
 abbrev pub is_unknown_id : Types → Option BlockId → Bool
 is_unknown_id y None = true
 is_unknown_id y (Some id) =
     if is_system_function id.kind then false else is_none (known_block id y.ids)
 
--- a called block, by its name
+-- the called block of this name is unknown
 abbrev pub is_unknown_called : Types → BlockName → Bool
 is_unknown_called y name = is_unknown_id y (named_block y.symbols name)
 
--- the data block before a component
+-- the data block before a component is unknown; without one before it nothing is
 abbrev pub is_unknown_path : Types → PathHead → Bool
 is_unknown_path y (head.InBlock name) = is_unknown_data y name
 is_unknown_path y _ = false
 
--- an operand: a data block that is opened or stands before an address or a component, a called block, its instance
+-- an operand names an unknown block: a data block that is opened or stands before an address or a
+-- component, a called block, its instance
 abbrev pub names_unknown : Types → Operand → Bool
 names_unknown y (operand.Direct block area width byte bit) = is_unknown_instance y block
 names_unknown y (operand.Named path steps) = is_unknown_path y path

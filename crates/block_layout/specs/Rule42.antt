@@ -27,17 +27,18 @@ use Rattle.block_layout.specs.declared.blocks.BlockLayout.{BlockLayout}
 abbrev pub broken_42 : Outside → List Declaration → Declaration → List Refusal
 broken_42 o before d = broken_if (has_upside_down d) d.line 42
 
--- the target of a setting, also in a block that breaks a rule itself
+-- the path of a setting has an index outside its array, also in a block that breaks a rule itself
 abbrev pub setting_is_outside : List BlockLayout → ℕ → Setting → Bool
 setting_is_outside l block s =
     leaves_judged l (setting_structure l block) (folded_path s.path)
 
--- the path in a data block, where the source has it
+-- a path in a data block has an index outside its array; not where the source has no such block
 abbrev pub leaves_found : List BlockLayout → Option ℕ → List PathStep → Bool
 leaves_found l None steps = false
 leaves_found l (Some block) steps = leaves_judged l (structure_of l block) steps
 
--- the path of an operand in the body of a block; a symbol leads to no component
+-- the path of an operand in the body of a block has an index outside its array; a symbol leads to
+-- no component
 abbrev pub leaves_path : Types → List BlockLayout → (block : ℕ) → PathHead → List PathStep → Bool
 leaves_path y l block (head.Local name) steps =
     leaves_local l block (upper_case_name name) (folded_path steps)
@@ -54,7 +55,7 @@ operand_is_outside y l block _ = false
 abbrev pub operand_42 : Types → List BlockLayout → ℕ → OperandAtLine → List Refusal
 operand_42 y l block o = broken_if (operand_is_outside y l block o.operand) o.line 42
 
--- the bodies of the blocks from this place on
+-- the refusals by rule 42 in the bodies of blocks, the first of which stands at the place `block`
 abbrev pub bodies_42 : Types → List BlockLayout → (block : ℕ) → List Block → List Refusal
 bodies_42 y l block blocks = by_place (λ k b. in_body (operand_42 y l k) b.body) block blocks
 

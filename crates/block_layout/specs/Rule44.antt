@@ -13,7 +13,7 @@ abbrev pub is_number_beyond_limits : Option BlockId → Bool
 is_number_beyond_limits None = false
 is_number_beyond_limits (Some id) = not (is_block_number id.kind id.number)
 
--- a block whose head has such a number
+-- a block whose head has a number beyond the limits of its kind
 abbrev pub has_wrong_number : List Symbol → Block → Bool
 has_wrong_number symbols b = is_number_beyond_limits (id_of symbols b)
 

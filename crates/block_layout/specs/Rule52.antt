@@ -21,7 +21,7 @@ parameters_in_section p = if is_parameter p.kind then count_by (λ d. nat_eq d.l
 abbrev pub parameter_count : Block → ℕ
 parameter_count b = sum_by parameters_in_section b.parts + return_value_count b.result
 
--- a block has more than 60 of them
+-- a block has more than 60 parameters, the return value counted
 abbrev pub has_too_many_parameters : Block → Bool
 has_too_many_parameters b = nat_lt 60 (parameter_count b)
 

@@ -16,7 +16,8 @@ data_length y blocks b = if is_data_block b.kind then length_of_block y blocks b
 abbrev pub total_data_length : Types → List Block → List Block → ℕ
 total_data_length y blocks some = sum_by (data_length y blocks) some
 
--- a data block with which they are above 2,097,152 bytes. `before` are those before it
+-- a data block with which the data blocks up to it are above 2,097,152 bytes; `before` are the
+-- blocks before it
 abbrev pub exceeds_total : Types → List Block → List Block → Block → Bool
 exceeds_total y blocks before b =
     is_data_block b.kind && nat_lt 2097152 (total_data_length y blocks before + data_length y blocks b)

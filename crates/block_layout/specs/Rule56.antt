@@ -25,12 +25,13 @@ element_depth y _ = 0
 abbrev pub own_depth : Types → Declaration → ℕ
 own_depth y d = length d.of.arrays + element_depth y d.of.of
 
--- and those that are open around it
+-- the number of structures and arrays that these declarations open together
 abbrev pub depth_of_holders : Types → List Holder → ℕ
 depth_of_holders y [] = 0
 depth_of_holders y (h ∷ hs) = own_depth y h.declaration + depth_of_holders y hs
 
--- how deep a declaration stands
+-- the number of structures and arrays that are open around a declaration at this level, behind
+-- those in `before`
 abbrev pub depth_around : Types → Outside → ℕ → List Declaration → ℕ
 depth_around y o level before = o.depth + depth_of_holders y (structures_around level before)
 

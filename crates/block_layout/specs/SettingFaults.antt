@@ -12,7 +12,7 @@ abbrev pub setting_breaks : List BlockLayout → SettingFault → ℕ → Settin
 setting_breaks l fault.UnfitValue = setting_misfits l
 setting_breaks l fault.OutsideIndex = setting_is_outside l
 
--- the number of the rule
+-- the number of the rule that a setting breaks by itself
 abbrev pub rule_of_setting_fault : SettingFault → ℕ
 rule_of_setting_fault fault.UnfitValue = 41
 rule_of_setting_fault fault.OutsideIndex = 42

@@ -32,12 +32,14 @@ plain_bits simple.Dword = 32
 plain_bits simple.Dint = 32
 plain_bits simple.Time = 32
 
--- BOOLs pack, BYTE and CHAR begin at a byte, all else at an even byte
+-- the alignment of an element in bits: BOOLs pack, BYTE and CHAR begin at a byte, all else at an
+-- even byte
 abbrev pub element_alignment : Element → ℕ
 element_alignment (Plain kind) = min (plain_bits kind) 16
 element_alignment _ = 16
 
--- arrays begin at an even byte, and so does the first component of a section
+-- the alignment of a cell in bits: arrays begin at an even byte, and so does the first component of
+-- a section
 abbrev pub alignment : Cell → ℕ
 alignment c =
     if c.opens then 16 else if nat_eq (length c.bounds) 0 then element_alignment c.of else 16
@@ -61,7 +63,8 @@ element_bits Unknown components = 0
 abbrev pub component_end : (at : ℕ) → Cell → (bits : ℕ) → ℕ
 component_end at c bits = if c.sound then capped_size (next_multiple at (alignment c) + bits) else at
 
--- and the end of those at this level, behind a cell at this or a higher level, which is a component of a component
+-- where the components at this level end behind a cell, if they end at `at` before it; a cell at a
+-- higher level is a component of a component and moves nothing
 abbrev pub end_behind_cell : (level at : ℕ) → Cell → (bits : ℕ) → ℕ
 end_behind_cell level at c bits = if nat_eq c.level level then component_end at c bits else at
 
@@ -79,7 +82,7 @@ unfoldable pub element_of : Cell → List Cell → ℕ
 element_of c cs =
     element_bits c.of (if c.sound then capped_size (next_multiple (components_end (c.level + 1) 0 cs) 16) else 0)
 
--- the bits of a cell
+-- the bits that a cell takes, with the cells behind it
 abbrev pub cell_bits : Cell → List Cell → ℕ
 cell_bits c cs = array_bits c.bounds (element_of c cs)
 
@@ -88,6 +91,6 @@ abbrev pub elements_of : List Cell → List ℕ
 elements_of [] = []
 elements_of (c ∷ cs) = element_of c cs ∷ elements_of cs
 
--- a structure of these cells ends at an even byte
+-- the bits of a structure of these cells, which ends at an even byte
 unfoldable pub structure_bits : List Cell → ℕ
 structure_bits cells = capped_size (next_multiple (components_end 0 0 cells) 16)

@@ -93,17 +93,18 @@ pub record IndexesElement (l : List BlockLayout) (from : ComponentAt) (at : ℤ)
         (element_of cell (drop (from.place + 1) (cells_at l from.block from.temporary)));
   }
 
--- one step of a path
+-- one step of a path leads from one component to another
 abbrev pub StepLeadsTo : List BlockLayout → ComponentAt → PathStep → ComponentAt → Type 0
 StepLeadsTo l from (step.Named name) to = IsInside l from name to
 StepLeadsTo l from (step.Index at) to = IndexesElement l from at to
 
--- several steps one behind the other
+-- several steps, one behind the other, lead from one component to another
 abbrev pub LeadsTo : List BlockLayout → ComponentAt → List PathStep → ComponentAt → Type 0
 LeadsTo l from [] to = from ≡ to
 LeadsTo l from (s ∷ ss) to = (next : ComponentAt) × StepLeadsTo l from s next × LeadsTo l next ss to
 
--- a whole path in the outermost declarations of a block, which begins with a name
+-- a whole path in the outermost declarations of a block, which begins with a name, leads to a
+-- component
 abbrev pub LeadsFrom : List BlockLayout → (block : ℕ) → (temporary : Bool) → List PathStep
     → ComponentAt → Type 0
 LeadsFrom l block temporary (step.Named name ∷ ss) to =
@@ -116,7 +117,7 @@ declaring_block l section.Global block = structure_of l block
 declaring_block l section.Instance block = Some block
 declaring_block l section.Temp block = Some block
 
--- temporary variables stand apart from the others
+-- the section of temporary variables, which stand apart from the others
 abbrev pub is_temporary : Section → Bool
 is_temporary section.Temp = true
 is_temporary _ = false
@@ -142,7 +143,7 @@ OffsetsAreSums =
     (width : Width) → place_of_path l id s path ≡ Some (place, width)
     → LeadsToPlace l id s path place width
 
--- and no path leads to two places
+-- no path in the outermost declarations of a block leads to two components
 abbrev pub LeadsToOne : Type 0
 LeadsToOne =
     (l : List BlockLayout) (block : ℕ) (temporary : Bool) (path : List PathStep)

@@ -36,12 +36,13 @@ verdict_of y o before d = record {
   reach = capped_depth (depth_around y o d.level before + own_depth y d);
 }
 
--- and of declarations one behind the other, of which `before` stand before the first
+-- what the rules find of declarations one behind the other, of which those in `before` stand before
+-- the first
 abbrev pub verdicts_of : Types → Outside → (before : List Declaration) → List Declaration → List Verdict
 verdicts_of y o before [] = []
 verdicts_of y o before (d ∷ ds) = verdict_of y o before d ∷ verdicts_of y o (d ∷ before) ds
 
--- the list that a declaration at a level goes on
+-- the list that a declaration at a level goes on, behind those in `before`
 abbrev pub frame_of : Types → Outside → List Declaration → (level : ℕ) → Frame
 frame_of y o before level = record {
   names = names_before o.names level before;
@@ -84,11 +85,12 @@ inner_frame y f d = record {
 unfoldable pub frames_behind : Types → List Frame → Frame → Declaration → List Frame
 frames_behind y open_ f d = take d.level open_ ++ with_name f d ∷ inner_frame y f d ∷ []
 
--- these lists are open behind some declarations
+-- these lists, the outermost first, are open behind the declarations in `before`
 pub record AreOpen (y : Types) (o : Outside) (before : List Declaration) (open_ : List Frame) : Type 0 where
   pub frames : (level : ℕ) (f : Frame) → level < length open_ → get_or open_ level f ≡ frame_of y o before level
 
--- these are the verdicts of declarations, and the lists behind them are open
+-- these are the verdicts of declarations that follow those in `before`, and these lists are open
+-- behind them
 pub record CheckedOnto (y : Types) (o : Outside) (before ds : List Declaration) (vs : List Verdict)
     (open_ : List Frame) : Type 0 where
   pub verdicts : vs ≡ verdicts_of y o before ds
@@ -104,7 +106,7 @@ by_verdicts broken (v ∷ vs) (d ∷ ds) = broken v d ++ by_verdicts broken vs d
 abbrev pub twice_by : Verdict → Declaration → List Refusal
 twice_by v d = broken_if v.twice d.line 21
 
--- and that by rule 56, at the line of one that opens the ninth structure or array
+-- the refusal by rule 56, at the line of a declaration that opens the ninth structure or array
 abbrev pub deep_by : Verdict → Declaration → List Refusal
 deep_by v d = broken_if v.deep d.line 56
 
