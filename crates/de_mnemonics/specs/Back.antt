@@ -5,12 +5,13 @@ use Rattle.stl_symbols.specs.declared.languages.Language.{Language}
 use Rattle.de_mnemonics.specs.declared.roles.Role.{Role}
 use Rattle.de_mnemonics.specs.Words.{opposite_language, translated_word}
 
--- the translation back of a word is some word, and the same as before but for the case of its letters
+-- a word `there`, to which `word` is translated in this role, has a translation back, and that is
+-- `word` but for the case of its letters
 abbrev pub ComesBack : Language → Role → List ℕ → List ℕ → Type 0
 ComesBack language role word there =
     (again : List ℕ) × (translated_word (opposite_language language) role there ≡ Some again) × (str_eq_ignore_ascii_case word again ≡ true)
 
--- so it is with each word that has a translation in this role
+-- each word that has a translation in this role comes back from it, but for the case of its letters
 abbrev pub WordsComeBack : Role → Type 0
 WordsComeBack role =
     (language : Language) (word there : List ℕ) → translated_word language role word ≡ Some there → ComesBack language role word there

@@ -18,7 +18,7 @@ use Rattle.de_mnemonics.specs.declared.roles.Role.TheVariants as role
 use Rattle.de_mnemonics.specs.Tables.{WordPairs, jump_pairs, operand_pairs, result_pairs, common_jumps, code_openings, data_openings, begin_words, block_end_words, network_words, zone_words}
 use Rattle.de_mnemonics.specs.Words.{partner_in_table, letters_of_word, digits_of_word}
 
--- a mark is written so
+-- the text is that of this mark
 abbrev pub is_mark_text : List ℕ → Mark → Bool
 is_mark_text text m = str_eq_ignore_ascii_case text (mark_text m)
 
@@ -48,7 +48,7 @@ class_of _ text = class.Other
 unfoldable pub is_word_in_list : List (List ℕ) → List ℕ → Bool
 is_word_in_list table word = list_any (λ entry. str_eq_ignore_ascii_case word entry) table
 
--- a word is in one of the two columns
+-- a word is in one of the two columns of a table, without case
 unfoldable pub is_word_in_pairs : WordPairs → List ℕ → Bool
 is_word_in_pairs table word = is_some (partner_in_table German table word) || is_some (partner_in_table English table word)
 
@@ -77,7 +77,8 @@ place_behind_head before word =
 unfoldable pub place_behind_instruction : List ℕ → Place
 place_behind_instruction word = if is_jump_word word then place.Jump else place.Instruction
 
--- the same, where it may be a label; `next` is the class of the token behind it
+-- the place behind the first word of a statement, which is a label before a `:`, and else an
+-- instruction word; `next` is the class of the token behind it
 abbrev pub place_behind_first : TokenClass → List ℕ → Place
 place_behind_first class.Colon word = place.Label
 place_behind_first next word = place_behind_instruction word
@@ -102,14 +103,16 @@ place_behind_word place.Labelled before word next = place_behind_instruction wor
 place_behind_word place.Closing before word next = place_behind_closing word
 place_behind_word _ before word next = place.Inside
 
--- the place behind another token at the front of an instruction; a number is none
+-- the place behind a token that is no word at the front of an instruction; no path begins behind a
+-- number
 abbrev pub place_behind_front : TokenClass → Place
 place_behind_front class.Semicolon = place.Start
 place_behind_front class.CloseParen = place.Closing
 place_behind_front class.Number = place.Inside
 place_behind_front _ = place.Path
 
--- the same at the start of a statement, where titles and attributes belong to none
+-- the place behind a token that is no word at the start of a statement; titles and attributes
+-- belong to no statement
 abbrev pub place_behind_open : TokenClass → Place
 place_behind_open class.Note = place.Start
 place_behind_open c = place_behind_front c
@@ -141,13 +144,13 @@ unfoldable pub place_behind : Place → TokenClass → TokenClass → List ℕ �
 place_behind p before class.Word text next = place_behind_word p before text next
 place_behind p before c text next = place_behind_sign p c
 
--- a number or an index in brackets follows
+-- a token of this class begins the number of an operand word: a number, or a `[` before a pointer
 abbrev pub opens_number : TokenClass → Bool
 opens_number class.Number = true
 opens_number class.OpenBracket = true
 opens_number _ = false
 
--- `P#` stands before
+-- a token of this class is the `P#` of a pointer
 abbrev pub is_pointer : TokenClass → Bool
 is_pointer class.Pointer = true
 is_pointer _ = false
@@ -161,12 +164,12 @@ is_numbered_operand word next =
 unfoldable pub is_operand_place : TokenClass → List ℕ → TokenClass → Bool
 is_operand_place before word next = is_pointer before || is_numbered_operand word next || is_word_in_pairs result_pairs word
 
--- a `.`
+-- a token of this class is a `.`
 abbrev pub is_dot : TokenClass → Bool
 is_dot class.Dot = true
 is_dot _ = false
 
--- a `:=`
+-- a token of this class is a `:=`
 abbrev pub is_assign : TokenClass → Bool
 is_assign class.Assign = true
 is_assign _ = false
@@ -193,12 +196,14 @@ role_in p before word next =
     else (if is_operand_place before word next then role.Operand
     else (if opens_path p before then role.Path else role.Stays))
 
--- the role of the first word of a statement without a label before it: a keyword or a label stays
+-- the role of the first word of a statement that is no keyword: a label, before its `:`, stays, and
+-- any other word is the instruction word
 abbrev pub role_first : TokenClass → Role
 role_first class.Colon = role.Stays
 role_first next = role.Instruction
 
--- the same with the keywords
+-- the role of a word at the start of a statement: a word that ends the block or opens a network
+-- stays, and so does a label
 unfoldable pub role_at_start : List ℕ → TokenClass → Role
 role_at_start word next =
     if is_word_in_list block_end_words word || is_word_in_list network_words word then role.Stays else role_first next

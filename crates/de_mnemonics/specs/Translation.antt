@@ -31,7 +31,8 @@ abbrev pub with_bytes_before : List ℕ → Result (List ℕ) ℕ → Result (Li
 with_bytes_before front (Ok rest) = Ok (front ++ rest)
 with_bytes_before front (Err line) = Err line
 
--- a word on this line in front of a translation; a word without one is told by its line
+-- the translation of a word on this line, in front of that of what follows; where the word has
+-- none, its line
 abbrev pub with_word_before : Option (List ℕ) → ℕ → Result (List ℕ) ℕ → Result (List ℕ) ℕ
 with_word_before None line rest = Err line
 with_word_before (Some word) line rest = with_bytes_before word rest
@@ -40,7 +41,7 @@ with_word_before (Some word) line rest = with_bytes_before word rest
 abbrev pub role_at : List ℕ → Spot → Token → List Token → Role
 role_at source spot t ts = role_of spot.place spot.before (class_in source t) (text_of source t) (next_class source ts)
 
--- the spot behind it
+-- the spot behind a token at a spot, with the tokens behind it
 abbrev pub spot_behind : List ℕ → Spot → Token → List Token → Spot
 spot_behind source spot t ts = record {
   from = t.end;
@@ -69,7 +70,8 @@ abbrev pub ContinuesTranslation : Language → List ℕ → List ℕ → Spot �
 ContinuesTranslation language source old spot ts now next rest =
     with_bytes_before old (translation_from language source spot ts) ≡ with_bytes_before now (translation_from language source next rest)
 
--- it ends with a word of the other language; nothing is said of want of memory
+-- a translation ends as a refusal says, at a word of the other language on its line; nothing is
+-- said of want of memory
 abbrev pub IsStoppedByForeignWord : Result (List ℕ) ℕ → SourceFault → Type 0
 IsStoppedByForeignWord found (Refused refusal) = (found ≡ Err refusal.line) × (refusal.rule ≡ foreign_word_rule)
 IsStoppedByForeignWord found NoMemory = Unit {0}
@@ -87,7 +89,8 @@ abbrev pub IsTranslationViolation : Language → List ℕ → ℕ → ℕ → Ty
 IsTranslationViolation language source line rule =
     IsViolation source line rule ⊎ (HasForeignWord language source line × (rule ≡ foreign_word_rule))
 
--- a refusal names that violation; nothing is said of want of memory
+-- a refusal names the first violation of a source that is to be translated; nothing is said of want
+-- of memory
 abbrev pub IsTranslationRefused : Language → List ℕ → SourceFault → Type 0
 IsTranslationRefused language source (Refused refusal) = IsTranslationViolation language source refusal.line refusal.rule
 IsTranslationRefused language source NoMemory = Unit {0}
@@ -98,13 +101,13 @@ IsTranslationUnique =
     (language : Language) (source text other : List ℕ) → IsTranslation language source text → IsTranslation language source other
     → text ≡ other
 
--- and none where there is a violation
+-- a source that has a translation has no violation
 abbrev pub TranslationExcludesViolation : Type 0
 TranslationExcludesViolation =
     (language : Language) (source text : List ℕ) (line rule : ℕ) → IsTranslation language source text
     → IsTranslationViolation language source line rule → ⊥
 
--- one line and one rule are the violation
+-- a source has one violation at most: two have the same line and the same rule
 abbrev pub IsTranslationViolationUnique : Type 0
 IsTranslationViolationUnique =
     (language : Language) (source : List ℕ) (line rule line' rule' : ℕ) → IsTranslationViolation language source line rule
@@ -115,6 +118,6 @@ abbrev pub HasTranslationOrViolation : Language → List ℕ → Type 0
 HasTranslationOrViolation language source =
     ((text : List ℕ) × IsTranslation language source text) ⊎ ((line : ℕ) × (rule : ℕ) × IsTranslationViolation language source line rule)
 
--- so it is with every source
+-- each source has a translation to each language, or a violation
 abbrev pub IsTranslationTotal : Type 0
 IsTranslationTotal = (language : Language) (source : List ℕ) → HasTranslationOrViolation language source

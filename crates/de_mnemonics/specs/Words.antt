@@ -21,7 +21,8 @@ unfoldable pub partner_in_table : Language → WordPairs → List ℕ → Option
 partner_in_table German table word = option_map (λ pair. pair.1) (find (λ pair. str_eq_ignore_ascii_case word pair.0) table)
 partner_in_table English table word = option_map (λ pair. pair.0) (find (λ pair. str_eq_ignore_ascii_case word pair.1) table)
 
--- the same for an instruction word, which is looked up whole
+-- what the tables of instruction words have beside a whole word of the language that is translated
+-- from
 unfoldable pub instruction_partner : Language → List ℕ → Option (List ℕ)
 instruction_partner language word = option_or (partner_in_table language instruction_pairs word) (partner_in_table language jump_pairs word)
 
@@ -29,15 +30,16 @@ instruction_partner language word = option_or (partner_in_table language instruc
 abbrev pub letter_count_of_word : List ℕ → ℕ
 letter_count_of_word word = prefix_len (λ b. not (is_ascii_digit b)) word
 
--- the letters of a word that may be followed by a number
+-- the letters of a word that a number may follow: its bytes before the first digit
 abbrev pub letters_of_word : List ℕ → List ℕ
 letters_of_word word = take (letter_count_of_word word) word
 
--- and what stands behind them
+-- what stands behind the letters of a word, from its first digit on
 abbrev pub digits_of_word : List ℕ → List ℕ
 digits_of_word word = drop (letter_count_of_word word) word
 
--- what stands beside the letters of an operand word, with the digits of the same word, where there are any
+-- what the table of operand words that take a number has beside the letters of a word, with the
+-- digits of the same word, where there are any
 unfoldable pub numbered_partner : Language → List ℕ → Option (List ℕ)
 numbered_partner language word =
     if list_all is_ascii_digit (digits_of_word word)

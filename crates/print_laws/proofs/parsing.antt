@@ -1,3 +1,4 @@
+-- How the tokens of a printed tree are read back, from numbers and constants to blocks and trees.
 pub mod Numbers
 pub mod Constants
 pub mod Operands

@@ -13,7 +13,7 @@ pub record IsPrintable (t : Tree) : Type 0 where
   pub cut : IsCut t
   pub read : IsReadable t
 
--- its text has tokens, and these have the tree
+-- the text of a printable tree has tokens, and these have that tree
 abbrev pub ArePrintedSourcesRead : Type 0
 ArePrintedSourcesRead =
     (t : Tree) → IsPrintable t → (tokens : List Token) × AreTokens (printed_text t) tokens × IsTree (printed_text t) tokens t

@@ -57,7 +57,7 @@ pub record IsNonKeywordName (name : List ℕ) : Type 0 where
   pub word : is_word name ≡ true
   pub free : look_up keywords name ≡ None
 
--- a label: such a word of at most four characters
+-- a label: a word that is no keyword, of at most four characters
 pub record IsPrintedLabel (name : List ℕ) : Type 0 where
   pub is_name : IsNonKeywordName name
   pub short : length name ≤ 4
@@ -109,7 +109,7 @@ IsArea letters.Pi width.Bit = ⊥
 IsArea letters.Pq width.Bit = ⊥
 IsArea area w = Unit {0}
 
--- the same of an area that may be left out
+-- the letters are those of an address, or there are none, where the register has the area
 abbrev pub IsAreaOf : Option Letters → Width → Type 0
 IsAreaOf None w = Unit {0}
 IsAreaOf (Some area) w = IsArea area w
@@ -136,7 +136,7 @@ IsPrintedOperand (operand.OfStatus flag) = Unit {0}
 IsPrintedOperand (operand.Other name) = IsRegister name
 IsPrintedOperand _ = ⊥
 
--- what is passed for a parameter
+-- the operands that are passed for a parameter: a direct address, an own parameter or a constant
 abbrev pub IsPassedOperand : Operand → Type 0
 IsPassedOperand (operand.Direct name area w byte bit) = IsPrintedOperand (operand.Direct name area w byte bit)
 IsPassedOperand (operand.Named (head.Local name) []) = is_word name ≡ true
@@ -154,12 +154,12 @@ IsOpenOperand (operand.OpenBlock di name) = IsDataBlock name
 IsOpenOperand (operand.NumberBy what from byte) = IsPrintedOperand (operand.NumberBy what from byte)
 IsOpenOperand _ = ⊥
 
--- the block of UC and CC
+-- the operand of UC and CC: a block by its number
 abbrev pub IsBlockCallOperand : Operand → Type 0
 IsBlockCallOperand (operand.Called name None) = IsBlockByNumber name
 IsBlockCallOperand _ = ⊥
 
--- the block of CALL, a function block with its instance
+-- the operand of CALL: a block by its number, or a function block with its instance
 abbrev pub IsCallOperand : Operand → Type 0
 IsCallOperand (operand.Called name None) = IsBlockByNumber name
 IsCallOperand (operand.Called name (Some instance)) = IsFunctionBlock name × IsDataBlock instance
@@ -179,7 +179,7 @@ pub data PrintedSyntax : Type 0 where
   -- no statement of a listing
   empty : PrintedSyntax
 
--- by the word
+-- what stands behind an instruction word, by that word
 abbrev pub syntax_of : Mnemonic → PrintedSyntax
 syntax_of code.Empty = empty
 syntax_of code.AOpen = bracket
@@ -221,7 +221,8 @@ pub record IsPrintedActual (line : ℕ) (a : Actual) : Type 0 where
   pub word : is_word a.name ≡ true
   pub value : IsPassedOperand a.value
 
--- operand and actual parameters by what stands behind the word
+-- the operand and the actual parameters of a statement on this line fit what stands behind its
+-- instruction word
 abbrev pub FitsSyntax : (line : ℕ) → PrintedSyntax → Operand → List Actual → Type 0
 FitsSyntax line plain o actuals = IsPrintedOperand o × (actuals ≡ [])
 FitsSyntax line bracket o actuals = (o ≡ operand.Nothing) × (actuals ≡ [])
@@ -238,17 +239,17 @@ pub record IsPrintedStatement (s : Statement) : Type 0 where
 
 -- ---- declarations
 
--- an initial value of an array of bytes, `B#16#FF` or `4 (B#16#00)`
+-- the constant of an initial value of an array of bytes, `B#16#FF`
 abbrev pub IsByteLiteral : Literal → Type 0
 IsByteLiteral (literal.Byte value) = value ≤ 255
 IsByteLiteral _ = ⊥
 
--- the count before it
+-- the count before an initial value, where it has one: a number that a source can write
 abbrev pub IsCountOf : Option ℕ → Type 0
 IsCountOf None = Unit {0}
 IsCountOf (Some n) = IsNumber n
 
--- both
+-- an initial value of an array of bytes, `B#16#FF` or `4 (B#16#00)`
 abbrev pub IsPrintedInit : Init → Type 0
 IsPrintedInit i = IsCountOf i.count × IsByteLiteral i.value
 
@@ -265,13 +266,14 @@ pub record IsPrintedDeclaration (d : Declaration) : Type 0 where
   pub level : d.level ≡ 0
   pub type : IsPrintedType d.of.arrays d.of.of d.init
 
--- in a section of a block
+-- a declaration of a listing in a section that a block of this kind may have it in; a parameter has
+-- an elementary type
 pub record IsPrintedDeclarationIn (k : BlockKind) (p : PartKind) (d : Declaration) : Type 0 where
   pub printed : IsPrintedDeclaration d
   pub allowed : may_declare k p 0 d ≡ true
   pub elementary : is_parameter p ≡ true → is_elementary d ≡ true
 
--- a section of a block
+-- a section of a listing in a block of this kind
 pub record IsPrintedPart (k : BlockKind) (p : Part) : Type 0 where
   pub allowed : may_have_section k p.kind ≡ true
   pub items : AllByRecursion (IsPrintedDeclarationIn k p.kind) p.items
@@ -284,7 +286,7 @@ IsPrintedPath (step.Named name ∷ []) = IsNonKeywordName name
 IsPrintedPath (step.Named name ∷ step.Index at ∷ []) = IsNonKeywordName name × IsDecimal at
 IsPrintedPath _ = ⊥
 
--- a setting
+-- a setting of a listing
 pub record IsPrintedSetting (s : Setting) : Type 0 where
   pub path : IsPrintedPath s.path
   pub value : IsPrintedLiteral s.value
@@ -296,7 +298,7 @@ abbrev pub IsResultOf : BlockKind → Option Simple → Type 0
 IsResultOf kinds.Fc result = Unit {0}
 IsResultOf _ result = result ≡ None
 
--- an organization block, a function or a function block
+-- a code block of a listing: an organization block, a function or a function block
 pub record IsCodeBlock (b : Block) : Type 0 where
   pub kind : is_code b.kind ≡ true
   pub result : IsResultOf b.kind b.result
@@ -308,7 +310,8 @@ pub record IsCodeBlock (b : Block) : Type 0 where
   pub settings : b.settings ≡ []
   pub body : AllByRecursion IsPrintedStatement b.body
 
--- a structure with its components, or the instance of a function block with its settings
+-- what a data block holds: a structure with its components, or the instance of a function block
+-- with its settings
 abbrev pub IsPrintedDataShape : Option TypeTree → List Declaration → Option BlockName → List Setting → Type 0
 IsPrintedDataShape (Some of_) components None settings =
     (of_ ≡ record { arrays = []; of = element.Structure }) × AllByRecursion IsPrintedDeclaration components × (settings ≡ [])
@@ -316,7 +319,7 @@ IsPrintedDataShape None components (Some name) settings =
     IsFunctionBlock name × (components ≡ []) × AllByRecursion IsPrintedSetting settings
 IsPrintedDataShape _ components instance settings = ⊥
 
--- a data block
+-- a data block of a listing
 pub record IsPrintedData (b : Block) : Type 0 where
   pub kind : b.kind ≡ kinds.Db
   pub result : b.result ≡ None
@@ -324,7 +327,7 @@ pub record IsPrintedData (b : Block) : Type 0 where
   pub shape : IsPrintedDataShape b.shape b.components b.instance_of b.settings
   pub body : b.body ≡ []
 
--- a block by its number and kind
+-- the name of a block is its number, of this kind
 abbrev pub IsNumberedBlockOf : BlockKind → BlockName → Type 0
 IsNumberedBlockOf k (block.Number id) = (id.kind ≡ k) × IsNumber id.number
 IsNumberedBlockOf k (block.Quoted name) = ⊥
@@ -335,7 +338,8 @@ IsPrintedBlock b = IsNumberedBlockOf b.kind b.name × (IsCodeBlock b ⊎ IsPrint
 
 -- ---- lines
 
--- a clause of which a tree has the line is printed on it
+-- a clause is printed on the line that the tree has for it, where it has one, behind a text that
+-- has reached a line
 abbrev pub IsOnLine : (reached : ℕ) → Clause → Type 0
 IsOnLine reached (clause.Head line k name result) = line_behind reached line ≡ line
 IsOnLine reached (clause.Ends line k) = line_behind reached line ≡ line
@@ -345,7 +349,8 @@ IsOnLine reached (clause.Sets s) = line_behind reached s.line ≡ s.line
 IsOnLine reached (clause.Runs s) = line_behind reached s.line ≡ s.line
 IsOnLine reached _ = Unit {0}
 
--- and so are all, behind a line that the text has reached: each is at least 1, and none is before the one in front of it
+-- clauses are printed on the lines that the tree has for them, behind a text that has reached a
+-- line: each line is at least 1, and none is before the one in front of it
 abbrev pub AreOnLines : (reached : ℕ) → List Clause → Type 0
 AreOnLines reached [] = Unit {0}
 AreOnLines reached (c ∷ cs) = IsOnLine reached c × AreOnLines (line_behind reached (line_of c)) cs

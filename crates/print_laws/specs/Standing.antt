@@ -42,7 +42,7 @@ abbrev pub IsNumberedBlock : BlockName → Type 0
 IsNumberedBlock (block.Number id) = IsNumber id.number
 IsNumberedBlock (block.Quoted name) = ⊥
 
--- the same, or none
+-- a block by its number, or none
 abbrev pub IsNumberedOrNone : Option BlockName → Type 0
 IsNumberedOrNone None = Unit {0}
 IsNumberedOrNone (Some name) = IsNumberedBlock name

@@ -47,12 +47,14 @@ actual_here line formals called (flat.Pass index p) =
     actual_for line formals (slice_get called index) p
 actual_here line formals called _ = []
 
--- those of the ops before a call
+-- the actual parameters that the ops before a call pass; `formals` are the parameters of the block
+-- that calls, `called` those of the called block
 abbrev pub actuals_before : (line : ℕ) → (formals called : List Formal) → List OpData → List Actual
 actuals_before line formals called before =
     flat_map (λ op. actual_here line formals called op.operand) before
 
--- those of a statement; one that calls nothing has none
+-- the actual parameters of a statement, by its ops before the last one and the operand of that; a
+-- statement that calls nothing has none
 unfoldable pub actuals_by : List Signature → (line : ℕ) → List Formal → List OpData → FlatOperand
     → List Actual
 actuals_by signatures line formals before (flat.Called kind number instance) =

@@ -41,7 +41,7 @@ listed_blocks signatures reached (b ∷ bs) =
     listed_block signatures reached b
     ∷ listed_blocks signatures (line_behind_statements reached b.lines) bs
 
--- the line that they reach
+-- the line that code blocks reach, one behind the other, behind what reaches to a line
 abbrev pub line_reached : (reached : ℕ) → List CodeBlock → ℕ
 line_reached reached [] = reached
 line_reached reached (b ∷ bs) = line_reached (line_behind_statements reached b.lines) bs

@@ -47,7 +47,7 @@ open_block_name which =
 abbrev pub word_constant : ℕ → Operand
 word_constant bits = operand.Constant (literal.Word (bits % 2 ^ 16))
 
--- in decimal, with no sign
+-- the low word of a constant in decimal, with no sign
 abbrev pub decimal_constant : ℕ → Operand
 decimal_constant bits = operand.Constant (literal.Number (pos (bits % 2 ^ 16)))
 

@@ -33,7 +33,7 @@ data_block_tree line number shape components instance_of settings = record {
   body = [];
 }
 
--- STRUCT
+-- the type STRUCT of a data block of its own
 abbrev pub structure_type : TypeTree
 structure_type = record { arrays = []; of = element.Structure }
 
@@ -50,7 +50,8 @@ known_settings line bytes (Some s) = settings_of line bytes s
 abbrev pub instance_signature : List Signature → ℕ → Option Signature
 instance_signature signatures number = find (λ s. is_same_block s.id (function_block number)) signatures
 
--- a data block of its own, or an instance
+-- a data block on a line with these bytes: one of its own, or an instance of the function block of
+-- a number
 abbrev pub listed_data : List Signature → (line number : ℕ) → (bytes : List ℕ) → Option ℕ → Block
 listed_data signatures line number bytes None =
     data_block_tree line number (Some structure_type)

@@ -16,7 +16,7 @@ use Rattle.stl_list.specs.Signatures.{Signature}
 
 -- ---- a data block of its own
 
--- `value`, or `count (value)` of several
+-- the initial value of so many equal bytes: `value`, or `count (value)` of several
 abbrev pub initial_run : (value count : ℕ) → Init
 initial_run value count = record {
   count = if count == 1 then None else Some count;
@@ -30,12 +30,12 @@ inits_from value count (b ∷ bs) =
     if b == value && nat_lt count 65535 then inits_from value (suc count) bs
     else initial_run value count ∷ inits_from b 1 bs
 
--- the runs of bytes
+-- the initial values of bytes: one for each longest run of equal ones
 abbrev pub inits_of : List ℕ → List Init
 inits_of [] = []
 inits_of (b ∷ bs) = inits_from b 1 bs
 
--- bytes that are all 0 need no values
+-- the initial values of the bytes of a data block; bytes that are all 0 need none
 unfoldable pub values_of : List ℕ → List Init
 values_of bytes = if list_all (λ b. b == 0) bytes then [] else inits_of bytes
 
@@ -56,7 +56,7 @@ value_in bytes width.Byte byte bit = byte_at bytes byte
 value_in bytes width.Word byte bit = word_in_bytes bytes byte
 value_in bytes width.Dword byte bit = 65536 * word_in_bytes bytes byte + word_in_bytes bytes (byte + 2)
 
--- `name := value;`
+-- the setting of a parameter of an instance, `name := value;`
 abbrev pub parameter_setting : (line : ℕ) → Formal → (bits : ℕ) → Setting
 parameter_setting line f bits = record {
   line = line;
@@ -64,11 +64,12 @@ parameter_setting line f bits = record {
   value = typed_constant f.kind bits;
 }
 
--- a parameter that is 0 needs none
+-- the setting of a parameter of an instance with these bits; one that is 0 needs none
 abbrev pub parameter_here : (line : ℕ) → Formal → (bits : ℕ) → List Setting
 parameter_here line f bits = if bits == 0 then [] else parameter_setting line f bits ∷ []
 
--- the parameters one behind the other, by name and by place
+-- the settings of the parameters of an instance with these bytes, one behind the other; the
+-- parameters are given by name and by place
 abbrev pub parameter_settings : (line : ℕ) → (bytes : List ℕ) → List Formal → List Param → List Setting
 parameter_settings line bytes [] ps = []
 parameter_settings line bytes (f ∷ fs) [] = []
@@ -76,7 +77,7 @@ parameter_settings line bytes (f ∷ fs) (p ∷ ps) =
     parameter_here line f (value_in bytes p.width p.byte p.bit)
     ++ parameter_settings line bytes fs ps
 
--- `s[index] := value;`
+-- the setting of a byte of VAR of an instance, `s[index] := value;`
 abbrev pub byte_setting : (line index value : ℕ) → Setting
 byte_setting line index value = record {
   line = line;
@@ -84,11 +85,11 @@ byte_setting line index value = record {
   value = literal.Byte value;
 }
 
--- a byte that is 0 needs none
+-- the setting of a byte of VAR of an instance; one that is 0 needs none
 abbrev pub byte_here : (line index value : ℕ) → List Setting
 byte_here line index value = if value == 0 then [] else byte_setting line index value ∷ []
 
--- the bytes of VAR, of which the first stands at a place
+-- the settings of the bytes of VAR of an instance, of which the first stands at the place `start`
 abbrev pub byte_settings : (line : ℕ) → (bytes : List ℕ) → (start count : ℕ) → List Setting
 byte_settings line bytes start count =
     flat_map (λ i. byte_here line i (byte_at bytes (start + i))) (range_with_len 0 count)

@@ -45,42 +45,50 @@ first_of (b ∷ bs) id = if is_same_block b.id id then 0 else length b.params + 
 
 -- ---- passings
 
--- the parameter of the function that calls which is passed, with the index of the one that it is passed for
+-- where a parameter of the block that calls is passed: the index of the one that it is passed for,
+-- and its own
 abbrev pub passed_own : (index : ℕ) → Passed → Option (ℕ × ℕ)
 passed_own index (passed.Parameter own width) = Some (index, own)
 passed_own index _ = None
 
--- the same of an op before a call
+-- where an op before a call passes a parameter of the block that calls: the index of the one that
+-- it is passed for, and its own
 abbrev pub passed_parameter : Operand → Option (ℕ × ℕ)
 passed_parameter (flat.Pass index actual) = passed_own index actual
 passed_parameter _ = None
 
--- a parameter that is passed to a block, whose first parameter has a number as the own first one has
+-- the link of a parameter that is passed to a block; `first` is the number of the first parameter
+-- of the block that calls, `other` that of the called block
 abbrev pub joined_link : (first other : ℕ) → Option (ℕ × ℕ) → List Link
 joined_link first other None = []
 joined_link first other (Some p) = Joins (first + p.1) (other + p.0) ∷ []
 
--- a parameter that is passed for one of a system function
+-- the link of the parameter of a number to the type of the one of a system function for which it is
+-- passed
 abbrev pub typed_link : (own : ℕ) → Option Formal → List Link
 typed_link own None = []
 typed_link own (Some f) = Has own f.kind ∷ []
 
--- the same by its index among the parameters of the system function
+-- the link of a parameter that is passed to a system function with these parameters; `first` is the
+-- number of the first parameter of the block that calls
 abbrev pub system_link : List Formal → (first : ℕ) → Option (ℕ × ℕ) → List Link
 system_link formals first None = []
 system_link formals first (Some p) = typed_link (first + p.1) (slice_get formals p.0)
 
--- what the ops before a call of a block say
+-- the links of the ops before a call of a block; `first` is the number of the first parameter of
+-- the block that calls, `other` that of the called block
 abbrev pub joined_links : (first other : ℕ) → List OpData → List Link
 joined_links first other before =
     flat_map (λ op. joined_link first other (passed_parameter op.operand)) before
 
--- and before a call of a system function
+-- the links of the ops before a call of a system function with these parameters; `first` is the
+-- number of the first parameter of the block that calls
 abbrev pub system_links : List Formal → (first : ℕ) → List OpData → List Link
 system_links formals first before =
     flat_map (λ op. system_link formals first (passed_parameter op.operand)) before
 
--- before a call of either
+-- the links of the ops before a call of a block or of a system function; `first` is the number of
+-- the first parameter of the block that calls
 abbrev pub call_links : List CodeBlock → BlockId → (first : ℕ) → List OpData → List Link
 call_links blocks id first before =
     if is_system_function id.kind then system_links (system_parameters id.number) first before
@@ -97,11 +105,12 @@ abbrev pub links_of_runs : List CodeBlock → (first : ℕ) → List Run → Lis
 links_of_runs blocks first rs =
     flat_map (λ r. run_links blocks first r.before r.op.operand) rs
 
--- those of the statements of a block
+-- the links of the statements of a block whose first parameter has the number `first`
 abbrev pub block_links : List CodeBlock → (first : ℕ) → List OpData → List Link
 block_links blocks first ops = links_of_runs blocks first (runs ops)
 
--- the links of the statements of blocks, of which the first has its parameters from a number on
+-- the links of the statements of blocks, of which the first has its parameters from the number
+-- `first` on; the calls go to any of all the blocks
 abbrev pub links_from : List CodeBlock → (first : ℕ) → List CodeBlock → List Link
 links_from blocks first [] = []
 links_from blocks first (b ∷ bs) =
@@ -111,7 +120,7 @@ links_from blocks first (b ∷ bs) =
 unfoldable pub links : List CodeBlock → List Link
 links blocks = links_from blocks 0 blocks
 
--- how many parameters blocks have
+-- how many parameters blocks have together
 abbrev pub total_parameter_count : List CodeBlock → ℕ
 total_parameter_count [] = 0
 total_parameter_count (b ∷ bs) = length b.params + total_parameter_count bs
@@ -138,17 +147,17 @@ labels_after_link labels (Has own kind) = labels
 unfoldable pub chain_labels : (count : ℕ) → List Link → List ℕ
 chain_labels count links = fold labels_after_link (range_with_len 0 count) links
 
--- the types that a chain hands on
+-- a type that a chain hands on: INT
 abbrev pub is_int_kind : Simple → Bool
 is_int_kind simple.Int = true
 is_int_kind _ = false
 
--- TIME
+-- a type that a chain hands on: TIME
 abbrev pub is_time_kind : Simple → Bool
 is_time_kind simple.Time = true
 is_time_kind _ = false
 
--- a label is marked
+-- the marks of labels, with this label marked, where there is one
 abbrev pub set_label : List Bool → Option ℕ → List Bool
 set_label marks None = marks
 set_label marks (Some label) = slice_set marks label true
@@ -172,7 +181,7 @@ pub record Chains : Type 0 where
   pub ints : List Bool
   pub times : List Bool
 
--- with the labels of these links
+-- the chains of parameters with these labels, by links that say which are INT or TIME
 abbrev pub chains_by : (labels : List ℕ) → List Link → Chains
 chains_by labels links = record {
   labels = labels;
@@ -184,7 +193,7 @@ chains_by labels links = record {
 unfoldable pub chains_of : List CodeBlock → Chains
 chains_of blocks = chains_by (chain_labels (total_parameter_count blocks) (links blocks)) (links blocks)
 
--- the mark of a label
+-- a label is marked; none is not
 abbrev pub mark_at : List Bool → Option ℕ → Bool
 mark_at marks None = false
 mark_at marks (Some label) = unwrap_or (slice_get marks label) false

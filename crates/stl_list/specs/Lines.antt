@@ -14,15 +14,15 @@ lines_from reached (line ∷ lines) = max reached line ∷ lines_from (max reach
 abbrev pub line_behind_statements : (reached : ℕ) → List ℕ → ℕ
 line_behind_statements reached lines = fold max reached lines
 
--- the number in a list at a place; 0 past its end
+-- the line of the statement of a number, counted from 0, in a list of lines; 0 past its end
 abbrev pub line_of_statement : List ℕ → (n : ℕ) → ℕ
 line_of_statement lines n = unwrap_or (slice_get lines n) 0
 
--- the lines of the first and of the last statement of a block
+-- the line of the first statement of a block
 abbrev pub first_statement_line : CodeBlock → ℕ
 first_statement_line b = line_of_statement b.lines 0
 
--- the last one is its END clause
+-- the line of the last statement of a block, which is its END clause
 abbrev pub last_statement_line : CodeBlock → ℕ
 last_statement_line b = line_of_statement b.lines (length b.lines - 1)
 

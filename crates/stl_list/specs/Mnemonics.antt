@@ -15,7 +15,8 @@ word_of op_code = slice_index_or MNEMONICS op_code code.Empty
 unfoldable pub jump_word : ℕ → Mnemonic
 jump_word kind = slice_index_or JUMP_MNEMONICS kind code.Ju
 
--- the jumps have one op code, and their kind stands in the operand
+-- the instruction word of an op by its code and its operand; the jumps have one op code, and their
+-- kind stands in the operand
 abbrev pub word_by : ℕ → Operand → Mnemonic
 word_by op_code (flat.Jump kind target) = jump_word kind
 word_by op_code _ = word_of op_code

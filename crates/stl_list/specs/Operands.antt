@@ -76,7 +76,7 @@ name_at formals index = name_or index (slice_get formals index)
     name_or index None = parameter_name index
     name_or index (Some f) = f.name
 
--- a parameter of the function itself
+-- the parameter of an index of the block itself, as an operand
 abbrev pub own_parameter : List Formal → ℕ → Operand
 own_parameter formals index = operand.Named (head.Local (name_at formals index)) []
 
@@ -100,7 +100,7 @@ numbered_by kind = if kind == 1 then numbered.Timer else numbered.Counter
 abbrev pub data_block_register : ℕ → Numbered
 data_block_register register = if register == 1 then numbered.Db else numbered.Di
 
--- 0 is no instance
+-- the instance of a call by its number; 0 is none
 abbrev pub instance_name : ℕ → Option BlockName
 instance_name instance = if instance == 0 then None else Some (name_of_data_block instance)
 

@@ -36,6 +36,7 @@ section_of section =
     else if section == SECTION_OUT then part.Output
     else part.InOut
 
--- in a function an OUT behind an IN_OUT is the return value, since the others stand by their sections
+-- the name of a parameter of an index, or of the return value; in a function an OUT behind an
+-- IN_OUT is the return value, since the others stand by their sections
 abbrev pub name_of : (returns : Bool) → (index : ℕ) → List ℕ
 name_of returns index = if returns then return_name else parameter_name index

@@ -11,7 +11,7 @@ pub record Run : Type 0 where
   pub before : List OpData
   pub op : OpData
 
--- the statements of ops, of which these stand in front in the first
+-- the statements of ops; `before` are ops that stand in front of them in the first statement
 abbrev pub runs_from : (before : List OpData) → List OpData → List Run
 runs_from before [] = []
 runs_from before (op ∷ ops) =

@@ -26,7 +26,7 @@ plain_declaration line f = record {
   init = [];
 }
 
--- so many bytes, `name : ARRAY [0..count - 1] OF BYTE := values;`
+-- the declaration of so many bytes, `name : ARRAY [0..count - 1] OF BYTE := values;`
 abbrev pub byte_array : (line : ℕ) → (name : List ℕ) → (count : ℕ) → List Init → Declaration
 byte_array line name count values = record {
   line = line;
@@ -39,7 +39,7 @@ byte_array line name count values = record {
   init = values;
 }
 
--- so many bytes; none are left out
+-- the declaration of so many bytes with these initial values; none where there are no bytes
 abbrev pub bytes_here : (line : ℕ) → (name : List ℕ) → (count : ℕ) → List Init → List Declaration
 bytes_here line name count values =
     if count == 0 then [] else byte_array line name count values ∷ []
@@ -48,12 +48,12 @@ bytes_here line name count values =
 abbrev pub is_declared_in : PartKind → Formal → Bool
 is_declared_in kind f = nat_eq (part_rank f.section) (part_rank kind) && not (is_return f)
 
--- a parameter, if it is of the section
+-- the declaration of a parameter, where it is one of this section
 abbrev pub declared_here : (line : ℕ) → PartKind → Formal → List Declaration
 declared_here line kind f =
     if is_declared_in kind f then plain_declaration line f ∷ [] else []
 
--- the parameters of a section
+-- the declarations of those of the parameters that are declared in this section
 abbrev pub declarations_of_section : (line : ℕ) → List Formal → PartKind → List Declaration
 declarations_of_section line formals kind = flat_map (declared_here line kind) formals
 
@@ -78,15 +78,15 @@ static_start params = end_or_0 (slice_get params (length params - 1))
 abbrev pub static_len : (instance_len : ℕ) → List Param → ℕ
 static_len instance_len params = instance_len - static_start params
 
--- the names of what VAR, VAR_TEMP and a data block hold
+-- the name of the bytes in VAR
 abbrev pub static_name : List ℕ
 static_name = codes "s"
 
--- in VAR_TEMP
+-- the name of the bytes in VAR_TEMP
 abbrev pub temporary_name : List ℕ
 temporary_name = codes "t"
 
--- in a data block
+-- the name of the bytes in a data block of its own
 abbrev pub data_name : List ℕ
 data_name = codes "x"
 

@@ -36,7 +36,7 @@ formals_from c returns behind index first (p ∷ ps) =
     formal_of_param c behind index first p
     ∷ formals_from c returns (is_behind returns behind p) (suc index) (suc first) ps
 
--- a code block whose first parameter has this number
+-- the signature of a code block whose first parameter has this number among those of all blocks
 abbrev pub signature : Chains → (first : ℕ) → CodeBlock → Signature
 signature c first b = record {
   id = b.id;
@@ -45,12 +45,12 @@ signature c first b = record {
   formals = formals_from c (is_function b.id.kind) false 0 first b.params;
 }
 
--- blocks, of which the first has its parameters from a number on
+-- the signatures of code blocks, of which the first has its parameters from the number `first` on
 abbrev pub signatures_from : Chains → (first : ℕ) → List CodeBlock → List Signature
 signatures_from c first [] = []
 signatures_from c first (b ∷ bs) = signature c first b ∷ signatures_from c (first + length b.params) bs
 
--- the code blocks of a program
+-- the signatures of the code blocks of a program
 unfoldable pub signatures : Chains → List CodeBlock → List Signature
 signatures c blocks = signatures_from c 0 blocks
 

@@ -23,7 +23,7 @@ pub record Surroundings : Type 0 where
   pub starts : List ℕ
   pub targets : List Bool
 
--- those of a block whose statements stand on these lines
+-- what the statements of a block refer to, where they stand on these lines
 abbrev pub surroundings : List Signature → (lines : List ℕ) → CodeBlock → Surroundings
 surroundings signatures lines b = record {
   signatures = signatures;
@@ -57,18 +57,19 @@ label_alone line label = record {
   actuals = [];
 }
 
--- the last statement is the END clause, before which its label stands, where a jump leads to it
+-- a label before the END clause on this line, where a jump leads there
 abbrev pub label_of_end : (line : ℕ) → Option (List ℕ) → List Statement
 label_of_end line None = []
 label_of_end line (Some label) = label_alone line label ∷ []
 
--- what a statement adds to the body; there are as many statements as lines
+-- what the statement of a number adds to the body: itself, or only a label where it is the last,
+-- the END clause; there are as many statements as lines
 unfoldable pub statement_at : Surroundings → (n : ℕ) → Run → List Statement
 statement_at s n r =
     if suc n == length s.lines then label_of_end (line_of_statement s.lines n) (label_at s.targets n)
     else listed_statement s n r ∷ []
 
--- statements from a number on
+-- what statements add to the body, of which the first has the number n
 abbrev pub statements_from : Surroundings → (n : ℕ) → List Run → List Statement
 statements_from s n [] = []
 statements_from s n (r ∷ rs) = statement_at s n r ++ statements_from s (suc n) rs

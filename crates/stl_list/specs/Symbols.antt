@@ -12,7 +12,7 @@ use Rattle.stl_print.specs.declared.gaps.Gap.TheVariants as gap
 use Rattle.stl_list.specs.Operands.{read_letters}
 use Rattle.stl_list.specs.Parameters.{kind_of_width}
 
--- each field is quoted
+-- the writer of a symbols file: each field is quoted
 abbrev pub symbols_writer : WriterBuilder
 symbols_writer = with_style default_writer style.Always
 

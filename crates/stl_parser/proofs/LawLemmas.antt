@@ -1,3 +1,4 @@
+-- A source has at most one list of clauses and at most one violation, and never both.
 use Rattle.std.proofs.Common.{ℕ, ◌≡◌, List, [], ◌∷◌, Result, Ok, Err, refl, sym, ◌∙◌, ap, subst}
 use Rattle.std.proofs.lemmas.Bool.{true≢false}
 use Rattle.stl_lexer.specs.declared.kinds.Token.{Token}

@@ -1,3 +1,4 @@
+-- How the parts that follow one another in a clause are read, turn by turn, up to their end.
 use Rattle.std.proofs.Common.{ℕ, zero, suc, ◌≡◌, ◌<◌, ◌≤◌, ◌-◌, ◌+◌, List, [], ◌∷◌, ◌++◌, Option, Some, None, refl, ◌∙◌, ap, arith}
 use Rattle.stl_lexer.specs.declared.kinds.Token.{Token}
 use Rattle.stl_parser.specs.Parts.{parts_from}

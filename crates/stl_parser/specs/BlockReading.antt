@@ -21,7 +21,8 @@ is_inside (place.Section k p level) = true
 is_inside (place.Shape k level) = true
 is_inside _ = false
 
--- where the clauses behind the end of that section or structure stand
+-- where the clauses behind the end of a section, or of the structure of a block, stand; every other
+-- place stays
 abbrev pub behind_inside : ClausePlace → ClausePlace
 behind_inside (place.Section k p level) = place.Between k p
 behind_inside (place.Shape k level) = place.Shaped k
@@ -32,12 +33,12 @@ abbrev pub declarations_of_clause : Clause → List Declaration
 declarations_of_clause (clause.Declares d) = d ∷ []
 declarations_of_clause _ = []
 
--- to its settings
+-- what a clause adds to the settings of a block
 abbrev pub settings_of_clause : Clause → List Setting
 settings_of_clause (clause.Sets s) = s ∷ []
 settings_of_clause _ = []
 
--- to its statements
+-- what a clause adds to the statements of a block
 abbrev pub statements_of_clause : Clause → List Statement
 statements_of_clause (clause.Runs s) = s ∷ []
 statements_of_clause _ = []
@@ -48,12 +49,13 @@ opens_shape clause.Structure = true
 opens_shape (clause.Based name) = true
 opens_shape _ = false
 
--- the same, or it opens the body
+-- a clause opens what stands behind the sections of a block: its structure, what it is based on, or
+-- its body
 abbrev pub opens_content : Clause → Bool
 opens_content clause.Begins = true
 opens_content c = opens_shape c
 
--- the same, or it opens a section
+-- a clause opens a part of a block: a section, its structure, what it is based on, or its body
 abbrev pub opens_part : Clause → Bool
 opens_part (clause.Section line p) = true
 opens_part c = opens_content c
@@ -87,8 +89,8 @@ spelled_content k c =
     spelled_opened c.opened
     ++ (map clause.Sets c.settings ++ (map clause.Runs c.body ++ clause.Ends c.end_line k ∷ []))
 
--- it is spelled by the clause that opens it, where a tree keeps that, and the clauses that are read
--- behind that
+-- what stands behind the sections of a block is spelled by the clause that opens it, where a tree
+-- keeps that, and the clauses that are read behind that, to the end of the block
 pub record ReadsContent (source : List ℕ) (k : BlockKind) (opening : Clause) (tokens : List Token)
     (spelled : List Clause) (rest : List Token) : Type 0 where
   pub kept : List Clause

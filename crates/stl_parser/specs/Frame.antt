@@ -11,12 +11,14 @@ use Rattle.stl_parser.specs.declared.clauses.Clause.TheVariants as clause
 use Rattle.stl_parser.specs.declared.places.ClausePlace.{ClausePlace}
 use Rattle.stl_parser.specs.declared.places.ClausePlace.TheVariants as place
 
--- where the clauses behind an END_STRUCT stand
+-- where the clauses behind an END_STRUCT in a section stand, which closes the innermost structure;
+-- None where none is open, at level 0
 abbrev pub section_behind : BlockKind → PartKind → ℕ → Option ClausePlace
 section_behind k p zero = None
 section_behind k p (suc level) = Some (place.Section k p level)
 
--- the same in the structure of a data block or of a TYPE block, which END_STRUCT at level 0 closes
+-- where the clauses behind an END_STRUCT in the structure of a data block or of a TYPE block stand;
+-- at level 0 it closes that structure
 abbrev pub shape_behind : BlockKind → ℕ → Option ClausePlace
 shape_behind k zero = Some (place.Shaped k)
 shape_behind k (suc level) = Some (place.Shape k level)
@@ -55,7 +57,8 @@ next_place_in_shape k level (clause.Declares d) =
 next_place_in_shape k level clause.EndStructure = shape_behind k level
 next_place_in_shape k level _ = None
 
--- what may stand behind it: the settings of a data block, or the end of a TYPE block
+-- what may stand behind the structure of a data block or of a TYPE block, and behind what a data
+-- block is based on: the settings of a data block, or the end of a TYPE block
 unfoldable pub next_place_behind_shape : BlockKind → Clause → Option ClausePlace
 next_place_behind_shape kinds.Db clause.Begins = Some place.Settings
 next_place_behind_shape kinds.Udt (clause.Ends line kinds.Udt) = Some place.Outside

@@ -18,7 +18,7 @@ use Rattle.stl_parser.specs.Values.{based_value, long_or_count, duration_literal
 unfoldable pub text_between_quotes : List ℕ → List ℕ
 text_between_quotes text = slice_range text 1 (length text - 1)
 
--- one to four bytes
+-- the text as the characters of a constant, where it has one to four bytes
 unfoldable pub characters_of : List ℕ → Option (List ℕ)
 characters_of [] = None
 characters_of (b ∷ bs) = if nat_le (length (b ∷ bs)) 4 then Some (b ∷ bs) else None

@@ -76,7 +76,8 @@ unfoldable pub place_of_data_address : List ℕ → Address → ℕ → List Tok
 place_of_data_address source (address.Area letters.Db w) byte rest = option_map (λ bit. (w, byte, bit)) (place_bit source w rest)
 place_of_data_address source _ byte rest = None
 
--- the same, behind the block and the `.`
+-- width, byte and bit of an address in a data block that is given, behind the block and the `.`, as
+-- `DBW 2` in `DB10.DBW 2`
 unfoldable pub block_place : List ℕ → List Token → Option (Width × ℕ × ℕ)
 block_place source tokens = option_and_then (λ r. place_of_data_address source r.0 r.1 r.2) (address_at source tokens)
 
@@ -150,13 +151,14 @@ holds_pointer letters.Db = true
 holds_pointer letters.Di = true
 holds_pointer _ = false
 
--- `]` behind an area that holds a pointer
+-- `]` behind an address in brackets, which may hold a pointer or a number: its area and its byte
 unfoldable pub pointer_close : List ℕ → Letters → ℕ → List Token → Option (Letters × ℕ)
 pointer_close source area byte (close ∷ []) =
     if holds_pointer area && is_mark source close mark.CloseBracket then Some (area, byte) else None
 pointer_close source area byte _ = None
 
--- the same behind an address, a double word for a pointer and a word for a number
+-- `]` behind an address in brackets that is a double word for a pointer, or a word for a number:
+-- its area and its byte
 unfoldable pub pointer_end : List ℕ → Bool → Address → ℕ → List Token → Option (Letters × ℕ)
 pointer_end source pointer (address.Area area width.Dword) byte rest = if pointer then pointer_close source area byte rest else None
 pointer_end source pointer (address.Area area width.Word) byte rest = if pointer then None else pointer_close source area byte rest

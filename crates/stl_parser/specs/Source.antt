@@ -24,12 +24,14 @@ place_or_rule long None = Err 11
 place_or_rule true (Some next) = Err 12
 place_or_rule false (Some next) = Ok next
 
--- a clause of the grammar, with that place or rule
+-- the step over a clause of the grammar: the clause, the tokens behind it and the place where those
+-- stand, or the rule that the clause breaks
 abbrev pub step_or_rule : Clause → List Token → Result ClausePlace ℕ → Result ClauseStep ℕ
 step_or_rule c rest (Ok next) = Ok (c, rest, next)
 step_or_rule c rest (Err rule) = Err rule
 
--- a clause that isn't in the grammar breaks rule 10, whatever else it breaks
+-- the step over a clause that is read at a place, or the rule that it breaks; what isn't in the
+-- grammar breaks rule 10, whatever else it breaks
 abbrev pub step_of_reading : ClausePlace → ClauseReading → Result ClauseStep ℕ
 step_of_reading p None = Err 10
 step_of_reading p (Some r) = step_or_rule r.0 r.1 (place_or_rule r.2 (next_place p r.0))
@@ -38,8 +40,8 @@ step_of_reading p (Some r) = step_or_rule r.0 r.1 (place_or_rule r.2 (next_place
 unfoldable pub step_of : List ℕ → ClausePlace → List Token → Result ClauseStep ℕ
 step_of source p tokens = step_of_reading p (clause_at source p tokens)
 
--- these clauses, all right, follow one another from the front of the tokens, and behind them stand
--- the tokens `rest` at the place `q`
+-- from the front of the tokens, at the place `p`, on these clauses follow one another, each of them
+-- right, and behind them stand the tokens `rest` at the place `q`
 abbrev pub ReadsClauses :
     List ℕ → ClausePlace → List Token → List Clause → ClausePlace → List Token → Type 0
 ReadsClauses source p tokens [] q rest = (p ≡ q) × (tokens ≡ rest)
@@ -47,7 +49,7 @@ ReadsClauses source p tokens (c ∷ cs) q rest =
     (behind : List Token) × (next : ClausePlace) × (step_of source p tokens ≡ Ok (c, behind, next))
     × ReadsClauses source next behind cs q rest
 
--- the line of the last token
+-- the line of the last token, or `line` where there is none
 abbrev pub last_line : ℕ → List Token → ℕ
 last_line line [] = line
 last_line line (t ∷ ts) = last_line t.line ts
@@ -57,20 +59,22 @@ abbrev pub is_outside : ClausePlace → Bool
 is_outside place.Outside = true
 is_outside _ = false
 
--- at this place the clause at the front breaks the rule; where no token is left, the source ends
--- inside a block
+-- the clause at the front of the tokens, at the place `p`, breaks this rule in this line; where no
+-- token is left, the source ends inside a block, which breaks rule 13 in the line `last` of its
+-- last token
 abbrev pub BreaksClauseRule : List ℕ → ClausePlace → List Token → ℕ → ℕ → ℕ → Type 0
 BreaksClauseRule source p [] last line rule = (is_outside p ≡ false) × (line ≡ last) × (rule ≡ 13)
 BreaksClauseRule source p (t ∷ ts) last line rule = (line ≡ t.line) × (step_of source p (t ∷ ts) ≡ Err rule)
 
--- the same of what a refusal says; nothing is said of want of memory
+-- a refusal is right about the clause at the front of the tokens, at the place `p`: that clause
+-- breaks the rule of the refusal in its line; nothing is said of want of memory
 abbrev pub IsBrokenAt : List ℕ → ClausePlace → List Token → ℕ → SourceFault → Type 0
 IsBrokenAt source p tokens last (fault.Refused refusal) =
     BreaksClauseRule source p tokens last refusal.line refusal.rule
 IsBrokenAt source p tokens last fault.NoMemory = Unit {0}
 
--- from the front of the tokens, at the place `p`, on: the first clause that breaks a rule; all the
--- clauses before it are right
+-- from the front of the tokens, at the place `p`, on: the first clause that breaks a rule breaks
+-- this one in this line; all the clauses before it are right
 pub record BreaksClauseRuleBehind (source : List ℕ) (p : ClausePlace) (tokens : List Token)
     (last line rule : ℕ) : Type 0 where
   pub before : List Clause
@@ -79,7 +83,8 @@ pub record BreaksClauseRuleBehind (source : List ℕ) (p : ClausePlace) (tokens 
   pub reads : ReadsClauses source p tokens before at rest
   pub breaks : BreaksClauseRule source at rest last line rule
 
--- the same of what a refusal says; nothing is said of want of memory
+-- a refusal is right about the tokens from the place `p` on: the first clause that breaks a rule
+-- breaks that of the refusal in its line; nothing is said of want of memory
 abbrev pub IsBrokenBehind : List ℕ → ClausePlace → List Token → ℕ → SourceFault → Type 0
 IsBrokenBehind source p tokens last (fault.Refused refusal) =
     BreaksClauseRuleBehind source p tokens last refusal.line refusal.rule
@@ -116,7 +121,8 @@ abbrev pub IsRefusedBy : List ℕ → List Token → SourceFault → Type 0
 IsRefusedBy source tokens refused =
     IsBrokenBehind source place.Outside tokens (last_line 0 tokens) refused
 
--- there is at most one list of clauses
+-- a source with its tokens has at most one list of clauses that are all right, with no block open
+-- at the end
 abbrev pub AreClausesUnique : Type 0
 AreClausesUnique =
     (source : List ℕ) (tokens : List Token) (cs ds : List Clause) → AreClauses source tokens cs →
@@ -135,7 +141,8 @@ IsClauseViolationUnique =
     IsClauseViolation source tokens line rule → IsClauseViolation source tokens line' rule' →
     (line ≡ line') × (rule ≡ rule')
 
--- there is a tree where all clauses are right, and it is well-formed
+-- a source whose clauses are all right, with no block open at the end, has a tree, which is
+-- well-formed
 abbrev pub ClausesHaveTree : Type 0
 ClausesHaveTree =
     (source : List ℕ) (tokens : List Token) (cs : List Clause) → AreClauses source tokens cs →
@@ -147,17 +154,18 @@ HasTreeOrViolation source tokens =
     ((t : Tree) × IsTree source tokens t × IsWellFormed t)
     ⊎ ((line : ℕ) × (rule : ℕ) × IsClauseViolation source tokens line rule)
 
--- each source has such a tree or a violation, whatever its tokens are
+-- each source has a tree, which is well-formed, or a violation of the clauses, whatever its tokens
+-- are
 abbrev pub IsParsingTotal : Type 0
 IsParsingTotal = (source : List ℕ) (tokens : List Token) → HasTreeOrViolation source tokens
 
--- there is at most one tree
+-- a source with its tokens has at most one tree
 abbrev pub IsTreeUnique : Type 0
 IsTreeUnique =
     (source : List ℕ) (tokens : List Token) (t u : Tree) → IsTree source tokens t →
     IsTree source tokens u → t ≡ u
 
--- and none where there is a violation of the clauses
+-- a source that has a tree has no violation of the clauses
 abbrev pub TreeExcludesViolation : Type 0
 TreeExcludesViolation =
     (source : List ℕ) (tokens : List Token) (t : Tree) (line rule : ℕ) → IsTree source tokens t →

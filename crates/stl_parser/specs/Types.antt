@@ -43,7 +43,7 @@ array_at source (array ∷ open_ ∷ rest) =
     else None
 array_at source _ = None
 
--- these tokens, where no array was found at their front
+-- the tokens as they stand, where no array was found at their front, and else None
 abbrev pub no_array : Option (Bounds × List Token) → List Token → Option (List Token)
 no_array None tokens = Some tokens
 no_array (Some found) tokens = None

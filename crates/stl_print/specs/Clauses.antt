@@ -16,7 +16,7 @@ use Rattle.stl_print.specs.Words.{end_word, head_word, result_word, section_word
 use Rattle.stl_print.specs.declared.gaps.Gap.{Gap}
 use Rattle.stl_print.specs.declared.gaps.Gap.TheVariants as gap
 
--- the type of a function's return value
+-- the type of a function's return value, behind the name; nothing for other blocks
 unfoldable pub result_pieces : BlockKind → Option Simple → List Piece
 result_pieces kinds.Fc result = mark_piece gap.Blank mark_of.Colon ∷ word_piece gap.Blank (result_word result) ∷ []
 result_pieces _ result = []
@@ -58,6 +58,6 @@ pieces_from reached (c ∷ cs) =
 unfoldable pub with_clause : (ℕ × List ℕ) → Clause → (ℕ × List ℕ)
 with_clause t c = (line_behind t.0 (line_of c), with_pieces t.1 (clause_pieces (clause_gap t.0 (line_of c)) c))
 
--- the same with clauses behind it
+-- a text and the line that it has reached, with clauses behind it
 abbrev pub with_clauses : (ℕ × List ℕ) → List Clause → (ℕ × List ℕ)
 with_clauses t cs = fold with_clause t cs

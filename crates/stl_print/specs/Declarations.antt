@@ -47,7 +47,7 @@ abbrev pub further_inits : List Init → List Piece
 further_inits [] = []
 further_inits (i ∷ is) = mark_piece gap.Nothing mark_of.Comma ∷ (init_pieces gap.Blank i ++ further_inits is)
 
--- the initial values, where there are some
+-- the initial values of a declaration behind their `:=`, where there are some
 abbrev pub inits_pieces : List Init → List Piece
 inits_pieces [] = []
 inits_pieces (i ∷ is) = mark_piece gap.Blank mark_of.Assign ∷ (init_pieces gap.Blank i ++ further_inits is)

@@ -19,15 +19,15 @@ pub data Spelling : Type 0 where
   -- as two, with nothing between them
   two : TokenKind → List ℕ → TokenKind → List ℕ → Spelling
 
--- a word
+-- an instruction word that is one word
 abbrev pub word_spelling : List ℕ → Spelling
 word_spelling text = one kind.Word text
 
--- a sign word
+-- an instruction word that is one sign word
 abbrev pub sign_word_spelling : List ℕ → Spelling
 sign_word_spelling text = one kind.SignWord text
 
--- a mark
+-- an instruction word that is one mark
 abbrev pub mark_spelling : Mark → Spelling
 mark_spelling m = one kind.Mark (mark_text m)
 
@@ -44,7 +44,7 @@ abbrev pub spelling_pieces : Gap → Spelling → List Piece
 spelling_pieces g (one k text) = token_piece g k text ∷ []
 spelling_pieces g (two k text j behind) = token_piece g k text ∷ token_piece gap.Nothing j behind ∷ []
 
--- its bytes
+-- the bytes of an instruction word, with nothing between its tokens
 abbrev pub spelling_text : Spelling → List ℕ
 spelling_text (one k text) = text
 spelling_text (two k text j behind) = text ++ behind

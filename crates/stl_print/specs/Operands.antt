@@ -56,7 +56,8 @@ register_pointer_pieces g register bits =
     ∷ mark_piece gap.Blank mark_of.Pointer ∷ number_piece gap.Nothing (bits / 8) ∷ mark_piece gap.Nothing mark_of.Dot
     ∷ number_piece gap.Nothing (bits % 8) ∷ mark_piece gap.Nothing mark_of.CloseBracket ∷ []
 
--- the same behind the letters of an area, or of a width alone, where the register has the area
+-- an operand by a pointer in an address register, with an offset in bits: the letters of its area
+-- before the pointer, or of its width alone, where the register has the area
 unfoldable pub register_operand_pieces : Gap → Option Letters → Width → ℕ → ℕ → List Piece
 register_operand_pieces g (Some area) w register bits = word_piece g (letters_of_address area w) ∷ register_pointer_pieces gap.Blank register bits
 register_operand_pieces g None width.Bit register bits = register_pointer_pieces g register bits

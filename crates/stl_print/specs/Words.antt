@@ -26,7 +26,7 @@ head_word kinds.Db = codes "DATA_BLOCK"
 head_word kinds.Sfc = codes "FUNCTION"
 head_word kinds.Udt = codes "TYPE"
 
--- the word that ends it
+-- the word that ends a block; a system function would end as a function does
 unfoldable pub end_word : BlockKind → List ℕ
 end_word kinds.Ob = codes "END_ORGANIZATION_BLOCK"
 end_word kinds.Fc = codes "END_FUNCTION"
@@ -52,7 +52,7 @@ section_word part.InOut = codes "VAR_IN_OUT"
 section_word part.Static = codes "VAR"
 section_word part.Temp = codes "VAR_TEMP"
 
--- an elementary type
+-- how an elementary type is written
 unfoldable pub type_word : Simple → List ℕ
 type_word simple.Bool = codes "BOOL"
 type_word simple.Byte = codes "BYTE"
@@ -64,7 +64,7 @@ type_word simple.Dword = codes "DWORD"
 type_word simple.Dint = codes "DINT"
 type_word simple.Time = codes "TIME"
 
--- the type of a return value
+-- how the type of a return value is written; without one it is VOID
 abbrev pub result_word : Option Simple → List ℕ
 result_word None = codes "VOID"
 result_word (Some k) = type_word k
@@ -80,7 +80,7 @@ area_letters letters.L = codes "L"
 area_letters letters.Pi = codes "PI"
 area_letters letters.Pq = codes "PQ"
 
--- what stands for a bit behind them
+-- what stands for a bit behind the letters of an area: X in data blocks, and nothing elsewhere
 unfoldable pub bit_letter : Letters → List ℕ
 bit_letter letters.Db = codes "X"
 bit_letter letters.Di = codes "X"
@@ -109,7 +109,7 @@ numbered_letters numbered.Counter = codes "C"
 numbered_letters numbered.Db = codes "DB"
 numbered_letters numbered.Di = codes "DI"
 
--- a condition of the status word
+-- how a condition of the status word is written
 unfoldable pub flag_text : Flag → List ℕ
 flag_text flag.Br = codes "BR"
 flag_text flag.Ov = codes "OV"
@@ -122,7 +122,7 @@ flag_text flag.GeZero = codes ">=0"
 flag_text flag.LeZero = codes "<=0"
 flag_text flag.Uo = codes "UO"
 
--- and the kind of token that it is
+-- the kind of token that a condition of the status word is: a word or a sign word
 unfoldable pub flag_kind : Flag → TokenKind
 flag_kind flag.Br = kind.Word
 flag_kind flag.Ov = kind.Word
@@ -130,7 +130,7 @@ flag_kind flag.Os = kind.Word
 flag_kind flag.Uo = kind.Word
 flag_kind _ = kind.SignWord
 
--- a value of a bit
+-- how a value of a bit is written
 unfoldable pub truth_word : Bool → List ℕ
 truth_word true = codes "TRUE"
 truth_word false = codes "FALSE"

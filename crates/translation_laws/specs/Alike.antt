@@ -40,7 +40,8 @@ pub record IsOperandWordAsLocal (s e : List ℕ) (t u : Token) : Type 0 where
   pub operand :
       (is_some (operand_partner English (text_of s t)) ≡ true) ⊎ (is_some (operand_partner German (text_of s t)) ≡ true)
 
--- how a token in this role comes back
+-- a token t in this role comes back as the token u of the other source: as the same token, as the
+-- same word in other case, or as an operand word with `#` before it
 abbrev pub ComesBackInRole : (s e : List ℕ) → Role → Token → Token → Type 0
 ComesBackInRole s e role.Instruction t u = IsSameToken s e t u ⊎ IsSameWordButForCase s e t u
 ComesBackInRole s e role.Operand t u = IsSameToken s e t u ⊎ (IsSameWordButForCase s e t u × (is_some (operand_partner German (text_of s t)) ≡ true))
@@ -55,7 +56,7 @@ AreTokensAlike s e p before (t ∷ ts) (u ∷ us) =
     × AreTokensAlike s e (place_behind p before (class_in s t) (text_of s t) (next_class s ts)) (class_in s t) ts us
 AreTokensAlike s e p before _ _ = ⊥
 
--- such tokens have the same tree
+-- tokens that come back one by one, from the front of the source on, have the same tree as before
 abbrev pub TreesAlike : Type 0
 TreesAlike =
     (s e : List ℕ) (ts us : List Token) (t : Tree)

@@ -23,12 +23,14 @@ role_beside opens before word next =
     else (if is_operand_place before word next then role.Operand
     else (if opens || is_assign before then role.Path else role.Stays))
 
--- the same of any token: what is no word stays
+-- the role of any token behind the front of an instruction: what is no word stays; `opens` says
+-- that a path may begin here
 abbrev pub token_role : Bool → TokenClass → TokenClass → List ℕ → TokenClass → Role
 token_role opens before class.Word word next = role_beside opens before word next
 token_role opens before _ word next = role.Stays
 
--- tokens behind the front of an instruction: a path may begin at the first of them alone
+-- the roles of tokens behind the front of an instruction; `opens` says that a path may begin at the
+-- first of them, and at no later one but behind `:=`
 abbrev pub roles_beside : List ℕ → Bool → TokenClass → List Token → List Role
 roles_beside s opens before [] = []
 roles_beside s opens before (t ∷ ts) =
@@ -71,12 +73,12 @@ closing_roles s [] = []
 closing_roles s (t ∷ ts) =
     token_role true class.CloseParen (class_in s t) (text_of s t) (next_class s ts) ∷ roles_beside s (is_zone_end s t) (class_in s t) ts
 
--- a class is that of numbers, or of `)`
+-- a class is that of numbers
 abbrev pub is_number_class : TokenClass → Bool
 is_number_class class.Number = true
 is_number_class _ = false
 
--- a closing parenthesis
+-- a class is that of `)`
 abbrev pub is_closing_class : TokenClass → Bool
 is_closing_class class.CloseParen = true
 is_closing_class _ = false
@@ -134,7 +136,7 @@ abbrev pub is_body_end : TokenClass → List ℕ → Bool
 is_body_end class.Word word = is_word_in_list block_end_words word
 is_body_end c word = false
 
--- a statement begins with neither
+-- a statement begins with this token: it neither stands between statements nor ends the body
 abbrev pub begins_statement : List ℕ → List Token → Bool
 begins_statement s [] = true
 begins_statement s (t ∷ ts) =
@@ -171,12 +173,13 @@ pub record BodiesHaveRoles : Type 0 where
       (s : List ℕ) (before : TokenClass) (t : Token) (rest : List Token) → is_body_end (class_in s t) (text_of s t) ≡ true
       → roles_from s place.Start before (t ∷ rest) ≡ role.Stays ∷ roles_from s place.Outside (class_in s t) rest
 
--- the place behind a token outside of bodies: a word that opens a block of statements leads to its head, one that opens a body into it, and
--- one that opens a block of data out of the head
+-- the place behind a token outside of blocks of statements: a word that opens such a block leads to
+-- its head
 abbrev pub place_outside : TokenClass → TokenClass → List ℕ → Place
 place_outside before c word = if is_keyword_of code_openings before c word then place.Head else place.Outside
 
--- the place behind a token of a block's head
+-- the place behind a token of a block's head: a word that opens a body leads into it, and one that
+-- opens a block of data leads out of the head
 abbrev pub place_in_head : TokenClass → TokenClass → List ℕ → Place
 place_in_head before c word =
     if is_keyword_of begin_words before c word then place.Start
