@@ -169,7 +169,7 @@ IsCallOperand _ = ⊥
 
 -- what stands behind an instruction word
 pub data PrintedSyntax : Type 0 where
-  -- any operand but a label, a called block or that of OPN, or none
+  -- no operand, or one that is no label, no block that is called and no data block that is opened
   plain : PrintedSyntax
   -- a bracket or a zone, which has no operand
   bracket : PrintedSyntax
