@@ -169,12 +169,17 @@ IsCallOperand _ = ⊥
 
 -- what stands behind an instruction word
 pub data PrintedSyntax : Type 0 where
+  -- no operand, or one that is no label, no block that is called and no data block that is opened
   plain : PrintedSyntax
   -- a bracket or a zone, which has no operand
   bracket : PrintedSyntax
+  -- the label of a jump
   jump : PrintedSyntax
+  -- the data block of OPN
   opens : PrintedSyntax
+  -- the block of UC or CC
   block_call : PrintedSyntax
+  -- the block of CALL, with its actual parameters
   call : PrintedSyntax
   -- no statement of a listing
   empty : PrintedSyntax

@@ -151,11 +151,12 @@ HasPrintableTokens t = AllByRecursion IsPrintableBlock t.blocks
 
 -- ---- its text
 
--- each of its tokens stands where it is printed: it is the longest there, and breaks no rule
+-- each token of a printable tree stands where it is printed: it is the longest there, and breaks no
+-- rule
 abbrev pub DoTokensStand : Type 0
 DoTokensStand = (t : Tree) → HasPrintableTokens t → ArePiecesStanding false (pieces_of_tree t) (end_of_text t.blocks)
 
--- the text has just these tokens, with their kinds and bytes
+-- the text of a printable tree has just the tokens that are printed, with their kinds and bytes
 abbrev pub ArePrintedTokens : Type 0
 ArePrintedTokens =
     (t : Tree) → HasPrintableTokens t

@@ -177,8 +177,11 @@ marks_of is_meant labels links =
 
 -- the labels of all parameters, and which labels are INT or TIME
 pub record Chains : Type 0 where
+  -- of each parameter, by its number, the label that all have that a chain joins to it
   pub labels : List ℕ
+  -- of each label whether a chain joins it to an INT of a system function
   pub ints : List Bool
+  -- of each label whether a chain joins it to a TIME of a system function
   pub times : List Bool
 
 -- the chains of parameters with these labels, by links that say which are INT or TIME

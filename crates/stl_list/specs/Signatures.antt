@@ -14,8 +14,11 @@ use Rattle.stl_list.specs.Parameters.{name_of, section_of}
 -- same parameters by name, section and type
 pub record Signature : Type 0 where
   pub id : BlockId
+  -- how many bytes an instance of the block has
   pub instance_len : ℕ
+  -- the parameters with their places
   pub params : List Param
+  -- the same parameters, in the same order, by name, section and type
   pub formals : List Formal
 
 -- whether an IN_OUT of a function stands here or before. `returns`: the block is a function

@@ -18,9 +18,13 @@ use Rattle.stl_list.specs.Signatures.{Signature, formals_of_block}
 -- lines on which its statements stand, their offsets, and of each whether a jump leads to it
 pub record Surroundings : Type 0 where
   pub signatures : List Signature
+  -- the parameters of the block itself
   pub formals : List Formal
+  -- the lines of the statements, one for each
   pub lines : List ℕ
+  -- the offsets at which the statements begin
   pub starts : List ℕ
+  -- of each statement whether a jump leads to it
   pub targets : List Bool
 
 -- what the statements of a block refer to, where they stand on these lines

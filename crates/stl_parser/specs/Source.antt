@@ -77,8 +77,11 @@ IsBrokenAt source p tokens last fault.NoMemory = Unit {0}
 -- this one in this line; all the clauses before it are right
 pub record BreaksClauseRuleBehind (source : List ℕ) (p : ClausePlace) (tokens : List Token)
     (last line rule : ℕ) : Type 0 where
+  -- the right clauses in front of the one that breaks the rule
   pub before : List Clause
+  -- where the clause that breaks the rule stands
   pub at : ClausePlace
+  -- the tokens from that clause on
   pub rest : List Token
   pub reads : ReadsClauses source p tokens before at rest
   pub breaks : BreaksClauseRule source at rest last line rule
@@ -104,6 +107,7 @@ AreClauses source tokens clauses = ReadsClauses source place.Outside tokens clau
 -- place `q`, and `kept` are those of them that a tree keeps
 pub record ReadsKeptClauses (source : List ℕ) (p : ClausePlace) (tokens : List Token)
     (kept : List Clause) (q : ClausePlace) (rest : List Token) : Type 0 where
+  -- all the clauses, also those that no tree keeps
   pub clauses : List Clause
   pub reads : ReadsClauses source p tokens clauses q rest
   pub those : kept ≡ filter is_kept_by_tree clauses
