@@ -34,7 +34,7 @@ pub record BlockSignature : Type 0 where
   pub instance_len : ℕ
   pub params : List ParameterRecord
 
--- of a code block a call sees neither its local bytes nor its ops nor their lines
+-- what a CALL sees of a code block: neither its local bytes nor its ops nor their lines
 abbrev pub signature_of : BlockRecord → BlockSignature
 signature_of b = record { kind = b.kind; number = b.number; instance_len = b.instance_len; params = b.params }
 
@@ -49,7 +49,7 @@ pub record Environment : Type 0 where
 
 -- ---- what is called
 
--- the parameters of the system functions: IN and OUT by width, RET_VAL last
+-- an IN parameter of a system function, by its width; it has no place, so byte and bit are 0
 abbrev pub in_record : Width → ParameterRecord
 in_record width = record { section = section_in; width = width_number width; byte = 0; bit = 0 }
 
@@ -74,49 +74,52 @@ system_params n =
     else if n == 64 then Some (out_record width.Dword ∷ [])
     else None
 
--- what is called: its kind, the bytes of an instance, the parameters
+-- what is called, as a CALL sees it: its kind (2 FC, 3 FB, 5 SFC), the bytes of an instance, the
+-- parameters
 abbrev pub CalleeSeen : Type 0
 CalleeSeen = ℕ × ℕ × List ParameterRecord
 
--- the first block of a kind and number
+-- the first block of a kind (2 FC, 3 FB) and number, as a CALL sees it
 abbrev pub block_with : ℕ → ℕ → List BlockSignature → Option CalleeSeen
 block_with kind number [] = None
 block_with kind number (b ∷ bs) = if b.kind == kind && b.number == number then Some (b.kind, b.instance_len, b.params) else block_with kind number bs
 
--- as a callee an SFC has no instance bytes
+-- an SFC with these parameters, as a CALL sees it: it has no instance bytes
 abbrev pub callee_of_system : List ParameterRecord → CalleeSeen
 callee_of_system params = (kind_number kinds.Sfc, 0, params)
 
--- the block that is called: a system function, or one of the program
+-- the block that is called, by kind and number: a system function (kind 5), or one of the program
 unfoldable pub callee_among : List BlockSignature → ℕ → ℕ → Option CalleeSeen
 callee_among blocks kind number = if kind == kind_number kinds.Sfc then option_map callee_of_system (system_params number) else block_with kind number blocks
 
--- the length of the first data block of a number
+-- the length in bytes of the first data block of a number, among numbers and lengths
 abbrev pub length_of_data : ℕ → List (ℕ × ℕ) → Option ℕ
 length_of_data number [] = None
 length_of_data number (d ∷ ds) = if d.0 == number then Some d.1 else length_of_data number ds
 
 -- ---- operands
 
--- a bit number where no bit is meant
+-- whether a bit number other than 0 stands with a width where no bit is meant
 abbrev pub is_odd_bit : Width → ℕ → Bool
 is_odd_bit width.Bit bit = false
 is_odd_bit w bit = not (bit == 0)
 
--- a local byte past those of the block
+-- whether a place in L reaches past the local bytes of the block
 abbrev pub is_past_locals : Environment → Area → Width → ℕ → Bool
 is_past_locals around area.L w byte = nat_lt around.local_len (byte + byte_count w)
 is_past_locals around a w byte = false
 
--- a direct place that isn't allowed with any instruction
+-- whether a direct place is fault 7 with any instruction: a bit number where no bit is meant, or a
+-- local place past the local bytes
 abbrev pub is_bad_place : Environment → Area → Width → ℕ → ℕ → Bool
 is_bad_place around a w byte bit = is_odd_bit w bit || is_past_locals around a w byte
 
--- a width that the instruction doesn't have
+-- whether the instruction of an op doesn't have a width in memory
 abbrev pub lacks_width : OpData → Width → Bool
 lacks_width op w = not (has_memory_width (takes_of op.code) w)
 
--- the instructions that write their operand, whose codes stand together: T, =, S, R, FP, FN
+-- whether an op code is one of the instructions that write their operand: T, =, S, R, FP, FN, whose
+-- codes stand together
 abbrev pub writes_operand : ℕ → Bool
 writes_operand code = nat_le (op_code_of operation.Transfer) code && nat_le code (op_code_of (operation.Edge false))
 
@@ -124,47 +127,51 @@ writes_operand code = nat_le (op_code_of operation.Transfer) code && nat_le code
 abbrev pub parameter_meant : Environment → ℕ → Option ParameterRecord
 parameter_meant around index = if around.kind == kind_number kinds.Fc then slice_get around.params index else None
 
--- an operand of form 05 whose parameter isn't there, or has another width
+-- whether a parameter that an operand means isn't there (None), or has another width
 abbrev pub lacks_own_parameter : Option ParameterRecord → Width → Bool
 lacks_own_parameter None w = true
 lacks_own_parameter (Some p) w = not (p.width == width_number w)
 
--- an IN parameter, if there is one; a function doesn't write it, nor pass it for OUT or IN_OUT
+-- whether a parameter is there and is IN; a function doesn't write such one, nor pass it for OUT or
+-- IN_OUT
 abbrev pub is_in_parameter : Option ParameterRecord → Bool
 is_in_parameter None = false
 is_in_parameter (Some p) = p.section == section_in
 
 -- ---- USEDB and PASS
 
--- USEDB opens the block of a direct operand in DB
+-- whether an operand is a direct place in DB, before which USEDB may open a data block
 abbrev pub is_in_db : Operand → Bool
 is_in_db (operand.Direct area.Db w byte bit) = true
 is_in_db _ = false
 
--- a USEDB that isn't first, or whose statement has no such operand
+-- whether a USEDB isn't the first op of its statement, or the last op there has no direct place in
+-- DB
 abbrev pub is_stray_use_db : PlacedOp → Bool
 is_stray_use_db p = not (begins_its_statement p) || not (is_in_db (last_op p).operand)
 
--- the index of a PASS
+-- the index of the parameter for which an operand of PASS passes; None for other operands
 abbrev pub pass_index : Operand → Option ℕ
 pass_index (operand.Pass index actual) = Some index
 pass_index _ = None
 
--- the index of the PASS next before, behind an index found so far
+-- the index of the last PASS among ops; `found` where there is none
 abbrev pub pass_before : Option ℕ → List OpData → Option ℕ
 pass_before found [] = found
 pass_before found (op ∷ ops) = pass_before (first_found (pass_index op.operand) found) ops
 
--- an index above that of the PASS before; where none stands before (None), each is
+-- whether the index of a PASS is above that of the PASS before; where none stands before (None), it
+-- is
 abbrev pub is_above : ℕ → Option ℕ → Bool
 is_above index None = true
 is_above index (Some other) = nat_lt other index
 
--- a PASS without a CALL, or whose index doesn't rise
+-- whether a PASS stands in a statement that doesn't end by CALL, or its index doesn't rise
 abbrev pub is_stray_pass : PlacedOp → ℕ → Bool
 is_stray_pass p index = not ((last_op p).code == op_code_of (operation.Call calls.Call)) || not (is_above index (pass_before None p.before))
 
--- what is passed, by itself: as operands are
+-- whether what a PASS passes has a fault by itself, whatever its parameter: that of such an
+-- operand; only a place in DB is named by its data block
 abbrev pub is_bad_actual : Environment → Passed → Bool
 is_bad_actual around (passed.Literal value) = false
 is_bad_actual around (passed.Direct a w byte bit) = is_bad_place around a w byte bit
@@ -172,7 +179,7 @@ is_bad_actual around (passed.Parameter index w) = lacks_own_parameter (parameter
 is_bad_actual around (passed.InBlock number area.Db w byte bit) = is_odd_bit w bit
 is_bad_actual around (passed.InBlock number a w byte bit) = true
 
--- whether a literal fits a width
+-- whether a literal fits a width by its number: 1 bit, 2 byte, 3 word, 4 double word
 abbrev pub literal_fits : ℕ → ℕ → Bool
 literal_fits number value =
     if number == width_number width.Bit then nat_le value 1
@@ -180,98 +187,105 @@ literal_fits number value =
     else if number == width_number width.Word then nat_le value 0xFFFF
     else number == width_number width.Dword
 
--- what is passed doesn't fit its parameter: another width, a literal for OUT or IN_OUT or too wide, an
--- input of a function for OUT or IN_OUT
+-- whether what is passed doesn't fit its parameter `q`: another width, a literal for OUT or IN_OUT
+-- or one too wide, an input of the calling function for OUT or IN_OUT
 abbrev pub misfits_parameter : Environment → ParameterRecord → Passed → Bool
 misfits_parameter around q (passed.Literal value) = not (q.section == section_in) || not (literal_fits q.width value)
 misfits_parameter around q (passed.Direct a w byte bit) = not (q.width == width_number w)
 misfits_parameter around q (passed.Parameter index w) = not (q.width == width_number w) || not (q.section == section_in) && is_in_parameter (parameter_meant around index)
 misfits_parameter around q (passed.InBlock number a w byte bit) = not (q.width == width_number w)
 
--- a parameter that the called block lacks (None), or that what is passed doesn't fit
+-- whether the called block lacks the parameter (None), or what is passed doesn't fit it
 abbrev pub misfits_index : Environment → Option ParameterRecord → Passed → Bool
 misfits_index around None actual = true
 misfits_index around (Some q) actual = misfits_parameter around q actual
 
--- a block that is absent is a fault of the CALL, not of its PASS
+-- whether what is passed doesn't fit the parameter of an index of what is called; where that is
+-- absent (None) the fault is one of the CALL, not of its PASS
 abbrev pub misfits_callee : Environment → Option CalleeSeen → ℕ → Passed → Bool
 misfits_callee around None index actual = false
 misfits_callee around (Some s) index actual = misfits_index around (slice_get s.2 index) actual
 
--- what is passed to the block that a CALL calls
+-- whether what is passed for an index doesn't fit the block that the operand of a CALL calls
 abbrev pub misfits_call : Environment → Operand → ℕ → Passed → Bool
 misfits_call around (operand.Called kind number instance) index actual = misfits_callee around (callee_among around.blocks kind number) index actual
 misfits_call around _ index actual = false
 
 -- ---- CALL, UC, CC
 
--- whether the index that an op passes is this one; an op that is no PASS passes none
+-- whether the index for which an op passes is this one; an op that is no PASS (None) passes none
 abbrev pub is_index : ℕ → Option ℕ → Bool
 is_index index None = false
 is_index index (Some other) = other == index
 
--- whether a PASS of an index is among ops
+-- whether a PASS for the parameter of an index is among ops
 abbrev pub is_passed : ℕ → List OpData → Bool
 is_passed index [] = false
 is_passed index (op ∷ ops) = is_index index (pass_index op.operand) || is_passed index ops
 
--- whether each parameter from an index on is passed
+-- whether each parameter from an index on is passed by a PASS among ops
 abbrev pub are_all_passed : ℕ → List ParameterRecord → List OpData → Bool
 are_all_passed index [] ops = true
 are_all_passed index (p ∷ ps) ops = is_passed index ops && are_all_passed (suc index) ps ops
 
--- an instance that is absent or shorter than the function block's
+-- whether an instance data block is absent (None) or has fewer bytes than the function block needs
 abbrev pub is_short_instance : ℕ → Option ℕ → Bool
 is_short_instance needed None = true
 is_short_instance needed (Some len) = nat_lt len needed
 
--- no instance (0) is right where the block has no parameters; one is given to function blocks alone
+-- whether the instance of a call, by its data block's number, isn't right: none (0) is right where
+-- the block has no parameters; one is given to function blocks alone, and is there and long enough
 abbrev pub is_bad_instance : List (ℕ × ℕ) → CalleeSeen → ℕ → Bool
 is_bad_instance data_lens s instance =
     if s.0 == kind_number kinds.Fb then (if instance == 0 then not (is_empty_list s.2) else is_short_instance s.1 (length_of_data instance data_lens))
     else not (instance == 0)
 
--- absent; a function or system function whose parameters aren't all passed; the instance
+-- whether a call is fault 7: what is called is absent (None), a function or system function isn't
+-- passed all its parameters, or the instance isn't right; `before`: the ops of the statement before
+-- the call
 abbrev pub is_bad_call : List (ℕ × ℕ) → Option CalleeSeen → ℕ → List OpData → Bool
 is_bad_call data_lens None instance before = true
 is_bad_call data_lens (Some s) instance before = not (s.0 == kind_number kinds.Fb) && not (are_all_passed 0 s.2 before) || is_bad_instance data_lens s instance
 
 -- ---- jumps
 
--- equally many open brackets, with the same op codes (18 to 1D) in the same order
+-- equally many open brackets, with the same op codes (16#18 to 16#1D, A( to XN() in the same order
 abbrev pub are_same_codes : List ℕ → List ℕ → Bool
 are_same_codes [] [] = true
 are_same_codes [] (y ∷ ys) = false
 are_same_codes (x ∷ xs) [] = false
 are_same_codes (x ∷ xs) (y ∷ ys) = x == y && are_same_codes xs ys
 
--- JU, which alone stands in the list of a JL
+-- whether an operand is that of JU (a jump of kind 0), which alone stands in the list of a JL
 abbrev pub is_ju_operand : Operand → Bool
 is_ju_operand (operand.Jump zero target) = true
 is_ju_operand _ = false
 
--- whether from an offset on at most so many JU stand before a target
+-- whether from the offset `from` on at most `most` JU, and nothing else, stand before the target
 abbrev pub leads_to_target : ℕ → ℕ → ℕ → List OpData → Bool
 leads_to_target most target from [] = from == target
 leads_to_target zero target from (op ∷ ops) = from == target
 leads_to_target (suc most) target from (op ∷ ops) = from == target || is_ju_operand op.operand && leads_to_target most target (from + size_of_op op) ops
 
--- JL: its target stands behind it, and between are at most 255 JU alone
+-- whether a JL's target doesn't stand behind it, with at most 255 JU and nothing else between; a
+-- jump of another kind has no list
 abbrev pub is_bad_list : PlacedOp → ℕ → ℕ → Bool
 is_bad_list p kind target = kind == jump_number jump.Jl && not (leads_to_target 255 target (p.at + size_of_op p.op) p.rest)
 
--- other brackets stand open at the target. (Where more than seven stand open at the jump, an earlier op
--- has fault 8, and no comparison is needed.)
+-- whether other brackets stand open at the target than at the jump; None: more than seven are open,
+-- and where that is so at the jump an earlier op has fault 8, and no comparison is needed
 abbrev pub are_other_brackets : Option (List ℕ) → Option (List ℕ) → Bool
 are_other_brackets None others = false
 are_other_brackets (Some codes) None = true
 are_other_brackets (Some codes) (Some others) = not (are_same_codes codes others)
 
--- 8: other brackets, or another number of zones, stand open at the target than at the jump
+-- 8: other brackets, or another number of zones, stand open at the target of a jump than at the
+-- jump
 abbrev pub nesting_fault : Option (List ℕ) → ℕ → StatementSpot → Option ℕ
 nesting_fault codes zones there = if are_other_brackets codes there.codes || not (zones == there.zones) then Some 8 else None
 
--- 6: no statement begins at the target, or a JL's list
+-- the fault of a jump by the statement at its target: 6 where none begins there, 8 where other
+-- brackets or another number of zones stand open
 abbrev pub target_fault : Option (List ℕ) → ℕ → Option StatementSpot → Option ℕ
 target_fault codes zones None = Some 6
 target_fault codes zones (Some there) = nesting_fault codes zones there
@@ -282,11 +296,11 @@ jump_fault statements p kind target = if is_bad_list p kind target then Some 6 e
 
 -- ---- ops
 
--- 7
+-- the fault 7, of an operand, where a test holds
 abbrev pub seven_if : Bool → Option ℕ
 seven_if b = if b then Some 7 else None
 
--- what only needs the own block
+-- the fault of an op's operand that needs only its own block: 7, and for a jump 6 or 8
 abbrev pub operand_fault : Environment → List StatementSpot → PlacedOp → Operand → Option ℕ
 operand_fault around statements p (operand.Direct a w byte bit) = seven_if (lacks_width p.op w || is_bad_place around a w byte bit)
 operand_fault around statements p (operand.ByMemory a w from byte) = seven_if (lacks_width p.op w)
@@ -297,7 +311,8 @@ operand_fault around statements p (operand.UseDb number) = seven_if (is_stray_us
 operand_fault around statements p (operand.Pass index actual) = seven_if (is_stray_pass p index || is_bad_actual around actual)
 operand_fault around statements p _ = None
 
--- what needs the other blocks
+-- the fault 7 of an op that needs the other blocks: of what is called, and of what a PASS passes to
+-- it
 abbrev pub call_fault_among : Environment → List (ℕ × ℕ) → PlacedOp → Operand → Option ℕ
 call_fault_among around data_lens p (operand.Called kind number instance) = seven_if (is_bad_call data_lens (callee_among around.blocks kind number) instance p.before)
 call_fault_among around data_lens p (operand.Pass index actual) = seven_if ((last_op p).code == op_code_of (operation.Call calls.Call) && misfits_call around (last_op p).operand index actual)
@@ -308,29 +323,31 @@ abbrev pub call_fault : Environment → Option (List (ℕ × ℕ)) → PlacedOp 
 call_fault around None p = None
 call_fault around (Some data_lens) p = call_fault_among around data_lens p p.op.operand
 
--- 7: USEDB and PASS prepare, and have no end mark; every other op has it
+-- whether an op code is one of USEDB and PASS, which prepare a statement and have no end mark;
+-- every other op has it
 abbrev pub prepares_statement : ℕ → Bool
 prepares_statement code = code == op_code_of operation.UseDb || code == op_code_of operation.Pass
 
--- the fault of an end mark on USEDB or PASS, and of another op that has none
+-- the fault 7 of an end mark on USEDB or PASS, and of another op that has none
 abbrev pub mark_fault : OpData → Option ℕ
 mark_fault op = seven_if (if prepares_statement op.code then op.last else not op.last)
 
--- 8: `)` without open bracket, an eighth bracket
+-- the fault 8 of an op's bracket: `)` without open bracket, or an eighth open bracket
 abbrev pub bracket_fault : ℕ → List OpenBracket → Option ℕ
 bracket_fault code brackets =
     if is_opening code then (if nat_le most_brackets (length brackets) then Some 8 else None)
     else if code == op_code_of operation.Unnest then (if is_empty_list brackets then Some 8 else None)
     else None
 
--- 8: `)MCR` without open zone, a ninth zone
+-- the fault 8 of an op's zone of the master control relay: `)MCR` without open zone, or a ninth
+-- open zone
 abbrev pub zone_fault : ℕ → List ℕ → Option ℕ
 zone_fault code zones =
     if code == op_code_of (operation.Relay relay.Open) then (if nat_le most_zones (length zones) then Some 8 else None)
     else if code == op_code_of (operation.Relay relay.Close) then (if is_empty_list zones then Some 8 else None)
     else None
 
--- at an offset
+-- a fault by its code, if there is one, with the offset at which it is
 abbrev pub at_offset : ℕ → Option ℕ → List (ℕ × ℕ)
 at_offset at None = []
 at_offset at (Some code) = (at, code) ∷ []
@@ -345,17 +362,17 @@ op_faults around statements start p =
     ++ at_offset (start + p.at) (bracket_fault p.op.code p.brackets)
     ++ at_offset (start + p.at) (zone_fault p.op.code p.zones)
 
--- the faults of ops one behind the other; all are listed, whichever is told in the end
+-- the faults of ops one behind the other, in code that begins at the offset `start`
 abbrev pub faults_over : Environment → List StatementSpot → ℕ → List PlacedOp → List (ℕ × ℕ)
 faults_over around statements start [] = []
 faults_over around statements start (p ∷ rest) = op_faults around statements start p ++ faults_over around statements start rest
 
--- 8: a bracket that is open at the last statement, at its own op
+-- the fault 8 of each bracket that is open behind the last op, at the op that opens it
 abbrev pub open_faults : ℕ → List OpenBracket → List (ℕ × ℕ)
 open_faults start [] = []
 open_faults start (b ∷ bs) = (start + b.at, 8) ∷ open_faults start bs
 
--- 8: a zone that is open at the last statement, at its own `MCR(`
+-- the fault 8 of each zone that is open behind the last op, at its own `MCR(`
 abbrev pub open_zone_faults : ℕ → List ℕ → List (ℕ × ℕ)
 open_zone_faults start [] = []
 open_zone_faults start (at ∷ zones) = (start + at, 8) ∷ open_zone_faults start zones

@@ -6,7 +6,7 @@ use Rattle.flat_code.specs.declared.operations.Operation.TheVariants as operatio
 use Rattle.flat_code.specs.declared.operations.EndOperation.TheVariants as ends_by
 use Rattle.flat_code.specs.Layout.{Cursor, ReadResult, Layout, reading_ended, reading_given}
 
--- the ops that bytes begin with, one behind the other, and what is left; each op takes a byte at least
+-- an op in front of ops that were read and of the bytes that are left behind them
 abbrev pub cons_op : OpData → List OpData × List ℕ → List OpData × List ℕ
 cons_op op r = (op ∷ r.0, r.1)
 
@@ -15,12 +15,13 @@ abbrev pub ops_next : Option (OpData × List ℕ) → List ℕ → (List ℕ →
 ops_next None bytes more = ([], bytes)
 ops_next (Some r) bytes more = cons_op r.0 (more r.1)
 
--- at most n ops; the number of the bytes is enough, then what is left begins no op
+-- at most n ops that bytes begin with, and what is left; where n is the number of the bytes, what
+-- is left begins no op
 abbrev pub ops_from : ℕ → List ℕ → List OpData × List ℕ
 ops_from zero bytes = ([], bytes)
 ops_from (suc n) bytes = ops_next (op_at bytes) bytes (λ rest. ops_from n rest)
 
--- each is an op of the table: a code below 16#80, an operand that it takes, in range
+-- whether each op is one of the table: a code below 16#80, an operand that it takes, in range
 abbrev pub are_ops : List OpData → Bool
 are_ops [] = true
 are_ops (op ∷ ops) = is_op op.code op.operand && are_ops ops
@@ -29,7 +30,7 @@ are_ops (op ∷ ops) = is_op op.code op.operand && are_ops ops
 unfoldable pub size_of_op : OpData → ℕ
 size_of_op op = length (op_bytes op)
 
--- the code as an image has it: the bytes of each op, one behind the other
+-- the bytes of ops one behind the other, as the code of an image has them
 abbrev pub code_bytes : List OpData → List ℕ
 code_bytes [] = []
 code_bytes (op ∷ ops) = op_bytes op ++ code_bytes ops
@@ -40,42 +41,46 @@ ends_by_be [] = false
 ends_by_be (op ∷ []) = op.code == code_of_operation (operation.End ends_by.Be) && op.last
 ends_by_be (op ∷ others) = ends_by_be others
 
--- the offset of the last op, behind ops that end at an offset
+-- the offset of the last of ops, the first of which begins at the offset `at`; `at` where there are
+-- none
 abbrev pub last_place : ℕ → List OpData → ℕ
 last_place at [] = at
 last_place at (op ∷ []) = at
 last_place at (op ∷ others) = last_place (at + size_of_op op) others
 
--- a statement has at most 64 ops
+-- how many ops a statement has at most: 64
 abbrev pub most_ops : ℕ
 most_ops = 64
 
--- the offset of the first op that is the 65th of its statement, behind so many ops of the statement
+-- the offset of the first op that is the 65th of its statement; `count`: how many ops of the
+-- statement stand before the first of these, `at`: the offset of this
 abbrev pub overlong_statement : ℕ → ℕ → List OpData → Option ℕ
 overlong_statement count at [] = None
 overlong_statement count at (op ∷ ops) = if count == most_ops then Some at else overlong_statement (if op.last then 0 else suc count) (at + size_of_op op) ops
 
--- the left one, if there is one, else the right one
+-- the left one of two offsets, if there is one, else the right one
 abbrev pub first_found : Option ℕ → Option ℕ → Option ℕ
 first_found None other = other
 first_found (Some at) other = Some at
 
--- something where it is checked
+-- an offset or a fault that was found; none where it isn't checked (false)
 abbrev pub if_checked : Bool → Option ℕ → Option ℕ
 if_checked true found = found
 if_checked false found = None
 
--- 5: the 65th op of a statement; bytes that begin no op; ops of which the last isn't BE with the end
--- mark (where there is none, the place where it would begin)
+-- the offset at which reading code ends by fault 5: the 65th op of a statement; bytes that begin no
+-- op; ops of which the last isn't BE with the end mark (0 where there is none); with false only the
+-- second
 abbrev pub stop_at : Bool → List OpData → List ℕ → Option ℕ
 stop_at with_code_faults ops [] = first_found (if_checked with_code_faults (overlong_statement 0 0 ops)) (if_checked with_code_faults (if ends_by_be ops then None else Some (last_place 0 ops)))
 stop_at with_code_faults ops (byte ∷ left) = first_found (if_checked with_code_faults (overlong_statement 0 0 ops)) (Some (length (code_bytes ops)))
 
--- the fault 5 of the code of a block
+-- the offset in its code of the fault 5 of a block's ops; None where they have none
 abbrev pub code_fault : List OpData → Option ℕ
 code_fault ops = stop_at true ops []
 
--- the code field: ops of these many bytes
+-- what reading a code field at offset `at` gives: these ops, or the end by fault 5 at an offset in
+-- it
 abbrev pub read_ops : Option ℕ → ℕ → List OpData → Cursor → ReadResult (List OpData)
 read_ops None at ops end = reading_given ops end
 read_ops (Some offset) at ops end = reading_ended (at + offset) 5
@@ -90,7 +95,7 @@ read_code with_code_faults n cur =
     if nat_lt (length cur.rest) n then reading_ended cur.at 3
     else ops_read with_code_faults cur.at (ops_from n (take n cur.rest)) (record { at = cur.at + n; rest = drop n cur.rest })
 
--- no offset was found, so there is no fault 5
+-- whether no offset was found (None), so that there is no fault 5
 abbrev pub is_nowhere : Option ℕ → Bool
 is_nowhere None = true
 is_nowhere (Some at) = false

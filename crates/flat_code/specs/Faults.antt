@@ -13,23 +13,24 @@ use Rattle.flat_code.specs.Stamps.{profile_number}
 use Rattle.flat_code.specs.declared.image_fields.Field.{Field}
 use Rattle.flat_code.specs.declared.image_fields.Field.TheVariants as field
 
--- a fault unless a test is met
+-- the fault of a code unless a test is met
 abbrev pub fault_unless_met : Bool → ℕ → Option ℕ
 fault_unless_met fine code = if fine then None else Some code
 
--- a number from low to high, both included
+-- whether a number is from low to high, both included
 abbrev pub is_in_range : ℕ → ℕ → ℕ → Bool
 is_in_range low high n = nat_le low n && nat_le n high
 
--- the organization blocks that there are
+-- whether a number is that of an organization block that there is
 abbrev pub is_existing_ob : ℕ → Bool
 is_existing_ob n = n == 1 || is_in_range 10 17 n || is_in_range 20 23 n || is_in_range 30 38 n || is_in_range 40 47 n || n == 80 || n == 85 || n == 100 || n == 121 || n == 122
 
--- the numbers of the code blocks of a kind
+-- whether a kind of code block has a number: an OB that there is, an FC or FB 0 to 2,047
 abbrev pub has_number : ℕ → ℕ → Bool
 has_number kind n = if kind == kind_number kinds.Ob then is_existing_ob n else nat_le n 2047
 
--- a parameter of a function block lies within the instance, one of another block has no place
+-- whether a parameter's place is right, by kind, instance bytes, number of the width and byte: in a
+-- function block it lies within the instance, in another block it has none (0)
 abbrev pub holds_parameter : ℕ → ℕ → ℕ → ℕ → Bool
 holds_parameter kind instance width byte =
     if kind == kind_number kinds.Fb then nat_le (byte + byte_count (width_of_number width)) instance else byte == 0
@@ -65,23 +66,24 @@ field_fault (field.NameBit width bit) = fault_unless_met (nat_le bit 7 && (width
 field_fault (field.StatementCount end_marks count) = fault_unless_met (end_marks == count) 9
 field_fault (field.Line before line) = fault_unless_met (not (line == 0) && nat_le before line) 9
 
--- the order of names: by bytes, a name before those that it begins
+-- whether a name stands before another one: by bytes, a name before those that it begins
 abbrev pub is_earlier_name : List ℕ → List ℕ → Bool
 is_earlier_name _ [] = false
 is_earlier_name [] (y ∷ ys) = true
 is_earlier_name (x ∷ xs) (y ∷ ys) = nat_lt x y || x == y && is_earlier_name xs ys
 
--- no lower-case letter of ASCII
+-- whether a name has no lower-case letter of ASCII, a (97) to z (122)
 abbrev pub is_upper : List ℕ → Bool
 is_upper [] = true
 is_upper (x ∷ xs) = not (is_in_range 97 122 x) && is_upper xs
 
--- whether the last byte is a blank
+-- whether the last byte of a name is a blank (32)
 abbrev pub ends_blank : List ℕ → Bool
 ends_blank [] = false
 ends_blank (x ∷ []) = x == 32
 ends_blank (x ∷ xs) = ends_blank xs
 
--- 4: a name rises from the name before it, has no lower-case letter, and no blank at its end
+-- the fault 4 of a name: it rises from the name before it, has no lower-case letter, and no blank
+-- at its end
 unfoldable pub name_fault : List ℕ → List ℕ → Option ℕ
 name_fault before name = fault_unless_met (is_earlier_name before name && is_upper name && not (ends_blank name)) 4

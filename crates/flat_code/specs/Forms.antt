@@ -23,7 +23,7 @@ area_code a = 128 + area_number a
 abbrev pub area_of_code : ℕ → Option Area
 area_of_code n = if nat_lt n 128 then None else area_numbered (n - 128)
 
--- the width that a byte names
+-- the width that a byte names: 1 bit, 2 byte, 3 word, 4 double word
 abbrev pub width_of_code : ℕ → Option Width
 width_of_code n =
     if n == 1 then Some width.Bit
@@ -32,7 +32,7 @@ width_of_code n =
     else if n == 4 then Some width.Dword
     else None
 
--- the kind of block that a byte names; the kinds without a number have none
+-- the kind of block that a byte names: 1 OB, 2 FC, 3 FB, 5 SFC; other bytes name none
 abbrev pub kind_of_code : ℕ → Option BlockKind
 kind_of_code n =
     if n == 1 then Some kind.Ob
@@ -41,7 +41,7 @@ kind_of_code n =
     else if n == 5 then Some kind.Sfc
     else None
 
--- a width that may be missing: without one, a bit
+-- a width that may be missing; a bit where it is
 abbrev pub or_bit : Option Width → Width
 or_bit None = width.Bit
 or_bit (Some w) = w
@@ -50,16 +50,17 @@ or_bit (Some w) = w
 abbrev pub width_of_number : ℕ → Width
 width_of_number n = or_bit (width_of_code n)
 
--- areas, and those of them that a form takes
+-- an area byte, 16#80 P to 16#86 L
 abbrev pub any_area_coding : Coding Area
 any_area_coding = byte_coding area_code area_of_code
 
--- all but peripherals
+-- whether an area is any but peripherals
 abbrev pub is_memory_area : Area → Bool
 is_memory_area area.P = false
 is_memory_area _ = true
 
--- where a pointer may stand
+-- whether a pointer, or the number of a timer, counter or data block, may stand in an area: M, DB,
+-- DI, L
 abbrev pub holds_pointers : Area → Bool
 holds_pointers area.M = true
 holds_pointers area.Db = true
@@ -67,16 +68,17 @@ holds_pointers area.Di = true
 holds_pointers area.L = true
 holds_pointers _ = false
 
--- 0 for area-crossing, or an area but peripherals
+-- the area byte of form 04: 0 for none (area-crossing), or 16#80 and the number of the area
 abbrev pub crossing_code : Option Area → ℕ
 crossing_code None = 0
 crossing_code (Some a) = area_code a
 
--- 0 is no area (that of the pointer counts), 16#80 to 16#86 are areas; None for other bytes
+-- the area that an area byte of form 04 names: 0 is none (that of the pointer counts), 16#80 to
+-- 16#86 are areas; None for other bytes
 abbrev pub crossing_of_code : ℕ → Option (Option Area)
 crossing_of_code n = if n == 0 then Some None else option_map Some (area_of_code n)
 
--- what form 04 takes: no area, or any but peripherals
+-- whether form 04 takes an area: none (area-crossing), or any but peripherals
 abbrev pub is_crossing_area : Option Area → Bool
 is_crossing_area None = true
 is_crossing_area (Some a) = is_memory_area a
@@ -89,15 +91,15 @@ crossing_area_coding = such_that is_crossing_area (byte_coding crossing_code cro
 abbrev pub width_coding : Coding Width
 width_coding = byte_coding width_number width_of_code
 
--- 2 FC, 3 FB, 5 SFC
+-- whether the number of a kind is one of blocks that are called: 2 FC, 3 FB, 5 SFC
 abbrev pub is_callable_number : ℕ → Bool
 is_callable_number n = n == 2 || n == 3 || n == 5
 
--- the kind byte of a call; that of an OB (1) can't be read
+-- the kind byte of a call: 2 FC, 3 FB, 5 SFC; another, as that of an OB (1), can't be read
 abbrev pub callable_coding : Coding ℕ
 callable_coding = such_that is_callable_number u8
 
--- the payloads, in the order of the table of forms
+-- the payload of form 01: a literal, as a number of four bytes
 abbrev pub literal_coding : Coding ℕ
 literal_coding = u32
 
@@ -161,11 +163,11 @@ open_by_coding = then_coding (range_coding 1 2) (then_coding pointer_area_coding
 abbrev pub in_block_coding : Coding (ℕ × (Area × (Width × (ℕ × ℕ))))
 in_block_coding = then_coding u16 direct_coding
 
--- what a payload reads as
+-- a payload by its coding, made into an operand or into what is passed
 abbrev pub read_as : {A B : Type 0} → (A → B) → Coding A → List ℕ → Option (B × List ℕ)
 read_as make c bytes = option_map (λ r. (make r.0, r.1)) (c.read bytes)
 
--- what a CALL passes: a form byte and its payload
+-- whether each number of what a CALL passes is in the range of its form
 abbrev pub actual_fits : Passed → Bool
 actual_fits (passed.Literal value) = literal_coding.fits value
 actual_fits (passed.Direct area width byte bit) = direct_coding.fits (area, (width, (byte, bit)))
@@ -204,11 +206,12 @@ passed_coding = record { fits = actual_fits; spell = actual_spelled; read = pass
 abbrev pub pass_coding : Coding (ℕ × Passed)
 pass_coding = then_coding u8 passed_coding
 
--- an op of form 0B behind its first byte
+-- the bytes of an op of form 0B (11) behind its first byte: index of the parameter, and what is
+-- passed
 abbrev pub pass_bytes : ℕ → Passed → List ℕ
 pass_bytes index passed = 11 ∷ pass_coding.spell (index, passed)
 
--- the form of an operand, and its byte
+-- the form of an operand, which is the second byte of an op
 abbrev pub form_of_operand : Operand → ℕ
 form_of_operand operand.Nothing = 0
 form_of_operand (operand.Literal value) = 1

@@ -20,7 +20,7 @@ use Rattle.flat_code.specs.declared.stamps.Stamp.{Stamp}
 use Rattle.flat_code.specs.Layout.{Note, Faulty, Whole, AllBlocks, Cursor, ReadResult, Layout, reading_ended, bind_reading, field_layout, chain_layout, checked_layout, located_layout, list_layout, seen_as, noted_layout}
 use Rattle.flat_code.specs.Codes.{code_bytes, code_layout, if_checked}
 
--- a field that is checked later, or not at all
+-- the faults of a field that is checked later, or not at all: none, whatever its number
 abbrev pub no_fault : ℕ → Option ℕ
 no_fault n = None
 
@@ -53,11 +53,13 @@ bytes_fit (b ∷ bs) = nat_lt b 256 && bytes_fit bs
 abbrev pub bytes_coding : ℕ → Coding (List ℕ)
 bytes_coding n = record { fits = λ bs. length bs == n && bytes_fit bs; spell = λ bs. bs; read = λ text. if nat_lt (length text) n then None else Some (take n text, drop n text) }
 
--- PARAMETER: section u8, width u8, byte u16, bit u8, zero u8
+-- the section of a parameter, the first of its fields: section u8 (1 VAR_INPUT, 2 VAR_OUTPUT, 3
+-- VAR_IN_OUT), width u8, byte u16, bit u8, zero u8
 unfoldable pub section_field : Layout ℕ
 section_field = field_layout u8 (λ n. field_fault (field_of.Section n))
 
--- the byte of a parameter: with its width inside the instance bytes of an FB, 0 in an FC
+-- the byte of a parameter: with its width w (1 to 4) inside the `instance` bytes of an FB (kind 3),
+-- 0 in an FC
 unfoldable pub parameter_byte : ℕ → ℕ → ℕ → Layout ℕ
 parameter_byte kind instance w = field_layout u16 (λ n. field_fault (field_of.ParameterByte kind instance w n))
 
@@ -73,19 +75,20 @@ pub record ParameterFields : Type 0 where
   pub bit : ℕ
   pub reserved : ℕ
 
--- as they stand one behind the other
+-- the fields of a parameter in the order of the image: section, width, byte, bit, reserved
 abbrev pub ParameterRow : Type 0
 ParameterRow = ℕ × (ℕ × (ℕ × (ℕ × ℕ)))
 
--- the fields of such a row
+-- the fields of a parameter, by the row of them in the order of the image
 abbrev pub parameter_fields : ParameterRow → ParameterFields
 parameter_fields r = record { section = r.0; width = r.1.0; byte = r.1.1.0; bit = r.1.1.1.0; reserved = r.1.1.1.1 }
 
--- the row of these fields
+-- the fields of a parameter as a row in the order of the image
 abbrev pub parameter_row : ParameterFields → ParameterRow
 parameter_row f = (f.section, (f.width, (f.byte, (f.bit, f.reserved))))
 
--- the layout of a row, in a block of this kind with so many instance bytes
+-- the layout of a parameter as a row of its fields, in a block of this kind (1 OB, 2 FC, 3 FB) with
+-- so many instance bytes
 unfoldable pub parameter_rows : ℕ → ℕ → Layout ParameterRow
 parameter_rows kind instance =
     chain_layout section_field (λ section.
@@ -105,8 +108,9 @@ fields_of_parameter p = record { section = p.section; width = p.width; byte = p.
 unfoldable pub parameter_layout : ℕ → ℕ → Layout ParameterRecord
 parameter_layout kind instance = seen_as (λ r. parameter_of_fields (parameter_fields r)) (λ p. parameter_row (fields_of_parameter p)) (parameter_rows kind instance)
 
--- HEAD OF A CODE BLOCK: kind u8, parameter count u8, number u16, local bytes u16, instance bytes u16,
--- statement count u16, zero u16, code length u32. `before` has kind and number of the block before, 0 and 0 for none
+-- the kind of a code block, the first field of its head: kind u8 (1 OB, 2 FC, 3 FB), parameter
+-- count u8, number u16, local bytes u16, instance bytes u16, statement count u16, zero u16, code
+-- length u32; no kind is below that of the block before, `before` (0 for none)
 unfoldable pub kind_field : ℕ → Layout ℕ
 kind_field before = field_layout u8 (λ n. field_fault (field_of.Kind before n))
 
@@ -114,7 +118,8 @@ kind_field before = field_layout u8 (λ n. field_fault (field_of.Kind before n))
 unfoldable pub parameter_count_layout : ℕ → Layout ℕ
 parameter_count_layout kind = field_layout u8 (λ n. field_fault (field_of.ParameterCount kind n))
 
--- a number that this kind has, above that of the block before where it has the same kind
+-- the number of a code block: one that its kind has, above that of the block before where this has
+-- the same kind
 unfoldable pub block_number_layout : ℕ → ℕ → ℕ → Layout ℕ
 block_number_layout kind_before before kind = field_layout u16 (λ n. field_fault (field_of.Number kind_before before kind n))
 
@@ -128,6 +133,7 @@ instance_bytes_layout kind = field_layout u16 (λ n. field_fault (field_of.Insta
 
 -- the head of a code block
 pub record Head : Type 0 where
+  -- 1 OB, 2 FC, 3 FB; another number is fault 4
   pub kind : ℕ
   pub parameter_count : ℕ
   pub number : ℕ
@@ -135,13 +141,15 @@ pub record Head : Type 0 where
   pub instance_bytes : ℕ
   pub statement_count : ℕ
   pub reserved : ℕ
+  -- how many bytes the code takes
   pub code_length : ℕ
 
--- its fields as they stand one behind the other
+-- the fields of the head of a code block in the order of the image: kind, parameter count, number,
+-- local bytes, instance bytes, statement count, reserved, code length
 abbrev pub HeadRow : Type 0
 HeadRow = ℕ × (ℕ × (ℕ × (ℕ × (ℕ × (ℕ × (ℕ × ℕ))))))
 
--- the head of such a row
+-- the head of a code block, by the row of its fields in the order of the image
 abbrev pub head_of_row : HeadRow → Head
 head_of_row r = record {
   kind = r.0;
@@ -154,7 +162,7 @@ head_of_row r = record {
   code_length = r.1.1.1.1.1.1.1;
 }
 
--- the row of a head
+-- the head of a code block as a row of its fields in the order of the image
 abbrev pub row_of_head : Head → HeadRow
 row_of_head h = (h.kind, (h.parameter_count, (h.number, (h.local_bytes, (h.instance_bytes, (h.statement_count, (h.reserved, h.code_length)))))))
 
@@ -169,26 +177,25 @@ head_rows before =
     chain_layout plain_u16 (λ statements.
     chain_layout zero_u16 (λ zero. plain_u32)))))))
 
--- the same bytes as a head
+-- the head of a code block, sixteen bytes, behind a block of kind and number `before` (0 and 0 for
+-- none)
 unfoldable pub head_layout : ℕ × ℕ → Layout Head
 head_layout before = seen_as head_of_row row_of_head (head_rows before)
 
--- PARAMETERS
--- what stands before a parameter says nothing about the next
+-- the state behind a parameter is the one before it: a parameter says nothing about the next
 abbrev pub same_state : ℕ → ParameterRecord → ℕ
 same_state s p = s
 
--- as many parameters as the head counts, by its kind and instance bytes
+-- as many parameters of a code block as its head counts, by its kind and instance bytes
 unfoldable pub parameters_layout : Head → Layout (List ParameterRecord)
 parameters_layout h = list_layout (λ s. parameter_layout h.kind h.instance_bytes) same_state 0 h.parameter_count
 
--- LINES, u32 each; the statement count at `start` + 8 is checked now, as the code is known
 -- how many ops have the end mark: the number of statements, where the code ends with one
 abbrev pub end_marks : List OpData → ℕ
 end_marks [] = 0
 end_marks (op ∷ ops) = (if op.last then 1 else 0) + end_marks ops
 
--- what stands before the next line: this one
+-- the state behind a source line, by which the next one is checked: this line
 abbrev pub line_after : ℕ → ℕ → ℕ
 line_after before line = line
 
@@ -196,13 +203,15 @@ line_after before line = line
 unfoldable pub line_field : Bool → ℕ → Layout ℕ
 line_field with_code_faults before = field_layout u32 (λ n. if_checked with_code_faults (field_fault (field_of.Line before n)))
 
--- as many lines as the head counts; with true, fault 9 if other than the number of end marks
+-- as many lines as the head counts, u32 each, of a code block at offset `start`; with true, fault 9
+-- at the statement count (`start` + 8) where it is another number than that of end marks
 unfoldable pub lines_layout : Bool → ℕ → Head → List OpData → Layout (List ℕ)
 lines_layout with_code_faults start h ops =
     checked_layout (start + 8) (if_checked with_code_faults (field_fault (field_of.StatementCount (end_marks ops) h.statement_count)))
     (list_layout (line_field with_code_faults) line_after 0 h.statement_count)
 
--- CODE BLOCK: head, parameters, code, lines
+-- the ops and source lines of a code block at offset `start`, behind this head and the parameters;
+-- with false no fault 9, and fault 5 only for bytes that begin no op
 unfoldable pub code_and_lines : Bool → ℕ → Head → Layout (List OpData × List ℕ)
 code_and_lines with_code_faults start h = chain_layout (code_layout with_code_faults h.code_length) (lines_layout with_code_faults start h)
 
@@ -213,27 +222,31 @@ pub record BlockParts : Type 0 where
   pub code : List OpData
   pub lines : List ℕ
 
--- as they stand one behind the other
+-- the parts of a code block in the order of the image: head, parameters, ops, source lines
 abbrev pub BlockRow : Type 0
 BlockRow = Head × (List ParameterRecord × (List OpData × List ℕ))
 
--- the parts of such a row
+-- the parts of a code block, by the row of them in the order of the image
 abbrev pub parts_of_block_row : BlockRow → BlockParts
 parts_of_block_row r = record { head = r.0; params = r.1.0; code = r.1.1.0; lines = r.1.1.1 }
 
--- the row of these parts
+-- the parts of a code block as a row in the order of the image
 abbrev pub row_of_block_parts : BlockParts → BlockRow
 row_of_block_parts p = (p.head, (p.params, (p.code, p.lines)))
 
--- the layout of a row from offset `start` on, behind a block of kind and number `before`
+-- the layout of a code block as a row of its parts, from offset `start` of the image on, behind a
+-- block of kind and number `before`; with false no fault 9, and fault 5 only for bytes that begin
+-- no op
 unfoldable pub block_rows : Bool → ℕ × ℕ → ℕ → Layout BlockRow
 block_rows with_code_faults before start = chain_layout (head_layout before) (λ h. chain_layout (parameters_layout h) (λ params. code_and_lines with_code_faults start h))
 
--- the record without counts, code length and reserved field: the lists are as long as they say
+-- the record of a code block's parts, without counts, code length and reserved field: the lists are
+-- as long as those say
 abbrev pub block_of_parts : BlockParts → BlockRecord
 block_of_parts p = record { kind = p.head.kind; number = p.head.number; local_len = p.head.local_bytes; instance_len = p.head.instance_bytes; params = p.params; code = p.code; lines = p.lines }
 
--- the head of a record: counts and code length are those of its lists, the reserved field is 0
+-- the head of a code block's record: counts and code length are those of its lists, the reserved
+-- field is 0
 abbrev pub head_of_block : BlockRecord → Head
 head_of_block b = record {
   kind = b.kind;
@@ -246,15 +259,17 @@ head_of_block b = record {
   code_length = length (code_bytes b.code);
 }
 
--- the parts of a record
+-- the parts of a code block, by its record
 abbrev pub parts_of_block : BlockRecord → BlockParts
 parts_of_block b = record { head = head_of_block b; params = b.params; code = b.code; lines = b.lines }
 
--- the bytes of a code block as its record
+-- a code block at offset `start` of the image, as its record; nothing is noted once it was read
+-- whole
 unfoldable pub plain_block : Bool → ℕ × ℕ → ℕ → Layout BlockRecord
 plain_block with_code_faults before start = seen_as (λ r. block_of_parts (parts_of_block_row r)) (λ b. row_of_block_parts (parts_of_block b)) (block_rows with_code_faults before start)
 
--- a block that was read whole is noted, with the offset at which its code begins
+-- the note of a code block that begins at offset `start` and was read whole: its code begins behind
+-- a head of 16 bytes and 6 bytes for each parameter
 abbrev pub whole_note : ℕ → BlockRecord → Note
 whole_note start b = Whole (start + 16 + 6 * length b.params) b
 
@@ -266,20 +281,23 @@ code_block_at with_code_faults before start = noted_layout (whole_note start) (p
 unfoldable pub code_block_layout : Bool → ℕ × ℕ → Layout BlockRecord
 code_block_layout with_code_faults before = located_layout (code_block_at with_code_faults before)
 
--- what stands before the next block: this one, by kind and number
+-- the state behind a code block, by which the next one is checked: its kind and number
 abbrev pub after_block : ℕ × ℕ → BlockRecord → ℕ × ℕ
 after_block before b = (b.kind, b.number)
 
--- DATA BLOCK: number u16, FB number of an instance plus 1 or 0 u16, length u16, zero u16, bytes.
--- `before` has the number of the block before, 0 for none, and the bytes of all before together
+-- the number of a data block, the first of its fields: number u16, FB number of an instance plus 1
+-- or 0 u16, length u16, zero u16, bytes; `before` is the number of the data block before, 0 for
+-- none
 unfoldable pub data_number_layout : ℕ → Layout ℕ
 data_number_layout before = field_layout u16 (λ n. field_fault (field_of.DataNumber before n))
 
--- 0, or the number of an FB plus 1, so at most 2,048; that there is this FB isn't tested
+-- the FB of an instance data block: 0 for none, or the number of the FB plus 1, so at most 2,048;
+-- that there is this FB isn't tested
 unfoldable pub instance_field : Layout ℕ
 instance_field = field_layout u16 (λ n. field_fault (field_of.InstanceOf n))
 
--- at most 16,384, and at most 2,097,152 together with the bytes `before` of earlier blocks
+-- the length of a data block in bytes: at most 16,384, and at most 2,097,152 together with the
+-- bytes `before` of earlier data blocks
 unfoldable pub data_length_layout : ℕ → Layout ℕ
 data_length_layout before = field_layout u16 (λ n. field_fault (field_of.DataBytes before n))
 
@@ -290,24 +308,27 @@ contents_layout n = field_layout (bytes_coding n) (λ bs. None)
 -- the fields of a data block
 pub record DataFields : Type 0 where
   pub number : ℕ
+  -- the number of its function block plus 1; 0 where it is no instance
   pub instance : ℕ
+  -- how many bytes it has
   pub length : ℕ
   pub reserved : ℕ
   pub bytes : List ℕ
 
--- as they stand one behind the other
+-- the fields of a data block in the order of the image: number, instance, length, reserved, bytes
 abbrev pub DataRow : Type 0
 DataRow = ℕ × (ℕ × (ℕ × (ℕ × List ℕ)))
 
--- the fields of such a row
+-- the fields of a data block, by the row of them in the order of the image
 abbrev pub data_fields : DataRow → DataFields
 data_fields r = record { number = r.0; instance = r.1.0; length = r.1.1.0; reserved = r.1.1.1.0; bytes = r.1.1.1.1 }
 
--- the row of these fields
+-- the fields of a data block as a row in the order of the image
 abbrev pub data_row : DataFields → DataRow
 data_row f = (f.number, (f.instance, (f.length, (f.reserved, f.bytes))))
 
--- the layout of a row, behind a block of number `before.0` and bytes `before.1` in all
+-- the layout of a data block as a row of its fields, behind a data block of number `before.0` (0
+-- for none), with `before.1` bytes in all data blocks before
 unfoldable pub data_rows : ℕ × ℕ → Layout DataRow
 data_rows before =
     chain_layout (data_number_layout before.0) (λ number.
@@ -315,12 +336,13 @@ data_rows before =
     chain_layout (data_length_layout before.1) (λ n.
     chain_layout zero_u16 (λ zero. contents_layout n))))
 
--- 0 is no instance, and n + 1 one of FB n, so that FB 0 has instances too
+-- the FB whose instance a data block is, by its field: 0 is no instance, and n + 1 one of FB n, so
+-- that FB 0 has instances too
 abbrev pub instance_of_number : ℕ → Option ℕ
 instance_of_number zero = None
 instance_of_number (suc n) = Some n
 
--- the number of the FB plus 1, and 0 for a data block that is no instance
+-- the instance field of a data block: the number of its FB plus 1, and 0 where it is no instance
 abbrev pub number_of_instance : Option ℕ → ℕ
 number_of_instance None = 0
 number_of_instance (Some n) = suc n
@@ -337,15 +359,18 @@ fields_of_data d = record { number = d.number; instance = number_of_instance d.i
 unfoldable pub data_block_layout : ℕ × ℕ → Layout DataBlock
 data_block_layout before = seen_as (λ r. data_of_fields (data_fields r)) (λ d. data_row (fields_of_data d)) (data_rows before)
 
--- what stands before the next block: this one, by number, and the bytes of all so far
+-- the state behind a data block, by which the next one is checked: its number, and the bytes of all
+-- data blocks so far
 abbrev pub after_data : ℕ × ℕ → DataBlock → ℕ × ℕ
 after_data before d = (d.number, before.1 + length d.bytes)
 
--- NAME: length u8, bytes, area u8, width u8, byte u16, bit u8. `before` is the name before, empty for none
+-- the length of a name in bytes, 1 to 24, the first of its fields: length u8, bytes, area u8, width
+-- u8, byte u16, bit u8
 unfoldable pub name_len : Layout ℕ
 name_len = field_layout u8 (λ n. field_fault (field_of.NameLength n))
 
--- n bytes: above those of the name `before`, without a to z, without blank at the end
+-- the n bytes of a name: above those of the name `before`, without a to z, without a blank at the
+-- end
 unfoldable pub name_bytes : List ℕ → ℕ → Layout (List ℕ)
 name_bytes before n = field_layout (bytes_coding n) (name_fault before)
 
@@ -353,7 +378,7 @@ name_bytes before n = field_layout (bytes_coding n) (name_fault before)
 unfoldable pub name_area : Layout ℕ
 name_area = field_layout u8 (λ n. field_fault (field_of.NameArea n))
 
--- the bit of a name's variable: 0 to 7 where its width w is 1, else 0
+-- the bit of a name's variable: 0 to 7 where its width w is 1 (a bit), else 0
 unfoldable pub name_bit : ℕ → Layout ℕ
 name_bit w = field_layout u8 (λ n. field_fault (field_of.NameBit w n))
 
@@ -366,19 +391,19 @@ pub record NameFields : Type 0 where
   pub byte : ℕ
   pub bit : ℕ
 
--- as they stand one behind the other
+-- the fields of a name in the order of the image: length, name, area, width, byte, bit
 abbrev pub NameRow : Type 0
 NameRow = ℕ × (List ℕ × (ℕ × (ℕ × (ℕ × ℕ))))
 
--- the fields of such a row
+-- the fields of a name, by the row of them in the order of the image
 abbrev pub name_fields : NameRow → NameFields
 name_fields r = record { length = r.0; name = r.1.0; area = r.1.1.0; width = r.1.1.1.0; byte = r.1.1.1.1.0; bit = r.1.1.1.1.1 }
 
--- the row of these fields
+-- the fields of a name as a row in the order of the image
 abbrev pub name_row : NameFields → NameRow
 name_row f = (f.length, (f.name, (f.area, (f.width, (f.byte, f.bit)))))
 
--- the layout of a row, behind the name `before`
+-- the layout of a name as a row of its fields, behind the name `before` (empty for none)
 unfoldable pub name_rows : List ℕ → Layout NameRow
 name_rows before =
     chain_layout name_len (λ n.
@@ -399,11 +424,12 @@ fields_of_name n = record { length = length n.name; name = n.name; area = n.area
 unfoldable pub name_record : List ℕ → Layout NameRecord
 name_record before = seen_as (λ r. name_of_fields (name_fields r)) (λ n. name_row (fields_of_name n)) (name_rows before)
 
--- what stands before the next name: this one
+-- the state behind a name, by which the next one is checked: this name
 abbrev pub after_name : List ℕ → NameRecord → List ℕ
 after_name before n = n.name
 
--- ALL BEHIND THE TOTAL LENGTH: count of code blocks u16, of data blocks u16, of names u16, zero u16; the records
+-- the count of data blocks, at most 256, else fault 4; behind the total length of an image stand
+-- the counts of code blocks u16, of data blocks u16, of names u16, zero u16, then the records
 unfoldable pub data_count : Layout ℕ
 data_count = field_layout u16 (λ n. field_fault (field_of.DataBlockCount n))
 
@@ -414,15 +440,15 @@ pub record RecordCounts : Type 0 where
   pub names : ℕ
   pub reserved : ℕ
 
--- as they stand one behind the other
+-- the counts of an image in their order there: code blocks, data blocks, names, reserved
 abbrev pub CountRow : Type 0
 CountRow = ℕ × (ℕ × (ℕ × ℕ))
 
--- the counts of such a row
+-- the counts of an image, by the row of them in their order there
 abbrev pub counts_of_row : CountRow → RecordCounts
 counts_of_row r = record { code_blocks = r.0; data_blocks = r.1.0; names = r.1.1.0; reserved = r.1.1.1 }
 
--- the row of these counts
+-- the counts of an image as a row in their order there
 abbrev pub row_of_counts : RecordCounts → CountRow
 row_of_counts c = (c.code_blocks, (c.data_blocks, (c.names, c.reserved)))
 
@@ -430,23 +456,23 @@ row_of_counts c = (c.code_blocks, (c.data_blocks, (c.names, c.reserved)))
 unfoldable pub count_rows : Layout CountRow
 count_rows = chain_layout plain_u16 (λ codes. chain_layout data_count (λ datas. chain_layout plain_u16 (λ names. zero_u16)))
 
--- the same bytes as counts
+-- the counts of an image, the last eight bytes of its header
 unfoldable pub counts_layout : Layout RecordCounts
 counts_layout = seen_as counts_of_row row_of_counts count_rows
 
--- n code blocks, the first behind none
+-- n code blocks, checked from the first on, which has none before it
 unfoldable pub code_blocks_layout : Bool → ℕ → Layout (List BlockRecord)
 code_blocks_layout with_code_faults n = list_layout (code_block_layout with_code_faults) after_block (0, 0) n
 
--- n data blocks, the first behind none
+-- n data blocks, checked from the first on, which has none before it
 abbrev pub plain_data_blocks : ℕ → Layout (List DataBlock)
 plain_data_blocks n = list_layout data_block_layout after_data (0, 0) n
 
--- that all blocks were read is noted
+-- n data blocks; once they were read, it is noted that all blocks of the image were
 unfoldable pub data_blocks_layout : ℕ → Layout (List DataBlock)
 data_blocks_layout n = noted_layout AllBlocks (plain_data_blocks n)
 
--- n names, the first behind none
+-- n names, checked from the first on, which has none before it
 unfoldable pub names_layout : ℕ → Layout (List NameRecord)
 names_layout n = list_layout name_record after_name [] n
 
@@ -457,31 +483,33 @@ pub record BodyParts : Type 0 where
   pub data_blocks : List DataBlock
   pub names : List NameRecord
 
--- as they stand one behind the other
+-- the parts of an image behind the total length, in its order: counts, code blocks, data blocks,
+-- names
 abbrev pub BodyRow : Type 0
 BodyRow = RecordCounts × (List BlockRecord × (List DataBlock × List NameRecord))
 
--- the parts of such a row
+-- the parts of an image behind the total length, by the row of them in its order
 abbrev pub parts_of_body_row : BodyRow → BodyParts
 parts_of_body_row r = record { counts = r.0; code_blocks = r.1.0; data_blocks = r.1.1.0; names = r.1.1.1 }
 
--- the row of these parts
+-- the parts of an image behind the total length as a row in its order
 abbrev pub row_of_body_parts : BodyParts → BodyRow
 row_of_body_parts p = (p.counts, (p.code_blocks, (p.data_blocks, p.names)))
 
--- with_code_faults: the faults of code and lines (5 and 9) too
+-- the layout of all behind the total length as a row of its parts; with false no fault 9, and fault
+-- 5 only for bytes that begin no op
 unfoldable pub body_rows : Bool → Layout BodyRow
 body_rows with_code_faults = chain_layout counts_layout (λ c. chain_layout (code_blocks_layout with_code_faults c.code_blocks) (λ blocks. chain_layout (data_blocks_layout c.data_blocks) (λ datas. names_layout c.names)))
 
--- the records without the counts: the lists are as long as these say
+-- the records of an image, without the counts: the lists are as long as these say
 abbrev pub records_of_parts : BodyParts → Records
 records_of_parts p = record { code_blocks = p.code_blocks; data_blocks = p.data_blocks; names = p.names }
 
--- the counts are the lengths of the lists of records, and the reserved field is 0
+-- the counts of an image with these records: the lengths of their lists; the reserved field is 0
 abbrev pub counts_of : Records → RecordCounts
 counts_of r = record { code_blocks = length r.code_blocks; data_blocks = length r.data_blocks; names = length r.names; reserved = 0 }
 
--- the parts of records
+-- the parts of an image behind the total length, by its records
 abbrev pub parts_of_records : Records → BodyParts
 parts_of_records r = record { counts = counts_of r; code_blocks = r.code_blocks; data_blocks = r.data_blocks; names = r.names }
 
@@ -489,29 +517,32 @@ parts_of_records r = record { counts = counts_of r; code_blocks = r.code_blocks;
 unfoldable pub records_layout : Bool → Layout Records
 records_layout with_code_faults = seen_as (λ r. records_of_parts (parts_of_body_row r)) (λ r. row_of_body_parts (parts_of_records r)) (body_rows with_code_faults)
 
--- the kind where an image has blocks of code of it: OB, FC or FB; a data type in place of the others
+-- the kind of a code block of an image, OB, FC or FB; a data type (UDT) in place of another kind or
+-- of none
 abbrev pub or_type : Option BlockKind → BlockKind
 or_type (Some kind.Ob) = kind.Ob
 or_type (Some kind.Fc) = kind.Fc
 or_type (Some kind.Fb) = kind.Fb
 or_type _ = kind.Udt
 
--- A PROGRAM of these records, and back: kinds, widths and areas by their numbers. A kind's number
--- that names none of OB, FC and FB is a fault, and stands for a data type
+-- the kind of a code block by its number in records: 1 OB, 2 FC, 3 FB; another number is a fault,
+-- and stands for a data type (UDT)
 abbrev pub kind_of_number : ℕ → BlockKind
 kind_of_number n = or_type (kind_of_code n)
 
--- the area where a named variable may lie in it: I, Q or M; M in place of the others
+-- an area in which a variable with a name may lie: I, Q or M; M in place of another area or of none
 abbrev pub or_m : Option Area → Area
 or_m (Some area.I) = area.I
 or_m (Some area.Q) = area.Q
 or_m _ = area.M
 
--- a number that names none of I, Q and M is a fault, and stands for M
+-- the area of a name's variable by its number in records: 16#81 I, 16#82 Q, 16#83 M; another number
+-- is a fault, and stands for M
 abbrev pub area_of_number : ℕ → Area
 area_of_number n = or_m (area_of_code n)
 
--- only a place of no data block, in I, Q or M, has a number
+-- the area of a name's variable as a number of records: 16#81 I, 16#82 Q, 16#83 M; 0, which is a
+-- fault, for another area or a data block of a number other than 0
 abbrev pub number_of_area : ℕ → Area → ℕ
 number_of_area zero area.I = area_code area.I
 number_of_area zero area.Q = area_code area.Q
@@ -554,7 +585,8 @@ records_of p = record { code_blocks = map record_of_block p.code_blocks; data_bl
 unfoldable pub body_layout : Bool → Layout Program
 body_layout with_code_faults = seen_as program_of_records records_of (records_layout with_code_faults)
 
--- HEADER up to the total length: magic u32, version u16, profile u16, total length u32
+-- the magic, `S7FB`, else fault 1; the first field of an image: magic u32, version u16, profile
+-- u16, total length u32
 unfoldable pub magic_field : Layout ℕ
 magic_field = field_layout u32 (λ n. field_fault (field_of.Magic n))
 
@@ -573,35 +605,37 @@ pub record Front : Type 0 where
   pub profile : ℕ
   pub total_length : ℕ
 
--- as they stand one behind the other
+-- the fields of an image's front in their order there: magic, version, profile, total length
 abbrev pub FrontRow : Type 0
 FrontRow = ℕ × (ℕ × (ℕ × ℕ))
 
--- the front of such a row
+-- the front of an image, by the row of its fields in their order there
 abbrev pub front_of_row : FrontRow → Front
 front_of_row r = record { magic = r.0; version = r.1.0; profile = r.1.1.0; total_length = r.1.1.1 }
 
--- the row of a front
+-- the front of an image as a row of its fields in their order there
 abbrev pub row_of_front : Front → FrontRow
 row_of_front f = (f.magic, (f.version, (f.profile, f.total_length)))
 
--- the first twelve bytes of the header as a row; whether the total length is right is tested by `read_cut_off`
+-- the first twelve bytes of an image as a row of fields; whether the total length is right is
+-- tested by `read_cut_off`
 unfoldable pub front_rows : Layout FrontRow
 front_rows = chain_layout magic_field (λ magic. chain_layout version_field (λ version. chain_layout (profile_field version) (λ profile. plain_u32)))
 
--- the same bytes as a front
+-- the front of an image, its first twelve bytes; whether the total length is right is tested by
+-- `read_cut_off`
 unfoldable pub front_layout : Layout Front
 front_layout = seen_as front_of_row row_of_front front_rows
 
--- 4 bytes magic, 2 version, 2 profile, 4 total length
+-- how many bytes the front of an image has: 4 magic, 2 version, 2 profile, 4 total length
 abbrev pub front_size : ℕ
 front_size = 12
 
--- the front of an image of so many bytes: `S7FB`, version and profile, the total length
+-- the front of an image of so many bytes: the magic `S7FB`, version and profile, the total length
 abbrev pub front_of : Stamp → ℕ → Front
 front_of stamp total = record { magic = 0x53374642; version = version_number stamp; profile = profile_field_of stamp; total_length = total }
 
--- the stamp that a front says
+-- the version and profile that the front of an image says
 abbrev pub stamp_in : Front → Stamp
 stamp_in f = stamp_of f.version f.profile
 
@@ -609,25 +643,28 @@ stamp_in f = stamp_of f.version f.profile
 unfoldable pub image : Stamp → Program → List ℕ
 image stamp p = front_layout.spell (front_of stamp (front_size + length ((body_layout false).spell p))) ++ (body_layout false).spell p
 
--- A PROGRAM: every number fits its field, nothing in it is fault 4, and its image has at most 8,388,608 bytes
+-- A PROGRAM: every number fits its field, nothing in it is fault 4, and its image has at most
+-- 8,388,608 bytes
 pub record IsProgram (p : Program) : Type 0 where
   pub good : (body_layout false).good p ≡ true
   pub short : front_size + length ((body_layout false).spell p) ≤ 8388608
 
--- no field of it has a fault
+-- no field of a program has a fault 4, 5 (code) or 9 (statement count and lines)
 abbrev pub IsRight : Program → Type 0
 IsRight p = (body_layout true).good p ≡ true
 
--- 10: bytes behind the last record
+-- what is found once the last record was read; fault 10 where bytes stand behind it
 abbrev pub end_layout : Stamp → Program → Cursor → ReadResult (Stamp × Program)
 end_layout stamp p end = record { notes = if length end.rest == 0 then [] else Faulty end.at 10 ∷ []; found = Some ((stamp, p), end) }
 
--- the body of so many bytes, and that nothing stands behind its last record
+-- the body of an image read from `size` bytes, all behind the total length; fault 10 where bytes
+-- stand behind its last record
 abbrev pub read_body : Bool → Stamp → ℕ → Cursor → ReadResult (Stamp × Program)
 read_body with_code_faults stamp size cur = bind_reading ((body_layout with_code_faults).read (record { at = cur.at; rest = take size cur.rest })) (end_layout stamp)
 
--- 3: a total length above the bytes there, or below 20. 4: one above 8,388,608. Both end the reading. 10: bytes
--- behind the total length, which are cut off
+-- an image of `size` bytes read from behind its front, by the `total` length that this says. 3: a
+-- total length above the bytes there, or below 20 (header). 4: one above 8,388,608. Both end the
+-- reading, at offset 8, the total length. 10: bytes behind the total length, which are cut off
 abbrev pub read_cut_off : Bool → Stamp → (size total : ℕ) → Cursor → ReadResult (Stamp × Program)
 read_cut_off with_code_faults stamp size total cur =
     if nat_lt total 20 || nat_lt size total then reading_ended 8 3
@@ -637,7 +674,8 @@ read_cut_off with_code_faults stamp size total cur =
       found = (read_body with_code_faults stamp (total - front_size) cur).found;
     }
 
--- bytes read as an image: the front (faults 1, 2 and 4 don't end it), then by its total length
+-- bytes read as an image: the front (faults 1, 2 and 4 don't end it), then by its total length;
+-- with false no fault 9, and fault 5 only for bytes that begin no op
 unfoldable pub read_by : Bool → List ℕ → ReadResult (Stamp × Program)
 read_by with_code_faults text = bind_reading (front_layout.read (record { at = 0; rest = text })) (λ f cur. read_cut_off with_code_faults (stamp_in f) (length text) f.total_length cur)
 

@@ -6,11 +6,11 @@ use Rattle.flat_code.specs.declared.kinds.JumpOperation.{JumpOperation}
 use Rattle.flat_code.specs.declared.kinds.JumpOperation.TheVariants as jump
 use Rattle.flat_code.specs.declared.kinds.TheConstants.{JUMPS, CONDITIONS}
 
--- the jump of a kind, by the table that the code uses
+-- the jump of a kind (0 JU to 17 LOOP), by the table that the code uses; JU for another number
 unfoldable pub jump_of_number : ℕ → JumpOperation
 jump_of_number kind = slice_index_or JUMPS kind jump.Ju
 
--- the kind of a jump
+-- the kind of a jump, a number from 0 JU to 17 LOOP, as the operand of a jump has it
 abbrev pub jump_number : JumpOperation → ℕ
 jump_number jump.Ju = 0
 jump_number jump.Jl = 1
@@ -31,11 +31,12 @@ jump_number jump.Jmz = 15
 jump_number jump.Juo = 16
 jump_number jump.Loop = 17
 
--- what the condition of a number asks, by the table that the code uses
+-- what the condition of the status word of a number (1 BR to 10 UO) asks, by the table that the
+-- code uses
 unfoldable pub flag_of : ℕ → Flag
 flag_of condition = slice_index_or CONDITIONS (condition - 1) flag.Br
 
--- the number of a condition
+-- the number of a condition of the status word, from 1 BR to 10 UO
 abbrev pub condition_number : Flag → ℕ
 condition_number flag.Br = 1
 condition_number flag.Ov = 2

@@ -8,8 +8,11 @@ use Rattle.flat_code.specs.Records.{BlockRecord}
 -- what reading notes: a fault at an offset, by its code; a code block that was read whole, with the
 -- offset at which its code begins; and that all code and data blocks were read
 pub data Note : Type 0 where
+  -- a fault at an offset in the image, by its code
   Faulty : (at : ℕ) (code : ℕ) → Note
+  -- a code block that was read whole, with the offset in the image at which its code begins
   Whole : (start : ℕ) (block : BlockRecord) → Note
+  -- all code blocks and these data blocks were read
   AllBlocks : (blocks : List DataBlock) → Note
 
 -- a place in the bytes: its offset, and what is left from there
@@ -28,7 +31,7 @@ pub record Layout (A : Type 0) : Type 0 where
   pub good : A → Bool
   pub read : Cursor → ReadResult A
 
--- reading ends at a fault
+-- reading ends at a fault: the offset of the field, and the code of the fault
 abbrev pub reading_ended : {A : Type 0} → ℕ → ℕ → ReadResult A
 reading_ended at code = record { notes = Faulty at code ∷ []; found = None }
 
@@ -36,12 +39,14 @@ reading_ended at code = record { notes = Faulty at code ∷ []; found = None }
 abbrev pub reading_given : {A : Type 0} → A → Cursor → ReadResult A
 reading_given x cur = record { notes = []; found = Some (x, cur) }
 
--- goes on with what was found
+-- reading goes on with what was found and the place behind it; where nothing was found it ends
+-- there
 abbrev pub go_on : {A B : Type 0} → List Note → Option (A × Cursor) → (A → Cursor → ReadResult B) → ReadResult B
 go_on notes None f = record { notes = notes; found = None }
 go_on notes (Some x) f = record { notes = notes ++ (f x.0 x.1).notes; found = (f x.0 x.1).found }
 
--- a reading, and then `f` behind what it found; where it found nothing, that is the end
+-- a reading, and then `f` from the place behind what it found on; where it found nothing reading
+-- ends
 abbrev pub bind_reading : {A B : Type 0} → ReadResult A → (A → Cursor → ReadResult B) → ReadResult B
 bind_reading r f = go_on r.notes r.found f
 
@@ -55,7 +60,8 @@ abbrev pub is_fine : Option ℕ → Bool
 is_fine None = true
 is_fine (Some code) = false
 
--- a field by its coding, and the fault of a value; one that can't be read is fault 3
+-- a field by its coding, and the fault of a value; one that can't be read is fault 3 (bytes that
+-- are missing, or that name no value) and ends the reading
 abbrev pub field_of : {A : Type 0} → (A → Option ℕ) → Cursor → Option (A × List ℕ) → ReadResult A
 field_of fault_in cur None = reading_ended cur.at 3
 field_of fault_in cur (Some r) = record { notes = fault_note cur.at (fault_in r.0); found = Some (r.0, record { at = cur.at + (length cur.rest - length r.1); rest = r.1 }) }
@@ -64,7 +70,7 @@ field_of fault_in cur (Some r) = record { notes = fault_note cur.at (fault_in r.
 abbrev pub field_layout : {A : Type 0} → Coding A → (A → Option ℕ) → Layout A
 field_layout c fault_in = record { spell = c.spell; good = λ x. c.fits x && is_fine (fault_in x); read = λ cur. field_of fault_in cur (c.read cur.rest) }
 
--- one behind the other; what comes second may depend on what came first
+-- two values one behind the other; the layout of the second may depend on the first
 abbrev pub chain_layout : {A B : Type 0} → Layout A → (A → Layout B) → Layout (A × B)
 chain_layout l m = record {
   spell = λ x. l.spell x.0 ++ (m x.0).spell x.1;
@@ -72,7 +78,7 @@ chain_layout l m = record {
   read = λ cur. bind_reading (l.read cur) (λ x next. bind_reading ((m x).read next) (λ y end. reading_given (x, y) end));
 }
 
--- a fault at an earlier place, found only now
+-- a layout with a fault at an earlier offset `at` that is found only now; None where there is none
 abbrev pub checked_layout : {A : Type 0} → ℕ → Option ℕ → Layout A → Layout A
 checked_layout at fault l = record {
   spell = l.spell;
@@ -80,11 +86,12 @@ checked_layout at fault l = record {
   read = λ cur. record { notes = fault_note at fault ++ (l.read cur).notes; found = (l.read cur).found };
 }
 
--- a layout that knows where it begins
+-- a layout that depends on the offset at which its value begins; its bytes don't
 abbrev pub located_layout : {A : Type 0} → (ℕ → Layout A) → Layout A
 located_layout l = record { spell = (l 0).spell; good = (l 0).good; read = λ cur. (l cur.at).read cur }
 
--- n values, each checked by what came before it
+-- the bytes of values one behind the other; the layout of each depends on a state of those before
+-- it
 abbrev pub spell_many : {S A : Type 0} → (S → Layout A) → (S → A → S) → S → List A → List ℕ
 spell_many l next s [] = []
 spell_many l next s (x ∷ xs) = (l s).spell x ++ spell_many l next (next s x) xs
@@ -105,7 +112,8 @@ read_many l next s (suc n) cur = bind_reading ((l s).read cur) (λ x after. bind
 abbrev pub list_layout : {S A : Type 0} → (S → Layout A) → (S → A → S) → S → ℕ → Layout (List A)
 list_layout l next s n = record { spell = spell_many l next s; good = good_many l next s n; read = read_many l next s n }
 
--- the same bytes for another type of values
+-- a layout whose values are of another type, with the bytes and faults of the layout `l`: `to`
+-- makes such a value of one of `l`, `from` the one of `l` that is spelled
 abbrev pub seen_as : {A B : Type 0} → (A → B) → (B → A) → Layout A → Layout B
 seen_as to from l = record { spell = λ y. l.spell (from y); good = λ y. l.good (from y); read = λ cur. bind_reading (l.read cur) (λ x end. reading_given (to x) end) }
 
@@ -113,7 +121,7 @@ seen_as to from l = record { spell = λ y. l.spell (from y); good = λ y. l.good
 abbrev pub noted_layout : {A : Type 0} → (A → Note) → Layout A → Layout A
 noted_layout note l = record { spell = l.spell; good = l.good; read = λ cur. bind_reading (l.read cur) (λ x end. record { notes = note x ∷ []; found = Some (x, end) }) }
 
--- the faults among notes
+-- the faults among notes, each by its offset and its code
 abbrev pub faults_in : List Note → List (ℕ × ℕ)
 faults_in [] = []
 faults_in (Faulty at code ∷ notes) = (at, code) ∷ faults_in notes

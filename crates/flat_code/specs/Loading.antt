@@ -8,12 +8,13 @@ use Rattle.flat_code.specs.Image.{image, IsProgram, IsRight, read_image, record_
 use Rattle.flat_code.specs.declared.stamps.Stamp.{Stamp}
 use Rattle.flat_code.specs.Blocks.{signature_of, Environment, block_faults}
 
--- the numbers and lengths of data blocks
+-- the numbers of data blocks and their lengths in bytes
 abbrev pub lens_of : List DataBlock → List (ℕ × ℕ)
 lens_of [] = []
 lens_of (d ∷ ds) = (d.number, length d.bytes) ∷ lens_of ds
 
--- what surrounds a block among code blocks, and data blocks, if all were read
+-- what the faults of a block depend on besides its ops, among the code blocks `all`, and by number
+-- and length of the data blocks, if all were read
 abbrev pub environment_of_block : Option (List (ℕ × ℕ)) → List BlockRecord → BlockRecord → Environment
 environment_of_block data_lens all b = record { kind = b.kind; local_len = b.local_len; params = b.params; blocks = map signature_of all; data_lens = data_lens }
 
@@ -27,7 +28,7 @@ whole_blocks (Faulty at code ∷ notes) = whole_blocks notes
 whole_blocks (Whole start block ∷ notes) = (start, block) ∷ whole_blocks notes
 whole_blocks (AllBlocks blocks ∷ notes) = whole_blocks notes
 
--- the data blocks, if all blocks were read
+-- the data blocks of a later note, if there is one, else those of the note before
 abbrev pub later_data_blocks : Option (List DataBlock) → Option (List DataBlock) → Option (List DataBlock)
 later_data_blocks before None = before
 later_data_blocks before (Some blocks) = Some blocks
@@ -63,14 +64,16 @@ pub record GivesProgram (text : List ℕ) (stamp : Stamp) (p : Program) : Type 0
   pub found : (read_image text).found ≡ Some ((stamp, p), end)
   pub clean : faults_of text ≡ []
 
--- A PROGRAM VERIFIES where no field, and no op of any block, has a fault
+-- no op of any block has a fault 6, 7 or 8, where calls find the blocks of `all`
 abbrev pub AreVerified : List (ℕ × ℕ) → List BlockRecord → List BlockRecord → Type 0
 AreVerified data_lens all [] = Unit {0}
 AreVerified data_lens all (b ∷ bs) = (block_faults (environment_of_block (Some data_lens) all b) 0 b.code ≡ []) × AreVerified data_lens all bs
 
--- `right`: no fault 4, 5 or 9; `blocks`: no fault 6, 7 or 8, with calls checked among them all
+-- A PROGRAM VERIFIES where no field, and no op of any block, has a fault
 pub record Verifies (p : Program) : Type 0 where
+  -- no fault 4, 5 or 9
   pub right : IsRight p
+  -- no fault 6, 7 or 8, with calls checked among all code blocks
   pub blocks : AreVerified (lens_of p.data_blocks) (map record_of_block p.code_blocks) (map record_of_block p.code_blocks)
 
 -- bytes give a program exactly where they are its image, of a version and profile, and it verifies

@@ -17,7 +17,7 @@ pub record OpData : Type 0 where
 abbrev pub op_of : ℕ → Bool → Operand → OpData
 op_of code last operand = record { code = code; last = last; operand = operand }
 
--- whether it is an op of the table
+-- whether an op code (below 128) takes an operand, whose values fit their payload
 unfoldable pub is_op : ℕ → Operand → Bool
 is_op code operand = nat_lt code 128 && admits (takes_of code) operand && payload_fits operand
 
@@ -25,11 +25,11 @@ is_op code operand = nat_lt code 128 && admits (takes_of code) operand && payloa
 unfoldable pub is_instruction : Operation → Operand → Bool
 is_instruction operation operand = admits (takes_of_operation operation) operand && payload_fits operand
 
--- an op that the tables have: a code below 80, a form that it takes, values that fit the payload
+-- an op that the tables have: a code below 16#80, a form that it takes, values that fit the payload
 abbrev pub IsOp : OpData → Type 0
 IsOp op = is_op op.code op.operand ≡ true
 
--- the first byte, whose highest bit is the end mark
+-- the first byte of an op: its op code, and in the highest bit (128) the end mark
 abbrev pub code_byte : ℕ → Bool → ℕ
 code_byte code last = if last then code + 128 else code
 
@@ -37,7 +37,8 @@ code_byte code last = if last then code + 128 else code
 unfoldable pub op_bytes : OpData → List ℕ
 op_bytes op = code_byte op.code op.last ∷ form_of_operand op.operand ∷ payload op.operand
 
--- the op that bytes begin with, and the bytes after it
+-- the op that bytes begin with, and the bytes after it; of the first byte the highest bit (128) is
+-- the end mark, the others are the op code
 unfoldable pub op_at : List ℕ → Option (OpData × List ℕ)
 op_at (b ∷ n ∷ rest) =
     option_and_then (λ r. if admits (takes_of (b % 128)) r.0

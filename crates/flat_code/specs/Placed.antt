@@ -32,47 +32,48 @@ pub record PlacedOp : Type 0 where
   pub op : OpData
   pub rest : List OpData
 
--- A( to XN(, whose codes stand together, open a bracket
+-- whether an op code is one of A( to XN(, which open a bracket and whose codes stand together
 abbrev pub is_opening : ℕ → Bool
 is_opening code = nat_le (op_code_of (operation.Nest check.A)) code && nat_le code (op_code_of (operation.Nest check.Xn))
 
--- brackets without the innermost, which is the last of the list; of none, none
+-- open brackets without the innermost, which is the last of the list; none where none is open
 abbrev pub outer_brackets : List OpenBracket → List OpenBracket
 outer_brackets brackets = take (length brackets - 1) brackets
 
--- behind an op at an offset: A( to XN( stand open from here on, `)` closes the innermost, and every
--- other op leaves the brackets as they are
+-- the open brackets behind an op at an offset: A( to XN( stand open from there on, `)` closes the
+-- innermost, and every other op leaves the brackets as they are
 abbrev pub brackets_after : ℕ → ℕ → List OpenBracket → List OpenBracket
 brackets_after at code brackets =
     if is_opening code then brackets ++ record { at = at; code = code } ∷ []
     else if code == op_code_of operation.Unnest then outer_brackets brackets
     else brackets
 
--- behind an op at an offset: `MCR(` opens a zone, `)MCR` ends the last one, and every other op leaves the
--- zones as they are
+-- the open zones behind an op at an offset: `MCR(` opens a zone, `)MCR` ends the last one, and
+-- every other op leaves the zones as they are
 abbrev pub zones_behind_op : ℕ → ℕ → List ℕ → List ℕ
 zones_behind_op at code zones =
     if code == op_code_of (operation.Relay relay.Open) then zones ++ at ∷ []
     else if code == op_code_of (operation.Relay relay.Close) then take (length zones - 1) zones
     else zones
 
--- the ops of the statement before the next op
+-- the ops of its statement that stand before the op next to `op`; none where `op` ends its
+-- statement
 abbrev pub before_next : OpData → List OpData → List OpData
 before_next op before = if op.last then [] else before ++ op ∷ []
 
--- ops at their places, the first at an offset, behind these open brackets and zones and behind these
--- ops of its own statement
+-- ops at their places: the first of them begins at the offset `at`, behind these open brackets and
+-- zones and behind the ops `before` of its own statement
 abbrev pub ops_placed : ℕ → List OpenBracket → List ℕ → List OpData → List OpData → List PlacedOp
 ops_placed at brackets zones before [] = []
 ops_placed at brackets zones before (op ∷ ops) =
     record { at = at; brackets = brackets; zones = zones; before = before; op = op; rest = ops }
     ∷ ops_placed (at + size_of_op op) (brackets_after at op.code brackets) (zones_behind_op at op.code zones) (before_next op before) ops
 
--- the ops of a block
+-- the ops of a block's code, each at its place
 abbrev pub code_places : List OpData → List PlacedOp
 code_places ops = ops_placed 0 [] [] [] ops
 
--- nothing stands in the list: no op before in the statement, no open bracket, no parameter
+-- whether a list is empty
 abbrev pub is_empty_list : {A : Type 0} → List A → Bool
 is_empty_list [] = true
 is_empty_list (x ∷ xs) = false
@@ -81,20 +82,20 @@ is_empty_list (x ∷ xs) = false
 abbrev pub begins_its_statement : PlacedOp → Bool
 begins_its_statement p = is_empty_list p.before
 
--- the codes of open brackets, the outermost first
+-- the op codes of open brackets, 16#18 A( to 16#1D XN(, the outermost first
 abbrev pub bracket_codes : List OpenBracket → List ℕ
 bracket_codes [] = []
 bracket_codes (b ∷ bs) = b.code ∷ bracket_codes bs
 
--- at most seven brackets stand open at a place
+-- how many brackets stand open at a place at most: seven
 abbrev pub most_brackets : ℕ
 most_brackets = 7
 
--- at most eight zones stand open at a place
+-- how many zones of the master control relay stand open at a place at most: eight
 abbrev pub most_zones : ℕ
 most_zones = 8
 
--- the codes of open brackets, where they are few enough
+-- the op codes of open brackets, the outermost first; None where more than seven are open
 abbrev pub codes_of_few_brackets : List OpenBracket → Option (List ℕ)
 codes_of_few_brackets brackets = if nat_le (length brackets) most_brackets then Some (bracket_codes brackets) else None
 
@@ -102,6 +103,7 @@ codes_of_few_brackets brackets = if nat_le (length brackets) most_brackets then 
 -- many zones
 pub record StatementSpot : Type 0 where
   pub at : ℕ
+  -- the op codes of the brackets, the outermost first; None for more than seven
   pub codes : Option (List ℕ)
   pub zones : ℕ
 
@@ -113,7 +115,7 @@ spots_from at begin brackets zones (op ∷ ops) =
     if begin then record { at = at; codes = codes_of_few_brackets brackets; zones = length zones } ∷ spots_from (at + size_of_op op) op.last (brackets_after at op.code brackets) (zones_behind_op at op.code zones) ops
     else spots_from (at + size_of_op op) op.last (brackets_after at op.code brackets) (zones_behind_op at op.code zones) ops
 
--- the statements of a block
+-- the statements of a block's code
 abbrev pub statement_spots : List OpData → List StatementSpot
 statement_spots ops = spots_from 0 true [] [] ops
 
@@ -122,7 +124,8 @@ abbrev pub spot_at : List StatementSpot → ℕ → Option StatementSpot
 spot_at [] at = None
 spot_at (s ∷ ss) at = if s.at == at then Some s else spot_at ss at
 
--- the op that ends the statement of an op
+-- the op that ends the statement of an op, with the ops behind that one; with no end mark the last
+-- op
 abbrev pub ending_op : OpData → List OpData → OpData
 ending_op op [] = op
 ending_op op (next ∷ ops) = if op.last then op else ending_op next ops
@@ -131,12 +134,12 @@ ending_op op (next ∷ ops) = if op.last then op else ending_op next ops
 abbrev pub last_op : PlacedOp → OpData
 last_op p = ending_op p.op p.rest
 
--- the brackets that stand open behind all ops
+-- the brackets that stand open behind all ops, of which the first begins at an offset, behind these
 abbrev pub open_behind : ℕ → List OpenBracket → List OpData → List OpenBracket
 open_behind at brackets [] = brackets
 open_behind at brackets (op ∷ ops) = open_behind (at + size_of_op op) (brackets_after at op.code brackets) ops
 
--- the zones that stand open behind all ops
+-- the zones that stand open behind all ops, of which the first begins at an offset, behind these
 abbrev pub zones_left : ℕ → List ℕ → List OpData → List ℕ
 zones_left at zones [] = zones
 zones_left at zones (op ∷ ops) = zones_left (at + size_of_op op) (zones_behind_op at op.code zones) ops

@@ -28,7 +28,7 @@ pub record NameEntry : Type 0 where
   pub place : Place
   pub width : Width
 
--- a program
+-- a program: its code blocks, its data blocks, and the names of variables
 pub record Program : Type 0 where
   pub code_blocks : List CodeBlock
   pub data_blocks : List DataBlock

@@ -5,22 +5,23 @@ use Rattle.plc_base.specs.declared.profiles.Profile.TheVariants as profiles
 use Rattle.flat_code.specs.declared.stamps.Stamp.{Stamp}
 use Rattle.flat_code.specs.declared.stamps.Stamp.TheVariants as stamp
 
--- the number of a profile in images
+-- the number of a profile in images: 1 Small, 2 Large
 abbrev pub profile_number : Profile → ℕ
 profile_number profiles.Small = 1
 profile_number profiles.Large = 2
 
--- the version field
+-- the version field of an image: 1 or 2
 abbrev pub version_number : Stamp → ℕ
 version_number stamp.One = 1
 version_number (stamp.Two profile) = 2
 
--- the field behind the version: 0 in version 1, else the profile
+-- the field of an image behind the version: 0 in version 1, else the number of the profile
 abbrev pub profile_field_of : Stamp → ℕ
 profile_field_of stamp.One = 0
 profile_field_of (stamp.Two profile) = profile_number profile
 
--- the stamp of these two fields; an unknown profile of version 2 stands for Small, an unknown version for 1
+-- the version and profile of an image, by the numbers of these two fields; an unknown profile of
+-- version 2 stands for Small, an unknown version for 1
 abbrev pub stamp_of : (version number : ℕ) → Stamp
 stamp_of version number =
     if version == 2 then (if number == profile_number profiles.Large then stamp.Two profiles.Large else stamp.Two profiles.Small)

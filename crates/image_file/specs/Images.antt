@@ -19,8 +19,9 @@ pub record IsImageOf (bytes : List ℕ) (l : LoadedProgram) : Type 0 where
   -- the profile is that of the version, or the one that it names
   pub profile : l.profile ≡ profile_of stamp
 
--- the program again, with the profile of the image that was written; or the program doesn't verify, and the
--- fault is the least one of that image; nothing is said where memory is wanting
+-- what loading a program's image gives: the program again, with the profile of the image; or the
+-- program doesn't verify, and the fault is the least one of that image; nothing is said where
+-- memory is wanting
 abbrev pub GivesBack : Program → Stamp → Result LoadedProgram LoadError → Type 0
 GivesBack p stamp (Ok l) = (l.program ≡ p) × (l.profile ≡ profile_of stamp)
 GivesBack p stamp (Err (error.Fault f)) = (Verifies p → ⊥) × IsLeastFault f (faults_of (image stamp p))

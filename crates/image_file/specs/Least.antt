@@ -2,11 +2,12 @@
 use Rattle.std.specs.Prelude.{◌≡◌, ℕ, ◌<◌, ◌≤◌, ◌⊎◌, nat_lt, ◌==◌, Bool, ◌&&◌, ◌||◌, if◌then◌else◌, List, [], ◌∷◌, Option, Some, None}
 use Rattle.image_file.specs.declared.faults.LoadFault.{LoadFault}
 
--- a fault stands before another one, or is the same: by its offset, then by its code
+-- a fault stands before another one `g` (its offset and code), or is the same: by its offset, then
+-- by its code
 abbrev pub IsUpTo : LoadFault → ℕ × ℕ → Type 0
 IsUpTo f g = (f.at < g.0) ⊎ ((f.at ≡ g.0) × (f.code ≤ g.1))
 
--- a fault stands in the list
+-- a fault, by offset and code, stands in the list
 abbrev pub IsFaultAmong : ℕ × ℕ → List (ℕ × ℕ) → Type 0
 IsFaultAmong f [] = ⊥
 IsFaultAmong f (g ∷ gs) = (g ≡ f) ⊎ IsFaultAmong f gs

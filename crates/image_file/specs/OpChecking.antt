@@ -18,7 +18,7 @@ around_of s = record { kind = s.kind; local_len = s.local_len; params = s.params
 abbrev pub callee_values : ℕ × ℕ × Bor (List ParameterRecord) → CalleeSeen
 callee_values r = (r.0, r.1, r.2.now)
 
--- all brackets stand at most at an offset
+-- all brackets are opened at most at an offset
 abbrev pub AllUpTo : ℕ → List OpenBracket → Type 0
 AllUpTo n [] = Unit {0}
 AllUpTo n (b ∷ bs) = (b.at ≤ n) × AllUpTo n bs
@@ -28,6 +28,6 @@ abbrev pub ZonesUpTo : ℕ → List ℕ → Type 0
 ZonesUpTo n [] = Unit {0}
 ZonesUpTo n (at ∷ zones) = (at ≤ n) × ZonesUpTo n zones
 
--- an op in its place
+-- an op in its place, by what the checker has at the place
 abbrev pub placed_of : OpData → Place → PlacedOp
 placed_of op p = record { at = p.at; brackets = p.brackets.now; zones = p.zones.now; before = p.before.now; op = op; rest = p.rest.now }

@@ -32,11 +32,11 @@ abbrev pub data_bytes_of : ℕ → List DataBlock → Option (List ℕ)
 data_bytes_of number [] = None
 data_bytes_of number (d ∷ ds) = if d.number == number then Some d.bytes else data_bytes_of number ds
 
--- a data block by kind and number
+-- the kind DB and the number of a data block
 abbrev pub data_block_id : DataBlock → BlockId
 data_block_id d = record { kind = kinds.Db; number = d.number }
 
--- the blocks: code blocks, then data blocks, in the image's order
+-- the blocks of a program by kind and number: code blocks, then data blocks, in the image's order
 abbrev pub block_ids : Program → List BlockId
 block_ids p = map (λ b. b.id) p.code_blocks ++ map data_block_id p.data_blocks
 

@@ -4,7 +4,8 @@ use Rattle.image_file.specs.declared.refusing.LoadError.{LoadError}
 use Rattle.image_file.specs.declared.refusing.LoadError.TheVariants as error
 use Rattle.image_file.specs.Least.{IsLeastFault}
 
--- the least fault, by offset, then code; nothing is said where memory is wanting
+-- bytes are refused by the least of their faults, by offset, then code; nothing is said where
+-- memory is wanting
 abbrev pub IsLoadError : LoadError → List (ℕ × ℕ) → Type 0
 IsLoadError (error.Fault f) fs = IsLeastFault f fs
 IsLoadError error.NoMemory fs = Unit {0}

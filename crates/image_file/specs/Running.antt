@@ -95,7 +95,7 @@ abbrev pub reader_run : {X A : Type 0} → (X → A) → Result X Ended → Read
 reader_run view (Ok x) r = Goes (view x) (reader_cursor r) (log_of r)
 reader_run view (Err e) r = Stops (log_of r)
 
--- the head of a code block
+-- the head of a code block, by what the reader answers
 abbrev pub head_values : HeadRead → Head
 head_values h = record {
   kind = h.kind;
@@ -108,50 +108,56 @@ head_values h = record {
   code_length = h.code_length;
 }
 
--- the same where memory may be wanting
+-- what a call of the reader says, as `Ran` has it: a value and where it stands then, or that
+-- reading ended at a fault; nothing is said where memory is wanting
 abbrev pub Sees : {X A : Type 0} → (X → A) → Result X Stop → Reader → Ran A → Type 0
 Sees view (Ok x) r all = Goes (view x) (reader_cursor r) (log_of r) ≡ all
 Sees view (Err stop.AtFault) r all = Stops (log_of r) ≡ all
 Sees view (Err stop.NoMemory) r all = Unit {0}
 
--- what was read before, in front
+-- a list that was read, with the values `xs` that were read before in front of it
 abbrev pub with_front : {A : Type 0} → List A → Ran (List A) → Ran (List A)
 with_front xs (Goes ys cur log) = Goes (xs ++ ys) cur log
 with_front xs (Stops log) = Stops log
 
--- a code block that was read and kept: its kind and number are answered
+-- a code block was read and kept, and its kind and number are answered, or reading ended at a
+-- fault; nothing is said where memory is wanting
 abbrev pub SeesBlock : Result (ℕ × ℕ) Stop → Reader → Ran BlockRecord → Type 0
 SeesBlock (Ok key) r all = (b : BlockRecord) × (Goes b (reader_cursor r) (log_of r) ≡ all) × (key.0 ≡ b.kind) × (key.1 ≡ b.number)
 SeesBlock (Err stop.AtFault) r all = Stops (log_of r) ≡ all
 SeesBlock (Err stop.NoMemory) r all = Unit {0}
 
--- all code blocks were read and kept
+-- all code blocks were read and kept, or reading ended at a fault; nothing is said where memory is
+-- wanting
 abbrev pub SeesBlocks : Result (Unit {0}) Stop → Reader → Ran (List BlockRecord) → Type 0
 SeesBlocks (Ok u) r all = (bs : List BlockRecord) × (Goes bs (reader_cursor r) (log_of r) ≡ all)
 SeesBlocks (Err stop.AtFault) r all = Stops (log_of r) ≡ all
 SeesBlocks (Err stop.NoMemory) r all = Unit {0}
 
--- what was read of a name
+-- the record of a name, by what the reader answers: bytes, area, width, byte, bit
 abbrev pub name_values : Bor (List ℕ) × ℕ × ℕ × ℕ × ℕ → NameRecord
 name_values r = record { name = r.0.now; area = r.1; width = r.2; byte = r.3; bit = r.4 }
 
--- all data blocks were read and kept
+-- all data blocks were read and kept, or reading ended at a fault; nothing is said where memory is
+-- wanting
 abbrev pub SeesDatas : Result (Unit {0}) Stop → Reader → Ran (List DataBlock) → Type 0
 SeesDatas (Ok u) r all = (ds : List DataBlock) × (Goes ds (reader_cursor r) (log_of r) ≡ all)
 SeesDatas (Err stop.AtFault) r all = Stops (log_of r) ≡ all
 SeesDatas (Err stop.NoMemory) r all = Unit {0}
 
--- the counts of code blocks, data blocks and names, and the reserved field behind them
+-- the counts of code blocks, data blocks and names, and the reserved field behind them, by what the
+-- reader answers
 abbrev pub counts_values : CountsRead → RecordCounts
 counts_values c = record { code_blocks = c.code_blocks; data_blocks = c.data_blocks; names = c.names; reserved = c.reserved }
 
--- all records were read; the names are answered, the blocks are kept
+-- all records were read, the names are answered and the blocks kept, or reading ended at a fault;
+-- nothing is said where memory is wanting
 abbrev pub SeesRecords : {X : Type 0} → (X → List NameRecord) → Result X Stop → Reader → Ran Records → Type 0
 SeesRecords view (Ok names) r all = (x : Records) × (Goes x (reader_cursor r) (log_of r) ≡ all) × (x.names ≡ view names)
 SeesRecords view (Err stop.AtFault) r all = Stops (log_of r) ≡ all
 SeesRecords view (Err stop.NoMemory) r all = Unit {0}
 
--- the header up to the total length
+-- the front of an image, its header up to the total length, by what the reader answers
 abbrev pub front_values : FrontRead → Front
 front_values f = record { magic = f.magic; version = f.version; profile = f.profile; total_length = f.total_length }
 

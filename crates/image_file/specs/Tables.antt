@@ -9,12 +9,12 @@ use Rattle.flat_code.specs.Placed.{StatementSpot, spot_at}
 use Rattle.flat_code.specs.Programs.{CodeBlock}
 use Rattle.image_file.specs.Readers.{block_by_id}
 
--- the place of the first number in a list that is an offset
+-- the place of the first number in a list that is the offset `at`; None where none is
 abbrev pub start_index : ℕ → List ℕ → Option ℕ
 start_index at [] = None
 start_index at (start ∷ starts) = if start == at then Some 0 else option_map suc (start_index at starts)
 
--- a place as a table has it: where there is none, one that is past the end of each list
+-- the number that a table of places has where there is none: it is past the end of each list
 abbrev pub no_index : ℕ
 no_index = 0xFFFF_FFFF
 
@@ -40,12 +40,12 @@ FindsStatements spots table = (at : ℕ) → option_and_then (λ place. slice_ge
 abbrev pub FindsLens : List (ℕ × ℕ) → List ℕ → Type 0
 FindsLens lens table = (number : ℕ) → number < 65536 → option_map (λ d. d.1) (option_and_then (λ place. slice_get lens place) (slice_get table number)) ≡ length_of_data number lens
 
--- the number by which a block is found that may be called: twice its own, and one more for a function
--- block; other blocks have one past those
+-- the number by which a table finds a block that may be called: twice the block's own number for a
+-- function (kind 2), and one more for a function block (3); other blocks have 131,072, past those
 abbrev pub call_key : BlockSignature → ℕ
 call_key b = if b.kind == 2 then 2 * b.number else if b.kind == 3 then 2 * b.number + 1 else 131072
 
--- what a CALL sees of a block, without its number
+-- what a CALL sees of a block once it was found by its number: kind, instance bytes, parameters
 abbrev pub signature_callee : BlockSignature → CalleeSeen
 signature_callee b = (b.kind, b.instance_len, b.params)
 
@@ -55,9 +55,9 @@ found_callee blocks table key = option_map signature_callee (option_and_then (λ
 
 -- a table finds functions and function blocks by number: the first block of a kind and number
 pub record FindsCallees (blocks : List BlockSignature) (table : List ℕ) : Type 0 where
-  -- functions stand at even keys
+  -- functions (kind 2) stand at even keys
   pub functions : (number : ℕ) → number < 65536 → found_callee blocks table (2 * number) ≡ block_with 2 number blocks
-  -- function blocks at odd keys
+  -- function blocks (kind 3) stand at odd keys
   pub function_blocks : (number : ℕ) → number < 65536 → found_callee blocks table (2 * number + 1) ≡ block_with 3 number blocks
 
 -- a block's code and lines are as short as those of a program
@@ -67,16 +67,17 @@ pub record HasSmallCode (block : CodeBlock) : Type 0 where
   -- the count of its lines
   pub lines : length block.lines < 65536
 
--- so are those of each of these blocks
+-- each of these code blocks has code and lines as short as those of a program
 abbrev pub AreSmall : List CodeBlock → Type 0
 AreSmall [] = Unit {0}
 AreSmall (b ∷ bs) = HasSmallCode b × AreSmall bs
 
--- how many places the table of blocks has: for OB, FC and FB 0 to 2047
+-- how many places the table of blocks has: 2,048 each for OB, FC and FB
 abbrev pub slots : ℕ
 slots = 6144
 
--- the place of a block in the table of blocks, by kind, then number; none for another block
+-- the place of a block in the table of blocks, by kind (OB, FC, FB), then number, 0 to 2,047; None
+-- for another block
 abbrev pub slot_of : BlockId → Option ℕ
 slot_of id =
     if nat_lt (kind_order id.kind) 3 && nat_lt id.number 2048 then Some (2048 * kind_order id.kind + id.number) else None

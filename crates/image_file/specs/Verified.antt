@@ -31,7 +31,7 @@ use Rattle.flat_code.specs.Placed.{PlacedOp, op_placed, line_placed, code_places
 use Rattle.flat_code.specs.Blocks.{BlockSignature, signature_of, CalleeSeen, callee_among, writes_operand, prepares_statement, is_odd_bit, is_in_db, is_above, pass_before, are_all_passed, is_bad_instance, misfits_parameter, leads_to_target}
 use Rattle.image_file.specs.Readers.{block_by_id}
 
--- the op of code that begins at an offset
+-- the op of code that begins at the offset `at`, in its place; None where none begins there
 abbrev pub placed_at : ℕ → List PlacedOp → Option PlacedOp
 placed_at at [] = None
 placed_at at (q ∷ qs) = if q.at == at then Some q else placed_at at qs
@@ -66,8 +66,8 @@ pub record IsReaderOp (ops : List OpData) (at : ℕ) (op : OpData) (next : ℕ) 
 abbrev pub OpsArePlaced : Type 0
 OpsArePlaced = (ops : List OpData) (at : ℕ) (op : OpData) (next : ℕ) → op_placed 0 ops at ≡ Some (op, next) → IsReaderOp ops at op next
 
--- behind an op stands the next one; the last op of a block is BE, ends its statement, and no bracket and
--- no zone stands open there
+-- `ops` stand behind an op of a block: the first of them is the next op in its place; where there
+-- are none the op is BE, ends its statement, and no bracket and no zone stands open there
 abbrev pub HasNext : CodeBlock → PlacedOp → List OpData → Type 0
 HasNext b q [] = (q.op.code ≡ op_code_of (operation.End ends.Be)) × (q.op.last ≡ true) × (q.brackets ≡ []) × (q.zones ≡ [])
 HasNext b q (op ∷ ops) = placed_at (q.at + size_of_op q.op) (code_places b.code) ≡ Some (record {
@@ -105,7 +105,7 @@ pub record HasLine (b : CodeBlock) (at : ℕ) : Type 0 where
 abbrev pub StatementsHaveLines : Type 0
 StatementsHaveLines = (p : Program) (b : CodeBlock) (q : PlacedOp) → IsVerifiedOp p b q → begins_its_statement q ≡ true → HasLine b q.at
 
--- each op is one of the table
+-- in a program that verifies each op is one of the table
 abbrev pub OpsAreOfTable : Type 0
 OpsAreOfTable =
     (p : Program) (b : CodeBlock) (q : PlacedOp) → IsVerifiedOp p b q
@@ -137,7 +137,8 @@ pub record BlockIsRight (b : CodeBlock) : Type 0 where
   -- an organization block has its start information, and no parameter
   pub organization : b.id.kind ≡ kinds.Ob → (b.params ≡ []) × (20 ≤ b.local_len)
 
--- in a program that verifies each code block is so
+-- in a program that verifies each code block begins with a statement and has local bytes and
+-- parameters within their limits
 abbrev pub BlocksAreRight : Type 0
 BlocksAreRight =
     (p : Program) (b : CodeBlock) (id : BlockId) → Verifies p
@@ -160,11 +161,12 @@ pub record Lands (b : CodeBlock) (q : PlacedOp) (target : ℕ) : Type 0 where
   -- as many zones stand open
   pub same_zones : length q.zones ≡ length there.zones
 
--- in a program that verifies each jump has such a target, JL and LOOP too
+-- in a program that verifies each jump, JL and LOOP too, has as its target a statement of its
+-- block, where the same brackets and as many zones stand open
 abbrev pub JumpsLand : Type 0
 JumpsLand = (p : Program) (b : CodeBlock) (q : PlacedOp) (kind target : ℕ) → IsVerifiedOp p b q → q.op.operand ≡ operand.Jump kind target → Lands b q target
 
--- between a JL and its target stand at most 255 JU and nothing else
+-- in a program that verifies at most 255 JU and nothing else stand between a JL and its target
 abbrev pub ListsLead : Type 0
 ListsLead = (p : Program) (b : CodeBlock) (q : PlacedOp) (target : ℕ) → IsVerifiedOp p b q → q.op.operand ≡ operand.Jump (jump_number jump.Jl) target → leads_to_target 255 target (q.at + size_of_op q.op) q.rest ≡ true
 
@@ -196,7 +198,7 @@ ZonesFit = (p : Program) (b : CodeBlock) (q : PlacedOp) → IsVerifiedOp p b q �
 
 -- ---- operands
 
--- a local place lies within the block's local bytes
+-- a place of a width lies within the block's local bytes, if it is one in L
 abbrev pub LiesWithin : CodeBlock → Area → Width → ℕ → Type 0
 LiesWithin b area.L w byte = byte + byte_count w ≤ b.local_len
 LiesWithin b _ w byte = Unit {0}
@@ -210,8 +212,9 @@ pub record HasParam (b : CodeBlock) (index : ℕ) (w : Width) (param : Param) : 
   -- the parameter has the width
   pub width : param.width ≡ w
 
--- the width is one of the instruction's; a bit number stands only where a bit is meant; local places lie
--- within the local bytes; a parameter of the function is there, and an input of it isn't written
+-- an operand fits its op and its block: the width is one of the instruction's; a bit number stands
+-- only where a bit is meant; local places lie within the local bytes; a parameter of the function
+-- is there, and an input of it isn't written
 abbrev pub FitsOperand : CodeBlock → OpData → Operand → Type 0
 FitsOperand b op (operand.Direct a w byte bit) = (has_memory_width (takes_of op.code) w ≡ true) × (is_odd_bit w bit ≡ false) × LiesWithin b a w byte
 FitsOperand b op (operand.ByMemory a w from byte) = has_memory_width (takes_of op.code) w ≡ true
@@ -225,7 +228,9 @@ OperandsFit = (p : Program) (b : CodeBlock) (q : PlacedOp) → IsVerifiedOp p b 
 
 -- ---- USEDB and PASS
 
--- what is passed, by itself: as operands are
+-- what a PASS passes is right by itself, whatever its parameter: a bit number stands only where a
+-- bit is meant, local places lie within the local bytes, a parameter of the function is there, a
+-- data block is named with a place in DB
 abbrev pub FitsPassed : CodeBlock → Passed → Type 0
 FitsPassed b (passed.Literal value) = Unit {0}
 FitsPassed b (passed.Direct a w byte bit) = (is_odd_bit w bit ≡ false) × LiesWithin b a w byte
@@ -287,6 +292,7 @@ pub record IsCalledBlock (p : Program) (kind number : ℕ) (called : CalleeSeen)
   -- its head is what the call sees
   pub same : called ≡ (kind, block.instance_len, map record_of_param block.params)
 
--- what a call of a function or function block finds is such a block, whether the program verifies or not
+-- what a call of a function or function block finds is a block of the program, with the head that
+-- the call sees, whether the program verifies or not
 abbrev pub CalledAreThere : Type 0
 CalledAreThere = (p : Program) (kind number : ℕ) (called : CalleeSeen) → (kind ≡ kind_number kinds.Fc) ⊎ (kind ≡ kind_number kinds.Fb) → callee_among (block_signatures p) kind number ≡ Some called → IsCalledBlock p kind number called

@@ -15,18 +15,19 @@ use Rattle.image_file.specs.declared.refusing.VerifyError.TheVariants as error
 use Rattle.image_file.specs.declared.faults.VerifyFault.{VerifyFault}
 use Rattle.image_file.specs.Least.{IsLeastFault}
 
--- 9, at 0: a line that is 0 or falls, behind another line (0 for none)
+-- the fault 9, at offset 0, of each line that is 0 or falls, behind the line `before` (0 for none)
 abbrev pub line_faults : ℕ → List ℕ → List (ℕ × ℕ)
 line_faults before [] = []
 line_faults before (line ∷ lines) =
     at_offset 0 (field_fault (field_of.Line before line)) ++ line_faults line lines
 
--- 9, at 0: another number of statements than end marks
+-- the fault 9, at offset 0, of a block that has another number of statements than end marks
 abbrev pub count_faults : BlockRecord → List (ℕ × ℕ)
 count_faults b =
     at_offset 0 (field_fault (field_of.StatementCount (end_marks b.code) (length b.lines)))
 
--- 5 alone, where the code has one; else 9, and those of the ops
+-- the faults of a block by the offset of its fault 5: that alone, or where there is none (None) 9,
+-- and those of the ops
 abbrev pub faults_unless : Option ℕ → Environment → BlockRecord → List (ℕ × ℕ)
 faults_unless (Some at) around b = (at, 5) ∷ []
 faults_unless None around b =
@@ -41,22 +42,24 @@ abbrev pub are_whole : List BlockRecord → Bool
 are_whole [] = true
 are_whole (b ∷ bs) = is_nowhere (code_fault b.code) && are_whole bs
 
--- the numbers and lengths of the data blocks, where calls are checked; none where they are not
+-- the numbers and lengths in bytes of data blocks, where calls are checked (true); None where they
+-- aren't
 abbrev pub lens_where : Bool → List DataBlock → Option (List (ℕ × ℕ))
 lens_where true datas = Some (lens_of datas)
 lens_where false datas = None
 
--- the same for a program: its calls are checked where no code of it has a fault 5
+-- the numbers and lengths in bytes of a program's data blocks, where its calls are checked: where
+-- no code of it has a fault 5; else None
 abbrev pub lens_checked : Program → Option (List (ℕ × ℕ))
 lens_checked p = lens_where (are_whole (map record_of_block p.code_blocks)) p.data_blocks
 
--- the faults of a block among all blocks
+-- the faults of a block whose calls find the blocks of `all`
 abbrev pub faults_among :
     Option (List (ℕ × ℕ)) → List BlockRecord → CodeBlock → List (ℕ × ℕ)
 faults_among lens all b =
     faults_of_block (environment_of_block lens all (record_of_block b)) (record_of_block b)
 
--- the first block with a fault, and the least of its faults
+-- a fault is the least of those of the block `id`; where this has none, `Later` holds
 abbrev pub DecidesFor : BlockId → VerifyFault → List (ℕ × ℕ) → Type 0 → Type 0
 DecidesFor id f [] Later = Later
 DecidesFor id f (g ∷ gs) Later =

@@ -18,7 +18,7 @@ pub record HasReadOps (code : List ℕ) (ops : List OpData) (at before : ℕ) (e
   pub size : length (code_bytes ops) ≡ at
   -- the offset of the last op
   pub last : before ≡ last_place 0 ops
-  -- whether it ends the block
+  -- whether the last op ends the block
   pub ended : end ≡ ends_by_be ops
-  -- the count of its statement so far
+  -- the 65th op of a statement, if there is one, is found from here on with `count` ops before it
   pub few : overlong_statement 0 0 (ops_from (length code) code).0 ≡ overlong_statement count at (ops_from (length code) (drop at code)).0

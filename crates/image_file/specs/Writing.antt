@@ -30,11 +30,11 @@ pub record ProgramFitsFields (p : Program) : Type 0 where
   pub data_count : length p.data_blocks < 65536
   -- the count of names fits 16 bits
   pub name_count : length p.names < 65536
-  -- so do counts and lengths of each code block
+  -- counts and lengths of each code block fit
   pub code_blocks : All BlockFitsFields p.code_blocks
-  -- and those of each data block
+  -- the length and instance of each data block fit
   pub data_blocks : All DataFitsFields p.data_blocks
-  -- and the length of each name
+  -- the length of each name fits 8 bits
   pub names : All NameFitsField p.names
   -- the image has at most 8,388,608 bytes
   pub total : front_size + length ((body_layout false).spell p) ≤ 8388608
