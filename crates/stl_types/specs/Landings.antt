@@ -18,7 +18,8 @@ use Rattle.stl_types.specs.Labels.{labels_of}
 use Rattle.stl_types.specs.Zones.{zones_behind}
 use Rattle.stl_types.specs.declared.brackets.Bracket.{Bracket}
 
--- the brackets and the zones that are open before a statement
+-- the brackets and the zones that are open before a statement, the outermost first,
+-- a zone by the line of its MCR(
 pub record Nesting : Type 0 where
   pub brackets : List Bracket
   pub zones : List ℕ

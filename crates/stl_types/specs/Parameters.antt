@@ -84,6 +84,7 @@ sound_formals cells = if list_all is_sound_formal cells then Some (formals_of ce
 -- a block that is called, with its parameters; `place` is that of a block of the source
 pub record Callee : Type 0 where
   pub id : BlockId
+  -- the place of the called block in the source; none of a system function
   pub place : Option ℕ
   pub formals : List Formal
 
