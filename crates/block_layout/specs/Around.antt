@@ -28,7 +28,9 @@ declarations_before_next before (d ∷ ds) = declarations_before_next (d ∷ bef
 
 -- what the outermost declarations of a list stand in: names that the list has already, and open structures
 pub record Outside : Type 0 where
+  -- the names that stand before the declarations in their list
   pub names : List (List ℕ)
+  -- how many structures are open around the declarations
   pub depth : ℕ
 
 -- the return value of a function

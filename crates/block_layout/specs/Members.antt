@@ -5,8 +5,8 @@ use Rattle.block_layout.specs.declared.cells.Cell.{Cell}
 use Rattle.block_layout.specs.declared.members.Member.{Member}
 use Rattle.block_layout.specs.Sizes.{next_multiple, alignment, end_behind_cell, cell_bits}
 
--- the component of this name: the first cell at this level that has it; the first cell of all has
--- this place, and a component may begin at bit `at`
+-- the component of this name: the first cell at this level that has it; the first cell of all
+-- stands at `place`, and the first component may begin at bit `at`
 unfoldable pub component_of_name : (level at place : ℕ) → List ℕ → List Cell → Option Member
 component_of_name level at place name [] = None
 component_of_name level at place name (c ∷ cs) =
@@ -25,8 +25,8 @@ member_here level at place c =
 abbrev pub name_here : (level : ℕ) → Cell → List (List ℕ)
 name_here level c = if nat_eq c.level level then c.name ∷ [] else []
 
--- all components at this level, up to the first cell at a lower one; the first cell of all has this
--- place, and a component may begin at bit `at`
+-- all components at this level, up to the first cell at a lower one; the first cell of all stands
+-- at `place`, and the first component may begin at bit `at`
 unfoldable pub members_of : (level at place : ℕ) → List Cell → List Member
 members_of level at place [] = []
 members_of level at place (c ∷ cs) =

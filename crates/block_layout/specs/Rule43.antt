@@ -32,8 +32,8 @@ leads_to y blocks (suc steps) from to =
     list_any (λ used. nat_eq used to || leads_to y blocks steps used to)
     (uses_of y (slice_get blocks from))
 
--- a data type leads back to itself; as many steps as there are blocks are enough. `before` are the
--- blocks before it
+-- uses lead from a data type back to itself; as many steps as there are blocks are enough. `before`
+-- are the blocks before it
 abbrev pub contains_itself : Types → List Block → (before : List Block) → Block → Bool
 contains_itself y blocks before b =
     is_data_type b.kind && leads_to y blocks (length blocks) (length before) (length before)

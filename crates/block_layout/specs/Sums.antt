@@ -126,11 +126,13 @@ is_temporary _ = false
 pub record LeadsToPlace (l : List BlockLayout) (id : BlockId) (s : Section) (path : List PathStep)
     (place : Place) (width : Width) : Type 0 where
   pub block : ℕ
+  -- the block that is meant is there and isn't broken
   pub known : option_and_then (if_whole l) (known_block id (map (λ b. b.id) l)) ≡ Some block
   pub inside : ℕ
   pub declared : declaring_block l s block ≡ Some inside
   pub to : ComponentAt
   pub leads : LeadsFrom l inside (is_temporary s) path to
+  -- the place lies as many bits from the start as the offsets of the steps add up to
   pub sum : 8 * place.byte + place.bit ≡ to.offset
   pub kind : Simple
   pub elementary : elementary_at l to ≡ Some kind

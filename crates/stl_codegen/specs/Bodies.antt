@@ -13,11 +13,11 @@ use Rattle.stl_types.specs.Labels.{labels_of}
 use Rattle.stl_codegen.specs.Emitted.{end_op, ops_of}
 use Rattle.stl_codegen.specs.Instruction.{count_of_statement, instruction}
 
--- what a statement adds to the code; its number has no part in it
+-- the ops that a statement of this body adds to the code; its number has no part in them
 unfoldable pub ops_here : Context → List Statement → Statement → List OpData
 ops_here c body s = if is_empty_statement s.code then [] else ops_of (instruction c body 0 s)
 
--- what a body adds, and its END clause
+-- the ops of a body and of its END clause, whose targets are still numbers of statements
 abbrev pub body_ops : Context → Block → List OpData
 body_ops c b = flat_map (λ s. ops_here c b.body s) b.body ++ end_op ends.Be ∷ []
 
@@ -48,7 +48,7 @@ abbrev pub numbers_of_labels : (n : ℕ) → List Statement → List ℕ
 numbers_of_labels n [] = []
 numbers_of_labels n (s ∷ ss) = number_here n s.label ++ numbers_of_labels (n + count_of_statement s) ss
 
--- the labels of a body with these numbers, and how many statements it has
+-- the labels of a body with the numbers of their statements, and how many statements it has
 pub record AreTargets (body : List Statement) (names : List (List ℕ)) (places : List ℕ) (total : ℕ)
     : Type 0 where
   pub labels : names ≡ labels_of body

@@ -33,12 +33,12 @@ offset_from at false (op ∷ ops) n = offset_from (at + size_of_op op) op.last o
 unfoldable pub offset_of_statement : List OpData → ℕ → ℕ
 offset_of_statement ops n = offset_from 0 true ops n
 
--- targets by a function of positions
+-- an operand with its target by a function of targets; one that is no jump's stays as it is
 abbrev pub operand_with_target : (ℕ → ℕ) → Operand → Operand
 operand_with_target f (operand.Jump kind target) = operand.Jump kind (f target)
 operand_with_target f o = o
 
--- an op with its target by such a function; one that is no jump stays as it is
+-- an op with its target by a function of targets; one that is no jump stays as it is
 abbrev pub op_with_target : (ℕ → ℕ) → OpData → OpData
 op_with_target f op = record op { operand = operand_with_target f op.operand }
 
@@ -46,7 +46,7 @@ op_with_target f op = record op { operand = operand_with_target f op.operand }
 unfoldable pub placed_ops : List OpData → List OpData
 placed_ops ops = map (op_with_target (offset_of_statement ops)) ops
 
--- the code and the lines of statements
+-- the ops of statements, with byte offsets as targets
 abbrev pub code_in : List SourceInstruction → List OpData
 code_in statements = placed_ops (ops_in statements)
 

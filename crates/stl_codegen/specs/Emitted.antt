@@ -15,7 +15,7 @@ use Rattle.flat_code.specs.declared.operations.EndOperation.{EndOperation}
 use Rattle.flat_code.specs.declared.operations.Operation.{Operation}
 use Rattle.flat_code.specs.declared.operations.Operation.TheVariants as operation
 
--- an op that prepares its statement, and the op that does it
+-- an op that prepares its statement, without the end mark
 abbrev pub preparing_op : Operation → Operand → OpData
 preparing_op w o = op_of (op_code_of w) false o
 
@@ -37,7 +37,7 @@ pass_ops (p ∷ ps) = preparing_op operation.Pass (operand.Pass p.index p.actual
 abbrev pub jump_op : JumpOperation → (target : ℕ) → OpData
 jump_op how target = op_with_end_mark operation.Jump (operand.Jump (jump_number how) target)
 
--- 0 stands for no instance
+-- the number of an instance; 0 stands for no instance
 abbrev pub instance_number_or_zero : Option ℕ → ℕ
 instance_number_or_zero None = 0
 instance_number_or_zero (Some number) = number

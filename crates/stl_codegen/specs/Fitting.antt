@@ -10,7 +10,7 @@ use Rattle.flat_code.specs.declared.operands.Operand.TheVariants as operand
 use Rattle.flat_code.specs.declared.programs.Param.{Param}
 use Rattle.stl_codegen.specs.Compiled.{op_with_target}
 
--- an operand that isn't a jump's: it is the same in its place
+-- an operand that isn't a jump's: it stays the same whatever targets the ops get
 abbrev pub IsStill : Operand → Type 0
 IsStill (operand.Jump kind target) = ⊥
 IsStill _ = Unit {0}
@@ -20,7 +20,7 @@ pub record IsNoOperand (o : Operand) : Type 0 where
   pub still : IsStill o
   pub never : payload_fits o ≡ false
 
--- not all of these are ops of the table, whatever targets they get
+-- not all of these ops are ops of the table, whatever targets they get
 pub record HasNoOp (ops : List OpData) : Type 0 where
   pub never : (f : ℕ → ℕ) → are_ops (map (op_with_target f) ops) ≡ false
 
@@ -39,7 +39,7 @@ AreItemsAppended fits old new items None = AllByRecursion fits items → ⊥
 abbrev pub ParamFits : Param → Type 0
 ParamFits p = p.byte < 65536
 
--- so do so many parameters
+-- no more than 60 parameters, whose places fit their fields
 pub record ParamsFit (params : List Param) : Type 0 where
   pub count : length params ≤ 60
   pub places : AllByRecursion ParamFits params

@@ -39,7 +39,8 @@ use Rattle.stl_codegen.specs.Order.{is_code_before, is_data_before, is_name_befo
 
 -- ---- statements
 
--- those of a body from a number on; empty statements have no number
+-- the instructions of statements of a body, from the number `n` on, with their lines; empty
+-- statements have no number
 abbrev pub stated_from : Context → (body : List Statement) → (n : ℕ) → List Statement → List SourceInstruction
 stated_from c body n [] = []
 stated_from c body n (s ∷ ss) =
@@ -47,7 +48,7 @@ stated_from c body n (s ∷ ss) =
     else record { instr = instruction c body n s; line = s.line }
     ∷ stated_from c body (suc n) ss
 
--- and one more that returns, with the line of the END clause
+-- the statement that returns at the end of a block, with the line of the END clause
 abbrev pub return_statement : Block → SourceInstruction
 return_statement b = record { instr = Returns ends.Be; line = b.end_line }
 
@@ -98,7 +99,8 @@ params_of b l =
 
 -- ---- blocks
 
--- an instance has as many bytes as the structure of its function block; other blocks have none
+-- the bytes of an instance of a block: as many as the structure of a function block; other blocks
+-- have none
 abbrev pub instance_len : Block → BlockLayout → ℕ
 instance_len b l = if is_function_block b.kind then l.length else 0
 
@@ -142,7 +144,8 @@ abbrev pub data_block_of : Context → BlockLayout → Option BlockId → List D
 data_block_of c l None = []
 data_block_of c l (Some id) = if is_data_block id.kind then generated_data_block c l id ∷ [] else []
 
--- from each block of the source with its layout
+-- what comes of each block of a source with its layout, one behind the other; the context has the
+-- place of the first
 abbrev pub each_block : {A : Type 0} → (Context → Block → BlockLayout → List A) → Context
     → List Block → List BlockLayout → List A
 each_block of c [] ls = []
@@ -152,7 +155,7 @@ each_block of c (b ∷ bs) (l ∷ ls) =
 
 -- ---- names
 
--- the variables in I, Q and M have their names in the program
+-- an area whose variables have their names in the program: I, Q and M
 abbrev pub has_name : Area → Bool
 has_name area.I = true
 has_name area.Q = true
@@ -172,14 +175,14 @@ name_entries_of symbols = sorted_list is_name_before (flat_map (λ s. name_entry
 
 -- ---- the program
 
--- its code blocks, as statements, and its data blocks
+-- the code blocks of a source, before their statements are ops, by kind and number
 unfoldable pub code_blocks_of : Tree → List Symbol → List BlockLayout → List StatedBlock
 code_blocks_of t symbols layouts =
     sorted_list is_code_before
     (each_block (λ c b l. code_block_of c b l l.id) (first_context symbols layouts t.blocks)
     t.blocks layouts)
 
--- its data blocks, by number
+-- the data blocks of a source, by number
 unfoldable pub data_blocks_of : Tree → List Symbol → List BlockLayout → List DataBlock
 data_blocks_of t symbols layouts =
     sorted_list is_data_before

@@ -45,18 +45,21 @@ abbrev pub numbers_from : ℕ → (count : ℕ) → List ℕ
 numbers_from n zero = []
 numbers_from n (suc count) = n ∷ numbers_from (suc n) count
 
--- JL has the JU behind it, up to its label, as its list
+-- the instruction of a jump, of the number `n`, to a target; JL has the JU behind it, up to its
+-- label, as its list
 abbrev pub jump_instr : JumpOperation → (n target : ℕ) → Instr
 jump_instr jump.Jl n target =
     JumpsByList (numbers_from (suc n) (target - suc n)) target
 jump_instr how n target = Jumps how target
 
--- the parameters of a block by their index in a call: the return value of a function is the last
+-- the parameters of a block by their index in a call: that of the return value, the first declared,
+-- is the last
 abbrev pub return_last : {A : Type 0} → Option Simple → List A → List A
 return_last None params = params
 return_last (Some result) params = drop 1 params ++ take 1 params
 
--- the same for a block of the source; the parameters of a system function stand so already
+-- the parameters of a called block by their index in a call: of a block of the source RET_VAL is
+-- the last; those of a system function stand so already
 abbrev pub in_parameter_order : {A : Type 0} → Option Block → List A → List A
 in_parameter_order None params = params
 in_parameter_order (Some b) params = return_last b.result params
@@ -71,11 +74,11 @@ passings_to c s None = []
 passings_to c s (Some callee) =
     passings_from c s.actuals 0 (in_parameter_order (source_block_at c.blocks callee.place) callee.formals)
 
--- for a statement that doesn't name what its instruction takes
+-- NOP 0, for a statement that doesn't name what its instruction takes
 abbrev pub filler_instruction : Instr
 filler_instruction = Does None operation.Nop (flat.Literal 0)
 
--- the block that is called
+-- the instruction of CALL, UC or CC, by the block that its operand names
 abbrev pub call_instr : Context → Statement → CallOperation → ResolvedOperand → Instr
 call_instr c s how (view.Called id instance) =
     Calls how id instance (passings_to c s (callee_of c s.operand))

@@ -47,12 +47,13 @@ abbrev pub pointer_bits : Option Area → (byte bit : ℕ) → ℕ
 pointer_bits None byte bit = 8 * byte + bit
 pointer_bits (Some a) byte bit = 2 ^ 31 + 2 ^ 24 * area_number a + 8 * byte + bit
 
--- the bits of a constant; the operand is one
+-- the bits of a constant that is an operand; 0 for another operand
 abbrev pub constant_bits : Operand → ℕ
 constant_bits (operand.Constant value) = bits_of value
 constant_bits _ = 0
 
--- L DBLG, L DBNO, L DILG, L DINO; STW and AR2 stand in the operation
+-- the operand of L DBLG, L DBNO, L DILG, L DINO, by the register; STW and AR2 stand in the
+-- operation
 abbrev pub register_operand : Register → FlatOperand
 register_operand register.Dblg = flat.Literal 0
 register_operand register.Dbno = flat.Literal 1
@@ -60,8 +61,8 @@ register_operand register.Dilg = flat.Literal 2
 register_operand register.Dino = flat.Literal 3
 register_operand _ = flat.Nothing
 
--- what has a number that memory gives: timers and counters are 1 and 2, and so are the two
--- registers of open data blocks
+-- the operand of what has a number that memory gives: timers and counters are 1 and 2, and so are
+-- the two registers of open data blocks
 abbrev pub numbered_operand : Numbered → Area → (byte : ℕ) → FlatOperand
 numbered_operand numbered.Timer from byte = flat.NumberedBy 1 from byte
 numbered_operand numbered.Counter from byte = flat.NumberedBy 2 from byte

@@ -27,7 +27,7 @@ use Rattle.stl_types.specs.declared.views.Register.TheVariants as register
 use Rattle.stl_types.specs.declared.views.ResolvedOperand.{ResolvedOperand}
 use Rattle.stl_types.specs.declared.views.ResolvedOperand.TheVariants as view
 
--- the jumps (manual: logic control instructions)
+-- the operation of a jump (manual: logic control instructions); no other instruction is one
 abbrev pub jump_operation_of : Mnemonic → Option JumpOperation
 jump_operation_of code.Ju = Some jump.Ju
 jump_operation_of code.Jl = Some jump.Jl
@@ -49,47 +49,51 @@ jump_operation_of code.Juo = Some jump.Juo
 jump_operation_of code.Loop = Some jump.Loop
 jump_operation_of _ = None
 
--- the calls, and the ends of a block (manual: program control instructions)
+-- the operation of a call: CALL, UC and CC (manual: program control instructions); no other
+-- instruction is one
 abbrev pub call_operation_of : Mnemonic → Option CallOperation
 call_operation_of code.Call = Some calls.Call
 call_operation_of code.Uc = Some calls.Uc
 call_operation_of code.Cc = Some calls.Cc
 call_operation_of _ = None
 
--- the ends of a block: BE, BEC and BEU; no other instruction is one
+-- the operation of the end of a block: BE, BEC and BEU (manual: program control instructions); no
+-- other instruction is one
 abbrev pub end_operation_of : Mnemonic → Option EndOperation
 end_operation_of code.Be = Some ends.Be
 end_operation_of code.Bec = Some ends.Bec
 end_operation_of code.Beu = Some ends.Beu
 end_operation_of _ = None
 
--- O without operand is AND before OR
+-- the operation of O, by its operand; O without operand is AND before OR
 abbrev pub or_operation : ResolvedOperand → Operation
 or_operation view.Nothing = operation.OrBare
 or_operation _ = operation.Check check.O
 
--- L and T of the status word, L of the number or the length of an open data block
+-- the operation of L, by its operand: the status word, the number or the length of an open data
+-- block, or any other one
 abbrev pub load_operation : ResolvedOperand → Operation
 load_operation (view.Register register.Stw) = operation.LoadStatus
 load_operation (view.Register which) = operation.LoadOpenBlock
 load_operation _ = operation.Load
 
--- T STW, the only register that T takes, and T to a place
+-- the operation of T, by its operand: STW, the only register that T takes, or a place
 abbrev pub transfer_operation : ResolvedOperand → Operation
 transfer_operation (view.Register which) = operation.TransferStatus
 transfer_operation _ = operation.Transfer
 
--- LAR1 and TAR1 with address register 2
+-- the operation of LAR1, by its operand: address register 2, or any other one
 abbrev pub load_pointer_operation : ResolvedOperand → Operation
 load_pointer_operation (view.Register which) = operation.Pointer pointers.Lar1Ar2
 load_pointer_operation _ = operation.Pointer pointers.Lar1
 
--- TAR1 AR2, and TAR1 to a double word or without operand
+-- the operation of TAR1, by its operand: AR2, or a double word or none
 abbrev pub store_pointer_operation : ResolvedOperand → Operation
 store_pointer_operation (view.Register which) = operation.Pointer pointers.Tar1Ar2
 store_pointer_operation _ = operation.Pointer pointers.Tar1
 
--- `+` with a decimal number adds to the low word of accumulator 1, with L# to the whole
+-- the operation of `+`: with a decimal number it adds to the low word of accumulator 1, with L# to
+-- the whole
 abbrev pub add_operation : Operand → Operation
 add_operation (operand.Constant (literal.Long value)) = operation.Add adding.Dword
 add_operation _ = operation.Add adding.Word

@@ -19,14 +19,15 @@ use Rattle.stl_types.specs.declared.views.ResolvedOperand.{ResolvedOperand}
 use Rattle.stl_types.specs.declared.views.ResolvedOperand.TheVariants as view
 use Rattle.stl_codegen.specs.Operands.{is_in_named_block, constant_bits}
 
--- a place is passed as it is written: in a data block that is named, or in the open one
+-- what passes a place, as it is written: in a data block that is named, or in the open one
 abbrev pub passed_place : Place → Width → Passed
 passed_place place width =
     if is_in_named_block place
     then passed.InBlock place.number place.area width place.byte place.bit
     else passed.Direct place.area width place.byte place.bit
 
--- a constant, a place, or a parameter of the function that calls; nothing else fits a parameter
+-- what an actual parameter passes: a constant, a place, or a parameter of the function that calls;
+-- nothing else fits a parameter
 abbrev pub passed_view : Operand → ResolvedOperand → Option Passed
 passed_view o (view.Direct place width side declared) = Some (passed_place place width)
 passed_view o (view.Parameter index section declared) =
@@ -53,7 +54,8 @@ abbrev pub passed_actual : Context → (index : ℕ) → Option Actual → List 
 passed_actual c index None = []
 passed_actual c index (Some a) = with_index index (passed_seen a.value (resolution_of c a.value))
 
--- one after the other, by rising index
+-- what a CALL passes for these parameters, one after the other, the first of them with the index
+-- `index`
 abbrev pub passings_from : Context → List Actual → (index : ℕ) → List Formal → List Passing
 passings_from c actuals index [] = []
 passings_from c actuals index (f ∷ fs) =

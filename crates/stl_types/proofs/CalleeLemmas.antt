@@ -1,3 +1,4 @@
+-- The parameters of a block are those among its first cells, where these have all of them.
 use Rattle.std.proofs.Common.{◌≡◌, ◌∙◌, sym, refl, ap, Bool, true, false, ◌&&◌, List, [], ◌∷◌, ◌++◌, Option, Some, None, if◌then◌else◌}
 use Rattle.std.specs.List.{flat_map, list_all}
 use Rattle.block_layout.specs.Scopes.{AreOthers, HaveParameters}

@@ -23,11 +23,11 @@ use Rattle.stl_types.specs.declared.views.Side.TheVariants as side
 use Rattle.stl_types.specs.declared.views.ResolvedOperand.{ResolvedOperand}
 use Rattle.stl_types.specs.declared.views.ResolvedOperand.TheVariants as view
 
--- the parameter of this name
+-- the parameter of this name among those of a block; none where no one has it
 abbrev pub formal_named : List Formal → List ℕ → Option Formal
 formal_named formals name = find (λ f. bytes_eq (upper_case_name name) f.name) formals
 
--- VAR_INPUT
+-- VAR_INPUT, the section of input parameters
 abbrev pub is_input_section : PartKind → Bool
 is_input_section part.Input = true
 is_input_section _ = false
@@ -52,13 +52,14 @@ type_number simple.Time = 9
 abbrev pub is_same_type : Simple → Simple → Bool
 is_same_type a b = nat_eq (type_number a) (type_number b)
 
--- IN takes no PQ, OUT and IN_OUT take no PI
+-- a parameter of a section takes an operand of the peripheral area: IN no PQ, OUT and IN_OUT no PI
 abbrev pub takes_side : PartKind → Side → Bool
 takes_side section side.Both = true
 takes_side section side.Inputs = is_input_section section
 takes_side section side.Outputs = not (is_input_section section)
 
--- IN takes each parameter of a function, OUT and IN_OUT take no input
+-- a parameter of a section takes a parameter of the function that calls, of the section `own`: IN
+-- takes each, OUT and IN_OUT take no input
 abbrev pub takes_section : PartKind → (own : PartKind) → Bool
 takes_section section own = is_input_section section || not (is_input_section own)
 
@@ -75,13 +76,14 @@ fits_view f (view.Parameter index own declared) =
     is_same_type declared f.kind && takes_section f.section own
 fits_view f _ = false
 
--- an operand that isn't there or isn't checked breaks no further rule
+-- what an operand comes to fits a parameter; one that isn't there or isn't checked breaks no
+-- further rule
 abbrev pub fits_seen : Formal → Resolution → Bool
 fits_seen f (Resolved v) = fits_view f v
 fits_seen f Unknown = true
 fits_seen f Unjudged = true
 
--- a constant fits an IN parameter by its type
+-- the operand of an actual parameter fits a parameter: a constant an IN parameter by its type
 unfoldable pub fits_operand : Context → Formal → Operand → Bool
 fits_operand c f (operand.Constant value) = is_input_section f.section && fits_elementary_type value f.kind
 fits_operand c f o = fits_seen f (resolution_of c o)

@@ -24,7 +24,8 @@ area_for_letters letters.L = area.L
 area_for_letters letters.Pi = area.P
 area_for_letters letters.Pq = area.P
 
--- and which way they name it
+-- whether letters name the inputs of the peripheral area, its outputs, or what can be read and
+-- written
 abbrev pub side_of : Letters → Side
 side_of letters.Pi = side.Inputs
 side_of letters.Pq = side.Outputs

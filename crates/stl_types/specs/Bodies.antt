@@ -12,7 +12,8 @@ use Rattle.stl_types.specs.Context.{Context}
 abbrev pub in_bodies : (List Statement → List Refusal) → List Block → List Refusal
 in_bodies broken blocks = flat_map (λ b. broken b.body) blocks
 
--- and what is broken with what the source declares, in the bodies of the blocks from this place on
+-- what is broken with what the source declares, in the bodies of blocks, the first of which stands
+-- at the place of the context
 abbrev pub in_contexts : (Context → List Statement → List Refusal) → Context → List Block
     → List Refusal
 in_contexts broken c [] = []

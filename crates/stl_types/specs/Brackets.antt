@@ -26,26 +26,29 @@ unfoldable pub is_closing_bracket : Mnemonic → Bool
 is_closing_bracket code.Close = true
 is_closing_bracket _ = false
 
--- the brackets that are open behind a statement, the outermost first. A ) without open bracket leaves none
+-- the brackets that are open behind a statement that opens none, the outermost first. A ) without
+-- open bracket leaves none
 abbrev pub brackets_after_closing : List Bracket → Mnemonic → List Bracket
 brackets_after_closing brackets m = if is_closing_bracket m then take (length brackets - 1) brackets else brackets
 
--- an opening bracket stands behind those that are open
+-- the brackets that are open behind a statement with this function code, if it opens one: it stands
+-- behind those that are open
 abbrev pub brackets_after_opening : List Bracket → Statement → Option ℕ → List Bracket
 brackets_after_opening brackets s None = brackets_after_closing brackets s.code
 brackets_after_opening brackets s (Some function) =
     brackets ++ record { function = function; line = s.line } ∷ []
 
--- the brackets that are open behind a statement
+-- the brackets that are open behind a statement, by those that are open before it, the outermost
+-- first
 abbrev pub brackets_behind : List Bracket → Statement → List Bracket
 brackets_behind brackets s = brackets_after_opening brackets s (bracket_function s.code)
 
--- and behind all statements of a list
+-- the brackets that are open behind all statements of a list, by those that are open before it
 abbrev pub brackets_behind_all : List Bracket → List Statement → List Bracket
 brackets_behind_all brackets [] = brackets
 brackets_behind_all brackets (s ∷ ss) = brackets_behind_all (brackets_behind brackets s) ss
 
--- a walk with the brackets that are open
+-- the refusals of the statements of a body, by the brackets that are open before each
 abbrev pub with_brackets : (List Bracket → Statement → List Refusal) → List Bracket
     → List Statement → List Refusal
 with_brackets broken brackets body = refusals_along (λ s. false) broken brackets_behind brackets body
@@ -54,24 +57,24 @@ with_brackets broken brackets body = refusals_along (λ s. false) broken bracket
 abbrev pub closes_no_bracket : List Bracket → Statement → Bool
 closes_no_bracket brackets s = is_closing_bracket s.code && nat_eq (length brackets) 0
 
--- the nesting stack has seven entries
+-- a bracket opens where seven are open: the nesting stack has seven entries
 abbrev pub is_eighth_bracket : List Bracket → Statement → Bool
 is_eighth_bracket brackets s = is_some (bracket_function s.code) && nat_le 7 (length brackets)
 
--- the line is that of the )
+-- rule 29, in all bodies: a ) without open bracket; the line is that of the )
 unfoldable pub rule_29 : List Block → List Refusal
 rule_29 blocks =
     in_bodies (with_brackets (λ brackets s. broken_if (closes_no_bracket brackets s) s.line 29) []) blocks
 
--- a bracket that is open at the block's end: the line is that of the bracket
+-- rule 30 in a body: a bracket that is open at the block's end; the line is that of the bracket
 abbrev pub brackets_left_open : List Statement → List Refusal
 brackets_left_open body = flat_map (λ b. broken_if true b.line 30) (brackets_behind_all [] body)
 
--- rule 30, in all bodies
+-- rule 30, in all bodies: a bracket open at the block's end
 unfoldable pub rule_30 : List Block → List Refusal
 rule_30 blocks = in_bodies brackets_left_open blocks
 
--- the eighth open bracket, and each one inside it
+-- rule 31, in all bodies: the eighth open bracket, and each one inside it
 unfoldable pub rule_31 : List Block → List Refusal
 rule_31 blocks =
     in_bodies (with_brackets (λ brackets s. broken_if (is_eighth_bracket brackets s) s.line 31) []) blocks

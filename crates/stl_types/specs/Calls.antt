@@ -31,13 +31,13 @@ use Rattle.stl_types.specs.declared.parameters.Formal.{Formal}
 use Rattle.stl_types.specs.declared.views.Resolution.{Resolution}
 use Rattle.stl_types.specs.declared.views.Resolution.TheVariants.{Resolved}
 
--- what the calls of a body break, by the block that is called
+-- what a statement breaks as a call, by the block that is called; nothing where none is known
 abbrev pub by_callee : (Callee → Statement → List Refusal) → Statement → Option Callee
     → List Refusal
 by_callee broken s None = []
 by_callee broken s (Some callee) = broken callee s
 
--- the same in all bodies
+-- what the calls in all bodies break, by the block that is called
 abbrev pub in_calls : (Context → Callee → Statement → List Refusal) → Context → List Block
     → List Refusal
 in_calls broken c blocks =
@@ -48,30 +48,30 @@ in_calls broken c blocks =
 abbrev pub has_formal : List Formal → List ℕ → Bool
 has_formal formals name = list_any (λ f. bytes_eq name f.name) formals
 
--- 34: the call names no such parameter
+-- rule 34: the name of an actual parameter is that of no parameter of the called block
 abbrev pub names_no_formal : List Formal → Actual → Bool
 names_no_formal formals a = not (has_formal formals (upper_case_name a.name))
 
--- 34 in a call, for each of its actual parameters
+-- rule 34 in a call, for each of its actual parameters
 abbrev pub actuals_without_formal : List Formal → List Actual → List Refusal
 actuals_without_formal formals actuals = flat_map (λ a. broken_if (names_no_formal formals a) a.line 34) actuals
 
--- 34, in all bodies
+-- rule 34, in all bodies: a call that names no such parameter
 unfoldable pub rule_34 : Context → List Block → List Refusal
 rule_34 c blocks = in_calls (λ c callee s. actuals_without_formal callee.formals s.actuals) c blocks
 
--- 35: a parameter is supplied twice; the second one, and each later one
+-- rule 35: a parameter is supplied twice; the second one, and each later one
 abbrev pub is_supplied_twice : List Formal → (before : List (List ℕ)) → Actual → Bool
 is_supplied_twice formals before a =
     not (names_no_formal formals a) && is_some (name_place (upper_case_name a.name) before)
 
--- 35 in a call, with the names before
+-- rule 35 in a call; `before` are the names supplied before these actual parameters
 abbrev pub actuals_supplied_twice : List Formal → (before : List (List ℕ)) → List Actual → List Refusal
 actuals_supplied_twice formals before actuals =
     refusals_along (λ a. false) (λ before a. broken_if (is_supplied_twice formals before a) a.line 35)
     (λ before a. before ++ upper_case_name a.name ∷ []) before actuals
 
--- 35, in all bodies
+-- rule 35, in all bodies: a parameter supplied twice
 unfoldable pub rule_35 : Context → List Block → List Refusal
 rule_35 c blocks =
     in_calls (λ c callee s. actuals_supplied_twice callee.formals [] s.actuals) c blocks
@@ -80,77 +80,78 @@ rule_35 c blocks =
 abbrev pub supplied_names : List Actual → List (List ℕ)
 supplied_names actuals = map (λ a. upper_case_name a.name) actuals
 
--- 36: a parameter of a function or system function isn't supplied by CALL
+-- a parameter is supplied: its name is one of those that a call supplies
 abbrev pub is_supplied : (names : List (List ℕ)) → Formal → Bool
 is_supplied names f = is_some (name_place f.name names)
 
--- 36 in a call
+-- rule 36 in a call: a parameter of a function or system function isn't supplied by CALL
 abbrev pub lacks_actual : Callee → Statement → Bool
 lacks_actual callee s =
     has_actuals s.code && not (is_function_block callee.id.kind)
     && not (list_all (is_supplied (supplied_names s.actuals)) callee.formals)
 
--- 36, in all bodies
+-- rule 36, in all bodies: a parameter of a function that isn't supplied
 unfoldable pub rule_36 : Context → List Block → List Refusal
 rule_36 c blocks =
     in_calls (λ c callee s. broken_if (lacks_actual callee s) s.line 36) c blocks
 
--- 37: an actual parameter doesn't fit
+-- rule 37: an actual parameter doesn't fit the parameter of its name, where there is one
 abbrev pub misfits_formal : Context → Actual → Option Formal → Bool
 misfits_formal c a None = false
 misfits_formal c a (Some f) = not (fits_operand c f a.value)
 
--- 37 in a call, for each of its actual parameters
+-- rule 37 in a call, for each of its actual parameters
 abbrev pub call_37 : Context → Callee → Statement → List Refusal
 call_37 c callee s =
     flat_map (λ a. broken_if (misfits_formal c a (formal_named callee.formals a.name)) a.line 37) s.actuals
 
--- 37, in all bodies
+-- rule 37, in all bodies: an actual parameter that doesn't fit
 unfoldable pub rule_37 : Context → List Block → List Refusal
 rule_37 c blocks = in_calls call_37 c blocks
 
--- 24: a DATE_AND_TIME as an actual parameter, whatever is called
+-- what an operand comes to is a DATE_AND_TIME, which rule 24 forbids as an actual parameter
 abbrev pub sees_date : Resolution → Bool
 sees_date (Resolved v) = is_date v
 sees_date _ = false
 
--- the actual parameters of a body
+-- rule 24 in a body, for its actual parameters, whatever is called
 abbrev pub dates_in : Context → List Statement → List Refusal
 dates_in c body =
     flat_map (λ s. flat_map (λ a. broken_if (sees_date (resolution_of c a.value)) a.line 24) s.actuals) body
 
--- 24, in all bodies
+-- rule 24 of actual parameters, in all bodies
 unfoldable pub rule_24_of_actuals : Context → List Block → List Refusal
 rule_24_of_actuals c blocks = in_contexts dates_in c blocks
 
--- 38: the data block isn't an instance of the function block
+-- the structure of a data block is that of the function block at this place
 abbrev pub is_of_block : (place : Option ℕ) → Shape → Bool
 is_of_block (Some place) (shape.Of block) = nat_eq place block
 is_of_block _ _ = false
 
--- the layout of a data block is that of an instance
+-- the layout of a data block is that of an instance of the function block at this place
 abbrev pub is_instance : (place : Option ℕ) → Option BlockLayout → Bool
 is_instance place None = true
 is_instance place (Some b) = is_of_block place b.shape
 
--- a data block that is absent or breaks a rule itself isn't checked
+-- the data block at the second place isn't an instance of the function block at the first; one that
+-- is absent or breaks a rule itself isn't checked
 abbrev pub is_no_instance : Context → (place : Option ℕ) → Option ℕ → Bool
 is_no_instance c place None = false
 is_no_instance c place (Some block) = not (is_instance place (slice_get c.layouts block))
 
--- 38 in a call
+-- rule 38 in a call: the data block isn't an instance of the function block
 abbrev pub has_wrong_instance : Context → Callee → Operand → Bool
 has_wrong_instance c callee (operand.Called name (Some instance)) =
     is_function_block callee.id.kind
     && is_no_instance c callee.place (whole_data_place c instance)
 has_wrong_instance c callee _ = false
 
--- 38, in all bodies
+-- rule 38, in all bodies: a data block that isn't an instance of the function block
 unfoldable pub rule_38 : Context → List Block → List Refusal
 rule_38 c blocks =
     in_calls (λ c callee s. broken_if (has_wrong_instance c callee s.operand) s.line 38) c blocks
 
--- 40: UC or CC of a block with parameters, or CALL of a function block without data block
+-- a call without data block
 abbrev pub has_no_instance : Operand → Bool
 has_no_instance (operand.Called name None) = true
 has_no_instance _ = false
@@ -160,29 +161,30 @@ abbrev pub has_formals : List Formal → Bool
 has_formals [] = false
 has_formals (f ∷ fs) = true
 
--- 40 in a call
+-- rule 40 in a call: UC or CC of a block with parameters, or CALL of a function block without data
+-- block
 abbrev pub is_bare_call : Callee → Statement → Bool
 is_bare_call callee s =
     (has_actuals s.code && is_function_block callee.id.kind && has_no_instance s.operand)
     || (not (has_actuals s.code) && has_formals callee.formals)
 
--- 40, in all bodies
+-- rule 40, in all bodies: UC or CC of a block with parameters, CALL without data block
 unfoldable pub rule_40 : Context → List Block → List Refusal
 rule_40 c blocks =
     in_calls (λ c callee s. broken_if (is_bare_call callee s) s.line 40) c blocks
 
--- 46: a system function that isn't one of the nine
+-- rule 46: a called block is a system function that isn't one of the nine
 abbrev pub is_unknown_function : Option BlockId → Bool
 is_unknown_function None = false
 is_unknown_function (Some id) = is_system_function id.kind && is_none (system_formals id.number)
 
--- 46 in a statement
+-- rule 46 in a statement, by its operand
 abbrev pub calls_unknown : Context → Operand → Bool
 calls_unknown c (operand.Called name instance) =
     is_unknown_function (named_block c.symbols name)
 calls_unknown c _ = false
 
--- 46, in all bodies
+-- rule 46, in all bodies: a system function that isn't one of the nine
 unfoldable pub rule_46 : Context → List Block → List Refusal
 rule_46 c blocks =
     in_contexts (λ c body. flat_map (λ s. broken_if (calls_unknown c s.operand) s.line 46) body) c

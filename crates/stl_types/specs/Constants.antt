@@ -16,7 +16,7 @@ abbrev pub is_count : (most : ℕ) → Literal → Bool
 is_count most (literal.Number value) = is_up_to most value
 is_count most _ = false
 
--- a decimal number or L#
+-- a decimal number, or one with L#, which + takes
 abbrev pub is_addend : Literal → Bool
 is_addend (literal.Number value) = true
 is_addend (literal.Long value) = true
@@ -27,8 +27,8 @@ abbrev pub is_truth : Literal → Bool
 is_truth (literal.Truth value) = true
 is_truth _ = false
 
--- L takes each constant but TRUE and FALSE; NOP, BLD, INC, DEC and the shifts take a count; + takes a decimal number or
--- L#; word logic takes what fits WORD or DWORD
+-- an instruction of a form takes a constant: L each but TRUE and FALSE; NOP, BLD, INC, DEC and the
+-- shifts a count; + a decimal number or L#; word logic what fits WORD or DWORD
 unfoldable pub takes_constant : OperandRule → Literal → Bool
 takes_constant form.Loads value = not (is_truth value)
 takes_constant (form.Counts most) value = is_count most value

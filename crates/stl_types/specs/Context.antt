@@ -30,7 +30,7 @@ whole_place c id = option_and_then (if_whole c.layouts) (known_block id (source_
 abbrev pub data_place : Context → BlockName → Option ℕ
 data_place c name = found_block c.symbols (source_block_ids c) is_data_block name
 
--- the same, where it doesn't break a rule itself
+-- the place of the data block that a name means, where it doesn't break a rule itself
 abbrev pub whole_data_place : Context → BlockName → Option ℕ
 whole_data_place c name = option_and_then (if_whole c.layouts) (data_place c name)
 

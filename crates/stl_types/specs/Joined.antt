@@ -29,29 +29,29 @@ broken_call c callee s =
     ++ broken_if (has_wrong_instance c callee s.operand) s.line 38
     ++ broken_if (is_bare_call callee s) s.line 40
 
--- 24 of the actual parameters of a statement
+-- rule 24 of the actual parameters of a statement
 abbrev pub dates_of : Context → Statement → List Refusal
 dates_of c s = flat_map (λ a. broken_if (sees_date (resolution_of c a.value)) a.line 24) s.actuals
 
--- what a statement breaks by all these rules
+-- what a statement breaks by rules 34 to 38, 40 and 46, and its actual parameters by rule 24
 unfoldable pub broken_statement : Context → Statement → List Refusal
 broken_statement c s =
     by_callee (broken_call c) s (callee_of c s.operand)
     ++ broken_if (calls_unknown c s.operand) s.line 46 ++ dates_of c s
 
--- all these rules, in all bodies
+-- the rules of calls, 34 to 38, 40 and 46, and rule 24 of actual parameters, in all bodies
 unfoldable pub rules_of_calls : Context → List Block → List Refusal
 rules_of_calls c blocks =
     rule_34 c blocks ++ rule_35 c blocks ++ rule_36 c blocks ++ rule_37 c blocks
     ++ rule_38 c blocks
     ++ rule_40 c blocks ++ rule_46 c blocks ++ rule_24_of_actuals c blocks
 
--- and those of labels, brackets and jumps
+-- the rules of labels, brackets and jumps, 26, 27 and 29 to 33, in all bodies
 unfoldable pub rules_of_jumps : List Block → List Refusal
 rules_of_jumps blocks =
     rule_26 blocks ++ rule_27 blocks ++ rule_29 blocks ++ rule_30 blocks ++ rule_31 blocks
     ++ rule_32 blocks ++ rule_33 blocks
 
--- and those of zones
+-- the rules of zones, 47 to 49, in all bodies
 unfoldable pub rules_of_zones : List Block → List Refusal
 rules_of_zones blocks = rule_47 blocks ++ rule_48 blocks ++ rule_49 blocks

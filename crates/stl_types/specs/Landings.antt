@@ -18,12 +18,13 @@ use Rattle.stl_types.specs.Labels.{labels_of}
 use Rattle.stl_types.specs.Zones.{zones_behind}
 use Rattle.stl_types.specs.declared.brackets.Bracket.{Bracket}
 
--- the brackets and the zones that are open before a statement
+-- the brackets and the zones that are open before a statement, the outermost first,
+-- a zone by the line of its MCR(
 pub record Nesting : Type 0 where
   pub brackets : List Bracket
   pub zones : List ℕ
 
--- and behind it
+-- the brackets and the zones that are open behind a statement
 abbrev pub nesting_behind : Nesting → Statement → Nesting
 nesting_behind n s = record {
   brackets = brackets_behind n.brackets s;
@@ -73,18 +74,19 @@ abbrev pub landings_differ : (here there : Landing) → Bool
 landings_differ here there =
     are_unequal here.functions there.functions || not (nat_eq here.zones there.zones)
 
--- a jump goes elsewhere than where such brackets and zones are open
+-- a jump lands where other brackets or another number of zones are open than at the jump; where
+-- there is no such label it doesn't
 abbrev pub lands_elsewhere : (here : Landing) → Option Landing → Bool
 lands_elsewhere here None = false
 lands_elsewhere here (Some there) = landings_differ here there
 
--- an operand is a label at which others are open
+-- an operand is a label at which other brackets or another number of zones are open
 abbrev pub crosses_nesting : (labels : List (List ℕ)) → List Landing → Nesting → Operand → Bool
 crosses_nesting labels landings n (operand.Label name) =
     lands_elsewhere (landing_of n) (landing_at labels landings name)
 crosses_nesting labels landings n _ = false
 
--- rule 33 in a body
+-- rule 33 in a body, by what is open at its labels; the line is that of the jump
 abbrev pub crossing_jumps : (labels : List (List ℕ)) → List Landing → List Statement
     → List Refusal
 crossing_jumps labels landings body =

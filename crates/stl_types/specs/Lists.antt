@@ -48,20 +48,21 @@ is_list_to left name (s ∷ ss) =
     if has_label name s.label then true
     else list_goes_on (left_behind left s.code) (λ next. is_list_to next name ss)
 
--- the label is that of no statement before, and a list leads to it
+-- the label of a JL is that of no statement before, and a jump list leads to it
 abbrev pub has_list : (before : List (List ℕ)) → List ℕ → (behind : List Statement) → Bool
 has_list before name rest = not (is_some (name_place name before)) && is_list_to 255 name rest
 
--- a JL without a label breaks another rule
+-- the operand of a JL is a label to which no jump list leads; one that is no label breaks another
+-- rule
 abbrev pub lacks_list : (before : List (List ℕ)) → Operand → (behind : List Statement) → Bool
 lacks_list before (operand.Label name) rest = not (has_list before name rest)
 lacks_list before _ rest = false
 
--- a JL that breaks the rule
+-- a statement is a JL that breaks rule 32
 abbrev pub is_wrong_list : (before : List (List ℕ)) → Statement → (behind : List Statement) → Bool
 is_wrong_list before s rest = is_list_jump s.code && lacks_list before s.operand rest
 
--- the JLs of a body; `before` are the labels before
+-- rule 32 in the statements of a body from one on; `before` are the labels before them
 abbrev pub lists_from : (before : List (List ℕ)) → List Statement → List Refusal
 lists_from before [] = []
 lists_from before (s ∷ ss) =

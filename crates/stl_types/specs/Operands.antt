@@ -51,7 +51,7 @@ takes_operand form.StepsCounter v = is_counter v
 takes_operand form.Calls v = is_operand_of_call v
 takes_operand form.Opens v = is_opened v
 
--- what takes a place in memory, of whatever width
+-- a form that takes a place in memory, of whatever width
 unfoldable pub takes_places : OperandRule → Bool
 takes_places form.ReadsBit = true
 takes_places form.ReadsBitOrBare = true
@@ -66,7 +66,8 @@ takes_places form.StoresAr1 = true
 takes_places form.StoresAr2 = true
 takes_places _ = false
 
--- bit instructions take a bit, L and T a byte, a word or a double word, those of address registers a double word
+-- a form takes an operand of a width: bit instructions a bit, L and T a byte, a word or a double
+-- word, those of address registers a double word
 unfoldable pub takes_width : OperandRule → Option Width → Bool
 takes_width form.ReadsBit w = is_bit w
 takes_width form.ReadsBitOrBare w = is_bit w
@@ -81,12 +82,12 @@ takes_width form.StoresAr1 w = is_double_word w
 takes_width form.StoresAr2 w = is_double_word w
 takes_width _ w = true
 
--- only a place in memory has a width
+-- the width of an operand fits a form; only a place in memory has one
 abbrev pub has_width : OperandRule → Option Width → Bool
 has_width f None = true
 has_width f (Some w) = takes_width f (Some w)
 
--- what writes its operand
+-- a form of instructions that write their operand
 abbrev pub form_writes_operand : OperandRule → Bool
 form_writes_operand form.WritesBit = true
 form_writes_operand form.Sets = true
@@ -96,7 +97,8 @@ form_writes_operand form.StoresAr1 = true
 form_writes_operand form.StoresAr2 = true
 form_writes_operand _ = false
 
--- the peripheral area has inputs to read and outputs to write, and no pointer leads there by an area of its own
+-- an operand that lies in the peripheral area where it can't be: there are inputs to read and
+-- outputs to write, and no pointer leads there by an area of its own
 abbrev pub is_on_wrong_side : OperandRule → ResolvedOperand → Bool
 is_on_wrong_side f (view.Direct place width side.Inputs declared) = form_writes_operand f
 is_on_wrong_side f (view.Direct place width side.Outputs declared) = not (form_writes_operand f)
@@ -109,7 +111,8 @@ abbrev pub is_input : ResolvedOperand → Bool
 is_input (view.Parameter index part.Input declared) = true
 is_input _ = false
 
--- a structure or an array has no width that fits, where the form takes places at all; a DATE_AND_TIME never has one
+-- the rule that an operand that isn't elementary breaks: a structure or an array has no width that
+-- fits, where the form takes places at all; a DATE_AND_TIME never has one
 abbrev pub composite_rule : OperandRule → ResolvedOperand → ℕ
 composite_rule f v = if is_date v || takes_places f then 24 else 25
 
@@ -123,7 +126,8 @@ rule_of_resolved_operand f v =
     else if form_writes_operand f && is_input v then Some 39
     else None
 
--- the same of what an operand comes to; a constant is checked by itself, and nothing where the operand isn't seen
+-- the rule that an instruction of a form breaks by what its operand comes to; none where the
+-- operand is unknown or isn't checked
 abbrev pub rule_seen : OperandRule → Resolution → Option ℕ
 rule_seen f (Resolved v) = rule_of_resolved_operand f v
 rule_seen f _ = None
@@ -142,7 +146,7 @@ at_line line (Some rule) = record { line = line; rule = rule } ∷ []
 abbrev pub statement_rule : Context → Statement → Option ℕ
 statement_rule c s = operand_rule c (form_of s.code) s.operand
 
--- what the statements of a body break by their operands
+-- what the statements of a body break by their operands: rules 24, 25 and 39
 abbrev pub operands_24 : Context → List Statement → List Refusal
 operands_24 c body = flat_map (λ s. at_line s.line (statement_rule c s)) body
 

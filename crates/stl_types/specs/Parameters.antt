@@ -24,23 +24,23 @@ use Rattle.stl_types.specs.declared.parameters.Formal.{Formal}
 abbrev pub formal : List ℕ → PartKind → Simple → Formal
 formal name section kind = record { name = name; section = section; kind = kind }
 
--- the parameters of the nine system functions, in their order; of another one none are known
+-- OB_NR of a system function: the number of an organization block
 abbrev pub ob_nr_formal : Formal
 ob_nr_formal = formal (codes "OB_NR") part.Input simple.Int
 
--- the return value
+-- RET_VAL of a system function: the return value
 abbrev pub return_value_formal : Simple → Formal
 return_value_formal kind = formal (codes "RET_VAL") part.Output kind
 
--- which interrupts are meant
+-- MODE of a system function: which interrupts are meant
 abbrev pub mode_formal : Formal
 mode_formal = formal (codes "MODE") part.Input simple.Byte
 
--- the delay
+-- DTIME of a system function: the delay
 abbrev pub dtime_formal : Formal
 dtime_formal = formal (codes "DTIME") part.Input simple.Time
 
--- the mark of the start
+-- SIGN of a system function: the mark of the start
 abbrev pub sign_formal : Formal
 sign_formal = formal (codes "SIGN") part.Input simple.Word
 
@@ -49,7 +49,7 @@ abbrev pub is_one_of : List ℕ → ℕ → Bool
 is_one_of [] n = false
 is_one_of (m ∷ ms) n = if nat_eq n m then true else is_one_of ms n
 
--- the parameters of a system function by its number
+-- the parameters of a system function by its number, in their order; none are known but of the nine
 unfoldable pub system_formals : ℕ → Option (List Formal)
 system_formals n =
     if nat_eq n 32 then Some (ob_nr_formal ∷ dtime_formal ∷ sign_formal ∷ return_value_formal simple.Int ∷ [])
@@ -60,12 +60,12 @@ system_formals n =
     else if nat_eq n 64 then Some (return_value_formal simple.Time ∷ [])
     else None
 
--- the parameter that a component is; parameters are of elementary type
+-- the parameter that a component of this element type is; parameters are of elementary type
 abbrev pub formal_of : Cell → Element → List Formal
 formal_of c (element.Plain kind) = formal c.name c.section kind ∷ []
 formal_of c _ = []
 
--- the parameter that a component is, if it is one
+-- the parameter that a component is, if it stands in VAR_INPUT, VAR_OUTPUT or VAR_IN_OUT
 abbrev pub formal_here : Cell → List Formal
 formal_here c = if is_parameter c.section then formal_of c c.of else []
 
@@ -84,26 +84,28 @@ sound_formals cells = if list_all is_sound_formal cells then Some (formals_of ce
 -- a block that is called, with its parameters; `place` is that of a block of the source
 pub record Callee : Type 0 where
   pub id : BlockId
+  -- the place of the called block in the source; none of a system function
   pub place : Option ℕ
   pub formals : List Formal
 
--- a system function of the nine
+-- a system function as the block that is called, if it is one of the nine
 abbrev pub system_callee : BlockId → Option Callee
 system_callee id =
     option_map (λ formals. record { id = id; place = None; formals = formals })
     (system_formals id.number)
 
--- a block of the source at its place
+-- a block of the source at its place as the block that is called, if no parameter breaks a rule
 abbrev pub callee_at : Context → BlockId → ℕ → Option Callee
 callee_at c id place =
     option_map (λ formals. record { id = id; place = Some place; formals = formals })
     (sound_formals (cells_at c.layouts place false))
 
--- a block of the source that breaks no rule itself
+-- a block of the source that breaks no rule itself, as the block that is called
 abbrev pub source_callee : Context → BlockId → Option Callee
 source_callee c id = option_and_then (callee_at c id) (whole_place c id)
 
--- a block by its kind; the others can't be called
+-- the block that is called, by its kind: a system function, a function or a function block; no
+-- other can be called
 abbrev pub callee_by : Context → BlockId → BlockKind → Option Callee
 callee_by c id k =
     if is_system_function k then system_callee id

@@ -35,18 +35,18 @@ target_view (target.Timer number) = view.Timer number
 target_view (target.Counter number) = view.Counter number
 target_view (target.Block id) = view.Block
 
--- a quoted name that is the whole operand
+-- what a quoted name that is the whole operand names; unknown without a symbol
 abbrev pub symbol_seen : Option Symbol → Resolution
 symbol_seen None = Unknown
 symbol_seen (Some s) = Resolved (target_view s.target)
 
--- a path: into the block's own variables, into a data block, or a symbol
+-- what a path names: one into the block's own variables, into a data block, or a symbol
 abbrev pub path_seen : Context → PathHead → List PathStep → Resolution
 path_seen c (head.Local name) steps = own_variable c (upper_case_name name) (folded_path steps)
 path_seen c (head.InBlock name) steps = data_variable c name (folded_path steps)
 path_seen c (head.Symbol name) steps = symbol_seen (symbol_named name c.symbols)
 
--- an address, also behind a data block
+-- what an address names, also one behind a data block
 abbrev pub direct_seen : Context → Option BlockName → Letters → Width → (byte bit : ℕ) → Resolution
 direct_seen c None a width byte bit = Resolved (resolved_address 0 a width byte bit)
 direct_seen c (Some name) a width byte bit = address_in_block (data_number c name) a width byte bit
@@ -61,34 +61,34 @@ register_for_word name =
     else if is_same_name name (codes "DINO") then register.Dino
     else register.Ar2
 
--- a data block that is opened, by its number
+-- what an operand names that opens the data block of this number; without a number it isn't checked
 abbrev pub opened_seen : (di : Bool) → Option ℕ → Resolution
 opened_seen di None = Unjudged
 opened_seen di (Some number) = Resolved (view.OpenBlock di number)
 
--- a called block, with the number of its instance
+-- what an operand names that calls a block, with the number of its instance, if one is named
 abbrev pub called_seen : Option BlockId → (named : Option BlockName) → Option ℕ → Resolution
 called_seen None named instance = Unjudged
 called_seen (Some id) None instance = Resolved (view.Called id None)
 called_seen (Some id) (Some name) None = Unjudged
 called_seen (Some id) (Some name) (Some number) = Resolved (view.Called id (Some number))
 
--- a block of the source that doesn't break a rule itself, or a system function
+-- a block of the source, where it has a place, as one has that doesn't break a rule itself
 abbrev pub id_at : BlockId → Option ℕ → Option BlockId
 id_at id place = option_map (λ p. id) place
 
--- a called block, where it doesn't break a rule itself
+-- a called block: a system function, or one of the source that doesn't break a rule itself
 abbrev pub whole_called_block : Context → Option BlockId → Option BlockId
 whole_called_block c None = None
 whole_called_block c (Some id) =
     if is_system_function id.kind then Some id else id_at id (whole_place c id)
 
--- the number of the instance, if one is named
+-- the number of the instance of a call, if one is named and doesn't break a rule itself
 abbrev pub instance_number : Context → Option BlockName → Option ℕ
 instance_number c None = None
 instance_number c (Some name) = data_number c name
 
--- an operand
+-- what an operand names
 unfoldable pub resolution_of : Context → Operand → Resolution
 resolution_of c operand.Nothing = Resolved view.Nothing
 resolution_of c (operand.Direct name a width byte bit) = direct_seen c name a width byte bit

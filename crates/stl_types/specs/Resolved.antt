@@ -9,7 +9,7 @@ use Rattle.stl_types.specs.declared.views.Resolution.{Resolution}
 use Rattle.stl_types.specs.declared.views.Resolution.TheVariants.{Resolved}
 use Rattle.stl_types.specs.declared.views.ResolvedOperand.{ResolvedOperand}
 
--- what is seen, if something is
+-- what an operand names, where it isn't unknown and is checked
 abbrev pub seen_view : Resolution → Option ResolvedOperand
 seen_view (Resolved v) = Some v
 seen_view _ = None

@@ -18,7 +18,7 @@ use Rattle.stl_types.specs.Operands.{rules_24_25_39}
 use Rattle.stl_types.specs.Unknown.{rule_20}
 use Rattle.stl_types.specs.Zones.{rule_47, rule_48, rule_49}
 
--- what all bodies and settings break
+-- what all bodies and settings break, by the rules of statements in their order
 unfoldable pub statement_refusals_by : Context → List Block → List Refusal
 statement_refusals_by c blocks =
     rule_20 c blocks  -- an unknown name or component

@@ -21,7 +21,7 @@ abbrev pub is_unknown : Resolution → Bool
 is_unknown Unknown = true
 is_unknown _ = false
 
--- an operand of a statement, or the value of an actual parameter
+-- the refusal by rule 20 of an operand of a statement, or of the value of an actual parameter
 abbrev pub operand_20 : Context → OperandAtLine → List Refusal
 operand_20 c o = broken_if (is_unknown (resolution_of c o.operand)) o.line 20
 
@@ -30,7 +30,7 @@ abbrev pub leads_nowhere : PathEnd → Bool
 leads_nowhere walk.Unknown = true
 leads_nowhere _ = false
 
--- the target of a setting, of a data block that doesn't break a rule itself
+-- the path of a setting leads to no component, in a data block that doesn't break a rule itself
 abbrev pub sets_unknown : List BlockLayout → ℕ → Setting → Bool
 sets_unknown l block s = leads_nowhere (path_end_in_data_block l block (folded_path s.path))
 

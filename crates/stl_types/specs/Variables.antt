@@ -24,12 +24,13 @@ use Rattle.stl_types.specs.declared.views.Side.TheVariants as side
 use Rattle.stl_types.specs.declared.views.ResolvedOperand.{ResolvedOperand}
 use Rattle.stl_types.specs.declared.views.ResolvedOperand.TheVariants as view
 
--- what isn't elementary
+-- what a variable is that isn't elementary, by its element type: a DATE_AND_TIME, or a composite
+-- one
 abbrev pub date_or_composite : Element → ResolvedOperand
 date_or_composite element.DateAndTime = view.Date
 date_or_composite _ = view.Composite
 
--- the same of the component at a spot
+-- what the component at a spot is that isn't elementary: a DATE_AND_TIME, or a composite one
 abbrev pub composite_operand : Option Cell → ResolvedOperand
 composite_operand None = view.Composite
 composite_operand (Some c) = date_or_composite c.of
@@ -45,7 +46,8 @@ abbrev pub behind_others : (count place : ℕ) → Option Simple → ℕ
 behind_others count place None = place
 behind_others count place (Some result) = if nat_eq place 0 then count - 1 else place - 1
 
--- the same of a parameter of this block
+-- the place in a call of the parameter that is the component at `place`, of `count` components of
+-- this block
 abbrev pub parameter_index : (count place : ℕ) → Option Block → ℕ
 parameter_index count place None = place
 parameter_index count place (Some b) = behind_others count place b.result
@@ -76,42 +78,46 @@ own_elementary c temporary spot kind =
     else if in_function c then parameter_at c spot kind
     else variable_in_area kind (elementary_place area.Di 0 spot.offset (Some kind))
 
--- the component at a spot in the block's own variables; of what isn't elementary no place is seen
+-- what the component at a spot in the block's own variables is; of what isn't elementary no place
+-- is seen
 abbrev pub own_at : Context → (temporary : Bool) → ComponentAt → Option Simple → Resolution
 own_at c temporary spot None =
     Resolved (composite_operand (slice_get (cells_at c.layouts spot.block spot.temporary) spot.place))
 own_at c temporary spot (Some kind) = own_elementary c temporary spot kind
 
--- and where a path in them leads, which may be unknown or rest on what breaks a rule itself
+-- what a path into the block's own variables names, by where it leads; it may be unknown or rest on
+-- what breaks a rule itself
 abbrev pub own_walked : Context → (temporary : Bool) → PathEnd → Resolution
 own_walked c temporary (walk.Reaches spot) =
     own_at c temporary spot (elementary_at c.layouts spot)
 own_walked c temporary walk.Unknown = Unknown
 own_walked c temporary walk.Rests = Unjudged
 
--- a path into the block's own variables
+-- what a path into the block's own variables names, by its first name and the steps behind it
 abbrev pub own_variable : Context → List ℕ → List PathStep → Resolution
 own_variable c name steps =
     own_walked c (is_temporary_variable c name) (walked_local c.layouts c.block name steps)
 
--- a component of the data block with this number; of what isn't elementary no place is seen
+-- what a component of the data block with this number is; of what isn't elementary no place is seen
 abbrev pub data_at : Context → (number : ℕ) → ComponentAt → Option Simple → Resolution
 data_at c number spot None =
     Resolved (composite_operand (slice_get (cells_at c.layouts spot.block spot.temporary) spot.place))
 data_at c number spot (Some kind) = variable_in_area kind (elementary_place area.Db number spot.offset (Some kind))
 
--- and where a path in it leads
+-- what a path into the data block with this number names, by where it leads; it may be unknown or
+-- rest on what breaks a rule itself
 abbrev pub data_walked : Context → (number : ℕ) → PathEnd → Resolution
 data_walked c number (walk.Reaches spot) = data_at c number spot (elementary_at c.layouts spot)
 data_walked c number walk.Unknown = Unknown
 data_walked c number walk.Rests = Unjudged
 
--- a path into the data block with this number, at this place
+-- what a path into the data block with this number, at this place, names; without one of the two it
+-- isn't checked
 abbrev pub data_path : Context → List PathStep → Option ℕ → Option ℕ → Resolution
 data_path c steps (Some number) (Some block) =
     data_walked c number (path_end_in_data_block c.layouts block steps)
 data_path c steps _ _ = Unjudged
 
--- a path into a data block, where that doesn't break a rule itself
+-- what a path into a data block names, where that doesn't break a rule itself
 abbrev pub data_variable : Context → BlockName → List PathStep → Resolution
 data_variable c name steps = data_path c steps (data_number c name) (data_place c name)
