@@ -35,7 +35,7 @@ ob_begun profile class ob info head = with_start_bytes 0 info.bytes (activation_
 abbrev pub ob_activation : Profile → Code → (class ob : ℕ) → StartInfo → Option Activation
 ob_activation profile code class ob info = option_map (ob_begun profile class ob info) (code.head (ob_block_id ob))
 
--- it begins above those that stand; without it all stays
+-- an organization block begins above the activations that stand; without it (None) all stays
 abbrev pub with_ob_begun : Option Activation → State → State
 with_ob_begun None s = s
 with_ob_begun (Some a) s = record s { activations = a ∷ s.activations }

@@ -16,8 +16,8 @@ use Rattle.controller.specs.State.{State}
 abbrev pub images_updated : GlobalStore → GlobalStore
 images_updated w = record w { memory = memory_refreshed w.memory }
 
--- and the cycle counter and the mark of an exceeded cycle time are cleared; the next cycle isn't the
--- first one any more
+-- a cycle is finished: the process images are updated, the cycle counter and the mark of an
+-- exceeded cycle time are cleared, and the next cycle isn't the first one any more
 abbrev pub cycle_finished : State → State
 cycle_finished s =
     record s {
@@ -30,7 +30,7 @@ cycle_finished s =
 abbrev pub cycle_info : State → StartInfo
 cycle_info s = start_info (Cycle s.first_cycle) (priority_class_in s.mode 1)
 
--- then OB 1 begins, if it is loaded
+-- the cycle point: the cycle is finished, then OB 1 begins, if it is loaded
 unfoldable pub cycle_point : Code → State → State
 cycle_point code s =
     with_ob_begun (ob_activation s.profile code (priority_class_in s.mode 1) 1 (cycle_info s)) (cycle_finished s)

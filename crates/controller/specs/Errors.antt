@@ -37,14 +37,15 @@ with_caller_registers a fresh =
       running = record fresh.running { regs = at_block a.running.regs };
     }
 
--- it is one more activation of the same class; none where it isn't loaded
+-- the organization block of a synchronous error of an activation, as it begins: one more activation
+-- of the same class; None where it isn't loaded
 abbrev pub error_in : Code → (error : ℕ) → (at : Option Spot) → Activation → Option Activation
 error_in code error at a =
     option_map (with_caller_registers a)
     (ob_activation a.profile code a.class (ob_of_error error) (start_info (error_event error at) a.class))
 
--- it starts at once, and the activation in which the error came stands below it; without it the
--- controller stops
+-- the organization block of a synchronous error, if it is loaded, starts at once, and the
+-- activation in which the error came stands below it; without it (None) the controller stops
 abbrev pub error_ob_started :
     Option Activation → (error : ℕ) → (at : Option Spot) → (a : Activation)
     (below : List Activation) → State → State

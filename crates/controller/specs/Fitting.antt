@@ -62,13 +62,13 @@ FitIsReady =
 abbrev pub StartIsFit : Type 0
 StartIsFit = (profile : Profile) (p : Program) → Verifies p → IsFit p (initial_state profile (code_of p))
 
--- each valid entry keeps a state fit
+-- for a program that verifies, each valid entry keeps a state fit
 abbrev pub EntriesKeepFit : Type 0
 EntriesKeepFit =
     (p : Program) (s : State) (what : What)
     → Verifies p → IsInRange what → IsFit p s → IsFit p (entry_result (code_of p) s what).state
 
--- so the state after each valid history is fit
+-- for a program that verifies, the state after each valid history is fit
 abbrev pub HistoriesAreFit : Type 0
 HistoriesAreFit =
     (profile : Profile) (p : Program) (history : List What)

@@ -142,8 +142,9 @@ LeavesServiceResult (Passes sched a) s s' a' answers.Nothing = (s' ≡ sched) ×
 LeavesServiceResult (Stops cause a) s s' a' (answers.Halt why) = (why ≡ cause) × (s' ≡ s) × (a' ≡ a)
 LeavesServiceResult served s s' a' answer = ⊥
 
--- and its RET_VAL was given where it is bound, and the activation stands above `below`, with no
--- answer; or the answer is its stop cause, the activation stands there, and memory and scheduler stay
+-- a system function was served and its RET_VAL given where it is bound, and the activation stands
+-- above `below`, with no answer; or the answer is its stop cause, the activation stands there, and
+-- memory and scheduler stay
 abbrev pub ServesTo :
     ServiceResult → Option Binding → (below new : List Activation) (m m' : Areas) (s s' : Scheduler)
     → Option ℕ → Type 0
@@ -156,8 +157,9 @@ ServesTo (Stops cause a) to below new m m' s s' (Some why) =
     (why ≡ cause) × (m' ≡ m) × (s' ≡ s) × (new ≡ a ∷ below)
 ServesTo served to below new m m' s s' answer = ⊥
 
--- the same of the running activation, which called the function of this number; where none runs,
--- all stays, with no answer
+-- the system function of this number, which the running activation called, was served, and its
+-- RET_VAL given where it is bound; the answer is a stop cause, if it has one. Where no activation
+-- runs, all stays, with no answer
 abbrev pub ServesRunning :
     (number : ℕ) → List ℕ → Option Binding → (old new : List Activation) (m m' : Areas)
     (s s' : Scheduler) → Option ℕ → Type 0

@@ -53,15 +53,15 @@ mon_record_at regs at = record {
   a2 = regs.a2;
 }
 
--- of the statement at a position of a block, with the registers after it; none where the block isn't
--- the monitored one
+-- the record of the statement at a position of a block, with the registers after it; None where the
+-- block isn't the monitored one
 abbrev pub statement_record :
     Code → (monitored : Option BlockId) → BlockId → (at : ℕ) → Regs → Option MonRecord
 statement_record code monitored block at regs =
     if is_monitored monitored block then option_map (mon_record_at regs) (statement_spot code block at)
     else None
 
--- of the next statement of the first of these activations; a cycle point has none
+-- the record of the next statement of the first of these activations; a cycle point has none
 abbrev pub step_record : Code → State → List Activation → Option MonRecord
 step_record code s [] = None
 step_record code s (a ∷ below) =

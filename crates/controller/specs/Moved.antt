@@ -23,7 +23,8 @@ EntriesMove =
     (f : BlockId → ℕ → ℕ) (c d : Code) (s : State) (what : What) → FollowsCode f c d
     → entry_result d (moved_state f s) what ≡ moved_happened f (entry_result c s what)
 
--- and so does a whole history: mode, memory, scheduler and diagnostics are the same after it
+-- a history does the same in a code that follows: the state after it is the same with its positions
+-- moved, so mode, memory, scheduler and diagnostics are equal
 abbrev pub HistoriesMove : Type 0
 HistoriesMove =
     (profile : Profile) (f : BlockId → ℕ → ℕ) (c d : Code) (history : List What) → FollowsCode f c d

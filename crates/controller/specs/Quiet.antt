@@ -23,7 +23,8 @@ abbrev pub GoesOnReady : Program → List Activation → GlobalStore → Type 0
 GoesOnReady p [] w = Unit {0}
 GoesOnReady p (a ∷ below) w = StaysReady p a w
 
--- it has executed so many of them, above the others; where none runs nothing was done
+-- the running activation has executed so many silent statements, above the others; where none runs
+-- nothing was done
 abbrev pub GoesOnQuietly :
     Code → (count : ℕ) → (old new : List Activation) (w w' : GlobalStore) → Type 0
 GoesOnQuietly code count [] new w w' = (count ≡ 0) × (new ≡ []) × (w' ≡ w)
@@ -37,7 +38,8 @@ abbrev pub goes_on_quietly : Code → List Activation → GlobalStore → Bool
 goes_on_quietly code [] w = false
 goes_on_quietly code (a ∷ below) w = goes_on_by_kind is_silent code a w
 
--- the next step is such a statement, outside STOP, where no block is monitored and no request waits
+-- the next step is a silent statement of the running activation, outside STOP, where no block is
+-- monitored and no request waits
 abbrev pub steps_quietly : Code → State → Bool
 steps_quietly code s =
     not (is_some s.monitored) && not (is_stop s.mode)

@@ -19,7 +19,8 @@ pub record CanGo (code : Code) (a : Activation) : Type 0 where
   -- nothing that the statement needs is missing
   pub there : (w : GlobalStore) → IsNotStuck (statement_step code a w)
 
--- this is so of the running activation, if one runs
+-- of the running activation, if one runs, a frame stands, each frame has its local data, and
+-- nothing that its statement needs is missing
 abbrev pub IsReady : Code → List Activation → Type 0
 IsReady code [] = Unit {0}
 IsReady code (a ∷ below) = CanGo code a

@@ -65,7 +65,8 @@ ContinuesReplay =
     (profile : Profile) (code : Code) (history : List What) (what : What)
     → replay profile code (history ++ what ∷ []) ≡ (entry_result code (replay profile code history) what).state
 
--- and what it shows is what was seen last
+-- what was seen last of a history with one entry more is what that entry shows in the state after
+-- the others
 abbrev pub ContinuesSeen : Type 0
 ContinuesSeen =
     (profile : Profile) (code : Code) (history : List What) (what : What)
@@ -77,20 +78,21 @@ ContinuesByMore =
     (profile : Profile) (code : Code) (history more : List What)
     → replay profile code (history ++ more) ≡ state_after_entries code (replay profile code history) more
 
--- and the last of them shows what was seen last
+-- what was seen last of a history with further entries is what the last of these shows, from the
+-- state after the others on; without further ones it is what was seen before
 abbrev pub SeenByMore : Type 0
 SeenByMore =
     (profile : Profile) (code : Code) (history more : List What)
     → last_observed profile code (history ++ more)
     ≡ last_observed_from code (replay profile code history) (last_observed profile code history) more
 
--- each entry is counted
+-- each entry adds 1 to the count of entries of the state
 abbrev pub CountsEntries : Type 0
 CountsEntries =
     (code : Code) (s : State) (what : What)
     → (entry_result code s what).state.entries ≡ s.entries + 1
 
--- so the count is that of the history
+-- the count of entries of the state after a history is the length of the history
 abbrev pub CountsHistory : Type 0
 CountsHistory =
     (profile : Profile) (code : Code) (history : List What) → (replay profile code history).entries ≡ length history
@@ -100,7 +102,7 @@ abbrev pub EntriesKeepProfile : Type 0
 EntriesKeepProfile =
     (code : Code) (s : State) (what : What) → (entry_result code s what).state.profile ≡ s.profile
 
--- so after each history it is that of the start
+-- the profile after each history is that of the start
 abbrev pub HistoriesKeepProfile : Type 0
 HistoriesKeepProfile =
     (profile : Profile) (code : Code) (history : List What) → (replay profile code history).profile ≡ profile

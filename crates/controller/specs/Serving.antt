@@ -30,8 +30,8 @@ pub data ServiceResult : Type 0 where
 abbrev pub in_parameter : (place : ℕ) → List ℕ → ℕ
 in_parameter place inputs = slice_index_or inputs place 0
 
--- each by its number: 32 SRT_DINT, 33 CAN_DINT, 39 DIS_IRT, 40 EN_IRT, 41 DIS_AIRT, 42 EN_AIRT,
--- 43 RE_TRIGR, 46 STP (stop cause 1); any other is 64 TIME_TCK
+-- what a system function does, by its number: 32 SRT_DINT, 33 CAN_DINT, 39 DIS_IRT, 40 EN_IRT, 41
+-- DIS_AIRT, 42 EN_AIRT, 43 RE_TRIGR, 46 STP (stop cause 1); any other is 64 TIME_TCK
 unfoldable pub system_function_served : (number : ℕ) → (inputs : List ℕ) → Scheduler → Activation → ServiceResult
 system_function_served number inputs s a =
     if number == 32 then

@@ -18,8 +18,8 @@ may_start class (a ∷ below) = nat_lt a.class class && a.delay == 0
 abbrev pub request_taken : State → State
 request_taken s = record s { sched = best_removed s.sched }
 
--- and its organization block begins above those that stand, in its class and with its start
--- information; if it isn't loaded, none begins
+-- the best request is taken, and its organization block begins above the activations that stand, in
+-- its class and with its start information; if it isn't loaded, none begins
 abbrev pub request_started : Code → Pending → State → State
 request_started code best s =
     with_ob_begun (ob_activation s.profile code best.class best.ob best.info) (request_taken s)

@@ -17,19 +17,20 @@ may_ob_be_started Startup ob [] = ob == 100
 may_ob_be_started Startup ob (b ∷ below) = is_error ob
 may_ob_be_started (Stop cause at) ob below = false
 
--- its class is above that of the one below it, if there is one
+-- a priority class is above that of the activation next below, if there is one
 abbrev pub IsAbove : (class : ℕ) → (below : List Activation) → Type 0
 IsAbove class [] = Unit {0}
 IsAbove class (b ∷ below) = b.class < class
 
--- it stands there as one that was started: it may, its class is its own in this operating mode, and
--- that is above the class of the one below it
+-- an activation of this class and organization block stands there as one that was started: it may
+-- in this operating mode, its class is its own there, and that is above the class of the one below
+-- it
 pub record IsStarted (mode : Mode) (class ob : ℕ) (below : List Activation) : Type 0 where
   -- its organization block may stand there in this mode
   pub stands : IsTrue (may_ob_be_started mode ob below)
   -- its priority class is its own in this mode
   pub class_is : class ≡ priority_class_in mode ob
-  -- that is above the class of the one below it
+  -- its class is above that of the one below it
   pub above : IsAbove class below
 
 -- an OB 121 or 122 has the class of the one below it, which is neither of the two itself

@@ -26,7 +26,7 @@ all_obs =
     ∷ 30 ∷ 31 ∷ 32 ∷ 33 ∷ 34 ∷ 35 ∷ 36 ∷ 37 ∷ 38 ∷ 40 ∷ 41 ∷ 42 ∷ 43 ∷ 44 ∷ 45 ∷ 46 ∷ 47
     ∷ 80 ∷ 85 ∷ 100 ∷ 121 ∷ 122 ∷ []
 
--- those of them that the program has, by rising number
+-- the organization blocks that a program has, by rising number
 abbrev pub loaded_obs : Code → List ℕ
 loaded_obs code = filter (λ ob. is_some (code.head (ob_block_id ob))) all_obs
 
@@ -61,7 +61,8 @@ startup_info = start_info OfStartup 27
 abbrev pub startup_ob : Profile → Code → Option Activation
 startup_ob profile code = ob_activation profile code 27 100 startup_info
 
--- with OB 100 the mode is STARTUP, and it begins; else RUN begins
+-- the state in which a start ends: with OB 100 the mode is STARTUP, and OB 100 begins; without it
+-- RUN begins
 abbrev pub state_in_startup : Option Activation → State → State
 state_in_startup None s = run_starts s
 state_in_startup (Some a) s = with_ob_begun (Some a) (record s { mode = Startup })
@@ -70,7 +71,8 @@ state_in_startup (Some a) s = with_ob_begun (Some a) (record s { mode = Startup 
 unfoldable pub initial_state : Profile → Code → State
 initial_state profile code = state_in_startup (startup_ob profile code) (before_start profile code)
 
--- of memory and counters what is retained stays, and all timers of the profile are at rest again
+-- the memory, timers and counters after a restart: of memory and counters what is retained stays,
+-- and all timers of the profile are at rest again
 abbrev pub global_store_after_restart : Profile → GlobalStore → GlobalStore
 global_store_after_restart profile w = record w {
   memory = memory_after_restart w.memory;

@@ -13,7 +13,7 @@ use Rattle.event_text.specs.declared.kinds.TextKind.{TextKind}
 use Rattle.event_text.specs.declared.kinds.TextKind.TheVariants.{History, Stimuli, Script}
 use Rattle.event_text.specs.Workers.{request_entry, feeder_entry, one_step, worker_of}
 
--- the most steps of a history
+-- how many steps a history has at most: 1,000,000
 abbrev pub most_steps : ℕ
 most_steps = 1000000
 
@@ -23,7 +23,8 @@ step_count [] = Ok 1
 step_count (number ∷ []) = number_in 1 1000000 2 number
 step_count words = no_line
 
--- so many steps; rule 6 where a history has too many with those before
+-- the count of steps of a line, with `before` steps in the lines before it; rule 6 where the
+-- history has more than 1,000,000 then
 abbrev pub count_behind : (before : ℕ) → Reading ℕ → Reading ℕ
 count_behind before (Err rule) = Err rule
 count_behind before (Ok count) = if nat_le (before + count) most_steps then Ok count else Err 6
@@ -96,7 +97,7 @@ where_allowed true reading = reading
 where_allowed false (Ok a) = Err 4
 where_allowed false (Err rule) = Err (min rule 4)
 
--- so many steps, one entry each
+-- the entries of a line of so many steps, one for each step
 abbrev pub step_entries : (count : ℕ) → List Entry
 step_entries count = replicate count one_step
 

@@ -61,7 +61,7 @@ bound_params params (passing ∷ rest) bindings s m =
     then_ok (bound_for (slice_get params passing.index) passing.actual s m) (λ b.
     bound_params params rest (binding_set bindings passing.index b) s m)
 
--- before, none is supplied
+-- the parameters of a block before any is supplied
 abbrev pub no_bindings : List Param → List Binding
 no_bindings params = replicate (length params) binding.Unsupplied
 

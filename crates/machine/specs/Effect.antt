@@ -28,23 +28,25 @@ abbrev pub effect_on_regs : ExecState → Result Regs ℕ → Result ExecState �
 effect_on_regs p (Ok r) = Ok (record p { local = record p.local { regs = r } })
 effect_on_regs p (Err e) = Err e
 
--- registers, local bytes and what the innermost frame holds; memory, timers and counters stay
+-- an effect on registers, local bytes and what the innermost frame holds; memory, timers and
+-- counters stay
 abbrev pub on_local : ExecState → Result Local ℕ → Result ExecState ℕ
 on_local p (Ok s) = Ok (record p { local = s })
 on_local p (Err e) = Err e
 
--- these and memory; timers and counters stay
+-- an effect on registers, local bytes, what the innermost frame holds, and memory; timers and
+-- counters stay
 abbrev pub on_local_memory : ExecState → Result LocalMemory ℕ → Result ExecState ℕ
 on_local_memory p (Ok c) = Ok (record p { local = c.local; memory = c.memory })
 on_local_memory p (Err e) = Err e
 
--- an effect on timers, on counters: the logic string ends
+-- an effect on timers: the logic string ends (OR 0 and /FC 0), but not after an error
 abbrev pub on_timers : ExecState → Result (List Timer) ℕ → Result ExecState ℕ
 on_timers p (Ok all) =
     Ok (record p { local = record p.local { regs = logic_string_ended p.local.regs }; timers = all })
 on_timers p (Err e) = Err e
 
--- of counters: OR 0 and /FC 0 come with the effect, and not after an error
+-- an effect on counters: the logic string ends (OR 0 and /FC 0), but not after an error
 abbrev pub on_counters : ExecState → Result (List Counter) ℕ → Result ExecState ℕ
 on_counters p (Ok all) =
     Ok (record p { local = record p.local { regs = logic_string_ended p.local.regs }; counters = all })

@@ -84,7 +84,7 @@ call_with_bindings (Err code) called next a m = Fails code
 call_with_bindings (Ok bindings) called next a m =
     entry_or_stop (entry_fault called.local_len a) called bindings next a m
 
--- after the call the caller goes on at `next`
+-- a call of a block; after it the caller goes on at the position `next`
 unfoldable pub block_call : CalledBlock → List Passing → (next : ℕ) → Activation → Areas → Call
 block_call called passings next a m =
     call_with_bindings (param_bindings called.params passings (local_of a.running) m) called next a m

@@ -27,7 +27,8 @@ pub record ExecState : Type 0 where
   pub timers : List Timer
   pub counters : List Counter
 
--- of the running block, all but which block it is, its position and how many local bytes it has
+-- what an instruction works on of a running block: all but which block it is, its position and how
+-- many local bytes it has
 abbrev pub local_of : Running → Local
 local_of s = record { regs = s.regs; inner = frame_data_of s.frame; locals = s.locals }
 

@@ -35,7 +35,8 @@ pub record OpenAt : Type 0 where
   pub codes : List Check
   pub zones : ℕ
 
--- the same before a statement; none where no statement of the block begins there
+-- what stands open in the text before the statement of a block at a position; None where no
+-- statement of the block begins there
 abbrev pub OpenCodes : Type 0
 OpenCodes = BlockId → ℕ → Option OpenAt
 
@@ -100,7 +101,7 @@ pub record FitsHead (h : BlockHead) (f : Frame) (below : List Frame) (m : Areas)
   pub bindings : AreBound f.block.kind h.params below m f.bindings
   pub instance : HasInstance f.block.kind h m f.instance
 
--- the same where the block is there
+-- a frame is that of a block that is there (its head), and what is open in the frame fits this head
 abbrev pub FitsBlock : Option BlockHead → Frame → (below : List Frame) → Areas → Type 0
 FitsBlock None f below m = ⊥
 FitsBlock (Some h) f below m = FitsHead h f below m

@@ -42,7 +42,7 @@ unfoldable pub op_run_at : (most : ℕ) → List OpData → ℕ → Option OpRun
 op_run_at zero ops at = None
 op_run_at (suc most) ops at = run_with (op_placed 0 ops at) (λ next. op_run_at most ops next)
 
--- a statement has at most 64 ops
+-- how many ops a statement has at most: 64
 abbrev pub most_ops_of_statement : ℕ
 most_ops_of_statement = 64
 
@@ -51,17 +51,18 @@ abbrev pub use_db_first : Operand → Option ℕ → Option ℕ
 use_db_first (operand.UseDb number) more = Some number
 use_db_first _ more = more
 
--- of the ops that prepare, the data block of the first USEDB; None without one
+-- the data block of the first USEDB among the ops that prepare a statement; None without one
 abbrev pub use_db_of : List OpData → Option ℕ
 use_db_of [] = None
 use_db_of (op ∷ ops) = use_db_first op.operand (use_db_of ops)
 
--- PASS: what a CALL passes, one parameter each
+-- what an op passes for a parameter, in front of what others pass; an op that is no PASS passes
+-- nothing
 abbrev pub with_passing : Operand → List Passing → List Passing
 with_passing (operand.Pass index actual) more = record { index = index; actual = actual } ∷ more
 with_passing _ more = more
 
--- those of all PASS ops before the last op of the statement, in their order
+-- what a CALL passes, by the PASS ops before the last op of its statement, in their order
 abbrev pub passings_of : List OpData → List Passing
 passings_of [] = []
 passings_of (op ∷ ops) = with_passing op.operand (passings_of ops)
@@ -132,7 +133,7 @@ statement_fetched b at =
     option_and_then (λ line. option_map (fetched_of b.code line) (op_run_at most_ops_of_statement b.code at))
     (line_placed 0 true b.code b.lines at)
 
--- of a code block all but its kind, number, ops and source lines
+-- the head of a code block: all but its kind, number, ops and source lines
 abbrev pub block_head_of : CodeBlock → BlockHead
 block_head_of b = record {
   local_len = b.local_len;

@@ -12,7 +12,8 @@ use Rattle.flat_code.specs.declared.kinds.JumpOperation.TheVariants as jump
 abbrev pub loop_counter_decremented : Regs → Regs
 loop_counter_decremented r = accumulator_increased 16 65535 r
 
--- by the registers as they stand before the jump; LOOP tests what it leaves in ACCU 1-L
+-- whether a jump is taken, by the registers as they stand before it; LOOP tests what it leaves in
+-- ACCU 1-L
 unfoldable pub is_jump_taken : JumpOperation → Regs → Bool
 is_jump_taken jump.Ju r = true
 is_jump_taken jump.Jc r = r.status.rlo

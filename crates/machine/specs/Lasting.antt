@@ -93,7 +93,8 @@ StepFitsAgain p w (SysCall number given a) =
 StepFitsAgain p w (Stop cause) = (cause ≡ causes.block_depth) ⊎ (cause ≡ causes.local_data)
 StepFitsAgain p w Stuck = ⊥
 
--- the same of what a call of a statement answers and leaves
+-- what a call of a statement leaves, by its answer: an activation that fits again, with memory `m`,
+-- or where the outermost block has ended memory alone; codes, causes and arguments are right
 abbrev pub LeavesActivation : Program → Areas → Activation → Outcome → Type 0
 LeavesActivation p m a outcome.Went = FitsProgram p m a
 LeavesActivation p m a outcome.Ended = IsMemoryOf (code_of p) m

@@ -17,7 +17,7 @@ aimed_instr f (JumpsByList targets otherwise) = JumpsByList (map f targets) (f o
 aimed_instr f (Calls how block instance passings) = Calls how block instance passings
 aimed_instr f (Returns how) = Returns how
 
--- of a statement the targets and the position behind it move; its source line stays
+-- a statement whose targets and position behind it are moved; its source line stays
 abbrev pub moved_fetched : (ℕ → ℕ) → Fetched → Fetched
 moved_fetched f s = record { instr = aimed_instr f s.instr; next = f s.next; line = s.line }
 
@@ -41,7 +41,7 @@ moved_activation f a =
       below = map (moved_frame f) a.below;
     }
 
--- of the activation that comes of a statement the frames move; codes, causes and memory stay
+-- what comes of a statement, with the frames of its activation moved; codes, causes and memory stay
 abbrev pub moved_step : (BlockId → ℕ → ℕ) → StatementStep → StatementStep
 moved_step f (Went a w) = Went (moved_activation f a) w
 moved_step f (Ended regs w) = Ended regs w

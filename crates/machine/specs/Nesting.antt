@@ -7,23 +7,24 @@ use Rattle.status_word.specs.declared.Bracket.{Bracket}
 use Rattle.machine.specs.ExecState.{Local}
 use Rattle.machine.specs.Places.{no_operand}
 
--- these brackets are open in the innermost frame
+-- a running block with these open brackets in its innermost frame, the innermost first
 abbrev pub with_open_brackets : List Bracket → Local → Local
 with_open_brackets brackets s = record s { inner = record s.inner { brackets = brackets } }
 
--- A( to XN(; an eighth bracket stands in no program that is loaded
+-- A( to XN( open a bracket; an eighth one stands in no program that is loaded
 unfoldable pub nesting_opened : Check → Local → Result Local ℕ
 nesting_opened with s =
     if length s.inner.brackets == 7 then Err no_operand
     else Ok (with_open_brackets (entry_of with s.regs ∷ s.inner.brackets)
     (record s { regs = bracket_begun s.regs }))
 
--- ); nor does one without an open bracket
+-- the innermost of these open brackets is closed; a `)` without an open bracket stands in no
+-- program that is loaded
 abbrev pub bracket_closed : List Bracket → Local → Result Local ℕ
 bracket_closed [] s = Err no_operand
 bracket_closed (bracket ∷ rest) s =
     Ok (with_open_brackets rest (record s { regs = bracket_ended bracket s.regs }))
 
--- of the open brackets of the innermost frame it closes the one that was opened last
+-- `)` closes the bracket of the innermost frame that was opened last
 unfoldable pub nesting_closed : Local → Result Local ℕ
 nesting_closed s = bracket_closed s.inner.brackets s

@@ -59,7 +59,7 @@ abbrev pub constant_in : (w : ℕ) → Operand → Option ℕ
 constant_in w (operand.Literal value) = Some (value % 2 ^ w)
 constant_in w _ = None
 
--- the same where the instruction always has one
+-- the constant of an operand, in w bits, for an instruction that always has one; 0 without it
 abbrev pub constant_or_zero : (w : ℕ) → Operand → ℕ
 constant_or_zero w (operand.Literal value) = value % 2 ^ w
 constant_or_zero w _ = 0

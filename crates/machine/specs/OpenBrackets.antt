@@ -22,7 +22,7 @@ check_named code =
     else if code == op_code_of (operation.Nest check.X) then check.X
     else check.Xn
 
--- those of open brackets, the innermost first
+-- the function codes of open brackets, the innermost first
 abbrev pub checks_of : List OpenBracket → List Check
 checks_of brackets = reverse (map check_named (bracket_codes brackets))
 
@@ -30,15 +30,17 @@ checks_of brackets = reverse (map check_named (bracket_codes brackets))
 abbrev pub open_at : PlacedOp → OpenAt
 open_at q = record { codes = checks_of q.brackets; zones = length q.zones }
 
--- before an op that begins a statement
+-- what stands open before an op that begins a statement; None for another op, or none
 abbrev pub open_before : Option PlacedOp → Option OpenAt
 open_before None = None
 open_before (Some q) = if begins_its_statement q then Some (open_at q) else None
 
--- before the statement of a block that begins at an offset
+-- what stands open before the statement of a block that begins at an offset; None where none begins
+-- there
 abbrev pub open_in : CodeBlock → (at : ℕ) → Option OpenAt
 open_in b at = open_before (placed_at at (code_places b.code))
 
--- the same of the blocks of a program
+-- what stands open before each statement of the blocks of a program, by block and offset in its
+-- code
 abbrev pub open_codes : Program → OpenCodes
 open_codes p = λ block at. option_and_then (λ b. open_in b at) (block_by_id block p.code_blocks)

@@ -29,11 +29,11 @@ ChangesRunningRegs effect old new answer = IsDone effect (λ r. new ≡ record o
 abbrev pub ChangesLocal : Result Local ℕ → (old new : Running) → ErrorAnswer → Type 0
 ChangesLocal effect old new answer = IsDone effect (λ s. new ≡ with_local old s) (new ≡ old) answer
 
--- an effect on that and memory, which can't fail
+-- an effect, which can't fail, on all that an activation has of its own and on memory
 abbrev pub BecomesLocalMemory : LocalMemory → (old new : Running) (m' : Areas) → Type 0
 BecomesLocalMemory c old new m' = (new ≡ with_local old c.local) × (m' ≡ c.memory)
 
--- the same where it can
+-- an effect, which can fail, on all that an activation has of its own and on memory
 abbrev pub ChangesLocalMemory : Result LocalMemory ℕ → (old new : Running) (m m' : Areas) → ErrorAnswer → Type 0
 ChangesLocalMemory effect old new m m' answer =
     IsDone effect (λ c. BecomesLocalMemory c old new m') ((new ≡ old) × (m' ≡ m)) answer

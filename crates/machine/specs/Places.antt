@@ -135,7 +135,7 @@ register_location access (Some area) width address bits s =
 register_location access None width address bits s =
     area_crossing_location access width address (address_moved_by address bits) s
 
--- of an operand that the instruction doesn't take: never in a program that is loaded
+-- the error of an operand that the instruction doesn't take, 0: never in a program that is loaded
 abbrev pub no_operand : ℕ
 no_operand = 0
 

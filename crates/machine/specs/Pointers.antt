@@ -37,11 +37,13 @@ abbrev pub offset_added : Operand → Regs → ℕ
 offset_added (operand.Literal value) r = value
 offset_added _ r = sign_extended (r.a1 % 2 ^ 16)
 
--- they add in bits 0 to 23
+-- the content of an address register to which an offset in bits was added, in bits 0 to 23; bits 24
+-- to 31 stay
 unfoldable pub address_added : (address offset : ℕ) → ℕ
 address_added address offset = with_low 24 address ((address + offset) % 2 ^ 24)
 
--- each by its operation; of them only TAR1 and TAR2 without operand change the accumulators
+-- the effect of an address-register instruction, by its operation; only TAR1 and TAR2 without
+-- operand change the accumulators
 unfoldable pub pointer_effect : PointerOperation → Operand → Local → Areas → Result LocalMemory ℕ
 pointer_effect word.Lar1 o s m =
     then_ok (address_loaded o s m) (λ n. Ok (regs_set (record s.regs { ar1 = n }) s m))

@@ -42,7 +42,7 @@ ending_zone s =
     if is_empty_list s.inner.relay.zones then Err no_operand
     else Ok (with_relay_zones (zone_ended s.inner.relay) s)
 
--- each by its name
+-- the effect of MCRA, MCRD, MCR( or )MCR
 abbrev pub relay_effect : RelayOperation → Local → Result Local ℕ
 relay_effect relay.Activate s = Ok (relay_activated true s)
 relay_effect relay.Deactivate s = Ok (relay_activated false s)

@@ -55,7 +55,8 @@ pub data Return : Type 0 where
   GoesOn : (a : Activation) (m : Areas) → Return
   Ends : (regs : Regs) (m : Areas) → Return
 
--- OS 0, OR 0, STA 1, /FC 0 in both cases; without a frame below the outermost block has ended
+-- the innermost block is left, with OS 0, OR 0, STA 1 and /FC 0: the caller goes on, or without a
+-- frame below the outermost block has ended
 abbrev pub return_to_caller : List Frame → ReturnState → Return
 return_to_caller [] s = Ends (at_block s.activation.running.regs) s.memory
 return_to_caller (caller ∷ rest) s = GoesOn (activation_of_caller caller rest s.activation) s.memory
@@ -64,17 +65,20 @@ return_to_caller (caller ∷ rest) s = GoesOn (activation_of_caller caller rest 
 unfoldable pub block_return : List Param → Activation → Areas → Return
 block_return params a m = return_to_caller a.below (outputs_copied_back a.running.frame.instance params a m)
 
--- the innermost block is left; the answer says whether the caller goes on
+-- the innermost block is left to the frames that stand below; the answer is whether a caller goes
+-- on, and false where there are none
 abbrev pub LeavesTo : List Frame → (old new : Activation) → Bool → Type 0
 LeavesTo [] old new false = HasReturnedLast old new (at_block old.running.regs)
 LeavesTo (caller ∷ rest) old new true = new ≡ activation_of_caller caller rest old
 LeavesTo below old new answer = ⊥
 
--- by the frames that stand below; the answer is false where there are none
+-- the innermost block of an activation is left; the answer is whether a caller goes on, and false
+-- where no frame stands below
 abbrev pub LeavesRunningBlock : (old new : Activation) → Bool → Type 0
 LeavesRunningBlock old new answer = LeavesTo old.below old new answer
 
--- the same of a return
+-- what a return leaves, and its answer: the caller goes on (true), or the outermost block has ended
+-- (false)
 abbrev pub IsReturnOf : Return → (old new : Activation) (m' : Areas) → Bool → Type 0
 IsReturnOf (GoesOn a m) old new m' true = (new ≡ a) × (m' ≡ m)
 IsReturnOf (Ends regs m) old new m' false = HasReturnedLast old new regs × (m' ≡ m)

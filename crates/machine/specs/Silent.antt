@@ -26,14 +26,16 @@ pub record GoesSilently (step : StatementStep) (w : GlobalStore) (next : Activat
   pub goes : step ≡ Went next after
   pub outputs : after.memory.peripheral_outputs ≡ w.memory.peripheral_outputs
 
--- so many statements of this kind, one after another
+-- an activation executes so many statements, one after another, with which it goes on and which
+-- don't change the peripheral outputs
 abbrev pub RunsSilently : Code → (count : ℕ) → (a b : Activation) (w after : GlobalStore) → Type 0
 RunsSilently code zero a b w after = (b ≡ a) × (after ≡ w)
 RunsSilently code (suc count) a b w after =
     (next : Activation) × (mid : GlobalStore) × GoesSilently (statement_step code a w) w next mid
     × RunsSilently code count next b mid after
 
--- after however many of them `statement_step` may be called
+-- however many statements without a change of the peripheral outputs an activation executes,
+-- `statement_step` may be called after them
 abbrev pub StaysReady : Program → Activation → GlobalStore → Type 0
 StaysReady p a w =
     (count : ℕ) (b : Activation) (after : GlobalStore)
@@ -109,7 +111,8 @@ is_silent (Returns how) a =
     && has_caller a.below
 is_silent _ a = false
 
--- after an instruction with which the activation goes on its block is surely the running one still
+-- whether the block of an instruction is surely the running one still, where the activation goes on
+-- after it: all but calls and returns
 abbrev pub stays_in_block : Instr → Bool
 stays_in_block (Calls how block instance passings) = false
 stays_in_block (Returns how) = false
@@ -124,22 +127,23 @@ is_statement_of_kind kind (Some f) a = kind f.instr a
 abbrev pub is_next_statement_of_kind : (Instr → Activation → Bool) → Code → Activation → Bool
 is_next_statement_of_kind kind code a = is_statement_of_kind kind (code.fetch a.running.frame.block a.running.frame.at) a
 
--- and the activation goes on after it
+-- the next statement is of a kind, and the activation goes on after it
 abbrev pub goes_on_by_kind : (Instr → Activation → Bool) → Code → Activation → GlobalStore → Bool
 goes_on_by_kind kind code a w = is_next_statement_of_kind kind code a && is_going_on (statement_step code a w)
 
--- one such statement was executed, or nothing was done, since it isn't of the kind or doesn't go on
+-- one statement of a kind was executed (true), or nothing was done, since the next one isn't of the
+-- kind or the activation doesn't go on after it
 abbrev pub GoesOrStays : StatementStep → (kind : Bool) → (old new : Activation) (w after : GlobalStore) → Bool → Type 0
 GoesOrStays step kind old new w after true = GoesSilently step w new after
 GoesOrStays step kind old new w after false =
     (new ≡ old) × (after ≡ w) × ((kind && is_going_on step) ≡ false)
 
--- what came of a statement that was tried: whether it was executed
+-- whether a statement that was tried was executed
 abbrev pub shows_nothing : Silent → Bool
 shows_nothing silent.Not = false
 shows_nothing _ = true
 
--- and whether its block is surely the running one still
+-- whether a statement that was tried was executed, and its block is surely the running one still
 abbrev pub is_still_inside : Silent → Bool
 is_still_inside silent.Inside = true
 is_still_inside _ = false

@@ -47,19 +47,22 @@ with_timer_error code (Err BadBcd) = Err errors.bad_bcd
 abbrev pub is_timer_kind : ℕ → Bool
 is_timer_kind kind = kind == 1
 
--- of a timer its output, of a counter whether its value is above 0
+-- the bit of a timer or counter of a number: of a timer its output, of a counter whether its value
+-- is above 0
 unfoldable pub bit_of_numbered : (kind number : ℕ) → List Timer → List Counter → Result Bool ℕ
 bit_of_numbered kind number t n =
     if is_timer_kind kind then with_timer_error errors.no_timer (read_at_number (λ (timer : Timer). timer.output) t number)
     else with_timer_error errors.no_counter (read_at_number is_counting n number)
 
--- of a timer the time left in units of its base, of a counter its value
+-- the number that L loads of a timer or counter: of a timer the time left in units of its base, of
+-- a counter its value
 unfoldable pub value_of_numbered : (kind number : ℕ) → List Timer → List Counter → Result ℕ ℕ
 value_of_numbered kind number t n =
     if is_timer_kind kind then with_timer_error errors.no_timer (read_at_number units_left t number)
     else with_timer_error errors.no_counter (read_at_number (λ (counter : Counter). counter.value) n number)
 
--- the same in BCD
+-- the number that LC loads of a timer or counter, in BCD: of a timer the time left with its base,
+-- of a counter its value
 unfoldable pub bcd_of_numbered : (kind number : ℕ) → List Timer → List Counter → Result ℕ ℕ
 bcd_of_numbered kind number t n =
     if is_timer_kind kind then with_timer_error errors.no_timer (read_at_number time_left t number)

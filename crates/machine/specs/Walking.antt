@@ -22,12 +22,13 @@ pub record Walk : Type 0 where
   pub last : OpData
   pub next : ℕ
 
--- the first of two
+-- the first of two numbers that is there
 abbrev pub first_present : Option ℕ → Option ℕ → Option ℕ
 first_present None more = more
 first_present (Some number) more = Some number
 
--- of a run of ops; what was opened before it counts first, then the first USEDB in it
+-- what a walk over the ops of a run comes to; the data block `opens` that was opened before the run
+-- counts first, then the first USEDB in it
 abbrev pub walk_with : Option ℕ → OpRun → Walk
 walk_with opens r = record {
   opens = first_present opens (use_db_of r.before);
@@ -35,11 +36,12 @@ walk_with opens r = record {
   next = r.next;
 }
 
--- of its last op with the offset behind it
+-- what a walk comes to at the last op of a statement, with the offset behind it
 abbrev pub walk_by : Option ℕ → OpData × ℕ → Walk
 walk_by opens r = record { opens = opens; last = r.0; next = r.1 }
 
--- what stands open after a further op
+-- the data block that a statement opens first, behind a further op: the one so far, or that of a
+-- USEDB
 abbrev pub opens_after : Option ℕ → Operand → Option ℕ
 opens_after opens o = first_present opens (use_db_first o None)
 
@@ -54,7 +56,8 @@ binding_by (operand.Pass index actual) params bindings s m =
     then_ok (bound_for (slice_get params index) actual s m) (λ b. Ok (binding_set bindings index b))
 binding_by _ params bindings s m = Ok bindings
 
--- so do all ops of a statement
+-- the parameters bound by the ops of a statement from one op on: each op that passes one binds it,
+-- and the last op of the statement ends the walk; None: no op, and nothing more is bound
 abbrev pub bound_next :
     Option (OpData × ℕ) → List Param → List Binding → Local → Areas
     → (ℕ → List Binding → Result (List Binding) ℕ) → Result (List Binding) ℕ

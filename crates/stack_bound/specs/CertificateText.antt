@@ -23,7 +23,7 @@ bound_text b =
     kind_text b.block.kind ++ (codes " " ++ (decimal b.block.number ++ (codes " DEPTH " ++ (decimal b.depth
     ++ (codes " BYTES " ++ (decimal b.bytes ++ codes "\n"))))))
 
--- those of a list, one behind the other
+-- the lines of the bounds of a list, one behind the other
 abbrev pub certificate_text : List Bound → List ℕ
 certificate_text list = flat_map bound_text list
 
@@ -117,12 +117,13 @@ abbrev pub TakesBound : Reading Bound → (after : Option BlockId) → (old new 
 TakesBound (Err rule) after old new = ⊥
 TakesBound (Ok b) after old new = (after ≡ Some b.block) × (new ≡ old ++ b ∷ [])
 
--- by whether the line is skipped
+-- a bound that was read comes behind those so far; where the line is skipped they stay as they are
 abbrev pub TakesBoundUnlessSkipped : (skipped : Bool) → Reading Bound → (before after : Option BlockId) → (old new : List Bound) → Type 0
 TakesBoundUnlessSkipped true reading before after old new = (after ≡ before) × (new ≡ old)
 TakesBoundUnlessSkipped false reading before after old new = TakesBound reading after old new
 
--- the same of a line of a program's certificate
+-- the bound of a line of a program's certificate comes behind those so far; where the line is
+-- skipped they stay as they are
 abbrev pub TakesBoundLine : Program → (before after : Option BlockId) → (line : List ℕ) → (old new : List Bound) → Type 0
 TakesBoundLine p before after line old new =
     TakesBoundUnlessSkipped (is_line_skipped line) (bound_line p before line) before after old new

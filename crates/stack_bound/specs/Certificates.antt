@@ -35,8 +35,8 @@ abbrev pub CountsItself : (local_len : ℕ) → Option Bound → Type 0
 CountsItself local_len None = Unit {0}
 CountsItself local_len (Some b) = (1 ≤ b.depth) × (local_len ≤ b.bytes)
 
--- and one block more than that of a called block, and its local bytes besides; a block that is called
--- stands in the list too
+-- the bound of a caller counts one block more than that of the called block, and its own local
+-- bytes besides; a called block stands in the list where its caller does
 abbrev pub CountsCalled : (local_len : ℕ) → (caller called : Option Bound) → Type 0
 CountsCalled local_len None called = Unit {0}
 CountsCalled local_len (Some b) None = ⊥

@@ -23,13 +23,14 @@ counts_called local_len b None = false
 counts_called local_len b (Some d) =
     nat_le (d.depth + 1) b.depth && nat_le (local_len + d.bytes) b.bytes
 
--- it counts what an op calls; a block that isn't loaded isn't counted
+-- the bound of a block counts what an op calls, if anything; a block that isn't loaded isn't
+-- counted
 abbrev pub counts_callee : Program → List Bound → (local_len : ℕ) → Bound → Option BlockId → Bool
 counts_callee p c local_len b None = true
 counts_callee p c local_len b (Some called) =
     is_none (block_by_id called p.code_blocks) || counts_called local_len b (bound_of called c)
 
--- and what each op calls
+-- the bound of a block counts what each of these ops calls
 abbrev pub counts_ops : Program → List Bound → (local_len : ℕ) → Bound → List OpData → Bool
 counts_ops p c local_len b [] = true
 counts_ops p c local_len b (op ∷ ops) =
@@ -41,11 +42,11 @@ counts_block p c b None = false
 counts_block p c b (Some block) =
     nat_le 1 b.depth && nat_le block.local_len b.bytes && counts_ops p c block.local_len b block.code
 
--- so does a bound of the list, of its own block
+-- a bound of the list `c` counts its own block, which is loaded, and what this calls
 abbrev pub counts_its_block : Program → List Bound → Bound → Bool
 counts_its_block p c b = counts_block p c b (block_by_id b.block p.code_blocks)
 
--- so does each of some bounds of a list
+-- each of some bounds of the list `c` counts its own block, which is loaded, and what this calls
 abbrev pub each_counts : Program → List Bound → List Bound → Bool
 each_counts p c [] = true
 each_counts p c (b ∷ rest) =
@@ -56,7 +57,8 @@ abbrev pub is_bound_within_limits : Profile → Option Bound → Bool
 is_bound_within_limits profile None = false
 is_bound_within_limits profile (Some b) = nat_le b.depth (most_frames profile) && nat_le b.bytes most_local_bytes
 
--- the organization blocks among blocks have such bounds
+-- the organization blocks among blocks have bounds that are there, and within the limits of an
+-- activation
 abbrev pub obs_within : Profile → List Bound → List BlockId → Bool
 obs_within profile c [] = true
 obs_within profile c (id ∷ ids) =

@@ -50,12 +50,12 @@ measure_over profile (Some b) =
     else if nat_lt (limit_of_measure profile Bytes) b.bytes then Some Bytes
     else None
 
--- the same of a block that is an organization block
+-- in which measure a block's bound is above the limits, where the block is an organization block
 abbrev pub ob_over : Profile → List Bound → BlockId → Option Measure
 ob_over profile layer id =
     if is_organization_block id.kind then measure_over profile (bound_of id layer) else None
 
--- an organization block, if it is above the limits, else another one
+-- a block, if it is above the limits in a measure, else what was found of others
 abbrev pub over_or : BlockId → Option Measure → Option Over → Option Over
 over_or id None more = more
 over_or id (Some m) more = Some (record { block = id; measure = m })
@@ -66,7 +66,7 @@ first_over profile layer [] = None
 first_over profile layer (id ∷ ids) =
     over_or id (ob_over profile layer id) (first_over profile layer ids)
 
--- it is one that is loaded, and above the limits
+-- the block is a loaded organization block, whose bound is above the limit in the measure
 pub record IsLoadedObOver (profile : Profile) (p : Program) (layer : List Bound) (over : Over) : Type 0 where
   pub organization : over.block.kind ≡ Ob
   pub loaded : IsSome (block_by_id over.block p.code_blocks)

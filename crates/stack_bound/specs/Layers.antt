@@ -55,7 +55,7 @@ bound_above layer block b = record {
   bytes = measure_of_block Bytes b + most_called Bytes layer b.code;
 }
 
--- so for a block of a program, if it is a code block
+-- the bound, above a layer, of a block of a program; None where it is no code block
 abbrev pub bound_above_in : Program → List Bound → BlockId → Option Bound
 bound_above_in p layer id = option_map (bound_above layer id) (block_by_id id p.code_blocks)
 
@@ -64,13 +64,13 @@ abbrev pub with_bound : Option Bound → List Bound → List Bound
 with_bound None rest = rest
 with_bound (Some b) rest = b ∷ rest
 
--- so for each of some blocks
+-- the bounds, above a layer, of some blocks of a program; those that are no code blocks have none
 abbrev pub bounds_above : Program → List Bound → List BlockId → List Bound
 bounds_above p layer [] = []
 bounds_above p layer (id ∷ ids) =
     with_bound (bound_above_in p layer id) (bounds_above p layer ids)
 
--- the layer above another one
+-- the layer of a program above another one
 abbrev pub layer_above : Program → List Bound → List Bound
 layer_above p layer = bounds_above p layer (block_ids p)
 

@@ -6,8 +6,8 @@ use Rattle.plc_base.specs.declared.blocks.BlockId.{BlockId}
 use Rattle.image_file.specs.Readers.{is_same_id}
 use Rattle.stack_bound.specs.declared.certificates.Bound.{Bound}
 
--- a block stands before another one: organization blocks first, then functions, then function blocks,
--- each by number
+-- a block stands before another one: organization blocks first, then functions, then function
+-- blocks, and those of one kind by number
 abbrev pub is_before : BlockId → BlockId → Bool
 is_before a b =
     nat_lt (kind_order a.kind) (kind_order b.kind)

@@ -66,7 +66,7 @@ callers_of p list (id ∷ ids) = with_caller (caller_in p list id) (callers_of p
 abbrev pub measure_at_place : Measure → List Bound → (place : ℕ) → ℕ
 measure_at_place m layer place = measure_if_bound m (slice_get layer place)
 
--- the most that it says in some places
+-- the most that a layer says in some places
 abbrev pub most_at : Measure → List Bound → List ℕ → ℕ
 most_at m layer [] = 0
 most_at m layer (place ∷ places) = max (measure_at_place m layer place) (most_at m layer places)
@@ -79,7 +79,7 @@ bound_by layer c = record {
   bytes = c.local_len + most_at Bytes layer c.called;
 }
 
--- so many layers above another one
+-- the layer that stands so many layers above the layer `first`
 abbrev pub layers_by : List CallerData → (first : List Bound) → ℕ → List Bound
 layers_by callers first zero = first
 layers_by callers first (suc k) = map (bound_by (layers_by callers first k)) callers
@@ -88,11 +88,12 @@ layers_by callers first (suc k) = map (bound_by (layers_by callers first k)) cal
 abbrev pub bound_alone : BlockId → CodeBlock → Bound
 bound_alone block b = record { block = block; depth = 1; bytes = b.local_len }
 
--- so of a block of a program, if it is a code block
+-- the bound of a block of a program as of one that calls none; None where it is no code block
 abbrev pub bound_alone_in : Program → BlockId → Option Bound
 bound_alone_in p id = option_map (bound_alone id) (block_by_id id p.code_blocks)
 
--- and of each of some blocks
+-- the bounds of some blocks of a program as of blocks that call none; those that are no code blocks
+-- have none
 abbrev pub bounds_alone : Program → List BlockId → List Bound
 bounds_alone p [] = []
 bounds_alone p (id ∷ ids) = with_bound (bound_alone_in p id) (bounds_alone p ids)

@@ -3,7 +3,8 @@ use Rattle.std.specs.Prelude.{ℕ, ◌+◌, ◌==◌, List, [], ◌∷◌, if◌
 use Rattle.flat_code.specs.Codes.{size_of_op}
 use Rattle.flat_code.specs.Ops.{OpData}
 
--- of ops that begin at an offset, those from another offset on; none where no op begins there
+-- the ops from the offset `at` on, of ops the first of which begins at the offset `from`; none
+-- where no op begins there
 abbrev pub ops_after_offset : (from : ℕ) → List OpData → (at : ℕ) → List OpData
 ops_after_offset from [] at = []
 ops_after_offset from (op ∷ ops) at =

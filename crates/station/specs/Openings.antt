@@ -18,7 +18,7 @@ station_opening s = record {
   first = take s.opened s.controller.value.history;
 }
 
--- its entries since then
+-- the entries of a controller under the lock since it began
 abbrev pub entries_since : Shared → List Entry
 entries_since s = drop s.opened s.controller.value.history
 
@@ -31,11 +31,12 @@ the_opening [] = record {
 }
 the_opening (o ∷ os) = o
 
--- the mode after an entry at its place behind these, replayed from the first start on
+-- the mode after an entry that stands behind the entries `before` of a station, replayed from the
+-- first start on
 abbrev pub mode_at : Opening → (before : List Entry) → Entry → Mode
 mode_at o before e = (replay o.profile (code_of o.program) (entry_events (o.first ++ before ++ e ∷ []))).mode
 
--- the reply to an entry at its place behind these
+-- the reply to an entry that stands behind the entries `before` of a station
 abbrev pub reply_at : Opening → (before : List Entry) → Entry → Reply
 reply_at o before e =
     (entry_result (code_of o.program) (replay o.profile (code_of o.program) (entry_events (o.first ++ before))) e.what).reply
