@@ -28,7 +28,9 @@ use Rattle.listing_laws.specs.Again.{IsWholeAgain, listed_again}
 pub record AreBodiesRight (y : Types) (c : Context) (blocks : List Block) : Type 0 where
   pub by_20 : in_contexts (λ c body. in_body (operand_20 c) body) c blocks ≡ []
   pub by_23 : flat_map (λ b. in_body (operand_23 y) b.body) blocks ≡ []
+  -- rules 24, 25 and 39
   pub by_24 : rules_24_25_39 c blocks ≡ []
+  -- rule 24 on actual parameters
   pub dates : rule_24_of_actuals c blocks ≡ []
   pub by_26 : rule_26 blocks ≡ []
   pub by_27 : rule_27 blocks ≡ []
@@ -49,8 +51,8 @@ pub record AreBodiesRight (y : Types) (c : Context) (blocks : List Block) : Type
   pub by_48 : rule_48 blocks ≡ []
   pub by_49 : rule_49 blocks ≡ []
 
--- so it is with the listing of each accepted source's program, where none of its blocks breaks a rule as a
--- whole
+-- the bodies of the listing of an accepted source's program break no rule, where none of its blocks
+-- breaks a rule as a whole
 abbrev pub AreListedBodiesRight : Type 0
 AreListedBodiesRight =
     (source file : List ℕ) (symbols : List Symbol) (t : Tree)

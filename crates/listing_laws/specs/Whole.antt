@@ -52,7 +52,8 @@ pub record AreBlocksRight (symbols : List Symbol) (blocks : List Block) : Type 0
   pub by_55 : rule_55 blocks ≡ []
   pub by_56 : rule_56 (types_of_source symbols blocks) blocks ≡ []
 
--- so it is with the listing of each accepted source's program, whatever symbols stand beside it
+-- the heads and the declarations of the listing of an accepted source's program break no rule,
+-- whatever symbols stand beside it
 abbrev pub AreBlocksRightAgain : Type 0
 AreBlocksRightAgain =
     (source file : List ℕ) (symbols : List Symbol) (t : Tree)
@@ -62,11 +63,13 @@ AreBlocksRightAgain =
 -- a data block of a program is an instance of the function block that a listing has at a place, and as long
 -- as the structure of that one
 pub record IsInstanceOf (p : Program) (number size : ℕ) (s : Shape) : Type 0 where
+  -- the place of the function block among the listed code blocks
   pub place : ℕ
   pub block : CodeBlock
   pub there : slice_get (in_lines p.code_blocks) place ≡ Some block
   pub id : block.id ≡ function_block number
   pub length : block.instance_len ≡ size
+  -- its structure is that of the function block at this place
   pub shape : s ≡ shape.Of place
 
 -- a data block has its own structure, or that of the function block whose instance it is
@@ -86,7 +89,8 @@ pub record IsDataAt (p : Program) (blocks : List Block) (layouts : List BlockLay
   pub size : layout.length ≡ length d.bytes
   pub shape : HasShapeAgain p d d.instance_of layout.shape
 
--- so does each data block of an accepted source's program, behind its code blocks
+-- each data block of an accepted source's program stands in its listing, in the order of the
+-- program behind the code blocks, with its number, its length and its shape
 abbrev pub AreDataLaid : Type 0
 AreDataLaid =
     (source file : List ℕ) (symbols : List Symbol) (t : Tree)
