@@ -74,6 +74,7 @@ IsLastOperandPrinted before code _ = Unit {0}
 pub record IsSourceRun (r : Run) : Type 0 where
   pub ops : AllByRecursion IsOp r.before
   pub op : IsOp r.op
+  -- what is passed before the last op
   pub prepares : AllByRecursion (λ op. Prepares op.operand) r.before
   pub shown : IsLastOperandPrinted r.before r.op.code r.op.operand
   -- its instruction word isn't that of an empty statement

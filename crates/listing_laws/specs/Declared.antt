@@ -45,6 +45,7 @@ AreKindsWide =
 -- the declarations of a listed code block come to its parameters, its local data and its instance,
 -- whatever other blocks and types stand beside it
 pub record IsDeclaredAgain (ss : List Signature) (b : CodeBlock) : Type 0 where
+  -- the parameters, with their places
   pub params : (y : Types) (reached : ℕ) (l : BlockLayout)
       → l.components ≡ components_of y (listed_block ss reached b)
       → params_of (listed_block ss reached b) l ≡ b.params

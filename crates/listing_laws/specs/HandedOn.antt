@@ -66,7 +66,9 @@ HandsOn kinds blocks own _ = Unit {0}
 
 -- blocks with as many types as parameters, all of whose instructions hand these types on
 pub record HandOn (kinds : BlockId → List Simple) (blocks : List StatedBlock) : Type 0 where
+  -- there are as many types as parameters
   pub lengths : AllByRecursion (λ (b : StatedBlock). length (kinds b.id) ≡ length b.params) blocks
+  -- each instruction hands the types on
   pub calls : AllByRecursion
       (λ (b : StatedBlock). AllByRecursion (λ s. HandsOn kinds (map compiled_block blocks) (kinds b.id) s.instr) b.statements)
       blocks

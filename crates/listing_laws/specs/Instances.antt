@@ -65,10 +65,13 @@ AreInstancesAgain =
 
 -- the settings of a listing break none of the rules of settings
 pub record AreSettingsRight (symbols : List Symbol) (t : Tree) (others : List Symbol) : Type 0 where
+  -- no setting has an unknown name or component
   pub by_20 : on_settings (sets_unknown (layouts_of (listed_again symbols t) others)) 20 0
       (listed_again symbols t).blocks ≡ []
+  -- each setting fits its component
   pub by_41 : on_settings (setting_misfits (layouts_of (listed_again symbols t) others)) 41 0
       (listed_again symbols t).blocks ≡ []
+  -- no index of a setting is outside its array
   pub by_42 : on_settings (setting_is_outside (layouts_of (listed_again symbols t) others)) 42 0
       (listed_again symbols t).blocks ≡ []
 

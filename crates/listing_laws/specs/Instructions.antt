@@ -50,6 +50,7 @@ IsCodedOperand _ = Unit {0}
 pub record IsRightOperand (symbols : List Symbol) (o : Operand) : Type 0 where
   pub written : IsOperand o
   pub coded : IsCodedOperand o
+  -- what the symbols of the file stand for is right
   pub targets : (name : List ℕ) (s : Symbol) → symbol_named name symbols ≡ Some s
       → IsSymbolTarget s.target
 

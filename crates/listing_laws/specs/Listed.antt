@@ -25,6 +25,7 @@ pub record IsParameterOf (c : Chains) (blocks : List CodeBlock) (id : BlockId) (
   pub there : slice_get (params_in blocks id) index ≡ Some param
   pub section : f.section ≡ section_of param.section
   pub kind : f.kind ≡ kind_at c (first_of blocks id + index) param.width
+  -- its number, counted over all blocks, is one of a parameter of the program
   pub few : first_of blocks id + index < total_parameter_count blocks
 
 -- each parameter that a listing has for a block is the one of its index in the program, of the type

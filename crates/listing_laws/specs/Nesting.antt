@@ -55,6 +55,7 @@ AreNestingsKept = (ss ts : List Statement) → nesting_marks ss ≡ nesting_mark
 -- a statement of a right source: its operand is one that its instruction takes
 pub record IsReadable (c : Context) (s : Statement) : Type 0 where
   pub statement : IsStatement s
+  -- unless it is an empty statement, its operand means something
   pub resolves : is_empty_statement s.code ≡ false → resolved_operand c s ≡ None → ⊥
 
 -- the listed body of a block has the words of the block's own body, on its lines

@@ -95,9 +95,13 @@ AreAllPassed called ps =
 -- a statement that calls a block breaks none of the rules 24, 34, 35 and 37 by its actual
 -- parameters
 pub record BreaksNone (c : Context) (callee : Callee) (s : Statement) : Type 0 where
+  -- no actual parameter is a DATE_AND_TIME
   pub by_24 : AllByRecursion (λ (a : Actual). sees_date (resolution_of c a.value) ≡ false) s.actuals
+  -- each actual parameter names a parameter of the block
   pub by_34 : AllByRecursion (λ (a : Actual). names_no_formal callee.formals a ≡ false) s.actuals
+  -- no parameter is supplied twice
   pub by_35 : actuals_supplied_twice callee.formals [] s.actuals ≡ []
+  -- each actual parameter fits its parameter
   pub by_37 : AllByRecursion
       (λ (a : Actual). misfits_formal c a (formal_named callee.formals a.name) ≡ false) s.actuals
 

@@ -23,10 +23,15 @@ use Rattle.listing_laws.specs.Declared.{signatures_in}
 
 -- the declarations of a block break none of the rules of declarations, whatever types stand beside it
 pub record AreDeclarationsRight (y : Types) (b : Block) : Type 0 where
+  -- no name is declared twice in a list
   pub by_21 : refusals_in_block broken_21 b ≡ []
+  -- no declaration has an unknown data type
   pub by_23 : refusals_in_block (broken_23 y) b ≡ []
+  -- initial values fit the types of their declarations
   pub by_41 : refusals_in_block broken_41 b ≡ []
+  -- no array has its upper bound below its lower one
   pub by_42 : refusals_in_block broken_42 b ≡ []
+  -- no types are nested more than 8 deep
   pub by_56 : refusals_in_block (broken_56 y) b ≡ []
 
 -- a block is no data type that contains itself, has a number that its kind may have, and no more than

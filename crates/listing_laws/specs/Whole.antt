@@ -36,20 +36,35 @@ use Rattle.listing_laws.specs.Ids.{data_id}
 -- the heads and the declarations of blocks break no rule: of the rules of layouts this leaves out those of
 -- settings and of operands
 pub record AreBlocksRight (symbols : List Symbol) (blocks : List Block) : Type 0 where
+  -- no name is declared twice in a list
   pub by_21 : rule_21 blocks ≡ []
+  -- no block stands twice
   pub by_22 : rule_22 (types_of_source symbols blocks) blocks ≡ []
+  -- no head of a block names an unknown block or data type
   pub heads_23 : on_heads (λ before b. has_unknown_head (types_of_source symbols blocks) b) 23 blocks ≡ []
+  -- no declaration has an unknown data type
   pub declared_23 : refusals_in_blocks (broken_23 (types_of_source symbols blocks)) blocks ≡ []
+  -- initial values fit the types of their declarations
   pub declared_41 : refusals_in_blocks broken_41 blocks ≡ []
+  -- no array has its upper bound below its lower one
   pub declared_42 : refusals_in_blocks broken_42 blocks ≡ []
+  -- no data type contains itself
   pub by_43 : rule_43 (types_of_source symbols blocks) blocks ≡ []
+  -- no block has a number beyond the limits of its kind
   pub by_44 : rule_44 symbols blocks ≡ []
+  -- the local data of a block are at most 1,024 bytes
   pub by_50 : rule_50 (types_of_source symbols blocks) blocks ≡ []
+  -- a data block, a data type and an instance are at most 16,384 bytes
   pub by_51 : rule_51 (types_of_source symbols blocks) blocks ≡ []
+  -- a block has at most 60 parameters
   pub by_52 : rule_52 blocks ≡ []
+  -- there are at most 256 data blocks
   pub by_53 : rule_53 blocks ≡ []
+  -- the data blocks together are at most 2,097,152 bytes
   pub by_54 : rule_54 (types_of_source symbols blocks) blocks ≡ []
+  -- a block has at most 65,534 statements
   pub by_55 : rule_55 blocks ≡ []
+  -- no types are nested more than 8 deep
   pub by_56 : rule_56 (types_of_source symbols blocks) blocks ≡ []
 
 -- the heads and the declarations of the listing of an accepted source's program break no rule,
