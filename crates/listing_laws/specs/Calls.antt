@@ -70,8 +70,8 @@ AreFunctionsKnown =
     → named_block c.symbols name ≡ Some id → calls_unknown c (operand.Called name instance) ≡ false
     → calls_unknown other (operand.Called (block.Number id) others) ≡ false
 
--- rule 40: a listed call lacks no instance and no actual parameters, where the source's statement
--- lacked none
+-- rule 40: a listed call with the word, the block, the instance or none, and as many parameters as
+-- the source's statement doesn't break it, where that one doesn't
 abbrev pub AreCallsWhole : Type 0
 AreCallsWhole =
     (callee other : Callee) (s listed : Statement) → listed.code ≡ s.code → other.id ≡ callee.id
