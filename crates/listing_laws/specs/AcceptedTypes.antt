@@ -20,20 +20,22 @@ abbrev pub kinds_at : Context → Option ℕ → List Simple
 kinds_at c None = []
 kinds_at c (Some place) = own_kinds (record c { block = place })
 
--- those that a source declares for a block; none where it has no such block
+-- the types that a source declares for the parameters of a block, by their index; none where it has
+-- no such block
 abbrev pub declared_kinds : Tree → List Symbol → BlockId → List Simple
 declared_kinds t symbols id =
     kinds_at (first_context symbols (layouts_of t symbols) t.blocks)
     (known_block id (source_block_ids (first_context symbols (layouts_of t symbols) t.blocks)))
 
--- the bodies of an accepted source see its parameters so, and what they pass has these types
+-- the bodies of an accepted source see its parameters with the types that it declares, and what
+-- they pass has these types
 abbrev pub AreAcceptedTypesOwed : Type 0
 AreAcceptedTypesOwed =
     (source file : List ℕ) (symbols : List Symbol) (t : Tree) → IsAccepted source file symbols t
     → OwesSource (declared_kinds t symbols) t symbols (layouts_of t symbols)
 
--- so what the listing of its program says is INT or TIME was so in the source, widths stay, and both ends
--- of a passing have one type
+-- what the listing of an accepted source's program says is INT or TIME was so in the source, widths
+-- stay, and both ends of a passing have one type
 abbrev pub AreAcceptedTypesKept : Type 0
 AreAcceptedTypesKept =
     (source file : List ℕ) (symbols : List Symbol) (t : Tree) → IsAccepted source file symbols t

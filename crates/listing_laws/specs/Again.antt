@@ -29,16 +29,19 @@ abbrev pub context_at : (symbols : List Symbol) → Tree → (place : ℕ) → C
 context_at symbols t place =
     record (first_context symbols (layouts_of t symbols) t.blocks) { block = place }
 
--- the same of the listing, with the symbols that it has
+-- what the body of a block of the listing is checked by, by the place of the block; `others` are
+-- the symbols that stand beside the listing
 abbrev pub again_at : (symbols : List Symbol) → Tree → (others : List Symbol) → (place : ℕ) → Context
 again_at symbols t others place = context_at others (listed_again symbols t) place
 
--- no block of a listing breaks a rule as a whole
+-- no block of the listing of a source's program breaks a rule as a whole; `others` are the symbols
+-- that stand beside the listing
 abbrev pub IsWholeAgain : (symbols : List Symbol) → Tree → (others : List Symbol) → Type 0
 IsWholeAgain symbols t others =
     AllByRecursion (λ l. l.broken ≡ false) (layouts_of (listed_again symbols t) others)
 
--- so it is with the listing of each accepted source's program, whatever symbols stand beside it
+-- no block of the listing of an accepted source's program breaks a rule as a whole, whatever
+-- symbols stand beside it
 abbrev pub AreWholeAgain : Type 0
 AreWholeAgain =
     (source file : List ℕ) (symbols : List Symbol) (t : Tree)
@@ -58,8 +61,10 @@ pub record IsCodeAt (symbols : List Symbol) (t : Tree) (place : ℕ) (b : Block)
 pub record IsMadeOf (symbols : List Symbol) (t : Tree) (again place : ℕ) (b : Block)
     (l : BlockLayout) (id : BlockId) : Type 0 where
   pub source : IsCodeAt symbols t place b l id
+  -- the code block that was made of it has this place in the order of a listing
   pub ordered : slice_get (in_lines (program_in symbols t).code_blocks) again
       ≡ Some (compiled_block (code_block (context_at symbols t place) b l id))
+  -- the line that the listing has reached in front of the block
   pub reached : ℕ
   pub listed : slice_get (listed_again symbols t).blocks again
       ≡ Some (listed_block (signatures_in (program_in symbols t)) reached

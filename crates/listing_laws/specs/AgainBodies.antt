@@ -22,12 +22,14 @@ abbrev pub made_block : (symbols : List Symbol) → Tree → (place : ℕ) → B
     → StatedBlock
 made_block symbols t place b l id = code_block (context_at symbols t place) b l id
 
--- its body in the listing, where it stands on its own lines
+-- the body that the listing of a source's program has for a code block, `x`, where this stands on
+-- its own lines
 abbrev pub body_again : (symbols : List Symbol) → Tree → StatedBlock → List Statement
 body_again symbols t x =
     body_of (signatures_in (program_in symbols t)) (lines_in x.statements) (compiled_block x)
 
--- what the statements of that body refer to
+-- what the statements refer to in the body that the listing of a source's program has for a code
+-- block, `x`
 abbrev pub around_again : (symbols : List Symbol) → Tree → StatedBlock → Surroundings
 around_again symbols t x =
     surroundings (signatures_in (program_in symbols t)) (lines_in x.statements) (compiled_block x)
@@ -42,20 +44,23 @@ IsBodyKept symbols t others again place b l id =
     (statement_offset (made_block symbols t place b l id).statements) 0
     (stated_from (context_at symbols t place) b.body 0 b.body)
 
--- so does each of all listed bodies
+-- in each listed body of a source's program each statement comes to the instruction that it was
+-- made of
 abbrev pub AreBodiesKeptIn : (symbols : List Symbol) → Tree → (others : List Symbol) → Type 0
 AreBodiesKeptIn symbols t others =
     (again place : ℕ) (b : Block) (l : BlockLayout) (id : BlockId)
     → IsMadeOf symbols t again place b l id → IsBodyKept symbols t others again place b l id
 
--- and in the listing of each accepted source's program, where no block breaks a rule as a whole
+-- in each listed body of an accepted source's program each statement comes to the instruction that
+-- it was made of, where no block of the listing breaks a rule as a whole
 abbrev pub AreBodiesKeptAgain : Type 0
 AreBodiesKeptAgain =
     (source file : List ℕ) (symbols : List Symbol) (t : Tree)
     → IsAccepted source file symbols t → AreBytes source → AreBytes file → (others : List Symbol)
     → IsWholeAgain symbols t others → AreBodiesKeptIn symbols t others
 
--- then the code blocks of a listing come to those of the program
+-- where each listed statement comes to the instruction that it was made of, the code blocks of the
+-- program of the listing are those of the accepted source's program
 abbrev pub AreCodeBlocksKept : Type 0
 AreCodeBlocksKept =
     (source file : List ℕ) (symbols : List Symbol) (t : Tree)

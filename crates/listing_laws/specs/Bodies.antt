@@ -37,18 +37,21 @@ IsNoBit a w = Unit {0}
 abbrev pub IsPlace : Area → Width → (bit : ℕ) → Type 0
 IsPlace a w bit = IsNoBit a w × IsBitOf w bit
 
--- a statement that opens a data block acts on a place in it
+-- the area of a place that a statement acts on is DB, where the statement opens a data block, given
+-- by its number
 abbrev pub IsOpenedIn : Option ℕ → Area → Type 0
 IsOpenedIn None a = Unit {0}
 IsOpenedIn (Some number) a = a ≡ area.Db
 
--- what a CALL passes
+-- a place that a CALL passes is named as in a source, and one in a data block of its own number
+-- lies in area DB
 abbrev pub PassesPlace : Passed → Type 0
 PassesPlace (passed.Direct a w byte bit) = IsPlace a w bit
 PassesPlace (passed.InBlock number a w byte bit) = (a ≡ area.Db) × IsPlace a w bit
 PassesPlace _ = Unit {0}
 
--- the operand of an op before the last one of a statement
+-- the operand of an op before the last one of a statement: a place that it passes is named as in a
+-- source
 abbrev pub Prepares : Operand → Type 0
 Prepares (flat.Pass index p) = PassesPlace p
 Prepares _ = Unit {0}
@@ -59,19 +62,22 @@ IsCallBy before code kind instance =
     ((code ≡ op_code_of (operation.Call calls.Call)) × ((instance ≡ 0) ⊎ (kind ≡ 3)))
     ⊎ ((instance ≡ 0) × (before ≡ []))
 
--- the operand of the last op of a statement, of an op code, behind these ops
+-- the operand of the last op of a statement, of an op code, behind these ops, is one of a source: a
+-- place, an offset to an address register and a call are such as it writes
 abbrev pub IsLastOperandPrinted : (before : List OpData) → (code : ℕ) → Operand → Type 0
 IsLastOperandPrinted before code (flat.Direct a w byte bit) = IsOpenedIn (block_opened_by_ops before) a × IsPlace a w bit
 IsLastOperandPrinted before code (flat.ByRegister a w register bits) = bits < 8 * 65536
 IsLastOperandPrinted before code (flat.Called kind number instance) = IsCallBy before code kind instance
 IsLastOperandPrinted before code _ = Unit {0}
 
--- the ops of a statement of a source
+-- the ops of a statement are such as a statement of a source has
 pub record IsSourceRun (r : Run) : Type 0 where
   pub ops : AllByRecursion IsOp r.before
   pub op : IsOp r.op
+  -- what is passed before the last op
   pub prepares : AllByRecursion (λ op. Prepares op.operand) r.before
   pub shown : IsLastOperandPrinted r.before r.op.code r.op.operand
+  -- its instruction word isn't that of an empty statement
   pub word : is_empty_statement (mnemonic_of r.op) ≡ false
 
 -- ---- the body of a block

@@ -15,12 +15,13 @@ ReturnsLast returns behind (p ∷ ps) =
     ((behind && p.section == SECTION_OUT) ≡ true → ps ≡ [])
     × ReturnsLast returns (is_behind returns behind p) ps
 
--- so the parameters of a block in a listing have names of their own
+-- the parameters of a block in a listing have names of their own, where a return value is the last
+-- of them
 abbrev pub AreOwnNamesApart : Type 0
 AreOwnNamesApart =
     (c : Chains) (returns : Bool) (first : ℕ) (ps : List Param) → length ps ≤ 65536
     → ReturnsLast returns false ps → AreNamedApart (formals_from c returns false 0 first ps)
 
--- and so have those of the system functions
+-- the parameters of each system function have names of their own
 abbrev pub AreSystemNamesApart : Type 0
 AreSystemNamesApart = (n : ℕ) (fs : List Formal) → system_formals n ≡ Some fs → AreNamedApart fs

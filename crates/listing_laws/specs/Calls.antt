@@ -42,7 +42,8 @@ AreCallsListed =
     → operand_of_run formals starts (run_of f (Calls how id instance ps))
     ≡ operand.Called (block.Number id) (option_map name_of_data_block instance)
 
--- it has the word of the source's statement, and its actual parameters are made of the ops before it
+-- a listed call has the instruction word of the source's statement, and its actual parameters are
+-- made of the ops before the call
 abbrev pub AreStatementsListed : Type 0
 AreStatementsListed =
     (sur : Surroundings) (n : ℕ) (f : ℕ → ℕ) (m : Mnemonic) (how : CallOperation) (id : BlockId)
@@ -51,7 +52,8 @@ AreStatementsListed =
     × ((listed_statement sur n (run_of f (Calls how id instance ps))).actuals
     ≡ actuals_before (line_of_statement sur.lines n) sur.formals (called_formals sur.signatures id) (pass_ops ps))
 
--- where it calls the same block with the same instance, its instruction is the one that it was made of
+-- a listed call that names its block and its instance comes to the instruction that it was made of:
+-- the same block and instance, and the passings `ps` of its ops
 abbrev pub AreCallsKept : Type 0
 AreCallsKept =
     (c : Context) (body : List Statement) (n : ℕ) (s : Statement) (how : CallOperation) (id : BlockId)
@@ -60,14 +62,16 @@ AreCallsKept =
     → callee_of c s.operand ≡ Some callee → IsListedCall c own called callee ps s
     → instruction c body n s ≡ Calls how id instance ps
 
--- 46: it calls no unknown system function, where the source called none
+-- rule 46: the call of a block by its number calls no unknown system function, where the source's
+-- call of it called none
 abbrev pub AreFunctionsKnown : Type 0
 AreFunctionsKnown =
     (c other : Context) (name : BlockName) (id : BlockId) (instance others : Option BlockName)
     → named_block c.symbols name ≡ Some id → calls_unknown c (operand.Called name instance) ≡ false
     → calls_unknown other (operand.Called (block.Number id) others) ≡ false
 
--- 40: nor does it lack an instance or an actual parameter, where the source's statement lacked none
+-- rule 40: a listed call with the word, the block, the instance or none, and as many parameters as
+-- the source's statement doesn't break it, where that one doesn't
 abbrev pub AreCallsWhole : Type 0
 AreCallsWhole =
     (callee other : Callee) (s listed : Statement) → listed.code ≡ s.code → other.id ≡ callee.id
@@ -82,7 +86,8 @@ IsInstanceAt c place (Some name) =
     (k : ℕ) × (l : BlockLayout) × (p : ℕ) × (place ≡ Some p) × (whole_data_place c name ≡ Some k)
     × (slice_get c.layouts k ≡ Some l) × (l.shape ≡ shape.Of p)
 
--- 38: its data block is an instance of what it calls
+-- rule 38: a call doesn't break it where the data block that it names, if it names one, is an
+-- instance of the block that it calls
 abbrev pub AreInstancesRight : Type 0
 AreInstancesRight =
     (c : Context) (callee : Callee) (name : BlockName) (instance : Option BlockName)

@@ -40,14 +40,20 @@ pub record IsFoundAgain (c listed : Context) (own called : List Formal) (s : Sta
       (operand.Called (block.Number id) (option_map name_of_data_block instance)) ≡ Some found
   pub same : found.id ≡ callee.id
   pub size : length found.formals ≡ length callee.formals
+  -- the parameters by their index are those that the listing has, with their names in upper case
   pub order : in_parameter_order (source_block_at listed.blocks found.place) found.formals ≡ map in_upper_case called
+  -- no two of the parameters have one name, even in upper case
   pub named : AreNamedApart called
   pub passable : AllByRecursion (IsPassable listed own called) (passings_to c s (Some callee))
+  -- the passings stand by rising index, none twice
   pub rising : AreRising 0 (passings_to c s (Some callee))
+  -- a CALL passes all parameters, unless it calls a function block
   pub complete : (has_actuals s.code && not (is_function_block callee.id.kind)) ≡ true
       → AreAllPassed called (passings_to c s (Some callee))
 
--- whatever block a statement calls
+-- whatever block a statement of a source calls is found in the listing with the parameters that
+-- `signatures` gives it, and what is passed fits there. `own` are the parameters that the block of
+-- the statement has in the listing
 abbrev pub IsCalledAgain : (c listed : Context) → List Signature → (own : List Formal) → Statement
     → Type 0
 IsCalledAgain c listed signatures own s =
@@ -55,7 +61,9 @@ IsCalledAgain c listed signatures own s =
     → resolved_operand c s ≡ Some (view.Called id instance) → callee_of c s.operand ≡ Some callee
     → IsFoundAgain c listed own (called_formals signatures id) s id instance callee
 
--- so it is with each statement of an accepted source
+-- what each statement of an accepted source calls is found in the listing of its program, where no
+-- block breaks a rule as a whole, with the parameters that the listing has; what is passed fits
+-- there
 abbrev pub AreCallsAgain : Type 0
 AreCallsAgain =
     (source file : List ℕ) (symbols : List Symbol) (t : Tree)
@@ -67,20 +75,23 @@ AreCallsAgain =
     (signatures_in (program_in symbols t)) (formals_of_block (signatures_in (program_in symbols t)) id))
     b.body
 
--- the operands of each statement, and of its actual parameters, are right ones
+-- the operand of a statement, and those of its actual parameters, are right ones with the symbols
+-- of the source
 pub record IsRightStatement (symbols : List Symbol) (s : Statement) : Type 0 where
   pub operand : IsRightOperand symbols s.operand
   pub actuals : AllByRecursion (λ a. IsRightOperand symbols a.value) s.actuals
 
--- so they are in an accepted source
+-- the operands of all statements of an accepted source, and of their actual parameters, are right
+-- ones
 abbrev pub AreOperandsRight : Type 0
 AreOperandsRight =
     (source file : List ℕ) (symbols : List Symbol) (t : Tree)
     → IsAccepted source file symbols t → AreBytes source
     → AllByRecursion (λ b. AllByRecursion (IsRightStatement symbols) b.body) t.blocks
 
--- each listed statement breaks no rule by its operand, and comes to the instruction of the source's, at
--- whatever number it stands
+-- each listed statement of an accepted source's program breaks no rule by its operand, and comes to
+-- the instruction of the source's statement, at whatever number it stands; where no block of the
+-- listing breaks a rule as a whole
 abbrev pub AreStatementsAgain : Type 0
 AreStatementsAgain =
     (source file : List ℕ) (symbols : List Symbol) (t : Tree)

@@ -17,7 +17,7 @@ abbrev pub IsPassingStep : Link → (m n : ℕ) → Type 0
 IsPassingStep (Joins own other) m n = ((own ≡ m) × (other ≡ n)) ⊎ ((own ≡ n) × (other ≡ m))
 IsPassingStep (Has own kind) m n = ⊥
 
--- one of these links is
+-- one of these links is a passing of one of two parameters for the other
 abbrev pub HasStep : List Link → (m n : ℕ) → Type 0
 HasStep [] m n = ⊥
 HasStep (l ∷ ls) m n = IsPassingStep l m n ⊎ HasStep ls m n
@@ -27,7 +27,7 @@ abbrev pub IsPassingChain : List Link → (m : ℕ) → (over : List ℕ) → (n
 IsPassingChain ls m [] n = m ≡ n
 IsPassingChain ls m (k ∷ over) n = HasStep ls m k × IsPassingChain ls k over n
 
--- there is a chain from a parameter to another
+-- a chain of passings leads from the parameter `m` to the parameter `n`
 abbrev pub AreChained : List Link → (m n : ℕ) → Type 0
 AreChained ls m n = (over : List ℕ) × IsPassingChain ls m over n
 
@@ -36,7 +36,7 @@ abbrev pub IsSeed : (Simple → Bool) → Link → (n : ℕ) → Type 0
 IsSeed is_meant (Has own kind) n = (own ≡ n) × (is_meant kind ≡ true)
 IsSeed is_meant (Joins own other) n = ⊥
 
--- one of these links does
+-- one of these links says that the parameter `n` has a type that is meant
 abbrev pub HasSeed : (Simple → Bool) → List Link → (n : ℕ) → Type 0
 HasSeed is_meant [] n = ⊥
 HasSeed is_meant (l ∷ ls) n = IsSeed is_meant l n ⊎ HasSeed is_meant ls n
@@ -59,7 +59,8 @@ AreLabelsJoined =
     → (m n : ℕ) → m < count → n < count
     → (slice_get (chain_labels count ls) m ≡ slice_get (chain_labels count ls) n) ↔ AreChained ls m n
 
--- and their label is marked exactly where a chain joins them to a type that is meant
+-- the label of a parameter is marked exactly where a chain joins the parameter to one of a type
+-- that is meant
 abbrev pub AreMarksHanded : Type 0
 AreMarksHanded =
     (is_meant : Simple → Bool) (count : ℕ) (ls : List Link) → AllByRecursion (IsLinkBelow count) ls
@@ -69,7 +70,8 @@ AreMarksHanded =
 
 -- ---- types
 
--- the types of parameters are handed on by a link
+-- the declared types agree with a link: its two parameters have one type, or its parameter has the
+-- type that it says
 abbrev pub IsKeptBy : (declared : ℕ → Simple) → Link → Type 0
 IsKeptBy declared (Joins own other) = declared own ≡ declared other
 IsKeptBy declared (Has own kind) = declared own ≡ kind
@@ -79,7 +81,7 @@ abbrev pub LinkHasType : Link → (n : ℕ) → Simple → Type 0
 LinkHasType (Has own kind) n type = (own ≡ n) × (kind ≡ type)
 LinkHasType (Joins own other) n type = ⊥
 
--- one of these links does
+-- one of these links says that the parameter `n` has this type
 abbrev pub HasTyped : List Link → (n : ℕ) → Simple → Type 0
 HasTyped [] n type = ⊥
 HasTyped (l ∷ ls) n type = LinkHasType l n type ⊎ HasTyped ls n type
@@ -108,7 +110,8 @@ pub record AreTypesAsDeclared (blocks : List CodeBlock) (declared : ℕ → Simp
   pub seeds : (n : ℕ) (type : Simple) → HasTyped (links blocks) n type → is_listed_type type ≡ true
       → kind_at (chains_of blocks) n (width_of type) ≡ type
 
--- where the types that were declared are handed on by all passings
+-- a listing says of the types of parameters what was declared, where the declared types agree with
+-- each link of the program
 abbrev pub AreTypesKept : Type 0
 AreTypesKept =
     (blocks : List CodeBlock) (declared : ℕ → Simple)

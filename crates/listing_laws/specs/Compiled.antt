@@ -14,7 +14,8 @@ use Rattle.sem_kept.specs.Accepted.{IsAccepted, program_in}
 use Rattle.sem_kept.specs.Agreement.{AreFiles}
 use Rattle.sem_kept.specs.Compiles.{CompilesTo}
 
--- where its two texts are no longer than a source and a symbols file may be
+-- the listing of an accepted source's program compiles to this program, where its two texts are no
+-- longer than a source and a symbols file may be
 abbrev pub AreListingsCompiled : Type 0
 AreListingsCompiled =
     (source file : List ℕ) (symbols : List Symbol) (t : Tree)
@@ -24,8 +25,9 @@ AreListingsCompiled =
     → CompilesTo English (listed_source (program_in symbols t))
     (listed_names (program_in symbols t).names) (program_in symbols t)
 
--- the same of the program that a source compiles to, whichever language the addresses of its symbols
--- are in
+-- the listing of the program that a source compiles to compiles to this program, where its two
+-- texts are no longer than a source and a symbols file may be; the addresses of the source's own
+-- symbols may be in either language
 abbrev pub ListingsCompile : Type 0
 ListingsCompile =
     (language : Language) (source symbols : List ℕ) (p : Program)

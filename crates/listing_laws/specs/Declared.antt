@@ -35,7 +35,8 @@ signatures_in p = signatures (chains_of p.code_blocks) p.code_blocks
 abbrev pub AreChainsWide : Program → Type 0
 AreChainsWide p = AllByRecursion (λ s. AreWide s.params s.formals) (signatures_in p)
 
--- so it is in each program that verifies, and whose code blocks are such
+-- in a program that verifies, and whose code blocks are OBs, FBs or FCs by their kind, the types
+-- that chains of passings give to parameters have the widths of these
 abbrev pub AreKindsWide : Type 0
 AreKindsWide =
     (p : Program) → AllByRecursion (λ b. is_code b.id.kind ≡ true) p.code_blocks → Verifies p
@@ -44,6 +45,7 @@ AreKindsWide =
 -- the declarations of a listed code block come to its parameters, its local data and its instance,
 -- whatever other blocks and types stand beside it
 pub record IsDeclaredAgain (ss : List Signature) (b : CodeBlock) : Type 0 where
+  -- the parameters, with their places
   pub params : (y : Types) (reached : ℕ) (l : BlockLayout)
       → l.components ≡ components_of y (listed_block ss reached b)
       → params_of (listed_block ss reached b) l ≡ b.params
@@ -52,7 +54,8 @@ pub record IsDeclaredAgain (ss : List Signature) (b : CodeBlock) : Type 0 where
       → is_function_block b.id.kind ≡ true
       → length_of_block y blocks (listed_block ss reached b) ≡ b.instance_len
 
--- so do those of each code block of an accepted source
+-- the declarations of each listed code block of an accepted source's program come to its
+-- parameters, its local data and its instance
 abbrev pub AreDeclaredAgain : Type 0
 AreDeclaredAgain =
     (source file : List ℕ) (symbols : List Symbol) (t : Tree)

@@ -9,7 +9,8 @@ use Rattle.stl_symbols.specs.Symbol.{Symbol}
 use Rattle.stl_types.specs.Labels.{rule_26}
 use Rattle.listing_laws.specs.Bodies.{IsEndFree}
 
--- where each jump of a source has its label, none of its program leads there: an empty statement has no label
+-- where each jump of a source has its label, no jump of its program leads to the END clause of its
+-- block: an empty statement has no label
 abbrev pub AreEndsFree : Type 0
 AreEndsFree =
     (t : Tree) (symbols : List Symbol) (layouts : List BlockLayout) → IsWellFormed t

@@ -19,7 +19,7 @@ use Rattle.listing_laws.specs.Ranges.{IsWrittenProgram}
 abbrev pub program_signatures : Program → List Signature
 program_signatures p = signatures (chains_of p.code_blocks) p.code_blocks
 
--- a code block but for its statements
+-- a code block of a form that is read back, but for its statements
 pub record IsPrintedFrame (b : Block) : Type 0 where
   pub name : IsNumberedBlockOf b.kind b.name
   pub kind : is_code b.kind ≡ true
@@ -37,7 +37,7 @@ AreDataPrinted =
     (p : Program) (line : ℕ) → IsProgram p → IsWrittenProgram p
     → AllByRecursion IsPrintedBlock (listed_data_blocks (program_signatures p) line p.data_blocks)
 
--- and so are its code blocks, but for their statements
+-- the code blocks of a listing, but for their statements, are of a form that is read back
 abbrev pub AreFramesPrinted : Type 0
 AreFramesPrinted =
     (p : Program) → IsProgram p → IsWrittenProgram p

@@ -14,14 +14,16 @@ AreDataAgain c listed =
     (name : BlockName) (number : ℕ) → data_number c name ≡ Some number
     → IsOpenedAgain listed (Some number)
 
--- so it is in each listing in which no block breaks a rule as a whole
+-- the data blocks that a body of a source may name stand in the listing of the source's program,
+-- where no block of the listing breaks a rule as a whole
 abbrev pub AreDataFound : Type 0
 AreDataFound =
     (symbols : List Symbol) (t : Tree) (others : List Symbol) (place again : ℕ)
     → IsWholeAgain symbols t others
     → AreDataAgain (context_at symbols t place) (again_at symbols t others again)
 
--- and with the blocks that it may call
+-- the blocks that a body of a source may call stand in the listing of the source's program, where
+-- no block of the listing breaks a rule as a whole
 abbrev pub AreCalledFound : Type 0
 AreCalledFound =
     (symbols : List Symbol) (t : Tree) (others : List Symbol) (place again : ℕ)

@@ -35,7 +35,8 @@ abbrev pub kinds_in : (kinds : BlockId → List Simple) → List CodeBlock → L
 kinds_in kinds [] = []
 kinds_in kinds (b ∷ bs) = kinds b.id ++ kinds_in kinds bs
 
--- the type of the parameter of a number
+-- the type of a parameter by its number, counted over all blocks one behind the other, from 0 on;
+-- BOOL where there is none
 abbrev pub declared_type_in : (kinds : BlockId → List Simple) → List CodeBlock → ℕ → Simple
 declared_type_in kinds blocks n = unwrap_or (slice_get (kinds_in kinds blocks) n) simple.Bool
 
@@ -63,23 +64,27 @@ HandsOn kinds blocks own (Calls how id instance ps) =
     × AllByRecursion (λ p. IsHandedOn own (called_kinds kinds id) p.index p.actual) ps
 HandsOn kinds blocks own _ = Unit {0}
 
--- blocks with these types, all of whose instructions hand them on
+-- blocks with as many types as parameters, all of whose instructions hand these types on
 pub record HandOn (kinds : BlockId → List Simple) (blocks : List StatedBlock) : Type 0 where
+  -- there are as many types as parameters
   pub lengths : AllByRecursion (λ (b : StatedBlock). length (kinds b.id) ≡ length b.params) blocks
+  -- each instruction hands the types on
   pub calls : AllByRecursion
       (λ (b : StatedBlock). AllByRecursion (λ s. HandsOn kinds (map compiled_block blocks) (kinds b.id) s.instr) b.statements)
       blocks
 
 -- ---- links
 
--- then each link is of parameters that are there, and of one type
+-- where all instructions of blocks hand the types of parameters on, each link is of parameters that
+-- are there, and of one type
 abbrev pub AreLinksHandedOn : Type 0
 AreLinksHandedOn =
     (kinds : BlockId → List Simple) (blocks : List StatedBlock) → HandOn kinds blocks
     → AllByRecursion (IsLinkBelow (total_parameter_count (map compiled_block blocks))) (links (map compiled_block blocks))
     × AllByRecursion (IsKeptBy (declared_type_in kinds (map compiled_block blocks))) (links (map compiled_block blocks))
 
--- so a listing says of their types what the source said
+-- where all instructions of blocks hand the types of parameters on, a listing says of these types
+-- what was declared
 abbrev pub AreTypesListed : Type 0
 AreTypesListed =
     (kinds : BlockId → List Simple) (blocks : List StatedBlock) → HandOn kinds blocks
@@ -125,7 +130,8 @@ OwesCall kinds blocks c s id =
     (λ (a : Actual). misfits_formal c a (formal_named callee.formals a.name) ≡ false) s.actuals
     × (called_kinds kinds id ≡ map (λ f. f.kind) (formals_by_index c callee)))
 
--- then the instruction of the statement hands types on
+-- the instruction of a statement hands types on, where its body sees its own parameters with their
+-- types, and what a source owes for a call holds of the block that it calls
 abbrev pub AreStatementsHandedOn : Type 0
 AreStatementsHandedOn =
     (kinds : BlockId → List Simple) (blocks : List CodeBlock) (c : Context) (own : List Simple)

@@ -8,14 +8,14 @@ use Rattle.block_layout.specs.Rule44.{rule_44}
 use Rattle.stl_list.specs.Listing.{listed_tree}
 use Rattle.listing_laws.specs.Ids.{source_program}
 
--- where a source has no block twice, its listing has none
+-- where a source has no block twice, the listing of its program has none twice
 abbrev pub AreBlocksOnce : Type 0
 AreBlocksOnce =
     (t : Tree) (symbols listed : List Symbol) → rule_22 (types_of_source symbols t.blocks) t.blocks ≡ []
     → rule_22 (types_of_source listed (listed_tree (source_program t symbols)).blocks)
     (listed_tree (source_program t symbols)).blocks ≡ []
 
--- where it has no number beyond the limits, its listing has none
+-- where a source has no block with a number beyond the limits, the listing of its program has none
 abbrev pub AreNumbersRight : Type 0
 AreNumbersRight =
     (t : Tree) (symbols listed : List Symbol) → rule_44 symbols t.blocks ≡ []

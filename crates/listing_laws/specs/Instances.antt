@@ -35,7 +35,8 @@ pub record IsInstanceLong (symbols : List Symbol) (t : Tree) (others : List Symb
       → is_too_long (types_of_source others (listed_again symbols t).blocks) (listed_again symbols t).blocks
       (data_again symbols t line d) ≡ false
 
--- so it is with each instance of an accepted source's program, whatever symbols stand beside it
+-- each instance of an accepted source's program is listed as long as it was, and not too long,
+-- whatever symbols stand beside the listing
 abbrev pub AreInstancesLong : Type 0
 AreInstancesLong =
     (source file : List ℕ) (symbols : List Symbol) (t : Tree)
@@ -52,8 +53,8 @@ IsInstanceAgain symbols t others d =
     → slice_get (layouts_of (listed_again symbols t) others) k ≡ Some l
     → data_block_of (again_at symbols t others k) l l.id ≡ d ∷ []
 
--- so it is with each instance of an accepted source's program, where no block of the listing breaks a
--- rule as a whole
+-- the program of the listing has each instance of an accepted source's program again, where no
+-- block of the listing breaks a rule as a whole
 abbrev pub AreInstancesAgain : Type 0
 AreInstancesAgain =
     (source file : List ℕ) (symbols : List Symbol) (t : Tree)
@@ -64,21 +65,26 @@ AreInstancesAgain =
 
 -- the settings of a listing break none of the rules of settings
 pub record AreSettingsRight (symbols : List Symbol) (t : Tree) (others : List Symbol) : Type 0 where
+  -- no setting has an unknown name or component
   pub by_20 : on_settings (sets_unknown (layouts_of (listed_again symbols t) others)) 20 0
       (listed_again symbols t).blocks ≡ []
+  -- each setting fits its component
   pub by_41 : on_settings (setting_misfits (layouts_of (listed_again symbols t) others)) 41 0
       (listed_again symbols t).blocks ≡ []
+  -- no index of a setting is outside its array
   pub by_42 : on_settings (setting_is_outside (layouts_of (listed_again symbols t) others)) 42 0
       (listed_again symbols t).blocks ≡ []
 
--- so it is with each accepted source, where no block of its listing breaks a rule as a whole
+-- the settings of the listing of an accepted source's program break no rule, where no block of the
+-- listing breaks a rule as a whole
 abbrev pub AreListedSettingsRight : Type 0
 AreListedSettingsRight =
     (source file : List ℕ) (symbols : List Symbol) (t : Tree)
     → IsAccepted source file symbols t → AreBytes source → AreBytes file → (others : List Symbol)
     → IsWholeAgain symbols t others → AreSettingsRight symbols t others
 
--- and the program of the listing has the data blocks of that of the source
+-- the program of the listing has the data blocks of an accepted source's program, in their order,
+-- where no block of the listing breaks a rule as a whole
 abbrev pub AreDataBlocksAgain : Type 0
 AreDataBlocksAgain =
     (source file : List ℕ) (symbols : List Symbol) (t : Tree)

@@ -40,20 +40,22 @@ pub record HasAgain (c listed : Context) (formals : List Formal) : Type 0 where
       → own_variable c name steps ≡ Resolved (view.Parameter index section kind)
       → IsParameterAgain listed formals index section kind
 
--- constants have their bits, and no pointer leads to peripherals
+-- an operand that is a constant has its bits, and one that is a pointer doesn't lead to peripherals
 abbrev pub IsCodedOperand : Operand → Type 0
 IsCodedOperand (operand.Constant value) = IsConstantCoded value
 IsCodedOperand (operand.Pointer a byte bit) = area_left a ≡ Some area.P → ⊥
 IsCodedOperand _ = Unit {0}
 
--- an operand of a right source, with the symbols of its file
+-- an operand is one that a right source may have, with the symbols of its file
 pub record IsRightOperand (symbols : List Symbol) (o : Operand) : Type 0 where
   pub written : IsOperand o
   pub coded : IsCodedOperand o
+  -- what the symbols of the file stand for is right
   pub targets : (name : List ℕ) (s : Symbol) → symbol_named name symbols ≡ Some s
       → IsSymbolTarget s.target
 
--- a listed statement breaks no rule by its operand, and comes to an instruction
+-- a listed statement, `again`, has the instruction word `m`, breaks no rule by its operand, and
+-- comes to the instruction `i` as the statement of number `n` in the listed body
 pub record IsInstructionKept (listed : Context) (body : List Statement) (n : ℕ) (m : Mnemonic) (i : Instr)
     (again : Statement) : Type 0 where
   pub word : again.code ≡ m
@@ -71,7 +73,7 @@ AreInstructionsKept =
     → IsInstructionKept listed again n s.code (instruction c body n s)
     (listed_statement sur k (run_of f (instruction c body n s)))
 
--- and so does a jump, where its target has the label of its number
+-- a jump comes to the instruction of the source, where its target has the label of its number
 abbrev pub AreJumpsKept : Type 0
 AreJumpsKept =
     (c listed : Context) (sur : Surroundings) (f : ℕ → ℕ) (body again : List Statement) (n k : ℕ)

@@ -17,7 +17,7 @@ AreLabelsOnce =
     (signatures : List Signature) (lines : List ℕ) (b : CodeBlock) → length (runs b.code) ≤ 93312
     → labels_twice [] (body_of signatures lines b) ≡ []
 
--- a target is one of so many statements
+-- an operand that is a jump target is one of `count` statements
 abbrev pub GoesWithin : (count : ℕ) → Operand → Type 0
 GoesWithin count (operand.Jump kind target) = target < count
 GoesWithin count _ = Unit {0}

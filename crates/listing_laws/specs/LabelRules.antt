@@ -18,11 +18,12 @@ AreStatementLabelsOnce =
     → length b.statements ≤ 93312
     → labels_twice [] (body_of signatures lines (compiled_block b)) ≡ []
 
--- a jump leads to a statement of the block
+-- an instruction that jumps leads to one of `count` statements
 abbrev pub LeadsWithin : (count : ℕ) → Instr → Type 0
 LeadsWithin count i = (n : ℕ) → jumps_to n i ≡ true → n < count
 
--- and each jump of the listed body to a label that stands in it
+-- where the jumps of a block lead to its statements, each jump of its listed body is to a label
+-- that stands in that body
 abbrev pub AreJumpLabelsKnown : Type 0
 AreJumpLabelsKnown =
     (signatures : List Signature) (lines : List ℕ) (b : StatedBlock)

@@ -28,18 +28,19 @@ use Rattle.listing_laws.specs.Statements.{jumps_to, run_of}
 
 -- an instruction that goes on to the next statement
 pub record IsStraightLine (m : Mnemonic) : Type 0 where
+  -- it isn't the word of an empty statement
   pub some : is_empty_statement m ≡ false
   pub jumps : jump_operation_of m ≡ None
   pub calls : call_operation_of m ≡ None
   pub ends : end_operation_of m ≡ None
 
--- the word that a listing has for its op code is its own, whatever its operand names
+-- the word of each instruction that goes on is found by its op code, whatever its operand names
 abbrev pub AreWordsFound : Type 0
 AreWordsFound =
     (m : Mnemonic) (o : Operand) (v : ResolvedOperand) → IsStraightLine m
     → word_of (op_code_of (operation_for m o v)) ≡ m
 
--- and so is the word of a jump, of a call, and of the end of a block
+-- the word of each jump is found by the number of its jump operation
 abbrev pub AreJumpWordsFound : Type 0
 AreJumpWordsFound =
     (m : Mnemonic) (how : JumpOperation) → jump_operation_of m ≡ Some how → jump_word (jump_number how) ≡ m
@@ -50,7 +51,7 @@ AreCallWordsFound =
     (m : Mnemonic) (how : CallOperation) → call_operation_of m ≡ Some how
     → word_of (op_code_of (operation.Call how)) ≡ m
 
--- and so is that of each block end
+-- the word of each block end is found by its op code
 abbrev pub AreEndWordsFound : Type 0
 AreEndWordsFound =
     (m : Mnemonic) (how : EndOperation) → end_operation_of m ≡ Some how
@@ -60,7 +61,7 @@ AreEndWordsFound =
 abbrev pub HasWord : Instr → Type 0
 HasWord i = is_empty_statement (mnemonic_of (run_of (λ n. n) i).op) ≡ false
 
--- for those of each block of a source
+-- a listing has a word for each instruction of a block of a source
 abbrev pub HaveWords : Type 0
 HaveWords = (c : Context) (b : Block) → AllByRecursion (λ s. HasWord s.instr) (statements_of c b)
 

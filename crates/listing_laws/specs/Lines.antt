@@ -15,15 +15,17 @@ use Rattle.stl_list.specs.Lines.{first_statement_line, last_statement_line, line
 -- behind what reaches to a line, a block's statements and its END clause stand on their own lines
 pub record StandsBehind (reached : ℕ) (b : CodeBlock) : Type 0 where
   pub lines : lines_from reached b.lines ≡ b.lines
+  -- its first statement stands on no line before `reached`
   pub head : max reached (first_statement_line b) ≡ first_statement_line b
   pub end : line_behind_statements reached b.lines ≡ last_statement_line b
 
--- and so do blocks one behind the other
+-- code blocks one behind the other stand on their own lines, the first behind what reaches to a
+-- line
 abbrev pub StandBehind : (reached : ℕ) → List CodeBlock → Type 0
 StandBehind reached [] = Unit {0}
 StandBehind reached (b ∷ bs) = StandsBehind reached b × StandBehind (last_statement_line b) bs
 
--- the code blocks of a source, in the order in which a listing has them
+-- the code blocks of a source, in the order in which a listing has them, stand on their own lines
 abbrev pub AreLinesKept : Type 0
 AreLinesKept =
     (source : List ℕ) (tokens : List Token) (t : Tree) (symbols : List Symbol)

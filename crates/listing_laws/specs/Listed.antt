@@ -25,16 +25,19 @@ pub record IsParameterOf (c : Chains) (blocks : List CodeBlock) (id : BlockId) (
   pub there : slice_get (params_in blocks id) index ≡ Some param
   pub section : f.section ≡ section_of param.section
   pub kind : f.kind ≡ kind_at c (first_of blocks id + index) param.width
+  -- its number, counted over all blocks, is one of a parameter of the program
   pub few : first_of blocks id + index < total_parameter_count blocks
 
--- each parameter in a listing is one
+-- each parameter that a listing has for a block is the one of its index in the program, of the type
+-- that chains of passings give to it
 abbrev pub AreParametersListed : Type 0
 AreParametersListed =
     (c : Chains) (blocks : List CodeBlock) (id : BlockId) (index : ℕ) (f : Formal)
     → slice_get (formals_of_block (signatures c blocks) id) index ≡ Some f
     → IsParameterOf c blocks id index f
 
--- it is the parameter that the code has, where the source declared one of its width
+-- a parameter in a listing is the one that the record of the code has, where the source declared
+-- one of its width
 abbrev pub AreListedAs : Type 0
 AreListedAs =
     (blocks : List CodeBlock) (declared : ℕ → Simple) (id : BlockId) (index : ℕ) (f : Formal)

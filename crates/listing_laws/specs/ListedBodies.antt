@@ -19,7 +19,8 @@ AreKeptFrom listed body sur f k (s ∷ ss) =
     × (instruction listed body k (listed_statement sur k (run_of f s.instr)) ≡ s.instr)
     × AreKeptFrom listed body sur f (suc k) ss
 
--- then the listed body comes to the statements of the block, but the one that returns
+-- where each listed statement comes to its instruction, the listed body comes to the statements of
+-- the block, but the one that returns
 abbrev pub AreBodiesKept : Type 0
 AreBodiesKept =
     (listed : Context) (signatures : List Signature) (b : StatedBlock) (ss : List SourceInstruction)

@@ -10,14 +10,15 @@ use Rattle.stl_list.specs.Listing.{listed_source, listed_tree}
 use Rattle.sem_kept.specs.Accepted.{IsAccepted, program_in}
 use Rattle.listing_laws.specs.Sources.{IsNamedProgram}
 
--- what each statement of such a program acts on, calls and passes
+-- what each statement of an accepted source's program acts on, calls and passes is named as in a
+-- source
 abbrev pub AreSourcesNamed : Type 0
 AreSourcesNamed =
     (source file : List ℕ) (symbols : List Symbol) (t : Tree)
     → IsAccepted source file symbols t → AreBytes source → AreBytes file
     → IsNamedProgram (program_in symbols t)
 
--- the listing of such a program has tokens, and these have its tree
+-- the listing of an accepted source's program has tokens, and these have its tree
 abbrev pub AreAcceptedRead : Type 0
 AreAcceptedRead =
     (source file : List ℕ) (symbols : List Symbol) (t : Tree)

@@ -20,7 +20,7 @@ AreNamesRead =
     → symbols_in language file ≡ Ok symbols
     → symbols_in English (listed_names (name_entries_of symbols)) ≡ Ok (map symbol_of (name_entries_of symbols))
 
--- and these symbols give a program the same names
+-- the names of the symbols of a file, made symbols again, give a program the same names
 abbrev pub AreNamesKept : Type 0
 AreNamesKept =
     (language : Language) (file : List ℕ) (symbols : List Symbol)

@@ -20,34 +20,42 @@ pub record NestingMark : Type 0 where
   pub code : Mnemonic
   pub line : ℕ
 
--- an empty statement has none
+-- the instruction word and the line of a statement; none of an empty one
 abbrev pub mark_of : Statement → List NestingMark
 mark_of s = if is_empty_statement s.code then [] else record { code = s.code; line = s.line } ∷ []
 
--- those of a body
+-- the instruction words and the lines of the statements of a body, without the empty ones
 abbrev pub nesting_marks : List Statement → List NestingMark
 nesting_marks body = flat_map mark_of body
 
 -- two bodies break the same rules on brackets and zones, on the same lines
 pub record AreNestedAlike (ss ts : List Statement) : Type 0 where
+  -- rule 29: a `)` without an open bracket
   pub closing : with_brackets (λ brackets s. broken_if (closes_no_bracket brackets s) s.line 29) [] ss
       ≡ with_brackets (λ brackets s. broken_if (closes_no_bracket brackets s) s.line 29) [] ts
+  -- rule 30: brackets that are left open
   pub left : brackets_left_open ss ≡ brackets_left_open ts
+  -- rule 31: an eighth open bracket
   pub eighth : with_brackets (λ brackets s. broken_if (is_eighth_bracket brackets s) s.line 31) [] ss
       ≡ with_brackets (λ brackets s. broken_if (is_eighth_bracket brackets s) s.line 31) [] ts
+  -- rule 47: a `)MCR` without an open zone
   pub ending : with_zones (λ zones s. broken_if (ends_no_zone zones s) s.line 47) [] ss
       ≡ with_zones (λ zones s. broken_if (ends_no_zone zones s) s.line 47) [] ts
+  -- rule 48: zones that are left open
   pub zones_left : zones_left_open ss ≡ zones_left_open ts
+  -- rule 49: a ninth open zone
   pub ninth : with_zones (λ zones s. broken_if (is_ninth_zone zones s) s.line 49) [] ss
       ≡ with_zones (λ zones s. broken_if (is_ninth_zone zones s) s.line 49) [] ts
 
--- so do bodies with the same words on the same lines
+-- bodies with the same instruction words on the same lines break the same rules on brackets and
+-- zones, on the same lines
 abbrev pub AreNestingsKept : Type 0
 AreNestingsKept = (ss ts : List Statement) → nesting_marks ss ≡ nesting_marks ts → AreNestedAlike ss ts
 
 -- a statement of a right source: its operand is one that its instruction takes
 pub record IsReadable (c : Context) (s : Statement) : Type 0 where
   pub statement : IsStatement s
+  -- unless it is an empty statement, its operand means something
   pub resolves : is_empty_statement s.code ≡ false → resolved_operand c s ≡ None → ⊥
 
 -- the listed body of a block has the words of the block's own body, on its lines
@@ -57,7 +65,8 @@ AreMarksKept =
     → AllByRecursion (IsReadable c) b.body → stated.statements ≡ statements_of c b
     → nesting_marks (body_of signatures (lines_in stated.statements) (compiled_block stated)) ≡ nesting_marks b.body
 
--- so it breaks the same rules on brackets and zones, on the same lines
+-- the listed body of a block breaks the same rules on brackets and zones as the block's own body,
+-- on the same lines
 abbrev pub AreListedNestingsKept : Type 0
 AreListedNestingsKept =
     (c : Context) (b : Block) (stated : StatedBlock) (signatures : List Signature)

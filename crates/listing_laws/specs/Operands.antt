@@ -31,12 +31,14 @@ use Rattle.listing_laws.specs.Statements.{run_of}
 
 -- ---- what the tree of a listing must say
 
--- a data block that a statement opens stands there by its number
+-- the data block that a statement opens, if it opens one, stands in the tree of a listing by its
+-- number
 abbrev pub IsOpenedAgain : Context → Option ℕ → Type 0
 IsOpenedAgain listed None = Unit {0}
 IsOpenedAgain listed (Some number) = data_number listed (name_of_data_block number) ≡ Some number
 
--- the parameter of an index stands there by its name, with its width, and is an input if it was one
+-- the parameter of an index stands in the tree of a listing by its name, with its width, and is an
+-- input if it was one
 pub record IsParameterAgain (listed : Context) (formals : List Formal) (index : ℕ)
     (section : PartKind) (kind : Simple) : Type 0 where
   pub section_again : PartKind
@@ -53,7 +55,8 @@ pub record IsPointer (a : Option Area) (byte bit : ℕ) : Type 0 where
   pub low_byte : byte ≤ 65535
   pub low_bit : bit ≤ 7
 
--- what an operand names stands there
+-- what an operand of a source names stands in the tree of a listing; of a pointer, its numbers are
+-- in their ranges
 abbrev pub StandsAgain : Context → List Formal → ResolvedOperand → Type 0
 StandsAgain listed formals (view.Direct place width side declared) =
     IsOpenedAgain listed (opened_by_place place)
@@ -79,18 +82,23 @@ IsConstantSeen o _ = Unit {0}
 -- an operand of a listing, with an instruction, comes to the same as one of a source that names this
 pub record IsActedAgain (listed : Context) (m : Mnemonic) (o again : Operand) (v : ResolvedOperand)
     : Type 0 where
+  -- what the listing's operand names
   pub found : ResolvedOperand
   pub sees : resolution_of listed again ≡ Resolved found
+  -- the instruction takes the listing's operand
   pub right : operand_rule listed (form_of m) again ≡ None
+  -- the same data block is opened before it, if any
   pub opened : block_opened_by_operand found ≡ block_opened_by_operand v
   pub operation : operation_for m again found ≡ operation_for m o v
+  -- the operand of the op is the same
   pub operand : flat_operand_of again found ≡ flat_operand_of o v
 
 -- the instruction of a statement that goes on, by what its operand names
 abbrev pub operand_instruction : Mnemonic → Operand → ResolvedOperand → Instr
 operand_instruction m o v = Does (block_opened_by_operand v) (operation_for m o v) (flat_operand_of o v)
 
--- so does the operand that a listing has for such an instruction, whatever the instruction and the operand
+-- the operand that a listing has for an instruction that goes on comes to the same as the operand
+-- of the source, where what this names stands in the tree of the listing
 abbrev pub AreOperandsKept : Type 0
 AreOperandsKept =
     (c listed : Context) (formals : List Formal) (starts : List ℕ) (f : ℕ → ℕ) (m : Mnemonic)

@@ -6,7 +6,8 @@ use Rattle.stl_list.specs.DataBlocks.{listed_data}
 use Rattle.stl_list.specs.Listing.{listed_tree}
 use Rattle.listing_laws.specs.Declared.{signatures_in}
 
--- each in its order behind the code blocks, on the line that these reach
+-- each data block of a program stands in its listing in the order of the program behind the code
+-- blocks, on the line that these reach
 abbrev pub AreDataListed : Type 0
 AreDataListed =
     (p : Program) (j : ℕ) (d : DataBlock) → slice_get p.data_blocks j ≡ Some d

@@ -27,13 +27,15 @@ pub record IsOwnDataAgain (ss : List Signature) (d : DataBlock) : Type 0 where
       → length_of_block y blocks (listed_data ss line d.number d.bytes None) ≡ length d.bytes
   pub by_51 : (y : Types) (blocks : List Block) (line : ℕ)
       → is_too_long y blocks (listed_data ss line d.number d.bytes None) ≡ false
+  -- where it stands in a source and breaks no rule as a whole, the program of the source has it
   pub again : (symbols : List Symbol) (t : Tree) (k line : ℕ) (l : BlockLayout)
       → slice_get t.blocks k ≡ Some (listed_data ss line d.number d.bytes None)
       → slice_get (layouts_of t symbols) k ≡ Some l → l.broken ≡ false
       → data_block_of (record (first_context symbols (layouts_of t symbols) t.blocks) { block = k })
       l l.id ≡ d ∷ []
 
--- so it is with each such data block of an accepted source's program
+-- each data block with a structure of its own, in an accepted source's program, is listed as long
+-- as it was, and comes again from its listing with its number and its bytes
 abbrev pub AreOwnDataAgain : Type 0
 AreOwnDataAgain =
     (source file : List ℕ) (symbols : List Symbol) (t : Tree)
@@ -47,7 +49,8 @@ pub record IsOneOfDataBlocks (d : DataBlock) (ds : List DataBlock) : Type 0 wher
   pub place : ℕ
   pub there : slice_get ds place ≡ Some d
 
--- and where no block of the listing breaks a rule as a whole, each is among the data blocks of its program
+-- each data block with a structure of its own, in an accepted source's program, is among the data
+-- blocks of the program of its listing, where no block of the listing breaks a rule as a whole
 abbrev pub AreOwnDataKept : Type 0
 AreOwnDataKept =
     (source file : List ℕ) (symbols : List Symbol) (t : Tree)

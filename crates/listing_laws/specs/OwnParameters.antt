@@ -18,18 +18,22 @@ pub record IsFunctionAt (c : Context) (b : Block) (l : BlockLayout) : Type 0 whe
   pub block : slice_get c.blocks c.block ≡ Some b
   pub kind : is_function b.kind ≡ true
   pub layout : slice_get c.layouts c.block ≡ Some l
+  -- the function breaks no rule as a whole
   pub whole : l.broken ≡ false
 
 -- a component at a place is of elementary type, and the first of its name
 pub record IsOwnParameterCell (cells : List Cell) (j : ℕ) (cell : Cell) (kind : Simple) : Type 0 where
   pub there : slice_get cells j ≡ Some cell
   pub sound : cell.sound ≡ true
+  -- the component is no array
   pub bounds : cell.bounds ≡ []
   pub of_kind : cell.of ≡ element.Plain kind
+  -- no component in front of it has its name
   pub first : AllByRecursion (λ d. bytes_eq cell.name d.name ≡ false) (take j cells)
 
--- the name of such a component means the parameter of its index: the place among the components,
--- but of the return value, which stands first there, the last
+-- in a function the name of a component of elementary type, the first of its name, means the
+-- parameter of its index: the place among the components, but of the return value, which stands
+-- first there, the last
 abbrev pub AreOwnParametersFound : Type 0
 AreOwnParametersFound =
     (c : Context) (b : Block) (l : BlockLayout) (j : ℕ) (cell : Cell) (kind : Simple)

@@ -27,7 +27,8 @@ AreOwnAgain c listed formals =
     → own_variable c name steps ≡ Resolved (view.Parameter index section kind)
     → IsParameterAgain listed formals index section kind
 
--- so it is with each body of an accepted source, at the block of the listing that was made of its block
+-- what each body of an accepted source sees as its own parameter is there in the listing, at the
+-- block that was made of its block, where no block of the listing breaks a rule as a whole
 abbrev pub AreParametersAgain : Type 0
 AreParametersAgain =
     (source file : List ℕ) (symbols : List Symbol) (t : Tree)

@@ -30,7 +30,8 @@ use Rattle.listing_laws.specs.Chains.{is_listed_type}
 
 -- ---- what fits
 
--- what is passed for a listed parameter, in a body with parameters of its own
+-- what is passed for the parameter `f` of a listing fits it, in a body whose own parameters are
+-- `own`
 abbrev pub FitsListed : Context → (own : List Formal) → Formal → Passed → Type 0
 FitsListed c own f (passed.Literal value) =
     (is_input_section f.section ≡ true) × (is_listed_type f.kind ≡ true)
@@ -44,13 +45,13 @@ FitsListed c own f (passed.Parameter index width) =
     × (takes_section f.section g.section ≡ true)
     × (resolution_of c (own_parameter own index) ≡ Resolved (view.Parameter index g.section g.kind))
 
--- what is passed for a parameter that the called block has
+-- a passing is for a parameter that the called block has, and what it passes fits there
 pub record IsPassable (c : Context) (own called : List Formal) (p : Passing) : Type 0 where
   pub formal : Formal
   pub there : slice_get called p.index ≡ Some formal
   pub fits : FitsListed c own formal p.actual
 
--- by rising indices from one on
+-- passings are for parameters of rising indices, none of them below `from`
 abbrev pub AreRising : (from : ℕ) → List Passing → Type 0
 AreRising from [] = Unit {0}
 AreRising from (p ∷ ps) = (from ≤ p.index) × AreRising (suc p.index) ps
@@ -72,12 +73,13 @@ in_upper_case f = record f { name = upper_case_name f.name }
 pub record IsListedCall (c : Context) (own called : List Formal) (callee : Callee)
     (ps : List Passing) (s : Statement) : Type 0 where
   pub actuals : s.actuals ≡ actuals_before s.line own called (pass_ops ps)
+  -- the parameters by their index are those of the listing, with their names in upper case
   pub order : in_parameter_order (source_block_at c.blocks callee.place) callee.formals ≡ map in_upper_case called
   pub named : AreNamedApart called
   pub passable : AllByRecursion (IsPassable c own called) ps
   pub rising : AreRising 0 ps
 
--- it passes what the ops pass
+-- a listed CALL passes what the ops before it pass
 abbrev pub ArePassingsKept : Type 0
 ArePassingsKept =
     (c : Context) (own called : List Formal) (callee : Callee) (ps : List Passing) (s : Statement)
@@ -85,27 +87,32 @@ ArePassingsKept =
 
 -- ---- rules
 
--- each parameter is passed
+-- for each parameter of a called block something is passed
 abbrev pub AreAllPassed : List Formal → List Passing → Type 0
 AreAllPassed called ps =
     (i : ℕ) → i < length called → list_any (λ (p : Passing). p.index == i) ps ≡ true
 
--- of the rules of its actual parameters it breaks none: 24, 34, 35, 37, and 36 where all are passed that
--- have to be
+-- a statement that calls a block breaks none of the rules 24, 34, 35 and 37 by its actual
+-- parameters
 pub record BreaksNone (c : Context) (callee : Callee) (s : Statement) : Type 0 where
+  -- no actual parameter is a DATE_AND_TIME
   pub by_24 : AllByRecursion (λ (a : Actual). sees_date (resolution_of c a.value) ≡ false) s.actuals
+  -- each actual parameter names a parameter of the block
   pub by_34 : AllByRecursion (λ (a : Actual). names_no_formal callee.formals a ≡ false) s.actuals
+  -- no parameter is supplied twice
   pub by_35 : actuals_supplied_twice callee.formals [] s.actuals ≡ []
+  -- each actual parameter fits its parameter
   pub by_37 : AllByRecursion
       (λ (a : Actual). misfits_formal c a (formal_named callee.formals a.name) ≡ false) s.actuals
 
--- what a listed call passes breaks none of rules 34, 35 and 37
+-- what a listed call passes breaks none of the rules 24, 34, 35 and 37
 abbrev pub AreActualsRight : Type 0
 AreActualsRight =
     (c : Context) (own called : List Formal) (callee : Callee) (ps : List Passing) (s : Statement)
     → IsListedCall c own called callee ps s → BreaksNone c callee s
 
--- a listed call passes each parameter that it must
+-- rule 36: a listed call lacks no actual parameter that it must have, where it passes all
+-- parameters of what it calls, or this is a function block, or it is no CALL
 abbrev pub AreCallsComplete : Type 0
 AreCallsComplete =
     (c : Context) (own called : List Formal) (callee : Callee) (ps : List Passing) (s : Statement)

@@ -9,7 +9,8 @@ use Rattle.stl_list.specs.Listing.{listed_tree}
 use Rattle.stl_print.specs.Trees.{block_clauses}
 use Rattle.stl_symbols.specs.Symbol.{Symbol}
 
--- those of the listing of a source's program: none stands before the one in front of it
+-- no clause of the listing of a source's program stands on a line before that of the clause in
+-- front of it
 abbrev pub AreClausesOnLines : Type 0
 AreClausesOnLines =
     (t : Tree) (symbols : List Symbol) (layouts : List BlockLayout)

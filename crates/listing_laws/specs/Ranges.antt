@@ -21,26 +21,29 @@ abbrev pub IsOffsetWritable : Operand → Type 0
 IsOffsetWritable (flat.ByRegister area width register bits) = bits < 8 * 65536
 IsOffsetWritable _ = Unit {0}
 
--- the same of all ops of a block
+-- each offset to an address register in a code block is one that a pointer constant writes
 abbrev pub IsWrittenBlock : CodeBlock → Type 0
 IsWrittenBlock b = AllByRecursion (λ op. IsOffsetWritable op.operand) b.code
 
--- and of a program
+-- each offset to an address register in a program is one that a pointer constant writes
 abbrev pub IsWrittenProgram : Program → Type 0
 IsWrittenProgram p = AllByRecursion IsWrittenBlock p.code_blocks
 
--- the listing of a program with such offsets is a printable tree
+-- the listing of a program is a printable tree, where each offset to an address register is one
+-- that a pointer constant writes
 abbrev pub AreListedPrintable : Type 0
 AreListedPrintable = (p : Program) → IsProgram p → IsWrittenProgram p → HasPrintableTokens (listed_tree p)
 
--- so its text has just the tokens that were printed
+-- the text of the listing of a program has just the tokens that were printed, where each offset to
+-- an address register is one that a pointer constant writes
 abbrev pub AreListedTokens : Type 0
 AreListedTokens =
     (p : Program) → IsProgram p → IsWrittenProgram p
     → AreTokens (listed_source p) (tokens_of 0 1 (pieces_of_tree (listed_tree p)))
     × ShowPieces (listed_source p) (pieces_of_tree (listed_tree p)) (tokens_of 0 1 (pieces_of_tree (listed_tree p)))
 
--- the program of a source that is well-formed has such offsets
+-- in the program of a well-formed source each offset to an address register is one that a pointer
+-- constant writes
 abbrev pub AreCompiledWritten : Type 0
 AreCompiledWritten =
     (t : Tree) (symbols : List Symbol) (layouts : List BlockLayout) → IsWellFormed t

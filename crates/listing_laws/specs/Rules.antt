@@ -23,10 +23,15 @@ use Rattle.listing_laws.specs.Declared.{signatures_in}
 
 -- the declarations of a block break none of the rules of declarations, whatever types stand beside it
 pub record AreDeclarationsRight (y : Types) (b : Block) : Type 0 where
+  -- no name is declared twice in a list
   pub by_21 : refusals_in_block broken_21 b ≡ []
+  -- no declaration has an unknown data type
   pub by_23 : refusals_in_block (broken_23 y) b ≡ []
+  -- initial values fit the types of their declarations
   pub by_41 : refusals_in_block broken_41 b ≡ []
+  -- no array has its upper bound below its lower one
   pub by_42 : refusals_in_block broken_42 b ≡ []
+  -- no types are nested more than 8 deep
   pub by_56 : refusals_in_block (broken_56 y) b ≡ []
 
 -- a block is no data type that contains itself, has a number that its kind may have, and no more than
@@ -36,7 +41,8 @@ pub record IsHeadRight (y : Types) (b : Block) : Type 0 where
   pub by_44 : (symbols : List Symbol) → has_wrong_number symbols b ≡ false
   pub by_50 : has_too_much_local y b ≡ false
 
--- so it is with the listed blocks of an accepted source, on whichever lines
+-- the heads of the listed blocks of an accepted source's program break no rule, on whichever lines
+-- the blocks stand
 abbrev pub AreListedHeadsRight : Type 0
 AreListedHeadsRight =
     (source file : List ℕ) (symbols : List Symbol) (t : Tree)
@@ -50,7 +56,8 @@ AreListedHeadsRight =
     (listed_data (signatures_in (program_in symbols t)) line d.number d.bytes d.instance_of))
     (program_in symbols t).data_blocks
 
--- the code blocks among them are no longer than 16,384 bytes, as instances
+-- the listed code blocks of an accepted source's program are no longer than 16,384 bytes, as
+-- instances
 abbrev pub AreListedInstancesShort : Type 0
 AreListedInstancesShort =
     (source file : List ℕ) (symbols : List Symbol) (t : Tree)
@@ -61,7 +68,8 @@ AreListedInstancesShort =
     (listed_block (signatures_in (program_in symbols t)) line b) ≡ false)
     (program_in symbols t).code_blocks
 
--- those of the listed blocks of an accepted source, on whichever lines
+-- the declarations of the listed blocks of an accepted source's program break no rule, on whichever
+-- lines the blocks stand
 abbrev pub AreListedDeclarationsRight : Type 0
 AreListedDeclarationsRight =
     (source file : List ℕ) (symbols : List Symbol) (t : Tree)

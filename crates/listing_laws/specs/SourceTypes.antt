@@ -19,7 +19,7 @@ use Rattle.stl_codegen.specs.Generated.{code_blocks_of, params_of, program_of}
 use Rattle.listing_laws.specs.Chains.{AreTypesAsDeclared}
 use Rattle.listing_laws.specs.HandedOn.{HandOn, OwesCall, SeesOwn, declared_type_in}
 
--- a statement of a source owes what it calls
+-- what a source owes for a statement: if it calls a block, what is owed for this call
 abbrev pub OwesStatement : (kinds : BlockId → List Simple) → List CodeBlock → Context → Statement → Type 0
 OwesStatement kinds all c s =
     (id : BlockId) (instance : Option ℕ) → resolved_operand c s ≡ Some (view.Called id instance)
@@ -33,7 +33,9 @@ pub record OwesBody (kinds : BlockId → List Simple) (all : List CodeBlock) (c 
   pub sees : SeesOwn c (kinds id)
   pub statements : AllByRecursion (OwesStatement kinds all c) b.body
 
--- the same of blocks with their layouts, of which the first has its place in the context
+-- what a source owes for its code blocks, given the blocks with their layouts, of which the first
+-- has its place in the context: each body sees its parameters with these types, and each statement
+-- owes what it calls
 abbrev pub OweBodies : (kinds : BlockId → List Simple) → List CodeBlock → Context → List Block → List BlockLayout → Type 0
 OweBodies kinds all c [] ls = Unit {0}
 OweBodies kinds all c (b ∷ bs) [] = Unit {0}
@@ -41,20 +43,22 @@ OweBodies kinds all c (b ∷ bs) (l ∷ ls) =
     ((id : BlockId) → l.id ≡ Some id → is_code id.kind ≡ true → OwesBody kinds all c b l id)
     × OweBodies kinds all (record c { block = suc c.block }) bs ls
 
--- and of a source
+-- what a source owes for the types of its parameters: each body sees its parameters with these
+-- types, and each statement owes what it calls
 abbrev pub OwesSource : (kinds : BlockId → List Simple) → Tree → List Symbol → List BlockLayout → Type 0
 OwesSource kinds t symbols layouts =
     OweBodies kinds (map compiled_block (code_blocks_of t symbols layouts))
     (first_context symbols layouts t.blocks) t.blocks layouts
 
--- then the calls of its program hand types on
+-- where what a source owes for the types of its parameters holds, the calls of its program hand
+-- these on
 abbrev pub AreSourcesHandedOn : Type 0
 AreSourcesHandedOn =
     (kinds : BlockId → List Simple) (t : Tree) (symbols : List Symbol) (layouts : List BlockLayout)
     → OwesSource kinds t symbols layouts → HandOn kinds (code_blocks_of t symbols layouts)
 
--- so what the listing of its program says is INT or TIME was so in the source, widths stay, and both ends
--- of a passing have one type
+-- where what a source owes for the types of its parameters holds, what the listing of its program
+-- says is INT or TIME was so in the source, widths stay, and both ends of a passing have one type
 abbrev pub AreSourceTypesKept : Type 0
 AreSourceTypesKept =
     (kinds : BlockId → List Simple) (t : Tree) (symbols : List Symbol) (layouts : List BlockLayout)

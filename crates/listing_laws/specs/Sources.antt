@@ -25,10 +25,12 @@ use Rattle.listing_laws.specs.Ranges.{IsWrittenProgram}
 -- a block whose statements are those of a source: as many as lines, and none jumps to the END clause
 pub record IsSourceBlock (b : CodeBlock) : Type 0 where
   pub statements : AllByRecursion IsSourceRun (runs b.code)
+  -- as many statements as lines
   pub count : length (runs b.code) ≡ length b.lines
   pub end : IsEndFree (length b.lines) b
 
--- the listing of a program of such blocks has tokens, and these have its tree
+-- the listing of a program whose statements are all those of a source has tokens, and these have
+-- its tree
 abbrev pub AreListingsRead : Type 0
 AreListingsRead =
     (p : Program) → IsProgram p → IsWrittenProgram p → AllByRecursion IsSourceBlock p.code_blocks
@@ -41,12 +43,13 @@ PassesPlaceOn (passed.Direct a w byte bit) = IsPlace a w bit
 PassesPlaceOn (passed.InBlock number a w byte bit) = IsPlace a w bit
 PassesPlaceOn _ = Unit {0}
 
--- the same of an op before a call
+-- the operand of an op before a call: a place that it passes has a bit number as in a source
 abbrev pub PreparesOn : Operand → Type 0
 PreparesOn (flat.Pass index p) = PassesPlaceOn p
 PreparesOn _ = Unit {0}
 
--- and of the last op of a statement, whose call is one of a source
+-- the operand of the last op of a statement: a place has a bit number as in a source, and a call is
+-- one of a source. `before` are the ops before it, `code` is its op code
 abbrev pub ActsOn : (before : List OpData) → (code : ℕ) → Operand → Type 0
 ActsOn before code (flat.Direct a w byte bit) = IsPlace a w bit
 ActsOn before code (flat.Called kind number instance) = IsCallBy before code kind instance
@@ -57,7 +60,7 @@ pub record IsRunNamed (r : Run) : Type 0 where
   pub prepares : AllByRecursion (λ op. PreparesOn op.operand) r.before
   pub acts : ActsOn r.before r.op.code r.op.operand
 
--- so it is in the blocks of a program
+-- what each statement of a program acts on, calls and passes is named as in a source
 abbrev pub IsNamedProgram : Program → Type 0
 IsNamedProgram p = AllByRecursion (λ b. AllByRecursion IsRunNamed (runs b.code)) p.code_blocks
 

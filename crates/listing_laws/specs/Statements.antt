@@ -23,13 +23,13 @@ run_of f (Returns how) = record { before = []; op = end_op how }
 abbrev pub statement_offset : List SourceInstruction → ℕ → ℕ
 statement_offset statements n = offset_of_statement (ops_in statements) n
 
--- the statements that a listing finds are these
+-- the statements that a listing finds in the code of a block are those that the code was made of
 abbrev pub AreRunsFound : Type 0
 AreRunsFound =
     (statements : List SourceInstruction)
     → runs (code_in statements) ≡ map (λ s. run_of (statement_offset statements) s.instr) statements
 
--- it finds the start of each, and no other
+-- a listing finds the start of each statement of a code, at the byte offset of the statement
 abbrev pub AreStartsFound : Type 0
 AreStartsFound =
     (statements : List SourceInstruction) (n : ℕ) → n < length statements
@@ -39,8 +39,8 @@ AreStartsFound =
 abbrev pub IsCountFound : Type 0
 IsCountFound = (statements : List SourceInstruction) → length (statement_starts (code_in statements)) ≡ length statements
 
--- where a jump goes to a statement, or to the end of the code, it finds the number of this statement, or
--- how many statements there are
+-- where a jump goes to a statement, or to the end of the code, a listing finds the number of this
+-- statement, or how many statements there are
 abbrev pub AreNumbersFound : Type 0
 AreNumbersFound =
     (statements : List SourceInstruction) (n : ℕ)
@@ -60,7 +60,7 @@ jumps_to n (JumpsByList targets otherwise) = otherwise == n
 jumps_to n (Calls how block instance passings) = false
 jumps_to n (Returns how) = false
 
--- the statements that it finds jumps to are those to which one jumps
+-- the statements that a listing finds jumps to are those to which an instruction jumps
 abbrev pub AreTargetsFound : Type 0
 AreTargetsFound =
     (statements : List SourceInstruction) (n : ℕ) → n < length statements

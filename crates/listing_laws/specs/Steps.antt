@@ -12,15 +12,20 @@ use Rattle.stl_codegen.specs.Compiled.{SourceInstruction, StatedBlock, compiled_
 use Rattle.stl_list.specs.Joined.{first_of, links, total_parameter_count, system_parameters}
 use Rattle.listing_laws.specs.Chains.{HasStep, HasTyped}
 
--- a statement of a block passes a parameter of the block to a block, for its parameter of an index
+-- a statement of a block, `b`, passes the parameter of index `own` of `b` to the block `id`, for
+-- its parameter of an index
 pub record PassesParameterOn (b : StatedBlock) (id : BlockId) (index own : ℕ) : Type 0 where
   pub how : CallOperation
   pub instance : Option ℕ
   pub line : ℕ
   pub width : Width
+  -- the statements of `b` in front of the call
   pub before : List SourceInstruction
+  -- the statements of `b` behind the call
   pub after : List SourceInstruction
+  -- what the call passes in front of this parameter
   pub lower : List Passing
+  -- what the call passes behind this parameter
   pub higher : List Passing
   pub callable : is_callable id.kind ≡ true
   pub statements : b.statements
@@ -32,7 +37,7 @@ pub record PassesParameterOn (b : StatedBlock) (id : BlockId) (index own : ℕ) 
       }
       ∷ after
 
--- for one of a block of the program, that is a step of a chain
+-- a parameter that is passed on for one of a block of the program is a step of a chain
 abbrev pub AreStepsFound : Type 0
 AreStepsFound =
     (front back : List StatedBlock) (b : StatedBlock) (id : BlockId) (index own : ℕ)
@@ -41,7 +46,8 @@ AreStepsFound =
     (total_parameter_count (map compiled_block front) + own)
     (first_of (map compiled_block (front ++ b ∷ back)) id + index)
 
--- for one of a system function, the parameter has the type that this asks for
+-- a parameter that is passed on for one of a system function has a link with the type that the
+-- function asks for
 abbrev pub AreSeedsFound : Type 0
 AreSeedsFound =
     (front back : List StatedBlock) (b : StatedBlock) (id : BlockId) (index own : ℕ) (f : Formal)

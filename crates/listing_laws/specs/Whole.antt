@@ -36,23 +36,39 @@ use Rattle.listing_laws.specs.Ids.{data_id}
 -- the heads and the declarations of blocks break no rule: of the rules of layouts this leaves out those of
 -- settings and of operands
 pub record AreBlocksRight (symbols : List Symbol) (blocks : List Block) : Type 0 where
+  -- no name is declared twice in a list
   pub by_21 : rule_21 blocks ≡ []
+  -- no block stands twice
   pub by_22 : rule_22 (types_of_source symbols blocks) blocks ≡ []
+  -- no head of a block names an unknown block or data type
   pub heads_23 : on_heads (λ before b. has_unknown_head (types_of_source symbols blocks) b) 23 blocks ≡ []
+  -- no declaration has an unknown data type
   pub declared_23 : refusals_in_blocks (broken_23 (types_of_source symbols blocks)) blocks ≡ []
+  -- initial values fit the types of their declarations
   pub declared_41 : refusals_in_blocks broken_41 blocks ≡ []
+  -- no array has its upper bound below its lower one
   pub declared_42 : refusals_in_blocks broken_42 blocks ≡ []
+  -- no data type contains itself
   pub by_43 : rule_43 (types_of_source symbols blocks) blocks ≡ []
+  -- no block has a number beyond the limits of its kind
   pub by_44 : rule_44 symbols blocks ≡ []
+  -- the local data of a block are at most 1,024 bytes
   pub by_50 : rule_50 (types_of_source symbols blocks) blocks ≡ []
+  -- a data block, a data type and an instance are at most 16,384 bytes
   pub by_51 : rule_51 (types_of_source symbols blocks) blocks ≡ []
+  -- a block has at most 60 parameters
   pub by_52 : rule_52 blocks ≡ []
+  -- there are at most 256 data blocks
   pub by_53 : rule_53 blocks ≡ []
+  -- the data blocks together are at most 2,097,152 bytes
   pub by_54 : rule_54 (types_of_source symbols blocks) blocks ≡ []
+  -- a block has at most 65,534 statements
   pub by_55 : rule_55 blocks ≡ []
+  -- no types are nested more than 8 deep
   pub by_56 : rule_56 (types_of_source symbols blocks) blocks ≡ []
 
--- so it is with the listing of each accepted source's program, whatever symbols stand beside it
+-- the heads and the declarations of the listing of an accepted source's program break no rule,
+-- whatever symbols stand beside it
 abbrev pub AreBlocksRightAgain : Type 0
 AreBlocksRightAgain =
     (source file : List ℕ) (symbols : List Symbol) (t : Tree)
@@ -62,11 +78,13 @@ AreBlocksRightAgain =
 -- a data block of a program is an instance of the function block that a listing has at a place, and as long
 -- as the structure of that one
 pub record IsInstanceOf (p : Program) (number size : ℕ) (s : Shape) : Type 0 where
+  -- the place of the function block among the listed code blocks
   pub place : ℕ
   pub block : CodeBlock
   pub there : slice_get (in_lines p.code_blocks) place ≡ Some block
   pub id : block.id ≡ function_block number
   pub length : block.instance_len ≡ size
+  -- its structure is that of the function block at this place
   pub shape : s ≡ shape.Of place
 
 -- a data block has its own structure, or that of the function block whose instance it is
@@ -86,7 +104,8 @@ pub record IsDataAt (p : Program) (blocks : List Block) (layouts : List BlockLay
   pub size : layout.length ≡ length d.bytes
   pub shape : HasShapeAgain p d d.instance_of layout.shape
 
--- so does each data block of an accepted source's program, behind its code blocks
+-- each data block of an accepted source's program stands in its listing, in the order of the
+-- program behind the code blocks, with its number, its length and its shape
 abbrev pub AreDataLaid : Type 0
 AreDataLaid =
     (source file : List ℕ) (symbols : List Symbol) (t : Tree)
