@@ -10,11 +10,11 @@ use Rattle.s7_cli.specs.declared.failures.Failure.{Failure}
 use Rattle.s7_cli.specs.declared.failures.Failure.TheVariants.{WordsRefused, ReadFault, TooLong, Refused, ImageRefused, NoListing, SaysNo, TooDeep, WriteFault, NoMemory}
 use Rattle.s7_cli.specs.Lines.{words_refused_text, read_fault_text, too_long_text, refusal_text, image_refused_text, no_listing_text, says_no_text}
 
--- done, or why not
+-- how a call comes out: done, or why not
 abbrev pub Outcome : Type 0
 Outcome = Result Unit Failure
 
--- with the whole text that goes with it
+-- how a call comes out, with the whole text that goes with it
 pub record Answer : Type 0 where
   pub outcome : Outcome
   pub text : List ℕ
@@ -56,7 +56,7 @@ too_deep_answer chain = record { outcome = Err TooDeep; text = chain_text chain 
 abbrev pub words_refused_answer : Answer
 words_refused_answer = record { outcome = Err WordsRefused; text = words_refused_text }
 
--- the status of a refused file
+-- the exit status of a refused file
 abbrev pub refused_file_status : File → ℕ
 refused_file_status Source = 2
 refused_file_status Translation = 2
@@ -69,7 +69,7 @@ refused_file_status Vars = 4
 refused_file_status (Script number) = 4
 refused_file_status Certificate = 4
 
--- the exit status
+-- the exit status of an outcome
 abbrev pub exit_status : Outcome → ℕ
 exit_status (Ok done) = 0
 exit_status (Err WordsRefused) = 1

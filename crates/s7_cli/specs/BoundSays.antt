@@ -22,7 +22,8 @@ use Rattle.s7_cli.specs.Reading.{Disk}
 abbrev pub HasLeastCertificate : LoadedProgram → Type 0
 HasLeastCertificate l = (list : List Bound) × IsLeastCertificate l.profile l.program list
 
--- the certificate is written, or a chain is told that is too deep
+-- what `bound` answers by how its image loads: it is refused, the certificate is written, or a
+-- chain of calls is told that is too deep
 abbrev pub BoundAnswer : Result LoadedProgram LoadFault → Answer → Type 0
 BoundAnswer (Err fault) answer = answer ≡ refused_image_answer fault
 BoundAnswer (Ok l) answer =
@@ -42,18 +43,20 @@ IsCertificate bytes image =
 
 -- ---- `recheck`: the image is loaded first, and then the certificate is read
 
--- the certificate holds, or says no
+-- what `recheck` answers for a certificate that was read: it holds of the program, or says no
 abbrev pub HeldAnswer : LoadedProgram → List Bound → Answer → Type 0
 HeldAnswer l list answer =
     (IsCertificateOf l.profile l.program list × (answer ≡ done_answer ok_line))
     ⊎ ((IsCertificateOf l.profile l.program list → ⊥) × (answer ≡ says_no_answer))
 
--- a text that is no certificate is refused by its first bad line
+-- what `recheck` answers by how the certificate was read: a text that is none is refused by its
+-- first bad line
 abbrev pub CheckedAnswer : LoadedProgram → Result (List Bound) Refusal → Answer → Type 0
 CheckedAnswer l (Err refusal) answer = answer ≡ refused_file_answer Certificate refusal
 CheckedAnswer l (Ok list) answer = HeldAnswer l list answer
 
--- the blocks of the certificate are those of the image
+-- what `recheck` answers by how its image loads; the blocks of the certificate are those of the
+-- image
 abbrev pub RecheckAnswer : Result LoadedProgram LoadFault → (certificate : List ℕ) → Answer → Type 0
 RecheckAnswer (Err fault) certificate answer = answer ≡ refused_image_answer fault
 RecheckAnswer (Ok l) certificate answer =
@@ -73,7 +76,8 @@ image_bounded (BoundCommand image certificate) = Some image
 image_bounded (Recheck image certificate) = Some image
 image_bounded command = None
 
--- no valid history of the program in that image, at its profile, leads to a STOP by block depth or local data
+-- no valid history of the program in the image of `bound` or `recheck`, at its profile, leads to
+-- a STOP by block depth or local data
 abbrev pub StacksSuffice : Command → Disk → Type 0
 StacksSuffice k d =
     (name bytes : List ℕ) (l : LoadedProgram) → image_bounded k ≡ Some name

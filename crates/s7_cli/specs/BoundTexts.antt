@@ -14,7 +14,8 @@ use Rattle.s7_cli.specs.declared.bound_command.Told.TheVariants as told
 use Rattle.s7_cli.specs.BoundSays.{IsCertificate}
 use Rattle.s7_cli.specs.Loads.{LoadsAs}
 
--- the text of what was found
+-- the text that is told of what was found: a certificate, or the line of a chain that is too
+-- deep
 abbrev pub IsToldOf : Found → Told → Type 0
 IsToldOf (found.Fits list) (told.Fits certificate) = certificate.items ≡ certificate_text list.items
 IsToldOf (found.Deep chain) (told.Deep line) = line.items ≡ chain_text chain.items
@@ -26,7 +27,7 @@ IsChainLine line image =
     (l : LoadedProgram) × LoadsAs image (Ok l) × (chain : List BlockId)
     × IsDeepChain l.profile l.program chain × (line ≡ chain_text chain)
 
--- what is told of an image
+-- what is told of an image: its certificate, or the line of a chain that is too deep
 abbrev pub TellsOf : (image : List ℕ) → Told → Type 0
 TellsOf image (told.Fits certificate) = IsCertificate certificate.items image
 TellsOf image (told.Deep line) = IsChainLine line.items image

@@ -36,29 +36,29 @@ abbrev pub symbols_inputs : Option (List ℕ) → List Input
 symbols_inputs None = []
 symbols_inputs (Some symbols) = record { file = Symbols; name = symbols } ∷ []
 
--- a source and its symbols
+-- the input files of a program: its source, and its symbols where `--symbols` names them
 abbrev pub program_inputs : (source : List ℕ) (symbols : Option (List ℕ)) → List Input
 program_inputs source symbols = record { file = Source; name = source } ∷ symbols_inputs symbols
 
--- scripts, numbered from this one on
+-- the input files that are scripts, numbered from this one on
 abbrev pub script_inputs : (number : ℕ) → List (List ℕ) → List Input
 script_inputs number [] = []
 script_inputs number (script ∷ more) =
     record { file = Script number; name = script } ∷ script_inputs (number + 1) more
 
--- an image, stimuli and scripts
+-- the input files of `live`: an image, stimuli and scripts
 abbrev pub live_inputs : (image stimuli : List ℕ) (scripts : List (List ℕ)) → List Input
 live_inputs image stimuli scripts =
     record { file = Image; name = image } ∷ record { file = Stimuli; name = stimuli }
     ∷ script_inputs 1 scripts
 
--- an image, stimuli, variables and scripts
+-- the input files of `watch`: an image, stimuli, variables and scripts
 abbrev pub watch_inputs : (image stimuli vars : List ℕ) (scripts : List (List ℕ)) → List Input
 watch_inputs image stimuli vars scripts =
     record { file = Image; name = image } ∷ record { file = Stimuli; name = stimuli }
     ∷ record { file = Vars; name = vars } ∷ script_inputs 1 scripts
 
--- in the order in which they are read
+-- the files that a command reads, in the order in which they are read
 abbrev pub inputs_of : Command → List Input
 inputs_of (Go source symbols german history) =
     program_inputs source symbols ++ record { file = History; name = history } ∷ []
@@ -91,7 +91,8 @@ outputs_of (ListImage image source symbols) = source ∷ symbols ∷ []
 outputs_of (Bound image certificate) = certificate ∷ []
 outputs_of (Recheck image certificate) = []
 
--- the most bytes that each file may hold, and a translation, and each text of a listing
+-- the most bytes that a file of this sort may hold, and a translation, and each text of a
+-- listing
 abbrev pub limit_of : File → ℕ
 limit_of Source = 1048576
 limit_of Translation = 1048576

@@ -22,8 +22,8 @@ use Rattle.s7_cli.specs.declared.compiling.LaidSource.{LaidSource}
 use Rattle.s7_cli.specs.declared.faults.CompileFault.{CompileFault}
 use Rattle.s7_cli.specs.declared.faults.CompileFault.TheVariants as fault
 
--- a source with its symbols, whose addresses are those of a language, is refused so; nothing is said
--- where memory is wanting
+-- a source with its symbols, whose addresses are those of a language, is refused by this fault;
+-- nothing is said where memory is wanting
 abbrev pub RefusesIn : Language → (source symbols : List ℕ) → CompileFault → Type 0
 RefusesIn language source symbols (fault.Symbols refusal) =
     IsRefusedSourceIn language source symbols (InSymbols refusal)
@@ -31,33 +31,35 @@ RefusesIn language source symbols (fault.Source refusal) =
     IsRefusedSourceIn language source symbols (InSource refusal)
 RefusesIn language source symbols fault.NoMemory = Unit {0}
 
--- the same in English
+-- a source with its symbols, whose addresses are English, is refused by this fault; nothing is
+-- said where memory is wanting
 abbrev pub RefusesBy : (source symbols : List ℕ) → CompileFault → Type 0
 RefusesBy source symbols fault = RefusesIn English source symbols fault
 
--- a symbols file is refused so, whatever the source is
+-- a symbols file with addresses in a language is refused by this fault, whatever the source is
 abbrev pub RefusesSymbols : Language → (symbols : List ℕ) → CompileFault → Type 0
 RefusesSymbols language symbols (fault.Symbols refusal) = HasSymbolsIn language symbols (Err refusal)
 RefusesSymbols language symbols (fault.Source refusal) = ⊥
 RefusesSymbols language symbols fault.NoMemory = Unit {0}
 
--- a source is refused so with each symbols file, in whichever language, that has these symbols
+-- a source is refused by this fault with each symbols file, in whichever language, that has
+-- these symbols
 abbrev pub RefusesWith : (source : List ℕ) → List Symbol → CompileFault → Type 0
 RefusesWith source list fault =
     (language : Language) (symbols : List ℕ) → HasSymbolsIn language symbols (Ok list)
     → RefusesIn language source symbols fault
 
--- a refusal of the symbols file, or want of memory
+-- the fault of compiling by a fault of the symbols file: its refusal, or want of memory
 abbrev pub fault_in_symbols : SourceFault → CompileFault
 fault_in_symbols (found.Refused refusal) = fault.Symbols refusal
 fault_in_symbols found.NoMemory = fault.NoMemory
 
--- a refusal of the source, or want of memory
+-- the fault of compiling by a fault of the source: its refusal, or want of memory
 abbrev pub fault_in_source : SourceFault → CompileFault
 fault_in_source (found.Refused refusal) = fault.Source refusal
 fault_in_source found.NoMemory = fault.NoMemory
 
--- what a stage makes, or its refusal
+-- what a stage makes, or its refusal; nothing is said where memory is wanting
 abbrev pub MakesOrRefuses : {A : Type 0} → (Result A Refusal → Type 0) → Result A SourceFault → Type 0
 MakesOrRefuses stage (Ok made) = stage (Ok made)
 MakesOrRefuses stage (Err (found.Refused refusal)) = stage (Err refusal)
@@ -81,7 +83,7 @@ pub record IsSourceLaidOut (source : List ℕ) (laid : LaidSource) : Type 0 wher
   pub right : least (layout_refusals laid.tree laid.symbols) ≡ None
   pub layout : laid.layouts ≡ layouts_of laid.tree laid.symbols
 
--- each source that is laid out so is refused so
+-- each source that is laid out with this tree, symbols and layouts is refused by this fault
 abbrev pub RefusesLaid : LaidSource → CompileFault → Type 0
 RefusesLaid laid fault =
     (source : List ℕ) → IsSourceLaidOut source laid → RefusesWith source laid.symbols fault
@@ -99,7 +101,8 @@ IsCompiledIn language bytes source symbols =
     × (kept.stamp ≡ stamp.Two profile.Large) × CompilesTo language source symbols kept.program
     × AreFiles source symbols
 
--- the same in English
+-- a source with its symbols, with English addresses, has a program that keeps it, at the large
+-- profile
 abbrev pub HasProgram : (source symbols : List ℕ) → Type 0
 HasProgram source symbols = HasProgramIn English source symbols
 
@@ -119,7 +122,7 @@ HasProgramWith source list =
     (language : Language) (symbols : List ℕ) → AreFiles source symbols
     → HasSymbolsIn language symbols (Ok list) → HasProgramIn language source symbols
 
--- this is such a program
+-- a program keeps a source, at the large profile, with each symbols file that has these symbols
 abbrev pub KeepsWith : (source : List ℕ) → List Symbol → Program → Type 0
 KeepsWith source list p =
     (language : Language) (symbols : List ℕ) → AreFiles source symbols

@@ -19,7 +19,8 @@ pub record SinkMoments : Type 0 where
 abbrev pub sink_moments : SinkAt → SinkAt → SinkMoments
 sink_moments before after = record { before = before; after = after }
 
--- an answer of a call
+-- an answer that a call may give: of a command, by what its input files hold; of refused words,
+-- that they are
 abbrev pub IsAnswerOfCall : Option Command → Disk → Answer → Type 0
 IsAnswerOfCall None d answer = answer ≡ words_refused_answer
 IsAnswerOfCall (Some c) d answer = ReadsFilesInTurn d (inputs_of c) (CommandSays c) answer
@@ -43,7 +44,7 @@ RoseAmong before after (name ∷ names) = CountRose (before name) (after name) �
 abbrev pub InputRose : Option Command → Disk → Type 0
 InputRose c d = RoseAmong d.before.failed_reads d.after.failed_reads (input_names c)
 
--- some count of failed writes of an output file rose
+-- some count of failed writes of an output file rose in the call
 abbrev pub OutputRose : Option Command → Disk → Type 0
 OutputRose c d = RoseAmong d.before.failed_writes d.after.failed_writes (output_names c)
 
@@ -56,13 +57,15 @@ CountsReads d outcome = SameCounts d.before.failed_reads d.after.failed_reads
 abbrev pub WritesTo : Command → Disk → (name bytes : List ℕ) → Type 0
 WritesTo c d name bytes = (contents : List (List ℕ)) × HoldBytesInTurn d.before.contents (inputs_of c) contents × WritesOutputFile c contents name bytes
 
--- an output file holds what it held, or a front of what the command writes to it, or the whole of that
+-- an output file holds what it held, or a front of what the command writes to it, or the whole
+-- of that, where the files tell what they hold
 abbrev pub HoldsFront : Command → Disk → List ℕ → Type 0
 HoldsFront c d name =
     d.before.contents.told ≡ true → (d.after.contents.at name ≡ d.before.contents.at name)
     ⊎ ((bytes : List ℕ) × (n : ℕ) × WritesTo c d name bytes × (d.after.contents.at name ≡ Some (take n bytes)))
 
--- it holds the whole
+-- an output file holds the whole of what the command writes to it, where the files tell what
+-- they hold
 abbrev pub HoldsWhole : Command → Disk → List ℕ → Type 0
 HoldsWhole c d name =
     d.before.contents.told ≡ true → (bytes : List ℕ) × WritesTo c d name bytes × (d.after.contents.at name ≡ Some bytes)
@@ -98,13 +101,14 @@ pub record SaysWholeText (c : Option Command) (d : Disk) (s : SinkMoments) (answ
   pub writes : SameCounts d.before.failed_writes d.after.failed_writes
   pub files : LeavesFiles c d answer.outcome
 
--- it was cut short; the counts of failed reads may have risen
+-- the call was cut short, and no file but output files changed; the counts of failed reads may
+-- have risen
 pub record IsCallCutShort (c : Option Command) (d : Disk) (s : SinkMoments) : Type 0 where
   pub cut : CutShort c d s
   pub reads : NoCountFell d.before.failed_reads d.after.failed_reads
   pub files : ChangesOutputs c d
 
--- the sink failed, and no write of a file
+-- a write to the sink failed, and no write of a file
 pub record SinkFailed (d : Disk) (s : SinkMoments) : Type 0 where
   pub faults : CountRose s.before.faults s.after.faults
   pub never_fell : s.before.faults ≤ s.after.faults
@@ -116,23 +120,24 @@ pub record OutputFailed (c : Option Command) (d : Disk) (s : SinkMoments) : Type
   pub writes : NoCountFell d.before.failed_writes d.after.failed_writes
   pub faults : s.after.faults ≡ s.before.faults
 
--- a write failed
+-- the call was cut short by a failed write, to the sink or of an output file
 pub record IsWriteFault (c : Option Command) (d : Disk) (s : SinkMoments) : Type 0 where
   pub cut : IsCallCutShort c d s
   pub failed : SinkFailed d s ⊎ OutputFailed c d s
 
--- memory was wanting
+-- the call was cut short for want of memory, and no write failed
 pub record IsNoMemory (c : Option Command) (d : Disk) (s : SinkMoments) : Type 0 where
   pub cut : IsCallCutShort c d s
   pub faults : s.after.faults ≡ s.before.faults
   pub writes : SameCounts d.before.failed_writes d.after.failed_writes
 
--- a call came out so
+-- a call came out with this outcome: cut short by a failed write or for want of memory, or else
+-- with its whole text said
 abbrev pub EndsWithOutcome : Option Command → Disk → SinkMoments → Outcome → Type 0
 EndsWithOutcome c d s (Err WriteFault) = IsWriteFault c d s
 EndsWithOutcome c d s (Err NoMemory) = IsNoMemory c d s
 EndsWithOutcome c d s outcome = (text : List ℕ) × SaysWholeText c d s (record { outcome = outcome; text = text })
 
--- and this is its status
+-- a call came out with an outcome that has this exit status
 abbrev pub EndsWithStatus : Option Command → Disk → SinkMoments → ℕ → Type 0
 EndsWithStatus c d s code = (outcome : Outcome) × (code ≡ exit_status outcome) × EndsWithOutcome c d s outcome

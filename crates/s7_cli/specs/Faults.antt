@@ -24,7 +24,7 @@ failure_of_text file (text.BadLine line rule) =
     Refused file (record { line = line; rule = rule })
 failure_of_text file text.NoMemory = NoMemory
 
--- a history is
+-- a history is refused, or there is no memory
 abbrev pub failure_of_history : TextFault → Failure
 failure_of_history fault = failure_of_text History fault
 

@@ -12,7 +12,8 @@ use Rattle.controller.specs.Replay.{replay}
 use Rattle.controller.specs.Replayed.{entry_events}
 use Rattle.controller.specs.State.{State}
 
--- a mode; that of a stop with its cause. A run without OB 100 and without requests never stands in STARTUP
+-- the words for a mode; for STOP with its cause. A run without OB 100 and without requests never
+-- stands in STARTUP
 unfoldable pub mode_words : Mode → List ℕ
 mode_words Run = codes "RUN"
 mode_words Startup = codes "STARTUP"

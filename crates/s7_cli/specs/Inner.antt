@@ -22,7 +22,8 @@ pub record OnlyReads (d : Disk) : Type 0 where
   pub reads : NoCountFell d.before.failed_reads d.after.failed_reads
   pub writes : SameCounts d.before.failed_writes d.after.failed_writes
 
--- the reading of one input file
+-- the reading of one input file, by its outcome: the bytes that it holds, a failed read, a byte
+-- past its limit, or no memory
 abbrev pub FileRead : {V : Type 0} (view : V → List ℕ) → Disk → Input → Result V Failure → Type 0
 FileRead view d i (Ok v) = AreFilesUnchanged d.before d.after × HoldsBytes d.before.contents i (view v)
 FileRead view d i (Err ReadFault) = OnlyReads d × StopsAt d i read_fault_answer
@@ -30,7 +31,7 @@ FileRead view d i (Err (TooLong file)) = AreFilesUnchanged d.before d.after × (
 FileRead view d i (Err NoMemory) = OnlyReads d
 FileRead view d i (Err failure) = ⊥
 
--- these input files were read, and nothing changed
+-- these input files were read and hold these contents, one after the other, and nothing changed
 pub record HasRead (before after : FilesAt) (inputs : List Input) (contents : List (List ℕ)) : Type 0 where
   pub same : AreFilesUnchanged before after
   pub hold : HoldBytesInTurn before.contents inputs contents
@@ -52,8 +53,8 @@ AllRead view d is (Err (TooLong file)) =
 AllRead view d is (Err NoMemory) = OnlyReads d
 AllRead view d is (Err failure) = ⊥
 
--- what files hold was refused, or a certificate doesn't hold of it, or its translation or listing is too long, or it has no listing: this
--- is said of it
+-- a failure by what files hold has an answer of which this is said: a refusal, a translation or
+-- listing that is too long, an image without a listing, or a certificate that doesn't hold
 abbrev pub SaysRefusal : {V : Type 0} → (Answer → Type 0) → Result V Failure → Type 0
 SaysRefusal says (Ok v) = Unit {0}
 SaysRefusal says (Err (Refused file refusal)) = says (refused_file_answer file refusal)
@@ -64,7 +65,8 @@ SaysRefusal says (Err SaysNo) = says says_no_answer
 SaysRefusal says (Err NoMemory) = Unit {0}
 SaysRefusal says (Err failure) = ⊥
 
--- the writing of a whole text
+-- the writing of a whole text to the sink, by its outcome: all of it was taken, or a front of it
+-- where the sink failed or memory was wanting
 abbrev pub TextWritten : List ℕ → SinkMoments → Outcome → Type 0
 TextWritten text s (Ok done) = TookBytes s.before s.after text × (s.after.faults ≡ s.before.faults)
 TextWritten text s (Err WriteFault) =
@@ -72,7 +74,7 @@ TextWritten text s (Err WriteFault) =
 TextWritten text s (Err NoMemory) = TookPrefix s.before s.after text × (s.after.faults ≡ s.before.faults)
 TextWritten text s (Err failure) = ⊥
 
--- the writing of a whole output file
+-- the writing of a whole output file, by its outcome: done, failed, or no memory
 abbrev pub FileWritten : Disk → (name bytes : List ℕ) → Outcome → Type 0
 FileWritten d name bytes (Ok done) =
     LeavesWritten {X = Unit} d.before d.after name bytes (Ok done)
@@ -82,7 +84,7 @@ FileWritten d name bytes (Err NoMemory) =
     LeavesWritten {X = Unit} d.before d.after name bytes (Err fault.NoMemory)
 FileWritten d name bytes (Err failure) = ⊥
 
--- a failure whose line isn't written yet
+-- a command comes to a failure whose line isn't written yet
 pub record FailsWith (c : Option Command) (d : Disk) (s : SinkMoments) (failure : Failure) : Type 0 where
   pub line : List ℕ
   pub has_line : line_of_failure failure ≡ Some line
@@ -100,7 +102,7 @@ ComesOutAs c d s (Err TooDeep) =
     (text : List ℕ) × SaysWholeText c d s (record { outcome = Err TooDeep; text = text })
 ComesOutAs c d s (Err failure) = FailsWith c d s failure
 
--- how a command comes out behind the reading of its input files, which held this
+-- how a command comes out behind the reading of its input files, which held these contents
 abbrev pub ComesOf : Command → (contents : List (List ℕ)) → Disk → SinkMoments → Outcome → Type 0
 ComesOf c contents d s came =
     (start : FilesAt) → HasRead start d.before (inputs_of c) contents
@@ -117,7 +119,7 @@ pub record WrittenFile : Type 0 where
   pub name : List ℕ
   pub bytes : List ℕ
 
--- what is written so
+-- an output as a file and what is written to it
 abbrev pub written_file : Output → WrittenFile
 written_file o = record { name = o.name.now; bytes = o.bytes.now }
 
@@ -129,7 +131,8 @@ pub record AreOutputs (c : Command) (contents : List (List ℕ)) (first second :
   pub writes_second : WritesOutputFile c contents second.name second.bytes
   pub says : CommandSays c contents (done_answer ok_line)
 
--- the writing of a failure's line, if it has one
+-- the writing of a failure's line, if it has one; `ended` is the failure with which the call
+-- ends
 abbrev pub LineWritten : Option (List ℕ) → Failure → SinkMoments → Failure → Type 0
 LineWritten None failure s ended = (ended ≡ failure) × (s.after ≡ s.before)
 LineWritten (Some line) failure s WriteFault = TextWritten line s (Err WriteFault)

@@ -14,7 +14,8 @@ use Rattle.s7_cli.specs.Answer.{Answer}
 use Rattle.s7_cli.specs.Loads.{LoadsAs}
 use Rattle.s7_cli.specs.Says.{SourceSays, RunSays}
 
--- the program of the image runs as the source means, along each list of entries, at the image's profile
+-- the program of an image that keeps a source runs as the source means, along each list of
+-- entries, at the image's profile
 abbrev pub KeptImagesRunAlike : Type 0
 KeptImagesRunAlike =
     (language : Language) (image source symbols : List ℕ) (loaded : LoadedProgram) (c : Code)
@@ -22,8 +23,9 @@ KeptImagesRunAlike =
     → LoadsAs image (Ok loaded) → MeansCodeIn language source symbols c → (entries : List Entry)
     → run_text loaded.profile (code_of loaded.program) entries ≡ run_text loaded.profile c entries
 
--- so `run` with the image answers what the source says at the profile of the image: where that is the large one, as of an image
--- that `compile` wrote, what `go` answers with the source
+-- `run` with an image that keeps a source answers what the source says at the profile of the
+-- image: where that is the large one, as of an image that `compile` wrote, what `go` answers
+-- with the source
 abbrev pub KeptImagesAnswerAlike : Type 0
 KeptImagesAnswerAlike =
     (language : Language) (image source symbols : List ℕ)

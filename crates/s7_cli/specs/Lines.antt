@@ -70,7 +70,8 @@ line_of_failure TooDeep = None
 line_of_failure WriteFault = None
 line_of_failure NoMemory = None
 
--- the same, and for a chain that is too deep the line of such a chain
+-- a line that a failure may have: its own, and for a chain that is too deep the line of some
+-- chain
 abbrev pub IsFailureLine : Failure → List ℕ → Type 0
 IsFailureLine TooDeep line = (chain : List BlockId) × (line ≡ chain_text chain)
 IsFailureLine failure line = line_of_failure failure ≡ Some line

@@ -18,7 +18,7 @@ abbrev pub IsLongListing : Program → Type 0
 IsLongListing p =
     (limit_of Listing < length (listed_source p)) ⊎ (limit_of Listing < length (listed_names p.names))
 
--- neither is
+-- neither text of the listing of a program is longer than it may be
 pub record IsShortListing (p : Program) : Type 0 where
   pub source : length (listed_source p) ≤ limit_of Listing
   pub symbols : length (listed_names p.names) ≤ limit_of Listing
@@ -27,14 +27,15 @@ pub record IsShortListing (p : Program) : Type 0 where
 abbrev pub HasListing : Program → Type 0
 HasListing p = CompilesTo English (listed_source p) (listed_names p.names) p
 
--- its length is judged first, and then the listing is compiled
+-- what `list` answers for a program: the length of its listing is judged first, and then the
+-- listing is compiled
 abbrev pub ListedAnswer : Program → Answer → Type 0
 ListedAnswer p answer =
     (IsLongListing p × (answer ≡ too_long_answer Listing))
     ⊎ (IsShortListing p × (HasListing p → ⊥) × (answer ≡ no_listing_answer))
     ⊎ (IsShortListing p × HasListing p × (answer ≡ done_answer ok_line))
 
--- the image is loaded before
+-- what `list` answers by how its image loads: the image is refused, or the program is listed
 abbrev pub ListAnswer : Result LoadedProgram LoadFault → Answer → Type 0
 ListAnswer (Err fault) answer = answer ≡ refused_image_answer fault
 ListAnswer (Ok l) answer = ListedAnswer l.program answer
@@ -44,19 +45,21 @@ abbrev pub ListSays : (image : List ℕ) → Answer → Type 0
 ListSays image answer =
     (loaded : Result LoadedProgram LoadFault) × LoadsAs image loaded × ListAnswer loaded answer
 
--- these are the texts of the listing of a program, which compile to it
+-- these are the texts of the listing of a program: they aren't longer than they may be and
+-- compile to it
 pub record IsListing (source symbols : List ℕ) (p : Program) : Type 0 where
   pub source_is : source ≡ listed_source p
   pub symbols_are : symbols ≡ listed_names p.names
   pub short : IsShortListing p
   pub compiles : HasListing p
 
--- of the program as which an image loads
+-- these are the texts of the listing of the program as which an image loads
 abbrev pub IsListingOf : (source symbols image : List ℕ) → Type 0
 IsListingOf source symbols image =
     (l : LoadedProgram) × LoadsAs image (Ok l) × IsListing source symbols l.program
 
--- what is written to a file: its source to the one, its names to the other
+-- what `list` writes to a file, of the program as which an image loads: its source to the one,
+-- its names to the other
 abbrev pub IsListed : (source symbols image name bytes : List ℕ) → Type 0
 IsListed source symbols image name bytes =
     (l : LoadedProgram) × LoadsAs image (Ok l) × HasListing l.program

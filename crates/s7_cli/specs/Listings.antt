@@ -28,7 +28,8 @@ ListingsGiveImages =
     → IsImageOfEnglishSource bytes (listed_source l.program) (listed_names l.program.names)
     → bytes ≡ image
 
--- it does compile to the program of such an image, where neither of its texts is longer than it may be
+-- the listing of an image that `compile` wrote compiles to the image's program, where neither of
+-- its texts is longer than it may be
 abbrev pub CompiledHaveListings : Type 0
 CompiledHaveListings =
     (german : Bool) (image source symbols : List ℕ) → IsSourceImage german image source symbols
@@ -39,7 +40,8 @@ abbrev pub image_listed : Command → Option (List ℕ)
 image_listed (ListImage image source symbols) = Some image
 image_listed _ = None
 
--- it is none that `compile` wrote, in either language
+-- the image that a command lists, where the files tell what they hold, is none that `compile`
+-- wrote of a source in either language
 abbrev pub IsNotCompiled : Command → Disk → Type 0
 IsNotCompiled k d =
     (name bytes : List ℕ) (german : Bool) (source symbols : List ℕ) → image_listed k ≡ Some name

@@ -19,7 +19,7 @@ pub record RefusedScript : Type 0 where
   pub number : ℕ
   pub refusal : Refusal
 
--- a script in front of those that follow; the first one that is refused decides
+-- a script that was read, in front of those that follow; the first one that is refused decides
 abbrev pub script_first : (number : ℕ) → Result (List Entry) Refusal → Result (List (List Entry)) RefusedScript → Result (List (List Entry)) RefusedScript
 script_first number (Err refusal) more = Err (record { number = number; refusal = refusal })
 script_first number (Ok entries) (Err refused) = Err refused
@@ -44,13 +44,14 @@ pub record RanLive (loaded : LoadedProgram) (steps : ℕ) (stimuli : List Entry)
   pub read_back : history_of_text loaded.program.names (history_text history) ≡ Ok history
   pub says : answer ≡ done_answer (live_text loaded history)
 
--- the stimuli are checked first, then the scripts in their order
+-- what `live` answers for a program: the stimuli are checked first, then the scripts in their
+-- order, and then the workers run
 abbrev pub LiveAnswer : LoadedProgram → (steps : ℕ) → Result (List Entry) Refusal → Result (List (List Entry)) RefusedScript → Answer → Type 0
 LiveAnswer loaded steps (Err refusal) scripts answer = answer ≡ refused_file_answer Stimuli refusal
 LiveAnswer loaded steps (Ok stimuli) (Err script) answer = answer ≡ refused_file_answer (Script script.number) script.refusal
 LiveAnswer loaded steps (Ok stimuli) (Ok scripts) answer = RanLive loaded steps stimuli scripts answer
 
--- the image is loaded before
+-- what `live` answers by how its image loads, which is before stimuli and scripts are checked
 abbrev pub LoadedLive : Result LoadedProgram LoadFault → (steps : ℕ) → (stimuli : List ℕ) (scripts : List (List ℕ)) → Answer → Type 0
 LoadedLive (Err fault) steps stimuli scripts answer = answer ≡ refused_image_answer fault
 LoadedLive (Ok loaded) steps stimuli scripts answer =

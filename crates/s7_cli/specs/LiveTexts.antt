@@ -43,7 +43,8 @@ TellsScript scripts failure =
     ⊎ ((script : RefusedScript) × (scripts ≡ Err script)
     × (failure ≡ Refused (Script script.number) script.refusal))
 
--- the program and the lists of the workers; an entry has four bytes of its text at least
+-- what is found in the files of a live run: the program and the lists of the workers; an entry
+-- has four bytes of its text at least
 pub record FindsProgramAndScripts (text : LiveText) (loaded : LoadedProgram) (stimuli : List Entry) (scripts : List (List Entry)) : Type 0 where
   pub loads : LoadsAs text.image.items (Ok loaded)
   pub are_stimuli : stimuli_of text.stimuli.items ≡ Ok stimuli

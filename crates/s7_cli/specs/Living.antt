@@ -15,7 +15,7 @@ abbrev pub AreRegularBy : (who : ℕ) → List (List Entry) → Type 0
 AreRegularBy who [] = Unit {0}
 AreRegularBy who (x ∷ xs) = All (IsRegularOf who) x × AreRegularBy (suc who) xs
 
--- how many entries they have together
+-- how many entries these lists have together
 abbrev pub total_length : List (List Entry) → ℕ
 total_length [] = 0
 total_length (x ∷ xs) = length x + total_length xs

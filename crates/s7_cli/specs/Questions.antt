@@ -7,7 +7,7 @@ use Rattle.s7_cli.specs.declared.help.Question.{Question}
 use Rattle.s7_cli.specs.declared.help.Question.TheVariants.{Help, Version}
 use Rattle.s7_cli.specs.declared.help.TheConstants.{HELP, VERSION}
 
--- the text that answers it
+-- the text that answers a question about the program
 abbrev pub question_text : Question → List ℕ
 question_text Help = HELP.now
 question_text Version = VERSION.now
@@ -18,12 +18,13 @@ question_by word =
     if bytes_eq word (codes "--help") || bytes_eq word (codes "-h") then Some Help
     else if bytes_eq word (codes "--version") || bytes_eq word (codes "-V") then Some Version else None
 
--- it's asked where that is the only word
+-- the question that the words of a call ask: it stands as their only word
 abbrev pub question_of : List (List ℕ) → Option Question
 question_of (word ∷ []) = question_by word
 question_of words = None
 
--- its text was written: whole at status 0; a front of it at 6, where the sink's count of faults rose, and at 7
+-- the text of an answer was written with this exit status: whole at 0; a front of it at 6, where
+-- the sink's count of faults rose, and at 7, for want of memory
 pub record AnswerWritten (text : List ℕ) (before after : SinkAt) (code : ℕ) : Type 0 where
   pub statuses : (code ≡ 0) ⊎ (code ≡ 6) ⊎ (code ≡ 7)
   pub whole : code ≡ 0 → TookBytes before after text

@@ -47,8 +47,8 @@ abbrev pub check_answer : Result Code RefusedFile → Answer
 check_answer (Err why) = refused_program why
 check_answer (Ok code) = done_answer ok_line
 
--- over the contents of its files, with symbols in a language; a history may name the variables of the
--- symbols
+-- the answer of running a source along a history, over the contents of its files, with symbols
+-- in a language, at a profile; the history may name the variables of the symbols
 abbrev pub SourceSays : Language → Profile → (source symbols history : List ℕ) → Answer → Type 0
 SourceSays language profile source symbols history answer =
     (outcome : Result Code RefusedFile) × IsCheckedIn language source symbols outcome
@@ -60,12 +60,14 @@ GoSays german source symbols history answer =
     InEnglish german source symbols
     (λ text. SourceSays (language_of german) Large text symbols history) answer
 
--- `run`: the image is loaded first, and then the history is checked; else the text of the run is told, at the image's profile
+-- `run` with an image that loads: the history is checked, or the text of the run is told, at the
+-- image's profile
 abbrev pub run_outcome : LoadedProgram → Result (List Entry) Refusal → Answer
 run_outcome loaded (Err refusal) = refused_file_answer History refusal
 run_outcome loaded (Ok entries) = done_answer (run_text loaded.profile (code_of loaded.program) entries)
 
--- a history may name the variables whose names stand in the image
+-- `run`, by how its image loads: it is refused, or runs along the history, which may name the
+-- variables whose names stand in the image
 abbrev pub run_answer : Result LoadedProgram LoadFault → (history : List ℕ) → Answer
 run_answer (Err fault) history = refused_image_answer fault
 run_answer (Ok loaded) history = run_outcome loaded (history_of_text loaded.program.names history)
@@ -102,7 +104,7 @@ GenSays number answer =
     (outcome : Result Code RefusedFile) × IsChecked (source_text number) [] outcome
     × (answer ≡ gen_answer number outcome)
 
--- what is said of an English text with symbols in a language
+-- what `check` and `compile` answer for an English text with symbols in a language
 abbrev pub ChecksAs : Language → (symbols text : List ℕ) → Answer → Type 0
 ChecksAs language symbols text answer =
     (outcome : Result Code RefusedFile) × IsCheckedIn language text symbols outcome
@@ -113,23 +115,23 @@ abbrev pub CheckSays : (german : Bool) → (source symbols : List ℕ) → Answe
 CheckSays german source symbols answer =
     InEnglish german source symbols (ChecksAs (language_of german) symbols) answer
 
--- an English text with symbols in a language is refused so
+-- an English text with symbols in a language is refused with this answer
 abbrev pub RefusedText : Language → (symbols text : List ℕ) → Answer → Type 0
 RefusedText language symbols text answer =
     (why : RefusedFile) × IsRefusedSourceIn language text symbols why × (answer ≡ refused_program why)
 
--- a source with its symbols is refused so, or its translation is too long
+-- a source with its symbols is refused with this answer, or its translation is too long
 abbrev pub RefusedProgram : (german : Bool) → (source symbols : List ℕ) → Answer → Type 0
 RefusedProgram german source symbols answer =
     InEnglish german source symbols (RefusedText (language_of german) symbols) answer
 
--- what `english` and `german` answer
+-- what `english` and `german` answer, over the contents of their file
 abbrev pub TranslateSays : Language → (source : List ℕ) → Answer → Type 0
 TranslateSays language source answer =
     SaysTranslated language source (λ text a. a ≡ done_answer ok_line) answer
 
--- over the contents of the command's input files, in the order of reading; without a symbols file the
--- symbols are no bytes
+-- what a command answers, over the contents of its input files, in the order of reading; without
+-- a symbols file the symbols are no bytes
 abbrev pub CommandSays : Command → List (List ℕ) → Answer → Type 0
 CommandSays (Go _ None german _) (source ∷ history ∷ []) answer = GoSays german source [] history answer
 CommandSays (Go _ (Some _) german _) (source ∷ symbols ∷ history ∷ []) answer =
@@ -153,7 +155,8 @@ CommandSays (Bound _ _) (image ∷ []) answer = BoundSays image answer
 CommandSays (Recheck _ _) (image ∷ certificate ∷ []) answer = RecheckSays image certificate answer
 CommandSays _ contents answer = ⊥
 
--- what the command writes to an output file, over the same contents
+-- what a command writes to an output file, over the contents of its input files, in the order of
+-- reading
 abbrev pub WritesOutputFile : Command → List (List ℕ) → (name bytes : List ℕ) → Type 0
 WritesOutputFile (Compile _ None german image) (source ∷ []) name bytes =
     (name ≡ image) × IsSourceImage german bytes source []

@@ -17,8 +17,9 @@ use Rattle.s7_cli.specs.Says.{CommandSays}
 abbrev pub IsAllowed : Command → Disk → Answer → Type 0
 IsAllowed k d answer = AllowsAnswer d.before.contents (inputs_of k) (CommandSays k) answer
 
--- told files allow one text of such a command. The workers of `live` and `watch` take turns in many ways, and each way has a text of its own;
--- `bound` tells one of the chains that are too deep
+-- told files allow one text of this command. The workers of `live` and `watch` take turns in
+-- many ways, and each way has a text of its own; `bound` tells one of the chains that are too
+-- deep
 abbrev pub HasOneText : Command → Type 0
 HasOneText (Live _ _ _ _) = ⊥
 HasOneText (Watch _ _ _ _ _) = ⊥
@@ -35,15 +36,15 @@ pub record IsDecided (k : Command) (d : Disk) (s : SinkMoments) (code : ℕ) : T
   pub status : code ≡ exit_status answer.outcome
   pub took : TookBytes s.before s.after answer.text
 
--- the statuses that there are
+-- the exit statuses that there are: 0 to 10
 abbrev pub IsStatus : ℕ → Type 0
 IsStatus code = code ≤ 10
 
--- a write failed, or memory was wanting
+-- the exit status of a failed write (6) or of want of memory (7)
 abbrev pub IsCutOff : ℕ → Type 0
 IsCutOff code = (code ≡ 6) ⊎ (code ≡ 7)
 
--- the table of statuses
+-- the table of statuses: what each exit status tells of a call, over its files and the sink
 pub record StatusTable (c : Option Command) (d : Disk) (s : SinkMoments) (code : ℕ) : Type 0 where
   -- no other status than these
   pub statuses : IsStatus code

@@ -6,15 +6,15 @@ use Rattle.s7_cli.specs.declared.files.ProgramText.{ProgramText}
 abbrev pub symbols_file : ProgramText → Option (List ℕ)
 symbols_file text = option_map (λ v. v.items) text.symbols
 
--- the same, and no bytes where there is none
+-- the bytes of the symbols file, and no bytes where there is none
 abbrev pub symbols_text_of : ProgramText → List ℕ
 symbols_text_of text = unwrap_or (symbols_file text) []
 
--- the contents of its files, in the order of reading
+-- the contents of the source and of the symbols file, if there is one, in the order of reading
 abbrev pub file_contents_of : ProgramText → List (List ℕ)
 file_contents_of text = text.source.items ∷ option_to_list (symbols_file text)
 
--- neither file is longer than it may be
+-- neither the source nor the symbols file is longer than it may be
 pub record AreFilesWithinLimits (text : ProgramText) : Type 0 where
   pub source : length text.source.items ≤ 1048576
   pub symbols : length (symbols_text_of text) ≤ 1048576

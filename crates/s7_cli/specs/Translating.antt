@@ -20,57 +20,61 @@ abbrev pub language_of : Bool → Language
 language_of false = English
 language_of true = German
 
--- the translation of a source, or its refusal
+-- the translation of a source into a language, or its refusal
 abbrev pub TranslatesSource : Language → (source : List ℕ) → Result (List ℕ) Refusal → Type 0
 TranslatesSource language source (Ok text) = IsTranslation language source text
 TranslatesSource language source (Err refusal) =
     IsTranslationViolation language source refusal.line refusal.rule
 
--- this is said of a text that is as long as it may be; else it is too long
+-- an answer by whether a text fits: what is said of it, or else that the translation is too long
 abbrev pub IfFits : Bool → Type 0 → Answer → Type 0
 IfFits true said answer = said
 IfFits false said answer = answer ≡ too_long_answer Translation
 
--- this is said of a translation, or the source is refused
+-- an answer by the translation of a source: its refusal, or what `says` has of the text where
+-- that is as long as it may be
 abbrev pub OfTranslation :
     (says : List ℕ → Answer → Type 0) → Result (List ℕ) Refusal → Answer → Type 0
 OfTranslation says (Err refusal) answer = answer ≡ refused_file_answer Source refusal
 OfTranslation says (Ok text) answer =
     IfFits (nat_le (length text) (limit_of Translation)) (says text answer) answer
 
--- this is said of the translation of a source: its tokens and its words are judged first, and then
--- how long the translation is
+-- what `says` has of the translation of a source into a language: its tokens and its words are
+-- judged first, and then how long the translation is
 abbrev pub SaysTranslated :
     Language → (source : List ℕ) → (says : List ℕ → Answer → Type 0) → Answer → Type 0
 SaysTranslated language source says answer =
     (translation : Result (List ℕ) Refusal) × TranslatesSource language source translation
     × OfTranslation says translation answer
 
--- the same with symbols, which are judged before
+-- what `says` has of the English translation of a source with these symbols, which are judged
+-- before
 abbrev pub OfSymbols : Result (List Symbol) Refusal → (source : List ℕ)
     → (says : List ℕ → Answer → Type 0) → Answer → Type 0
 OfSymbols (Err refusal) source says answer = answer ≡ refused_file_answer Symbols refusal
 OfSymbols (Ok list) source says answer = SaysTranslated English source says answer
 
--- this is said of the English text of a source: of an English one itself, and of a German one its
--- translation
+-- what `says` has of the English text of a source: an English one itself, or the translation of
+-- a German one, whose symbols are judged before
 abbrev pub InEnglish : (german : Bool) → (source symbols : List ℕ)
     → (says : List ℕ → Answer → Type 0) → Answer → Type 0
 InEnglish false source symbols says answer = says source answer
 InEnglish true source symbols says answer =
     OfSymbols (symbols_in German symbols) source says answer
 
--- the English text of a source
+-- a text is the English text of a source: an English one itself, or the translation of a German
+-- one, as long as it may be
 abbrev pub IsEnglish : (german : Bool) → (source text : List ℕ) → Type 0
 IsEnglish false source text = text ≡ source
 IsEnglish true source text =
     IsTranslation English source text × (length text ≤ limit_of Translation)
 
--- a source has no translation, or one that is too long
+-- the answer where a source has no translation into a language, or one that is too long
 abbrev pub NotTranslated : Language → (source : List ℕ) → Answer → Type 0
 NotTranslated language source answer = SaysTranslated language source (λ text a. ⊥) answer
 
--- a German source has no English text that is as long as it may be, or its symbols are refused
+-- the answer where a German source has no English text that is as long as it may be, or its
+-- symbols are refused
 abbrev pub NotInEnglish : (source symbols : List ℕ) → Answer → Type 0
 NotInEnglish source symbols answer = InEnglish true source symbols (λ text a. ⊥) answer
 
@@ -80,13 +84,14 @@ HasProgramOf german source symbols =
     (text : List ℕ) × IsEnglish german source text
     × HasProgramIn (language_of german) text symbols
 
--- this is such a program
+-- a program keeps the English text of a source with its symbols, at the large profile
 abbrev pub KeepsText : (german : Bool) → (source symbols : List ℕ) → Program → Type 0
 KeepsText german source symbols p =
     (text : List ℕ) × IsEnglish german source text
     × KeepsSourceIn (language_of german) Large text symbols p
 
--- this is the one to which that text compiles
+-- the program to which the English text of a source with its symbols compiles, and which keeps
+-- it, at the large profile
 abbrev pub IsProgramOf : (german : Bool) → (source symbols : List ℕ) → Program → Type 0
 IsProgramOf german source symbols p =
     (text : List ℕ) × IsEnglish german source text

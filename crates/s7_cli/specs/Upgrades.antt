@@ -9,14 +9,15 @@ use Rattle.s7_cli.specs.LiveSays.{LiveSays}
 use Rattle.s7_cli.specs.Loads.{LoadsAs}
 use Rattle.s7_cli.specs.Says.{IsUpgraded, RunSays}
 
--- both load as the same program with the same profile, so every replay of the one is that of the other
+-- an upgraded image and the image that it was made of load as the same program with the same
+-- profile, so every replay of the one is that of the other
 abbrev pub UpgradesLoadAlike : Type 0
 UpgradesLoadAlike =
     (upgraded image : List ℕ) → ((i : ℕ) → get_or upgraded i 0 < 256) → IsUpgraded upgraded image
     → (loaded : Result LoadedProgram LoadFault)
     → (LoadsAs upgraded loaded → LoadsAs image loaded) × (LoadsAs image loaded → LoadsAs upgraded loaded)
 
--- so `run` with the one answers what it answers with the other
+-- `run` with an upgraded image answers what it answers with the image that it was made of
 abbrev pub UpgradesRunAlike : Type 0
 UpgradesRunAlike =
     (upgraded image : List ℕ) → ((i : ℕ) → get_or upgraded i 0 < 256) → IsUpgraded upgraded image
@@ -24,7 +25,7 @@ UpgradesRunAlike =
     → (RunSays upgraded history answer → RunSays image history answer)
     × (RunSays image history answer → RunSays upgraded history answer)
 
--- and `live` too
+-- `live` with an upgraded image answers what it answers with the image that it was made of
 abbrev pub UpgradesLiveAlike : Type 0
 UpgradesLiveAlike =
     (upgraded image : List ℕ) → ((i : ℕ) → get_or upgraded i 0 < 256) → IsUpgraded upgraded image
@@ -32,7 +33,7 @@ UpgradesLiveAlike =
     → (LiveSays steps upgraded stimuli scripts answer → LiveSays steps image stimuli scripts answer)
     × (LiveSays steps image stimuli scripts answer → LiveSays steps upgraded stimuli scripts answer)
 
--- a source that the one keeps is kept by the other
+-- a source that an image keeps is kept by the image that is upgraded of it
 abbrev pub UpgradesKeepSources : Type 0
 UpgradesKeepSources =
     (language : Language) (upgraded image source symbols : List ℕ) → IsUpgraded upgraded image

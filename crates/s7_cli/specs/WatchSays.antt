@@ -52,14 +52,16 @@ pub record RanWatch (loaded : LoadedProgram) (steps : ℕ) (stimuli : List Entry
   pub views : AreViews (read_entry_of 6 vars) (opened_on loaded) history watch_count seen
   pub says : answer ≡ done_answer (watch_text loaded history vars seen)
 
--- the stimuli are checked first, then the variables, then the scripts in their order
+-- what `watch` answers for a program: the stimuli are checked first, then the variables, then
+-- the scripts in their order, and then the workers run
 abbrev pub WatchAnswer : LoadedProgram → (steps : ℕ) → Result (List Entry) Refusal → Result (List Var) Refusal → Result (List (List Entry)) RefusedScript → Answer → Type 0
 WatchAnswer loaded steps (Err refusal) vars scripts answer = answer ≡ refused_file_answer Stimuli refusal
 WatchAnswer loaded steps (Ok stimuli) (Err refusal) scripts answer = answer ≡ refused_file_answer Vars refusal
 WatchAnswer loaded steps (Ok stimuli) (Ok vars) (Err script) answer = answer ≡ refused_file_answer (Script script.number) script.refusal
 WatchAnswer loaded steps (Ok stimuli) (Ok vars) (Ok scripts) answer = RanWatch loaded steps stimuli vars scripts answer
 
--- the image is loaded before
+-- what `watch` answers by how its image loads, which is before stimuli, variables and scripts
+-- are checked
 abbrev pub LoadedWatch : Result LoadedProgram LoadFault → (steps : ℕ) → (stimuli vars : List ℕ) (scripts : List (List ℕ)) → Answer → Type 0
 LoadedWatch (Err fault) steps stimuli vars scripts answer = answer ≡ refused_image_answer fault
 LoadedWatch (Ok loaded) steps stimuli vars scripts answer =

@@ -43,7 +43,8 @@ WatchTextSays steps text answer = WatchSays steps text.image.items text.stimuli.
 abbrev pub TellsVars : Result (List Var) Refusal → Failure → Type 0
 TellsVars vars failure = (refusal : Refusal) × (vars ≡ Err refusal) × (failure ≡ Refused Vars refusal)
 
--- the program, the lists of the workers and the variables; an entry has four bytes of its text at least
+-- what is found in the files of a watch: the program, the lists of the workers and the
+-- variables; an entry has four bytes of its text at least
 pub record FindsWatch (text : WatchText) (loaded : LoadedProgram) (stimuli : List Entry) (vars : List Var) (scripts : List (List Entry)) : Type 0 where
   pub loads : LoadsAs text.image.items (Ok loaded)
   pub are_stimuli : stimuli_of text.stimuli.items ≡ Ok stimuli

@@ -16,7 +16,7 @@ use Rattle.s7_cli.specs.Working.{HasBegun, IsFaultAt}
 use Rattle.watch_board.specs.BoardList.{KnownBoard, last_item_of, initial_item}
 use Rattle.watch_board.specs.declared.shown.Shown.{Shown}
 
--- a worker reads these variables
+-- the entry of a worker that reads these variables
 abbrev pub read_entry_of : (who : ℕ) → List Var → Entry
 read_entry_of who vars = record { who = who; what = Ask (ReadVars vars) }
 
@@ -32,11 +32,12 @@ pub record IsReplyTo (e : Entry) (o : Opening) (story : List Entry) (item : Show
   pub number : item.length ≡ length before + 1
   pub reply : item.reply ≡ Some (reply_at o before e)
 
--- a board shows the opening item, or such a reply
+-- an item of a board is the opening item, or the reply to this entry at a place of the history
 abbrev pub IsShownOf : (e : Entry) → Opening → (story : List Entry) → Shown → Type 0
 IsShownOf e o story item = (item ≡ initial_item) ⊎ IsReplyTo e o story item
 
--- all items of a list are such
+-- each item of a list is the opening item of a board, or the reply to this entry at a place of
+-- the history
 abbrev pub AreShownOf : (e : Entry) → Opening → (story : List Entry) → List Shown → Type 0
 AreShownOf e o story items = AllByRecursion (IsShownOf e o story) items
 
@@ -97,14 +98,15 @@ pub record ViewsBoard {E : Type 0} (count : ℕ) (was now : KnownBoard) (seen : 
   pub many : OnOk viewed (length seen ≡ count)
   pub each : OnOk viewed (AreSeenIn now.list seen)
 
--- all was published and viewed, and the viewer has come to the list of the last note
+-- all was published and viewed, and the viewer has come to the list of the publisher's last note
 pub record HasEnded {E : Type 0} (noted : Result KnownBoard StationFault) (viewed : Result Unit E) (viewer : KnownBoard) : Type 0 where
   pub viewed_all : IsOk viewed
   pub note : KnownBoard
   pub noted_all : noted ≡ Ok note
   pub list : viewer.list ≡ note.list
 
--- so many items were seen: each is the opening item or a reply to this entry, and their numbers never fall
+-- this many items of a board were seen: each is the opening item or a reply to this entry, and
+-- their numbers never fall
 pub record AreViews (e : Entry) (o : Opening) (story : List Entry) (count : ℕ) (seen : List Shown) : Type 0 where
   pub many : length seen ≡ count
   pub each : AreShownOf e o story seen

@@ -18,7 +18,7 @@ use Rattle.s7_cli.specs.Command.{Command, Go, Check, Compile, Translate, Run, Ge
 abbrev pub command_rule : Rule
 command_rule = record (new_rule (codes "COMMAND")) { action = Some Set; required = true }
 
--- FILES: the words behind it, any number, none too
+-- FILES: the words behind COMMAND, any number, none too
 abbrev pub files_rule : Rule
 files_rule = record (new_rule (codes "FILES")) { action = Some Append; range = Some (record { start_inclusive = 0; end_inclusive = usize_max }) }
 
@@ -38,7 +38,8 @@ german_rule = record (new_rule (codes "german")) { long = Some (codes "german");
 abbrev pub s7_alone : App
 s7_alone = on_top (λ s. record s { no_binary_name = true }) (new_app (codes "s7"))
 
--- with its five arguments
+-- the command line of `s7` with its five arguments: COMMAND, FILES, `--symbols FILE`, `--steps
+-- N` and `--german`
 abbrev pub the_line : App
 the_line = with_rule (with_rule (with_rule (with_rule (with_rule s7_alone command_rule) files_rule) symbols_rule) steps_rule) german_rule
 
@@ -57,7 +58,8 @@ one_word_command command word symbols german =
     else (if bytes_eq command (codes "gen") && takes_no_source symbols german then option_map Gen (number_from_one_up_to 10000 word)
     else None)
 
--- `run IMG HIST`, `upgrade IMG IMG2`, `bound IMG CERT`, `recheck IMG CERT`, `english SRC OUT` and `german SRC OUT`
+-- a command with two words and no option: `run IMG HIST`, `upgrade IMG IMG2`, `bound IMG CERT`,
+-- `recheck IMG CERT`, `english SRC OUT` or `german SRC OUT`
 abbrev pub file_command : (command first second : List ℕ) → Option Command
 file_command command first second =
     if bytes_eq command (codes "run") then Some (Run first second)
@@ -68,7 +70,9 @@ file_command command first second =
     else (if bytes_eq command (codes "german") then Some (Translate German first second)
     else None)))))
 
--- these, and `go SRC HIST` and `compile SRC IMG`, with `--symbols FILE` or without, with `--german` or without
+-- a command with two words: `go SRC HIST` and `compile SRC IMG`, with `--symbols FILE` or
+-- without, with `--german` or without; and without both `run`, `upgrade`, `bound`, `recheck`,
+-- `english` and `german`
 abbrev pub two_word_command : (command first second : List ℕ) (symbols : Option (List ℕ)) (german : Bool) → Option Command
 two_word_command command first second symbols german =
     if bytes_eq command (codes "go") then Some (Go first symbols german second)
@@ -102,7 +106,7 @@ watch_command (image ∷ stimuli ∷ vars ∷ script ∷ scripts) steps =
     if nat_le (length scripts) 2 then option_map (Watch image stimuli vars (script ∷ scripts)) (number_from_one_up_to 1000000 steps) else None
 watch_command words steps = None
 
--- a command with steps
+-- a command with `--steps N`: `watch` or `live`
 abbrev pub stepped_command : (command : List ℕ) (words : List (List ℕ)) (steps : List ℕ) → Option Command
 stepped_command command words steps =
     if bytes_eq command (codes "watch") then watch_command words steps else live_command command words steps
@@ -116,7 +120,7 @@ asked_for command words symbols german (Some steps) = if takes_no_source symbols
 abbrev pub has_german : List Row → Bool
 has_german found = option_map_or (λ value. bytes_eq value (codes "true")) (first_of (codes "german") found) false
 
--- the command that what was found of the five asks for
+-- the command that is asked for by what was found of the five arguments
 abbrev pub asked_by : List Row → Option Command
 asked_by found =
     option_and_then
@@ -135,7 +139,7 @@ KeepsLimits (Watch image stimuli vars scripts steps) = (1 ≤ length scripts) ×
 KeepsLimits (ListImage image source symbols) = source ≢ symbols
 KeepsLimits command = Unit {0}
 
--- the command that was read
+-- the command of a call that was read, with its names as texts
 abbrev pub command_value : Asked → Command
 command_value (asked.Go source symbols german history) = Go source.now (option_map (λ s. s.now) symbols) german history.now
 command_value (asked.Check source symbols german) = Check source.now (option_map (λ s. s.now) symbols) german
@@ -156,16 +160,18 @@ is_plain_word [] = true
 is_plain_word (first ∷ []) = true
 is_plain_word (first ∷ second ∷ rest) = not (first == 45)
 
--- the command that such words ask for with these options, the first of them as its word
+-- the command that words which can be no options ask for, the first of them as its word, with
+-- these options
 abbrev pub plain_command : (words : List (List ℕ)) (symbols : Option (List ℕ)) (german : Bool) (steps : Option (List ℕ)) → Option Command
 plain_command [] symbols german steps = None
 plain_command (command ∷ words) symbols german steps = asked_for command words symbols german steps
 
--- words that can be no options are read so
+-- words that can be no options ask for the command of the first one, without options
 abbrev pub ReadsPlainWords : Type 0
 ReadsPlainWords = (words : List (List ℕ)) → list_all is_plain_word words ≡ true → command_of words ≡ plain_command words None false None
 
--- and so are words behind `--`, whatever they begin with
+-- words behind `--`, whatever they begin with, ask for the command of the first one, without
+-- options
 abbrev pub ReadsWordsBehindDashes : Type 0
 ReadsWordsBehindDashes = (words : List (List ℕ)) → command_of (codes "--" ∷ words) ≡ plain_command words None false None
 
@@ -176,15 +182,16 @@ ReadsAnywhere option asked = (front back : List (List ℕ)) (value : List ℕ) �
     → (is_plain_word value ≡ true → command_of (front ++ option ∷ value ∷ back) ≡ asked (front ++ back) value)
     × (command_of (front ++ (option ++ codes "=" ++ value) ∷ back) ≡ asked (front ++ back) value)
 
--- `--symbols FILE` gives the command of the other words its symbols
+-- `--symbols FILE` among words that can be no options gives their command its symbols
 abbrev pub ReadsSymbolsAnywhere : Type 0
 ReadsSymbolsAnywhere = ReadsAnywhere (codes "--symbols") (λ words file. plain_command words (Some file) false None)
 
--- `--steps N` gives it its steps
+-- `--steps N` among words that can be no options gives their command its steps
 abbrev pub ReadsStepsAnywhere : Type 0
 ReadsStepsAnywhere = ReadsAnywhere (codes "--steps") (λ words number. plain_command words None false (Some number))
 
--- `--german` may stand anywhere among them too
+-- `--german` may stand anywhere among words that can be no options, and says that their
+-- command's source is German
 abbrev pub ReadsGermanAnywhere : Type 0
 ReadsGermanAnywhere = (front back : List (List ℕ)) → list_all is_plain_word (front ++ back) ≡ true
     → command_of (front ++ codes "--german" ∷ back) ≡ plain_command (front ++ back) None true None

@@ -64,12 +64,14 @@ HaveBegun [] [] [] = Unit {0}
 HaveBegun (p ∷ ps) (x ∷ xs) (m ∷ ms) = (m.number ≡ p.number) × IsPrefix m.entries x × HaveBegun ps xs ms
 HaveBegun ps xs ms = ⊥
 
--- a station is full only where its history has so many entries
+-- a fault of a station with this story: it is full only where its history has at least FULL
+-- entries
 abbrev pub IsFaultAt : LockView Opening → (story : List Entry) → StationFault → Type 0
 IsFaultAt s story NoMemory = Unit {0}
 IsFaultAt s story Full = FULL ≤ length (the_opening s.origin).first + length story
 
--- so it is with the refusal of a worker that knows this story
+-- a worker that knows this story wasn't refused, or by a fault that the station can have there:
+-- it is full only where its history has at least FULL entries
 abbrev pub KnowsFault : LockView Opening → (story : List Entry) → Result Unit StationFault → Type 0
 KnowsFault s story (Ok done) = Unit {0}
 KnowsFault s story (Err fault) = IsFaultAt s story fault
@@ -116,7 +118,9 @@ pub record WorkedBy (s : LockView Opening) (p : PassView Opening Entry) (ps : Li
   pub all : whole ≡ true → others ≡ passes_made_whole ps lists
   pub ends : whole ≡ true → (count ≡ steps) ⊎ EndsInStop (the_opening s.origin) p.number r.seen
 
--- the same with the passes of the workers in one list, of which the first is the stepper's
+-- what the workers of these passes made together, the stepper's pass first: it made at most
+-- `steps` steps alone, the others the first entries of the stimuli and of the scripts; `whole`
+-- says that no worker was refused
 abbrev pub HasWorked : LockView Opening → List (PassView Opening Entry) → (steps : ℕ) → (stimuli : List Entry) → (scripts : List (List Entry)) → PassView Opening Entry → Bool → Type 0
 HasWorked s [] steps stimuli scripts r whole = ⊥
 HasWorked s (p ∷ ps) steps stimuli scripts r whole = WorkedBy s p ps steps (stimuli ∷ scripts) r whole

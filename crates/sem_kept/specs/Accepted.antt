@@ -31,7 +31,7 @@ pub record IsAccepted (source file : List ℕ) (symbols : List Symbol) (t : Tree
   pub laid_out : least (layout_refusals t symbols) ≡ None
   pub checked : least (statement_refusals t symbols (layouts_of t symbols)) ≡ None
 
--- its program
+-- the program that a tree with these symbols compiles to
 abbrev pub program_in : List Symbol → Tree → Program
 program_in symbols t = program_of t symbols (layouts_of t symbols)
 

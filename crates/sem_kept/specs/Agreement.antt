@@ -52,8 +52,8 @@ pub record KeepsSourceIn (language : Language) (profile : Profile) (source symbo
   pub names : p.names ≡ names_read_in language symbols
   pub runs : RunsAsIn language profile source symbols (code_of p)
 
--- bytes keep a source with its symbols: they are an image, of whatever version, of a program that does at
--- the image's profile
+-- bytes keep a source with its symbols: they are an image, of whatever version, of a program
+-- that keeps them at the image's profile
 pub record ImageKeepsSourceIn (language : Language) (bytes source symbols : List ℕ) : Type 0 where
   pub stamp : Stamp
   pub program : Program
@@ -98,7 +98,8 @@ ProgramsRun =
     → least (refusals_of list tree) ≡ None
     → KeepsSourceIn language profile source symbols (program_in list tree)
 
--- and so does its image, of each version and profile
+-- the image of the program of a source that breaks no rule, of each version and profile, keeps
+-- the source, with symbols of a language
 abbrev pub ImagesKeepSourcesIn : Language → Type 0
 ImagesKeepSourcesIn language =
     (stamp : Stamp) (source symbols : List ℕ) (list : List Symbol) (tokens : List Token)
@@ -113,6 +114,6 @@ ImagesKeepSourcesIn language =
 abbrev pub ImagesKeepSources : Type 0
 ImagesKeepSources = ImagesKeepSourcesIn English
 
--- and with German ones
+-- each image that is compiled keeps its source, with German mnemonics
 abbrev pub ImagesKeepGermanSources : Type 0
 ImagesKeepGermanSources = ImagesKeepSourcesIn German

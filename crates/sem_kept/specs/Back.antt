@@ -17,7 +17,8 @@ use Rattle.machine.specs.Moved.{aimed_instr}
 use Rattle.stl_codegen.specs.Compiled.{SourceInstruction, ops_in, offset_of_statement}
 use Rattle.stl_codegen.specs.Instruction.{numbers_from}
 
--- the statement of a number, at its offset
+-- what is fetched for the statement of number n: its instruction and the next position, with f
+-- of each statement's number for that number
 abbrev pub aimed_statement : (ℕ → ℕ) → (n : ℕ) → SourceInstruction → Fetched
 aimed_statement f n s =
     record { instr = aimed_instr f s.instr; next = f (suc n); line = s.line }
@@ -29,12 +30,13 @@ goes_to_next_statement (operation.Call how) = false
 goes_to_next_statement (operation.End how) = false
 goes_to_next_statement _ = true
 
--- an operand with a target, which no such operation has
+-- an operand is the target of a jump
 abbrev pub is_target : Operand → Bool
 is_target (operand.Jump kind target) = true
 is_target _ = false
 
--- no data block has the number 0
+-- the number of an instance data block, where there is one, is at least 1: no data block has the
+-- number 0
 abbrev pub IsInstanceNumber : Option ℕ → Type 0
 IsInstanceNumber None = Unit {0}
 IsInstanceNumber (Some number) = 1 ≤ number
@@ -56,7 +58,8 @@ pub record IsList (n : ℕ) (targets : List ℕ) (otherwise : ℕ) (behind : Lis
   pub there : length targets ≤ length behind
   pub jumps : AllByRecursion IsJu (take (length targets) behind)
 
--- an instruction that code is generated for: the one of a statement, with those behind it
+-- code can be generated for an instruction: that of the statement of number n, with the
+-- statements behind it
 abbrev pub IsGeneratedInstruction : (n : ℕ) → Instr → (behind : List SourceInstruction) → Type 0
 IsGeneratedInstruction n (Does use_db w o) behind = (goes_to_next_statement w ≡ true) × (is_target o ≡ false)
 IsGeneratedInstruction n (Jumps how target) behind = is_jl how ≡ false
@@ -65,7 +68,8 @@ IsGeneratedInstruction n (Calls how block instance passings) behind =
     (is_callable block.kind ≡ true) × IsInstanceNumber instance × (length passings ≤ 63)
 IsGeneratedInstruction n (Returns how) behind = Unit {0}
 
--- so is each of these statements, the first of which has this number
+-- code can be generated for each of these statements of a block, the first of which has the
+-- number n
 abbrev pub AreCompiled : (n : ℕ) → List SourceInstruction → Type 0
 AreCompiled n [] = Unit {0}
 AreCompiled n (s ∷ behind) = IsGeneratedInstruction n s.instr behind × AreCompiled (suc n) behind

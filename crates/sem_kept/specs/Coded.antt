@@ -24,28 +24,32 @@ abbrev pub OperandHasBytes : Operand → Type 0
 OperandHasBytes (operand.Constant value) = HasBytes value
 OperandHasBytes _ = Unit {0}
 
--- so are those of the operand of a statement, and of its actual parameters
+-- the characters of the constants of a statement are bytes: those of its operand and of its
+-- actual parameters
 pub record StatementHasBytes (s : Statement) : Type 0 where
   pub operand : OperandHasBytes s.operand
   pub actuals : AllByRecursion (λ a. OperandHasBytes a.value) s.actuals
 
--- so are those of each statement in the bodies of a source
+-- the characters of all constants in the statements of a source are bytes
 abbrev pub TreeHasBytes : Tree → Type 0
 TreeHasBytes t = AllByRecursion (λ b. AllByRecursion StatementHasBytes b.body) t.blocks
 
--- the code of a block
+-- the code of a block has no fault by its ops: each is an op of the table, a statement has at
+-- most 64, and the last one is BE
 pub record IsBlockCoded (b : CodeBlock) : Type 0 where
   pub ops : are_ops b.code ≡ true
   pub right : code_fault b.code ≡ None
 
--- of an accepted source, whose elements are bytes
+-- the code of each block of an accepted source, whose elements are bytes, has no fault by its
+-- ops
 abbrev pub AreCoded : Type 0
 AreCoded =
     (source file : List ℕ) (symbols : List Symbol) (t : Tree)
     → IsAccepted source file symbols t → AreBytes source
     → AllByRecursion IsBlockCoded (program_in symbols t).code_blocks
 
--- what is coded is good as the code field of an image, whether its faults are checked or not
+-- the code of a block that has no fault by its ops is good as the code field of an image,
+-- whether its faults are checked or not
 abbrev pub CodedIsGood : Type 0
 CodedIsGood =
     (judged : Bool) (b : CodeBlock) → IsBlockCoded b

@@ -40,19 +40,21 @@ pub record HasRoom (c : Cell) : Type 0 where
   pub sound : c.sound ≡ true
   pub elements : HasElements c.bounds c.presets c.of
 
--- a setting is a write
+-- a setting of the data block at a place of the source comes to one write, and to no other
 pub record IsSettingWritten (l : List BlockLayout) (block : ℕ) (s : Setting) : Type 0 where
   pub write : Write
   pub alone : setting_write l s.value (path_end_in_data_block l block (folded_path s.path)) ≡ write ∷ []
 
--- the initial values of the data block at this place, and behind them its settings
+-- the writes of the data block at a place of the source: its initial values, and behind them its
+-- settings
 abbrev pub writes_of : List BlockLayout → List Block → (block : ℕ) → List Write
 writes_of l blocks block =
     structure_writes l (structure_of l block)
     ++ setting_writes l block (settings_at (slice_get blocks block))
 
--- the initial bytes of a data block are made by such writes alone, over as many zeros as it is long. Its
--- structure is known, the components of this and of each other block have room, and each setting is written
+-- the initial bytes of the data block at a place of the source are made by its writes alone,
+-- each of them whole, over as many zeros as it is long. Its structure is known, the components
+-- of this and of each other block have room, and each setting is written
 pub record IsMadeByWrites (l : List BlockLayout) (blocks : List Block) (block len : ℕ) : Type 0 where
   pub made : initial_bytes l blocks block ≡ fold bytes_with_write (replicate len 0) (writes_of l blocks block)
   pub whole : AllByRecursion (IsWhole len) (writes_of l blocks block)
@@ -60,7 +62,8 @@ pub record IsMadeByWrites (l : List BlockLayout) (blocks : List Block) (block le
   pub room : (k : ℕ) → AllByRecursion HasRoom (cells_at l k false)
   pub set : AllByRecursion (IsSettingWritten l block) (settings_at (slice_get blocks block))
 
--- so are those of each data block of an accepted source
+-- the initial bytes of each data block of an accepted source, whose elements are bytes, are made
+-- by whole writes alone
 abbrev pub InitialValuesAreWhole : Type 0
 InitialValuesAreWhole =
     (source file : List ℕ) (symbols : List Symbol) (t : Tree)

@@ -25,13 +25,14 @@ pub record LandsRight (statements : List StatementSpot) (p : PlacedOp) : Type 0 
   pub brackets : bracket_fault p.op.code p.brackets ≡ None
   pub zones : zone_fault p.op.code p.zones ≡ None
 
--- all ops of a block, behind which no bracket and no zone is open
+-- no op of a block has a fault by its jump, bracket or zone, and behind the last no bracket and
+-- no zone is open
 pub record AllLandRight (ops : List OpData) : Type 0 where
   pub each : AllByRecursion (LandsRight (statement_spots ops)) (code_places ops)
   pub closed : open_behind 0 [] ops ≡ []
   pub ended : zones_left 0 [] ops ≡ []
 
--- the code of each block of an accepted source
+-- the code of each block of an accepted source has no fault by a jump, bracket or zone
 abbrev pub JumpsLandRight : Type 0
 JumpsLandRight =
     (source file : List ℕ) (symbols : List Symbol) (t : Tree)

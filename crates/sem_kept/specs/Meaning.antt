@@ -26,7 +26,8 @@ use Rattle.sem_kept.specs.Stages.{HaveOutcomeInTurn, TellsRefusalOf}
 abbrev pub HasSymbolsIn : Language → List ℕ → Result (List Symbol) Refusal → Type 0
 HasSymbolsIn language bytes outcome = outcome ≡ symbols_in language bytes
 
--- the same in English
+-- the symbols of a symbols file with English addresses, or its refusal; no bytes stand for no
+-- file, and have no symbols
 abbrev pub HasSymbols : List ℕ → Result (List Symbol) Refusal → Type 0
 HasSymbols bytes outcome = HasSymbolsIn English bytes outcome
 
@@ -45,7 +46,8 @@ abbrev pub refusals_of : List Symbol → Tree → List Refusal
 refusals_of symbols tree =
     layout_refusals tree symbols ++ statement_refusals tree symbols (layouts_of tree symbols)
 
--- a tree that breaks none of them, or the least by line, then rule
+-- a tree, judged by the least of its refusals: the tree itself where there is none, or else that
+-- refusal
 abbrev pub sound_by : Tree → Option Refusal → Result Tree Refusal
 sound_by tree None = Ok tree
 sound_by tree (Some refusal) = Err refusal
@@ -60,7 +62,8 @@ stated_code_of_tree symbols tree =
     stated_code (code_blocks_of tree symbols (layouts_of tree symbols))
     (data_blocks_of tree symbols (layouts_of tree symbols))
 
--- a tree that breaks no rule means them; nothing is refused here
+-- the last stage: a tree that breaks no rule means the code of its statements; nothing is
+-- refused here
 abbrev pub HasCode : List Symbol → Tree → Result Code Refusal → Type 0
 HasCode symbols tree outcome = outcome ≡ Ok (stated_code_of_tree symbols tree)
 
@@ -78,17 +81,20 @@ pub data RefusedFile : Type 0 where
   InSymbols : (refusal : Refusal) → RefusedFile
   InSource : (refusal : Refusal) → RefusedFile
 
--- the symbols are checked first, and then the source with them
+-- what a source with a symbols file comes to, whose addresses are those of a language: the
+-- symbols are checked first, and then the source with them; it means a code or is refused
 unfoldable pub IsCheckedIn : Language → (source symbols : List ℕ) → Result Code RefusedFile → Type 0
 IsCheckedIn language source symbols outcome =
     HaveOutcomeInTurn (TellsRefusalOf InSymbols (HasSymbolsIn language)) (TellsRefusalOf InSource (IsCheckedWith source)) symbols
     outcome
 
--- this source with these symbols means this code
+-- a source with a symbols file, whose addresses are those of a language, breaks no rule and
+-- means this code
 abbrev pub MeansCodeIn : Language → (source symbols : List ℕ) → Code → Type 0
 MeansCodeIn language source symbols code = IsCheckedIn language source symbols (Ok code)
 
--- this source with these symbols is refused so
+-- a source with a symbols file, whose addresses are those of a language, is refused with this
+-- refusal, of the one or the other
 abbrev pub IsRefusedSourceIn : Language → (source symbols : List ℕ) → RefusedFile → Type 0
 IsRefusedSourceIn language source symbols refused =
     IsCheckedIn language source symbols (Err refused)
@@ -109,7 +115,8 @@ IsRefusedSource source symbols refused = IsRefusedSourceIn English source symbol
 
 -- ---- laws, in each language
 
--- no bytes have no symbols: so they stand for no file
+-- an empty symbols file is accepted in each language and has no symbols: so it stands for no
+-- file
 abbrev pub NoFileHasNone : Type 0
 NoFileHasNone = (language : Language) → HasSymbolsIn language [] (Ok [])
 
@@ -119,14 +126,14 @@ IsMeaningUnique =
     (language : Language) (source symbols : List ℕ) (c d : Code)
     → MeansCodeIn language source symbols c → MeansCodeIn language source symbols d → c ≡ d
 
--- none where it is refused
+-- a source that is refused means no code
 abbrev pub ExcludesRefusal : Type 0
 ExcludesRefusal =
     (language : Language) (source symbols : List ℕ) (code : Code) (refused : RefusedFile)
     → MeansCodeIn language source symbols code → IsRefusedSourceIn language source symbols refused
     → ⊥
 
--- and it is refused in one way at most
+-- a source is refused in one way at most
 abbrev pub IsRefusalUnique : Type 0
 IsRefusalUnique =
     (language : Language) (source symbols : List ℕ) (r s : RefusedFile)

@@ -23,7 +23,8 @@ use Rattle.plc_base.specs.Kinds.{kind_number}
 
 -- ---- what fits
 
--- the operand of an op that goes on, with the code of the op
+-- the operand of an op that is no jump, USEDB, PASS or call is right: the op has its width, a
+-- direct place is allowed, and a parameter is one of the own block, not IN if it is written
 abbrev pub IsOperandRightFor : Environment → OpData → Operand → Type 0
 IsOperandRightFor a op (operand.Direct area w byte bit) =
     (lacks_width op w ≡ false) × (is_bad_place a area w byte bit ≡ false)
@@ -38,19 +39,20 @@ IsOperandRightFor a op (operand.Pass index actual) = ⊥
 IsOperandRightFor a op (operand.Called kind number instance) = ⊥
 IsOperandRightFor a op _ = Unit {0}
 
--- a data block is opened for an operand in DB alone
+-- a statement opens a data block first, of this number, only for an operand in DB
 abbrev pub IsOpenedFor : Operand → Option ℕ → Type 0
 IsOpenedFor o None = Unit {0}
 IsOpenedFor o (Some number) = is_in_db o ≡ true
 
--- what a CALL passes, by rising indices behind one
+-- what a CALL passes to the block that is seen: each parameter by an index above the last one
+-- before it, with an actual parameter that isn't bad and fits
 abbrev pub ArePassed : Environment → Option CalleeSeen → (before : Option ℕ) → List Passing → Type 0
 ArePassed a s before [] = Unit {0}
 ArePassed a s before (p ∷ ps) =
     (is_above p.index before ≡ true) × (is_bad_actual a p.actual ≡ false)
     × (misfits_callee a s p.index p.actual ≡ false) × ArePassed a s (Some p.index) ps
 
--- what is passed by CALL alone
+-- only CALL passes parameters; UC and CC pass none
 abbrev pub PassesAlone : CallOperation → List Passing → Type 0
 PassesAlone calls.Call ps = Unit {0}
 PassesAlone _ ps = ps ≡ []
@@ -68,26 +70,28 @@ InstrFits a lens _ = Unit {0}
 
 -- ---- ops at their places
 
--- an op that has no fault but by a jump or a bracket
+-- an op has no fault by its operand, but a jump's, by its call or by its end mark
 pub record IsFine (a : Environment) (lens : List (ℕ × ℕ)) (ss : List StatementSpot) (p : PlacedOp) : Type 0 where
   pub operand : IsStill p.op.operand → operand_fault a ss p p.op.operand ≡ None
   pub call : call_fault a (Some lens) p ≡ None
   pub mark : mark_fault p.op ≡ None
 
--- of these ops each has no fault but by a jump or a bracket
+-- each of these ops has no fault by its operand, but a jump's, by its call or by its end mark
 abbrev pub AreFine : Environment → List (ℕ × ℕ) → List StatementSpot → List PlacedOp → Type 0
 AreFine a lens ss ps = AllByRecursion (IsFine a lens ss) ps
 
 -- ---- a program
 
--- the ops of a block among the others of its program
+-- the ops of a block, among the other blocks of its program, have no fault by their operands,
+-- calls and end marks
 abbrev pub BlockIsFine : Program → CodeBlock → Type 0
 BlockIsFine p b =
     AreFine
     (environment_of_block (Some (lens_of p.data_blocks)) (map record_of_block p.code_blocks) (record_of_block b))
     (lens_of p.data_blocks) (statement_spots b.code) (code_places b.code)
 
--- of an accepted source, whose elements are bytes
+-- the ops of each block of an accepted source, whose elements are bytes, have no fault by their
+-- operands, calls and end marks
 abbrev pub OperandsAreFine : Type 0
 OperandsAreFine =
     (source file : List ℕ) (symbols : List Symbol) (t : Tree)

@@ -10,7 +10,7 @@ use Rattle.stl_ast.specs.declared.blocks.Tree.{Tree}
 use Rattle.stl_symbols.specs.Symbol.{Symbol}
 use Rattle.sem_kept.specs.Accepted.{IsAccepted, program_in}
 
--- the code of a block without fault
+-- the code of a block has no fault, and its statements and bytes are few enough for their fields
 pub record HasFaultlessCode (b : CodeBlock) : Type 0 where
   pub ops : are_ops b.code ≡ true
   pub ends : code_fault b.code ≡ None
@@ -26,7 +26,8 @@ abbrev pub HasCounts : Program → Type 0
 HasCounts p =
     good_counts (length p.code_blocks) (length p.data_blocks) (length p.names) ≡ true
 
--- whether or not code and lines are checked
+-- the records of the program of an accepted source have no fault where the code and the counts
+-- have none, whether or not code and lines are checked
 abbrev pub RecordsAreRight : Type 0
 RecordsAreRight =
     (source file : List ℕ) (symbols : List Symbol) (t : Tree)

@@ -11,7 +11,7 @@ use Rattle.machine.specs.Flat.{code_of}
 use Rattle.stl_symbols.specs.declared.languages.Language.{Language}
 use Rattle.sem_kept.specs.Meaning.{MeansCodeIn}
 
--- the state after the first k entries
+-- the state of the machine after the first k entries of a history
 abbrev pub state_after_first : Profile → Code → List What → ℕ → State
 state_after_first profile code history k = replay profile code (take k history)
 
@@ -31,15 +31,16 @@ pub record IsSuspended (profile : Profile) (code : Code) (history : List What) (
       → place + 1 < length (state_after_first profile code history k).activations
   pub runs : length (state_after_first profile code history last).activations ≡ place + 1
 
--- all the while the activation is the same: its class, registers, delay count, frames and all that
--- they hold
+-- from `first` entries of a history on, up to `last`, the activation at a place is the same: its
+-- class, registers, delay count, frames and all that they hold
 abbrev pub Resumes : Profile → Code → List What → (place first last : ℕ) → Type 0
 Resumes profile code history place first last =
     (k : ℕ) → first ≤ k → k ≤ last
     → activation_at_place (state_after_first profile code history k).activations place
     ≡ activation_at_place (state_after_first profile code history first).activations place
 
--- so it is over the statements of a source, at each profile, with symbols of each language
+-- the law of resumption over the statements of a source, at each profile, with symbols of each
+-- language: a suspended activation goes on as it was left
 abbrev pub SourcesResume : Type 0
 SourcesResume =
     (language : Language) (source symbols : List ℕ) (profile : Profile) (code : Code)
@@ -47,7 +48,8 @@ SourcesResume =
     → MeansCodeIn language source symbols code → IsSuspended profile code history place first last
     → Resumes profile code history place first last
 
--- so it is over a program that is loaded
+-- the law of resumption over a program that is loaded, at each profile: a suspended activation
+-- goes on as it was left
 abbrev pub ImagesResume : Type 0
 ImagesResume =
     (profile : Profile) (l : LoadedProgram) (history : List What) (place first last : ℕ)

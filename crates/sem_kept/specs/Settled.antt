@@ -51,7 +51,8 @@ abbrev pub HasOperand : Context → Statement → Option CallOperation → Type 
 HasOperand c s None = (v : ResolvedOperand) × (resolved_operand c s ≡ Some v)
 HasOperand c s (Some how) = HasCalled c s
 
--- any statement
+-- a statement names what its instruction takes: a jump a label, a call a block, another one what
+-- it acts on
 abbrev pub HasInstruction : Context → List Statement → Statement → Option JumpOperation → Type 0
 HasInstruction c body s None = HasOperand c s (call_operation_of s.code)
 HasInstruction c body s (Some how) = HasLabel body s
@@ -60,7 +61,7 @@ HasInstruction c body s (Some how) = HasLabel body s
 abbrev pub HasPassed : Context → Actual → Type 0
 HasPassed c a = (p : Passed) × (passed_seen a.value (resolution_of c a.value) ≡ Some p)
 
--- a statement and its actual parameters
+-- a statement names what its instruction takes, and each of its actual parameters what is passed
 pub record IsSettled (c : Context) (body : List Statement) (s : Statement) : Type 0 where
   pub instruction : HasInstruction c body s (jump_operation_of s.code)
   pub actuals : AllByRecursion (HasPassed c) s.actuals
@@ -74,7 +75,8 @@ context_of symbols t k = record {
   block = k;
 }
 
--- of an accepted source, whose elements are bytes, each statement of each block
+-- each statement of each block of an accepted source, whose elements are bytes, names what its
+-- instruction takes
 abbrev pub StatementsSettle : Type 0
 StatementsSettle =
     (source file : List ℕ) (symbols : List Symbol) (t : Tree) → IsAccepted source file symbols t

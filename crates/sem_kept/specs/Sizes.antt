@@ -20,13 +20,14 @@ pub record IsSmall (p : Program) : Type 0 where
   pub short : image_size p ≤ 8388608
   pub blocks : AllByRecursion IsSmallBlock p.code_blocks
 
--- so is that of an accepted source
+-- the program of an accepted source is small enough for an image
 abbrev pub AcceptedIsSmall : Type 0
 AcceptedIsSmall =
     (source file : List ℕ) (symbols : List Symbol) (t : Tree)
     → IsAccepted source file symbols t → IsSmall (program_in symbols t)
 
--- and where its records are right too, it has an image
+-- a program that is small enough, and whose records of blocks, data blocks and names are right
+-- too, has an image
 abbrev pub SmallIsProgram : Type 0
 SmallIsProgram =
     (p : Program) → IsSmall p → good_blocks (0, 0) p.code_blocks ≡ true

@@ -17,11 +17,11 @@ TellsRefusalOf of stage a (Ok b) = stage a (Ok b)
 TellsRefusalOf of stage a (Err refused) =
     (refusal : Refusal) × (refused ≡ of refusal) × stage a (Err refusal)
 
--- a stage has one outcome at most
+-- a stage has one outcome at most for whatever it is given
 abbrev pub HasOneOutcome : {A B E : Type 0} → (A → Result B E → Type 0) → Type 0
 HasOneOutcome {A = A} {B = B} {E = E} stage =
     (a : A) (x y : Result B E) → stage a x → stage a y → x ≡ y
 
--- and one at least
+-- a stage has one outcome at least for whatever it is given
 abbrev pub HasOutcome : {A B E : Type 0} → (A → Result B E → Type 0) → Type 0
 HasOutcome {A = A} {B = B} {E = E} stage = (a : A) → (x : Result B E) × stage a x

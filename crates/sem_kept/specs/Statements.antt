@@ -37,12 +37,14 @@ stated_code blocks data_blocks = record {
   blocks = numbered_bytes data_blocks;
 }
 
--- the position of a statement in the code of its block
+-- the position of the statement of number n in the code of its block: its byte offset; where
+-- there is no block, the number itself
 abbrev pub position_in : Option StatedBlock → (n : ℕ) → ℕ
 position_in None n = n
 position_in (Some b) n = offset_of_statement (ops_in b.statements) n
 
--- the same for the block of a kind and number; where it is absent each number is its position
+-- the position of the statement of number n in the code of the first block of a kind and number:
+-- its byte offset; where the block is absent, the number itself
 abbrev pub statement_position : List StatedBlock → BlockId → (n : ℕ) → ℕ
 statement_position blocks id n = position_in (stated_block_named id blocks) n
 

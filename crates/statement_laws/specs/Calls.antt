@@ -50,23 +50,26 @@ is_passed_by_call part.InOut = true
 is_passed_by_call part.Static = false
 is_passed_by_call part.Temp = false
 
--- the name of a parameter, which is of elementary type
+-- a name as a list of one for a component of elementary type; the empty list for another one
 abbrev pub name_if_plain : Element → List ℕ → List (List ℕ)
 name_if_plain (element.Plain kind) name = name ∷ []
 name_if_plain _ name = []
 
--- the name of a parameter that a call passes, if it is declared so
+-- the name of a component that is a parameter of elementary type, as a list of one; else the
+-- empty list
 abbrev pub name_of_parameter : Cell → List (List ℕ)
 name_of_parameter cell =
     if is_passed_by_call cell.section then name_if_plain cell.of cell.name else []
 
--- in the order of a call the return value, which is declared first, is the last
+-- names of parameters in the order of a call: the return value, which is declared first, is the
+-- last
 abbrev pub in_call_order : (result : Bool) → List (List ℕ) → List (List ℕ)
 in_call_order false names = names
 in_call_order true [] = []
 in_call_order true (result ∷ names) = names ++ result ∷ []
 
--- the parameters of the nine system functions
+-- the names of the parameters of the system function of a number, in the order of a call; of no
+-- other number
 abbrev pub system_names : ℕ → List (List ℕ)
 system_names n =
     if nat_eq n 32
@@ -81,7 +84,8 @@ system_names n =
     else if nat_eq n 64 then codes "RET_VAL" ∷ []
     else []
 
--- those of the block at a place of the source; of none there are none
+-- the names of the parameters of the block at a place of the source, in the order of a call;
+-- none where there is no such block
 abbrev pub source_names : Context → Option ℕ → List (List ℕ)
 source_names c None = []
 source_names c (Some place) =
@@ -117,22 +121,24 @@ named_in_call c (Some a) = option_and_then if_passable (named_by c a.value)
 
 -- ---- what it stands for
 
--- a place is bound where it exists: 22 and 23, in the peripheral area 42 and 43
+-- a parameter stands for a place where there is such a place; else the error of a missing one,
+-- 22 or 23, in the peripheral area 42 or 43
 abbrev pub binding_if : Access → Location → Option ℕ → Result Binding ℕ
 binding_if access b None = Err (missing_place_error access b.place.area)
 binding_if access b (Some n) = Ok (binding.Bound b.place b.width b.frame)
 
--- what a parameter stands for that is passed a place
+-- what a parameter stands for that is passed a place: that place, where it exists
 abbrev pub binding_at : Access → Location → ExecState → Result Binding ℕ
 binding_at access b p = binding_if access b (number_at_bound b.place.area b p)
 
--- what a parameter of the caller stands for
+-- what a parameter of the caller that is passed on stands for
 abbrev pub binding_passed_on : Option Binding → Result Binding ℕ
 binding_passed_on (Some b) = Ok b
 binding_passed_on None = Err 0
 
--- a constant by its value, a place as it is at the call; a place in a data block that is named opens
--- nothing: 3A where the block isn't loaded
+-- what a parameter stands for by what is passed: a constant by its value, a place as it is at
+-- the call; a place in a data block that is named opens nothing, and is error 3A where the block
+-- isn't loaded
 unfoldable pub binding_of : Access → NamedItem → ExecState → Result Binding ℕ
 binding_of access (named.Constant value) p = Ok (binding.Constant (bits_of_literal value))
 binding_of access (named.Place (named.Fixed a w byte bit)) p =
@@ -142,16 +148,19 @@ binding_of access (named.PlaceIn block w byte bit) p =
 binding_of access (named.Parameter index w) p = binding_passed_on (slice_get p.local.inner.bindings index)
 binding_of access _ p = Err 0
 
--- of the sections OUT alone is tested as written
+-- how the place for a parameter is tested: as one that is written for OUT, as one that is read
+-- for IN and IN_OUT
 abbrev pub access_of : Param → Access
 access_of param = if nat_eq param.section section_out then Writing else Reading
 
--- for the parameter of an index; no block has another one
+-- what a parameter stands for by what is passed; error 0 where there is no such parameter, as no
+-- block has
 abbrev pub binding_for : Option Param → NamedItem → ExecState → Result Binding ℕ
 binding_for (Some param) x p = binding_of (access_of param) x p
 binding_for None x p = Err 0
 
--- the parameter of an index stands for what is passed, if something is
+-- the parameter of an index is bound to what is passed for it, if something is, and then goes on
+-- with `next`
 abbrev pub binds_parameter :
     Option NamedItem → Option Param → (index : ℕ) → List Binding → ExecState
     → (List Binding → Result (List Binding) ℕ) → Result (List Binding) ℕ
@@ -159,7 +168,8 @@ binds_parameter None param index bindings p next = next bindings
 binds_parameter (Some x) param index bindings p next =
     then_ok (binding_for param x p) (λ b. next (binding_set bindings index b))
 
--- one after the other, by the order of the parameters; the first that can't be bound is the error
+-- what the parameters of a call stand for, from an index on, in their order; the first one that
+-- can't be bound is the error
 abbrev pub bindings_from :
     List Param → Context → List Actual → (index : ℕ) → List (List ℕ) → List Binding → ExecState
     → Result (List Binding) ℕ
@@ -168,7 +178,7 @@ bindings_from params c actuals index (name ∷ names) bindings p =
     binds_parameter (named_in_call c (actual_named name actuals)) (slice_get params index) index bindings p
     (λ more. bindings_from params c actuals (suc index) names more p)
 
--- before, none is supplied
+-- what all parameters of a call stand for; one for which nothing is passed is unsupplied
 abbrev pub bindings_of :
     Context → List Actual → List (List ℕ) → List Param → ExecState → Result (List Binding) ℕ
 bindings_of c actuals names params p =
@@ -176,17 +186,17 @@ bindings_of c actuals names params p =
 
 -- ---- the call
 
--- CC calls where the RLO is 1
+-- whether a call is made: CC calls where the RLO is 1, CALL and UC always
 abbrev pub makes_call : Mnemonic → (rlo : Bool) → Bool
 makes_call code.Cc rlo = rlo
 makes_call _ rlo = true
 
--- OS 0, OR 0, STA 1, /FC 0
+-- the registers as a call leaves them: OS 0, OR 0, STA 1, /FC 0
 abbrev pub registers_at_call : Regs → Regs
 registers_at_call r =
     record r { status = record r.status { os = false; or = false; sta = true; fc = false } }
 
--- a block of the program is entered, by its head
+-- a block of the program is called: it is entered by its head, with its parameters bound
 abbrev pub enters_block :
     Option BlockHead → BlockId → Option ℕ → (List Param → ExecState → Result (List Binding) ℕ) → (next : ℕ)
     → Activation → GlobalStore → StatementStep
@@ -197,7 +207,7 @@ enters_block (Some h) id instance bind next a w =
     (called_block id instance h) next a w.memory)
     next a w
 
--- a system function is called, by its parameters
+-- a system function is called by its number, with its parameters bound
 abbrev pub enters_system :
     Option (List Param) → (number : ℕ) → (List Param → ExecState → Result (List Binding) ℕ) → (next : ℕ)
     → Activation → GlobalStore → StatementStep
@@ -208,7 +218,8 @@ enters_system (Some params) number bind next a w =
     (λ bindings. Ok (arguments_of_activation params bindings a w.memory)))
     number next a
 
--- a call that is made; CC with RLO 0 sets the four bits and RLO 1, and goes on
+-- CALL, UC or CC: the block or system function is called, or after CC with RLO 0 the calling
+-- block goes on, with OS 0, OR 0, STA 1, /FC 0 and RLO 1
 abbrev pub calls_block :
     Mnemonic → BlockId → Option ℕ → (List Param → ExecState → Result (List Binding) ℕ) → Code → (next : ℕ)
     → Activation → GlobalStore → StatementStep

@@ -49,7 +49,7 @@ use Rattle.statement_laws.specs.Reading.{bcd_to_load, bit_of_operand, bits_of_li
 
 -- ---- registers, and what the block holds
 
--- the registers, and others in their place
+-- the registers of the running block, with the status word
 abbrev pub registers_of : ExecState → Regs
 registers_of p = p.local.regs
 
@@ -61,11 +61,12 @@ with_regs r p = record p { local = record p.local { regs = r } }
 abbrev pub on_regs : (Regs → Regs) → ExecState → Result ExecState ℕ
 on_regs f p = Ok (with_regs (f (registers_of p)) p)
 
--- with other data blocks, brackets or another relay
+-- other data of the innermost frame: data block registers, brackets or master control relay; all
+-- else stays
 abbrev pub with_inner : FrameData → ExecState → ExecState
 with_inner i p = record p { local = record p.local { inner = i } }
 
--- RLO, and the RLO that the relay lets through: 0 while it is closed
+-- the RLO
 abbrev pub rlo_of : ExecState → Bool
 rlo_of p = (registers_of p).status.rlo
 
@@ -92,7 +93,7 @@ abbrev pub checks_or : NamedItem → ExecState → Result ExecState ℕ
 checks_or named.Nothing p = on_regs or_bare p
 checks_or x p = checks_bit check.O x p
 
--- A( to XN(: at most seven are open
+-- another list of open brackets; all else stays
 abbrev pub with_bracket_list : List Bracket → ExecState → ExecState
 with_bracket_list brackets p = with_inner (record p.local.inner { brackets = brackets }) p
 
@@ -102,7 +103,7 @@ opens_bracket with p =
     if length p.local.inner.brackets == 7 then Err 0
     else on_regs bracket_begun (with_bracket_list (entry_of with (registers_of p) ∷ p.local.inner.brackets) p)
 
--- ): the last one
+-- ): the first bracket of the list, the innermost one, closes; an error where none is open
 abbrev pub closes_one : List Bracket → ExecState → Result ExecState ℕ
 closes_one [] p = Err 0
 closes_one (bracket ∷ rest) p = on_regs (bracket_ended bracket) (with_bracket_list rest p)
@@ -124,12 +125,12 @@ writes_bit b value r p =
 abbrev pub bit_there : Location → ExecState → Result Bool ℕ
 bit_there b p = then_ok (number_or_error Writing b p) (λ n. Ok (n == 1))
 
--- =: the RLO that the relay lets through
+-- =: the bit gets the power flow, which is the RLO, but 0 while the relay is closed
 abbrev pub assigns_power_flow : NamedItem → ExecState → Result ExecState ℕ
 assigns_power_flow x p =
     then_ok (place_of_operand Writing x p) (λ b. writes_bit b (power_flow_of p) (after_store (power_flow_of p) (registers_of p)) p)
 
--- S (1) and R (0) of a bit: with RLO 1, and not while the relay is closed
+-- S (value 1) and R (value 0) of a bit: the value where power flows, and else what it was before
 abbrev pub bit_after : (flow value before : Bool) → Bool
 bit_after true value before = value
 bit_after false value before = before
@@ -154,7 +155,7 @@ tells_edge rising x p =
 abbrev pub with_relay : Relay → ExecState → ExecState
 with_relay r p = with_inner (record p.local.inner { relay = r }) p
 
--- MCRA, MCRD
+-- MCRA (true) and MCRD (false) of the master control relay
 abbrev pub activates_relay : Bool → ExecState → Result ExecState ℕ
 activates_relay active p = Ok (with_relay (record p.local.inner.relay { active = active }) p)
 
@@ -164,7 +165,7 @@ opens_relay_zone p =
     if length p.local.inner.relay.zones == 8 then Err 0
     else on_regs (after_store true) (with_relay (zone_opened (rlo_of p) p.local.inner.relay) p)
 
--- )MCR
+-- )MCR: the last of these zones ends; an error where none is open
 abbrev pub ends_zone_of : List Bool → ExecState → Result ExecState ℕ
 ends_zone_of [] p = Err 0
 ends_zone_of (value ∷ around) p =
@@ -185,25 +186,26 @@ abbrev pub length_of_data_block : Option (List ℕ) → ℕ
 length_of_data_block None = 0
 length_of_data_block (Some bytes) = length bytes % 2 ^ 32
 
--- the length of the open data block; 0 where none is open
+-- the length in bytes of the data block that a register has open; 0 where none is open
 abbrev pub open_length : Option ℕ → Areas → ℕ
 open_length None m = 0
 open_length (Some n) m = length_of_data_block (map.get m.data_blocks n)
 
--- the number and the length of the open data blocks
+-- what L reads of an open data block: the number or the length of that in the DB or DI register,
+-- 0 where none is open
 abbrev pub open_fact : OpenBlock → ExecState → ℕ
 open_fact named.DbLength p = open_length p.local.inner.db p.memory
 open_fact named.DbNumber p = unwrap_or p.local.inner.db 0
 open_fact named.DiLength p = open_length p.local.inner.di p.memory
 open_fact named.DiNumber p = unwrap_or p.local.inner.di 0
 
--- L
+-- L: what the operand holds goes to accumulator 1, whose contents go to accumulator 2
 abbrev pub loads_operand : NamedItem → ExecState → Result ExecState ℕ
 loads_operand named.StatusWord p = on_regs (with_loaded (status_number (status_shown (registers_of p).status))) p
 loads_operand (named.Opened what) p = on_regs (with_loaded (open_fact what p)) p
 loads_operand x p = then_ok (number_to_load x p) (λ n. on_regs (with_loaded n) p)
 
--- LC
+-- LC: a timer or counter in BCD goes to accumulator 1, whose contents go to accumulator 2
 abbrev pub loads_bcd : NamedItem → ExecState → Result ExecState ℕ
 loads_bcd x p = then_ok (bcd_to_load x p) (λ n. on_regs (with_loaded n) p)
 
@@ -231,12 +233,12 @@ abbrev pub address_to_load : NamedItem → ExecState → Result ℕ ℕ
 address_to_load named.Nothing p = Ok (registers_of p).a1
 address_to_load x p = number_of_operand x p
 
--- LAR1, with address register 2 too
+-- LAR1: address register 1 gets accumulator 1, address register 2 or the operand
 abbrev pub loads_ar1 : NamedItem → ExecState → Result ExecState ℕ
 loads_ar1 named.SecondRegister p = Ok (with_ar1 (registers_of p).ar2 p)
 loads_ar1 x p = then_ok (address_to_load x p) (λ n. Ok (with_ar1 n p))
 
--- LAR2
+-- LAR2: address register 2 gets accumulator 1 or the operand
 abbrev pub loads_ar2 : NamedItem → ExecState → Result ExecState ℕ
 loads_ar2 x p = then_ok (address_to_load x p) (λ n. Ok (with_ar2 n p))
 
@@ -245,31 +247,31 @@ abbrev pub puts_address : ℕ → NamedItem → ExecState → Result ExecState �
 puts_address n named.Nothing p = on_regs (with_loaded n) p
 puts_address n x p = puts_number n x p
 
--- TAR1, to address register 2 too
+-- TAR1: address register 1 goes to accumulator 1, to address register 2 or to the operand
 abbrev pub stores_ar1 : NamedItem → ExecState → Result ExecState ℕ
 stores_ar1 named.SecondRegister p = Ok (with_ar2 (registers_of p).ar1 p)
 stores_ar1 x p = puts_address (registers_of p).ar1 x p
 
--- CAR
+-- CAR: address registers 1 and 2 are exchanged
 abbrev pub exchanges_addresses : ExecState → Result ExecState ℕ
 exchanges_addresses p = on_regs (λ r. record r { ar1 = r.ar2; ar2 = r.ar1 }) p
 
--- an integer of 16 bits in 24 bits
+-- a signed integer of 16 bits, widened to 24 bits
 abbrev pub widened_to_24 : (word : ℕ) → ℕ
 widened_to_24 word = if nat_lt word (2 ^ 15) then word else word + (2 ^ 24 - 2 ^ 16)
 
--- +AR1 and +AR2: the constant, or the integer in the low word of accumulator 1
+-- what +AR1 and +AR2 add: the pointer constant, or the integer in the low word of accumulator 1
 abbrev pub added_bits : NamedItem → ExecState → ℕ
 added_bits (named.Pointer value) p = value
 added_bits x p = widened_to_24 (low_word p)
 
--- it is added in bits 0 to 23
+-- an address register after +AR1 or +AR2: the count is added in bits 0 to 23
 abbrev pub address_after : (address count : ℕ) → ℕ
 address_after address count = accumulators.with_low 24 address ((address + count) % 2 ^ 24)
 
 -- ---- number instructions
 
--- an instruction that may find no BCD number: 21
+-- an instruction on the registers that reads a BCD number; error 21 where there is none
 abbrev pub on_bcd : (Regs → Option Regs) → ExecState → Result ExecState ℕ
 on_bcd f p = then_ok (ok_or (f (registers_of p)) 0x21) (λ r. Ok (with_regs r p))
 
@@ -278,7 +280,7 @@ abbrev pub constant_of_width : (w : ℕ) → NamedItem → Option ℕ
 constant_of_width w (named.Constant value) = Some (bits_of_literal value % 2 ^ w)
 constant_of_width w x = None
 
--- where there always is one
+-- the lowest w bits of a constant operand; 0 for another operand, which no statement has here
 abbrev pub constant_bits_or_zero : (w : ℕ) → NamedItem → ℕ
 constant_bits_or_zero w x = unwrap_or (constant_of_width w x) 0
 
@@ -288,42 +290,46 @@ adds_by (named.Constant (literal.Long value)) =
     accumulators.accumulator_increased 32 (bits_of_literal (literal.Long value) % 2 ^ 32)
 adds_by x = accumulators.accumulator_increased 16 (constant_bits_or_zero 16 x)
 
--- so many places: the constant, or the lowest byte of accumulator 2
+-- by how many places a shift or rotation goes: the constant, or the lowest byte of accumulator 2
 abbrev pub shift_count : NamedItem → ExecState → ℕ
 shift_count x p = unwrap_or (constant_of_width 8 x) ((registers_of p).a2 % 2 ^ 8)
 
 -- ---- timers and counters
 
--- the logic string ends
+-- the logic string ends: OR 0, /FC 0
 abbrev pub with_logic_string_ended : Regs → Regs
 with_logic_string_ended r = record r { status = record r.status { or = false; fc = false } }
 
--- 21 for a digit above 9, the other code for a number that there isn't
+-- what a timer or counter gives, or an error: 21 for a digit above 9 in BCD, `code` where there
+-- is no timer or counter of the number
 abbrev pub or_error : {A : Type 0} → (code : ℕ) → Result A TimerFault → Result A ℕ
 or_error code (Ok x) = Ok x
 or_error code (Err NoNumber) = Err code
 or_error code (Err BadBcd) = Err 0x21
 
--- an instruction on a timer, on a counter; it may find a digit above 9
+-- an instruction on the timer of a number; error 26 where there is none, 21 where it finds a
+-- digit above 9
 abbrev pub on_timer : (timers.Timer → Option timers.Timer) → Number → ExecState → Result ExecState ℕ
 on_timer f n p =
     then_ok (number_of_item n p) (λ which.
     then_ok (or_error 0x26 (change_at_number f p.timers which)) (λ all.
     on_regs with_logic_string_ended (record p { timers = all })))
 
--- an instruction on the counter of a number; 27 where there is none
+-- an instruction on the counter of a number; error 27 where there is none, 21 where it finds a
+-- digit above 9
 abbrev pub on_counter : (counters.Counter → Option counters.Counter) → Number → ExecState → Result ExecState ℕ
 on_counter f n p =
     then_ok (number_of_item n p) (λ which.
     then_ok (or_error 0x27 (change_at_number f p.counters which)) (λ all.
     on_regs with_logic_string_ended (record p { counters = all })))
 
--- SP SE SD SS SF
+-- SP, SE, SD, SS or SF: a timer is started by the RLO, with the time in the low word of
+-- accumulator 1
 abbrev pub starts_timer : TimerKind → NamedItem → ExecState → Result ExecState ℕ
 starts_timer how (named.Timer n) p = on_timer (timers.start_timer how (rlo_of p) (low_word p)) n p
 starts_timer how x p = Err 0
 
--- CU, CD
+-- CU or CD: a counter counts by the RLO
 abbrev pub counts_counter : (Bool → counters.Counter → counters.Counter) → NamedItem → ExecState → Result ExecState ℕ
 counts_counter f (named.Counter n) p = on_counter (λ k. Some (f (rlo_of p) k)) n p
 counts_counter f x p = Err 0
@@ -351,21 +357,22 @@ frees_operand x p = Err 0
 abbrev pub is_data_block_loaded : ℕ → ExecState → Bool
 is_data_block_loaded n p = is_some (map.get p.memory.data_blocks n)
 
--- it is open in the DI register, or in the DB register
+-- the data block of this number is open in the DI register (true) or in the DB register (false)
 abbrev pub with_open : (di : Bool) → ℕ → ExecState → ExecState
 with_open true n p = with_inner (record p.local.inner { di = Some n }) p
 with_open false n p = with_inner (record p.local.inner { db = Some n }) p
 
--- it is opened; 3A where it isn't loaded
+-- the data block of this number is opened in the DI register (true) or in the DB register; error
+-- 3A where it isn't loaded
 abbrev pub opens_block_number : (di : Bool) → ℕ → ExecState → Result ExecState ℕ
 opens_block_number di n p = if is_data_block_loaded n p then Ok (with_open di n p) else Err 0x3A
 
--- OPN
+-- OPN: a data block is opened by its number
 abbrev pub opens_data_block : NamedItem → ExecState → Result ExecState ℕ
 opens_data_block (named.DataBlock di n) p = then_ok (number_of_item n p) (λ which. opens_block_number di which p)
 opens_data_block x p = Err 0
 
--- CDB
+-- CDB: the DB register and the DI register are exchanged
 abbrev pub exchanges_blocks : ExecState → Result ExecState ℕ
 exchanges_blocks p =
     Ok (with_inner (record p.local.inner { db = p.local.inner.di; di = p.local.inner.db }) p)
@@ -479,8 +486,9 @@ action code.Opn x p = opens_data_block x p
 action code.Cdb x p = exchanges_blocks p
 action _ x p = Err 0
 
--- a place in a data block that the statement opens first: 3A where that isn't loaded, and else the place
--- in the DB register
+-- what a statement does by its mnemonic and what its operand names: for a place in a data block
+-- that is named, that block is opened first, error 3A where it isn't loaded, and the place is
+-- that in the DB register
 unfoldable pub effect_of_statement : Mnemonic → NamedItem → ExecState → Result ExecState ℕ
 effect_of_statement m (named.PlaceIn block width byte bit) p =
     then_ok (opens_block_number false block p) (λ q.

@@ -60,20 +60,20 @@ takes_jump code.Juo r = flag_value flag.Uo r.status
 takes_jump code.Loop r = not ((one_less r).a1 % 2 ^ 16 == 0)
 takes_jump _ r = false
 
--- RLO 1, STA 1, OR 0, /FC 0
+-- the registers with RLO 1, STA 1, OR 0 and /FC 0
 abbrev pub with_rlo_1 : Regs → Regs
 with_rlo_1 r =
     record r { status = record r.status { rlo = true; sta = true; or = false; fc = false } }
 
--- OR 0, STA 1, /FC 0
+-- the registers with OR 0, STA 1 and /FC 0
 abbrev pub with_string_ended_by_jump : Regs → Regs
 with_string_ended_by_jump r = record r { status = record r.status { or = false; sta = true; fc = false } }
 
--- the RLO in BR
+-- the registers with the RLO in BR
 abbrev pub rlo_in_br : Regs → Regs
 rlo_in_br r = record r { status = record r.status { br = r.status.rlo } }
 
--- OS 0
+-- the registers with OS 0
 abbrev pub with_os_cleared : Regs → Regs
 with_os_cleared r = record r { status = record r.status { os = false } }
 
@@ -108,7 +108,8 @@ abbrev pub list_target : (n target : ℕ) → Regs → ℕ
 list_target n target r =
     if nat_lt (r.a1 % 2 ^ 8) (target - suc n) then suc n + r.a1 % 2 ^ 8 else target
 
--- JL changes no register
+-- JL, the statement of number n, goes on in the list of jumps behind it or at its label, the
+-- statement of number `target`; it changes no register
 abbrev pub jumps_by_list : (n target : ℕ) → Activation → GlobalStore → StatementStep
 jumps_by_list n target a w = Went (standing_at (list_target n target a.running.regs) a.running.regs a) w
 
@@ -119,7 +120,8 @@ abbrev pub is_return_taken : Mnemonic → (rlo : Bool) → Bool
 is_return_taken code.Bec rlo = rlo
 is_return_taken _ rlo = true
 
--- BEC with RLO 0: RLO 1, OR 0, STA 1, /FC 0, and the block goes on
+-- BE, BEC or BEU: the block returns, or after BEC with RLO 0 goes on with RLO 1, OR 0, STA 1,
+-- /FC 0
 abbrev pub ends_block : Mnemonic → Code → (next : ℕ) → Activation → GlobalStore → StatementStep
 ends_block m program next a w =
     if is_return_taken m a.running.regs.status.rlo then return_made (program.head a.running.frame.block) a w

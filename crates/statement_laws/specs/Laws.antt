@@ -79,7 +79,7 @@ is_bit_logic code.Not = true
 is_bit_logic code.Save = true
 is_bit_logic _ = false
 
--- statements of bit logic have their effect
+-- each statement of bit logic does what its mnemonic says
 abbrev pub BitLogicActs : Type 0
 BitLogicActs = StatementsAct is_bit_logic
 
@@ -97,11 +97,11 @@ is_load_or_transfer code.AddAr1 = true
 is_load_or_transfer code.AddAr2 = true
 is_load_or_transfer _ = false
 
--- so have those that load and transfer
+-- each statement that loads or transfers does what its mnemonic says
 abbrev pub LoadsAct : Type 0
 LoadsAct = StatementsAct is_load_or_transfer
 
--- those on the accumulators, BCD and conversions, and word logic
+-- the instructions on the accumulators, BCD and conversions, and word logic
 abbrev pub is_number_instruction : Mnemonic → Bool
 is_number_instruction code.Tak = true
 is_number_instruction code.Push = true
@@ -137,11 +137,12 @@ is_number_instruction code.Od = true
 is_number_instruction code.Xod = true
 is_number_instruction _ = false
 
--- those of numbers
+-- each statement on the accumulators, BCD and conversions, or word logic does what its mnemonic
+-- says
 abbrev pub NumbersAct : Type 0
 NumbersAct = StatementsAct is_number_instruction
 
--- == <> > < >= <= of integers of 16 and 32 bits
+-- the comparisons == <> > < >= <= of integers of 16 and 32 bits
 abbrev pub is_comparison : Mnemonic → Bool
 is_comparison code.EqI = true
 is_comparison code.NeI = true
@@ -157,7 +158,7 @@ is_comparison code.GeD = true
 is_comparison code.LeD = true
 is_comparison _ = false
 
--- those that compare
+-- each statement that compares does what its mnemonic says
 abbrev pub ComparisonsAct : Type 0
 ComparisonsAct = StatementsAct is_comparison
 
@@ -175,11 +176,11 @@ is_shift code.Rlda = true
 is_shift code.Rrda = true
 is_shift _ = false
 
--- those that shift and rotate
+-- each statement that shifts or rotates does what its mnemonic says
 abbrev pub ShiftsAct : Type 0
 ShiftsAct = StatementsAct is_shift
 
--- those on timers and counters alone
+-- the instructions on timers and counters alone: SP SE SD SS SF, FR, CU, CD
 abbrev pub is_timing : Mnemonic → Bool
 is_timing code.Sp = true
 is_timing code.Se = true
@@ -191,11 +192,11 @@ is_timing code.Cu = true
 is_timing code.Cd = true
 is_timing _ = false
 
--- those on timers and counters
+-- each statement on timers or counters alone does what its mnemonic says
 abbrev pub TimingActs : Type 0
 TimingActs = StatementsAct is_timing
 
--- the master control relay
+-- the instructions of the master control relay: MCRA, MCRD, MCR(, )MCR
 abbrev pub is_relay : Mnemonic → Bool
 is_relay code.Mcra = true
 is_relay code.Mcrd = true
@@ -203,33 +204,33 @@ is_relay code.McrOpen = true
 is_relay code.McrClose = true
 is_relay _ = false
 
--- those of the master control relay
+-- each statement of the master control relay does what its mnemonic says
 abbrev pub RelayActs : Type 0
 RelayActs = StatementsAct is_relay
 
--- OPN and CDB
+-- the instructions OPN and CDB
 abbrev pub is_data_block_instruction : Mnemonic → Bool
 is_data_block_instruction code.Opn = true
 is_data_block_instruction code.Cdb = true
 is_data_block_instruction _ = false
 
--- those that open and exchange data blocks
+-- each statement that opens or exchanges data blocks does what its mnemonic says
 abbrev pub DataBlocksAct : Type 0
 DataBlocksAct = StatementsAct is_data_block_instruction
 
--- NOP and BLD
+-- the instructions NOP and BLD
 abbrev pub is_idle : Mnemonic → Bool
 is_idle code.Nop = true
 is_idle code.Bld = true
 is_idle _ = false
 
--- those that do nothing
+-- each statement NOP or BLD does what its mnemonic says, which is nothing
 abbrev pub IdleActs : Type 0
 IdleActs = StatementsAct is_idle
 
 -- ---- jumps
 
--- the jumps but JL
+-- the jumps and LOOP, but not JL
 abbrev pub is_plain_jump : Mnemonic → Bool
 is_plain_jump code.Ju = true
 is_plain_jump code.Jc = true
@@ -250,7 +251,8 @@ is_plain_jump code.Juo = true
 is_plain_jump code.Loop = true
 is_plain_jump _ = false
 
--- each jump goes to the statement of its label, or on, and leaves the registers as its mnemonic says
+-- each jump but JL goes to the statement of its label, or on, and leaves the registers as its
+-- mnemonic says
 abbrev pub PlainJumpsAct : Type 0
 PlainJumpsAct =
     (c : Context) (body : List Statement) (n : ℕ) (s : Statement) (name : List ℕ)
@@ -270,14 +272,15 @@ JumpListsAct =
 
 -- ---- ends of a block
 
--- BE, BEC, BEU
+-- the ends of a block: BE, BEC, BEU
 abbrev pub is_end : Mnemonic → Bool
 is_end code.Be = true
 is_end code.Bec = true
 is_end code.Beu = true
 is_end _ = false
 
--- each end whose operand its instruction takes, which is none
+-- each statement BE, BEC or BEU, whose instruction takes no operand, ends the block as its
+-- mnemonic says
 abbrev pub EndsAct : Type 0
 EndsAct =
     (c : Context) (body : List Statement) (n : ℕ) (s : Statement) (v : ResolvedOperand)
@@ -295,7 +298,7 @@ has_fixed_name (operand.Called name instance) = false
 has_fixed_name (operand.Other name) = is_some (register_named name)
 has_fixed_name _ = true
 
--- whatever its instruction takes, such an operand names something
+-- an operand of a fixed name that its instruction takes names something
 abbrev pub OperandsAreNamed : Type 0
 OperandsAreNamed =
     (c : Context) (s : Statement) (v : ResolvedOperand) → has_fixed_name s.operand ≡ true
@@ -317,7 +320,7 @@ is_variable (operand.Named (head.Local name) steps) = true
 is_variable (operand.Named (head.InBlock name) steps) = true
 is_variable _ = false
 
--- no index of its path lies outside its array
+-- no index of the path of a variable lies outside its array
 abbrev pub stays_inside : Context → Operand → Bool
 stays_inside c (operand.Named (head.Local name) steps) =
     not (leaves_local c.layouts c.block (upper_case_name name) (folded_path steps))
@@ -326,7 +329,8 @@ stays_inside c (operand.Named (head.InBlock name) steps) =
     (folded_path steps))
 stays_inside c _ = true
 
--- and then a variable is named, too
+-- a variable that its instruction takes and whose path stays inside its arrays names something,
+-- where the parameters of a function are of elementary type
 abbrev pub VariablesAreNamed : Type 0
 VariablesAreNamed =
     (c : Context) (s : Statement) (v : ResolvedOperand) → HasElementaryParameters c
@@ -335,7 +339,7 @@ VariablesAreNamed =
 
 -- ---- calls
 
--- CALL, UC, CC
+-- the calls: CALL, UC, CC
 abbrev pub is_call_instruction : Mnemonic → Bool
 is_call_instruction code.Call = true
 is_call_instruction code.Uc = true
@@ -349,7 +353,8 @@ pub record IsNamedActual (c : Context) (a : Actual) : Type 0 where
   pub named : NamedItem
   pub names : named_by c a.value ≡ Some named
 
--- each call of a block whose parameters are known, where what is passed is named
+-- each call of a block whose parameters are known does what its mnemonic says, where what is
+-- passed is named
 abbrev pub CallsAct : Type 0
 CallsAct =
     (c : Context) (body : List Statement) (n : ℕ) (s : Statement) (v : ResolvedOperand)
@@ -379,18 +384,18 @@ pub record HasNumberedStatements (c : Context) (b : Block) : Type 0 where
   -- and there is no other
   pub count : length (statements_of c b) ≡ numbered_statement_count b.body + 1
 
--- the statements of each block have their numbers
+-- the statements of each block have the numbers that count those before them
 abbrev pub StatementsAreNumbered : Type 0
 StatementsAreNumbered = (c : Context) (b : Block) → HasNumberedStatements c b
 
 -- ---- all statements
 
--- JL
+-- the jump by list: JL
 abbrev pub is_jump_list : Mnemonic → Bool
 is_jump_list code.Jl = true
 is_jump_list _ = false
 
--- the families together
+-- a mnemonic is in one of the families of instructions
 abbrev pub is_in_family : Mnemonic → Bool
 is_in_family m =
     is_bit_logic m || is_load_or_transfer m || is_number_instruction m || is_comparison m || is_shift m

@@ -57,25 +57,26 @@ place_in_db number width byte bit =
     if nat_eq number 0 then named_fixed_place area.Db width byte bit
     else named.PlaceIn number width byte bit
 
--- a place by its parts, of which the number counts in DB alone
+-- the place of an area, of the data block with this number for DB; for another area the number
+-- doesn't count
 abbrev pub place_by : Area → (number : ℕ) → Width → (byte bit : ℕ) → NamedItem
 place_by area.Db number width byte bit = place_in_db number width byte bit
 place_by a number width byte bit = named_fixed_place a width byte bit
 
--- the same of a place as symbols and layouts have it
+-- a place as symbols and layouts have it, with its width, as what an operand names
 abbrev pub named_place : Place → Width → NamedItem
 named_place place width = place_by place.area place.number width place.byte place.bit
 
 -- ---- symbols
 
--- what a symbol names by its address; that of a block is nothing to act on
+-- what the address of a symbol names; the address of a block is nothing to act on
 abbrev pub target_named : Target → Option NamedItem
 target_named (target.Variable place width) = Some (named_place place width)
 target_named (target.Timer number) = Some (named.Timer (named.Written number))
 target_named (target.Counter number) = Some (named.Counter (named.Written number))
 target_named (target.Block id) = None
 
--- a quoted name is that of the first symbol with it
+-- the address of a quoted name: that of the first symbol with this name
 abbrev pub symbol_target : Context → List ℕ → Option Target
 symbol_target c name = option_map (λ s. s.target) (symbol_named name c.symbols)
 
@@ -89,7 +90,7 @@ abbrev pub block_id_of_name : Context → BlockName → Option BlockId
 block_id_of_name c (block.Number id) = Some id
 block_id_of_name c (block.Quoted name) = option_and_then block_of_target (symbol_target c name)
 
--- its number
+-- the number of a block that is named by kind and number, or by its symbol
 abbrev pub block_number : Context → BlockName → Option ℕ
 block_number c name = option_map (λ id. id.number) (block_id_of_name c name)
 
@@ -104,14 +105,14 @@ with_instance _ _ = None
 abbrev pub place_in_layout : Option (Place × Width) → Option NamedItem
 place_in_layout found = option_map (λ p. named_place p.0 p.1) found
 
--- the parameters of a function by their index in a call: as the text has them, but the return value,
--- which is the first of the components, is the last
+-- the index in a call of the parameter of a function at a place of its components: their order,
+-- but the return value, which is the first of the components, is the last
 abbrev pub parameter_index_in_call : (has_result : Bool) (count place : ℕ) → ℕ
 parameter_index_in_call false count place = place
 parameter_index_in_call true count zero = count - 1
 parameter_index_in_call true count (suc k) = k
 
--- a function with a return value; a function
+-- a block is a function with a return value
 abbrev pub has_result : Option Block → Bool
 has_result None = false
 has_result (Some b) = is_some b.result
@@ -153,7 +154,7 @@ variable_by c name steps (Some m) =
 abbrev pub variable_named : Context → List ℕ → List PathStep → Option NamedItem
 variable_named c name steps = variable_by c name steps (component_of_name 0 0 0 name (components_of_block c))
 
--- a component of a data block
+-- a component of a data block by its path, as what an operand names
 abbrev pub component_named : Context → BlockName → List PathStep → Option NamedItem
 component_named c name steps =
     place_in_layout
@@ -161,7 +162,7 @@ component_named c name steps =
 
 -- ---- words
 
--- the registers that stand as operands
+-- the registers that stand as operands, by their names: STW, DBLG, DBNO, DILG, DINO, AR2
 abbrev pub register_named : List ℕ → Option NamedItem
 register_named name =
     if is_same_name name (codes "STW") then Some named.StatusWord
@@ -181,7 +182,7 @@ numbered_item numbered.Di n = named.DataBlock true n
 
 -- ---- constants
 
--- the area of a pointer constant in bits 24 to 26, with bit 31
+-- the bits of a pointer constant that tell its area: bits 24 to 26, and bit 31
 abbrev pub pointer_area_bits : Letters → ℕ
 pointer_area_bits letters.Pi = 0x8000_0000
 pointer_area_bits letters.Pq = 0x8000_0000
@@ -192,7 +193,8 @@ pointer_area_bits letters.Db = 0x8400_0000
 pointer_area_bits letters.Di = 0x8500_0000
 pointer_area_bits letters.L = 0x8600_0000
 
--- the bit in bits 0 to 2 and the byte in bits 3 to 18
+-- a pointer constant as a number: the bit in bits 0 to 2, the byte in bits 3 to 18, and the
+-- area, if there is one
 abbrev pub pointer_constant_bits : Option Letters → (byte bit : ℕ) → ℕ
 pointer_constant_bits None byte bit = 8 * byte + bit
 pointer_constant_bits (Some a) byte bit = pointer_area_bits a + 8 * byte + bit

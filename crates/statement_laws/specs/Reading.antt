@@ -83,7 +83,8 @@ place_in_area area.Di byte bit width p = place_in_open_block p.local.inner.di 0x
 place_in_area area.L byte bit width p = Ok (location_of_parts area.L 0 byte bit width (length p.local.locals.starts - 1))
 place_in_area a byte bit width p = Ok (location_of_parts a 0 byte bit width 0)
 
--- no such place: 22 where it is read, 23 where it is written; in the peripheral area 42 and 43
+-- the error where there is no such place: 22 where it is read, 23 where it is written; in the
+-- peripheral area 42 and 43
 abbrev pub missing_place_error : Access → Area → ℕ
 missing_place_error Reading area.P = 0x42
 missing_place_error Reading _ = 0x22
@@ -95,7 +96,7 @@ abbrev pub number_at_bound : Area → Location → ExecState → Option ℕ
 number_at_bound area.L b p = local_number p.local.locals b.frame b.place.byte b.place.bit b.width
 number_at_bound _ b p = number_at_place p.memory b.place b.width
 
--- the same, or the error of a place that isn't there
+-- the number at a place, or the error where there is no such place
 abbrev pub number_or_error : Access → Location → ExecState → Result ℕ ℕ
 number_or_error access b p = ok_or (number_at_bound b.place.area b p) (missing_place_error access b.place.area)
 
@@ -106,7 +107,7 @@ abbrev pub stored_number : Area → (byte : ℕ) → Width → ExecState → Res
 stored_number from byte width p =
     then_ok (place_in_area from byte 0 width p) (λ b. number_or_error Reading b p)
 
--- the byte of a pointer in bits 3 to 18, its bit in bits 0 to 2
+-- the byte of a pointer: its bits 3 to 18
 abbrev pub byte_of_pointer : ℕ → ℕ
 byte_of_pointer pointer = pointer / 8 % 65536
 
@@ -114,17 +115,20 @@ byte_of_pointer pointer = pointer / 8 % 65536
 abbrev pub bit_of_pointer : ℕ → ℕ
 bit_of_pointer pointer = pointer % 8
 
--- a bit may lie anywhere, all else begins at bit 0 of its byte
+-- a pointer suits a width: any pointer a bit, and one to bit 0 of its byte a byte, word or
+-- double word
 abbrev pub is_whole : Width → (pointer : ℕ) → Bool
 is_whole widths.Bit pointer = true
 is_whole _ pointer = bit_of_pointer pointer == 0
 
--- 28 where a pointer to a byte, word or double word that is read has a bit, 29 where it is written
+-- the error of a pointer to a byte, word or double word that has a bit: 28 where it is read, 29
+-- where it is written
 abbrev pub pointer_bit_error : Access → ℕ
 pointer_bit_error Reading = 0x28
 pointer_bit_error Writing = 0x29
 
--- 24 and 25: a pointer to no area, or to a bit in the peripheral area
+-- the error of a pointer to no area, or to a bit in the peripheral area: 24 where it is read, 25
+-- where it is written
 abbrev pub pointer_area_error : Access → ℕ
 pointer_area_error Reading = 0x24
 pointer_area_error Writing = 0x25
@@ -181,7 +185,7 @@ place_of_spot access (named.ByRegister (Some a) width register count) p =
 place_of_spot access (named.ByRegister None width register count) p =
     place_of_crossing access width (address_in_register register p) (address_moved (address_in_register register p) count) p
 
--- the place that a parameter stands for
+-- the place that a parameter stands for; error 0 where it stands for a constant or nothing
 abbrev pub place_of_binding : Option Binding → Result Location ℕ
 place_of_binding (Some (binding.Bound place width frame)) =
     Ok (record { place = place; width = width; frame = frame })
@@ -208,12 +212,12 @@ unfoldable pub number_of_item : Number → ExecState → Result ℕ ℕ
 number_of_item (named.Written number) p = Ok number
 number_of_item (named.InWord from byte) p = stored_number from byte widths.Word p
 
--- what is read of a timer; 26 where there is none of the number
+-- what is read of the timer of a number; error 26 where there is none
 abbrev pub of_timer : {A : Type 0} → (Timer → A) → Number → ExecState → Result A ℕ
 of_timer read n p =
     then_ok (number_of_item n p) (λ number. ok_or (option_map read (slice_get p.timers number)) 0x26)
 
--- and of a counter; 27
+-- what is read of the counter of a number; error 27 where there is none
 abbrev pub of_counter : {A : Type 0} → (Counter → A) → Number → ExecState → Result A ℕ
 of_counter read n p =
     then_ok (number_of_item n p) (λ number. ok_or (option_map read (slice_get p.counters number)) 0x27)
@@ -234,7 +238,7 @@ number_to_load (named.Timer n) p = of_timer units_left n p
 number_to_load (named.Counter n) p = of_counter (λ (counter : Counter). counter.value) n p
 number_to_load x p = number_of_operand x p
 
--- what LC reads: the same in BCD
+-- what LC reads in BCD: of a timer the time left with its base, of a counter its value
 unfoldable pub bcd_to_load : NamedItem → ExecState → Result ℕ ℕ
 bcd_to_load (named.Timer n) p = of_timer time_left n p
 bcd_to_load (named.Counter n) p = of_counter count_bcd n p
@@ -250,7 +254,7 @@ bit_of_operand x p = then_ok (number_of_operand x p) (λ n. Ok (n == 1))
 
 -- ---- writing
 
--- with other local bytes, with another memory
+-- other local bytes; all else stays
 abbrev pub with_other_locals : LocalData → ExecState → ExecState
 with_other_locals l p = record p { local = record p.local { locals = l } }
 
@@ -266,6 +270,6 @@ with_number_written area.L b n p =
 with_number_written _ b n p =
     option_map (λ m. with_other_memory m p) (memory.number_written p.memory b.place b.width n)
 
--- another number at a place; an error where there is no such place
+-- another number at a place; the error where there is no such place
 unfoldable pub with_number_at : Location → ℕ → ExecState → Result ExecState ℕ
 with_number_at b n p = ok_or (with_number_written b.place.area b n p) (missing_place_error Writing b.place.area)

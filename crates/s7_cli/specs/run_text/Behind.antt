@@ -12,14 +12,14 @@ abbrev pub with_entries : Recording → List Entry → Recording
 with_entries r entries =
     record r { history = r.history ++ entries; spare = r.spare - length entries }
 
--- the lines of further entries, which are counted on from those of its history
+-- the lines of further entries of a controller, which are counted on from those of its history
 abbrev pub lines_behind : Recording → List Entry → List ℕ
 lines_behind r entries = entry_lines_from (code_of r.program) (length r.history) (final_state r) entries
 
--- the lines at the end of its history
+-- the lines at the end of a controller's history
 abbrev pub closing_of : Recording → List ℕ
 closing_of r = closing_text (length r.history) (final_state r)
 
--- its program, with the profile
+-- the program of a controller, with its profile
 abbrev pub program_of_recording : Recording → LoadedProgram
 program_of_recording r = record { program = r.program; profile = r.profile }
