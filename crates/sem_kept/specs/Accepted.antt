@@ -24,7 +24,7 @@ pub record IsAccepted (source file : List ℕ) (symbols : List Symbol) (t : Tree
   pub short : length source ≤ source_limit
   pub file_short : length file ≤ symbols_limit
   pub language : Language
-  -- what the symbols file holds
+  -- the symbols are those of the symbols file
   pub named : symbols_in language file ≡ Ok symbols
   pub tokens : List Token
   pub lexed : AreTokens source tokens

@@ -17,8 +17,8 @@ use Rattle.machine.specs.Moved.{aimed_instr}
 use Rattle.stl_codegen.specs.Compiled.{SourceInstruction, ops_in, offset_of_statement}
 use Rattle.stl_codegen.specs.Instruction.{numbers_from}
 
--- what is fetched for the statement of number n: its instruction and the next position, with f
--- of each statement's number for that number
+-- what is fetched for the statement of number n: its instruction and the next position, where f
+-- gives the position of each statement by its number
 abbrev pub aimed_statement : (ℕ → ℕ) → (n : ℕ) → SourceInstruction → Fetched
 aimed_statement f n s =
     record { instr = aimed_instr f s.instr; next = f (suc n); line = s.line }
