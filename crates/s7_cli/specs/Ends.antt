@@ -73,7 +73,9 @@ HoldsWhole c d name =
 -- no file changed but output files
 pub record ChangesOutputs (c : Option Command) (d : Disk) : Type 0 where
   pub told : d.after.contents.told ≡ d.before.contents.told
+  -- a file that is no output file holds what it held
   pub elsewhere : (name : List ℕ) → (Contains (output_names c) name → ⊥) → d.after.contents.at name ≡ d.before.contents.at name
+  -- an output file holds what it held, or a front of what is written to it
   pub outputs : (k : Command) → c ≡ Some k → (name : List ℕ) → Contains (outputs_of k) name → HoldsFront k d name
 
 -- each output file is written whole
@@ -106,6 +108,7 @@ pub record SaysWholeText (c : Option Command) (d : Disk) (s : SinkMoments) (answ
 pub record IsCallCutShort (c : Option Command) (d : Disk) (s : SinkMoments) : Type 0 where
   pub cut : CutShort c d s
   pub reads : NoCountFell d.before.failed_reads d.after.failed_reads
+  -- no file changed but output files
   pub files : ChangesOutputs c d
 
 -- a write to the sink failed, and no write of a file

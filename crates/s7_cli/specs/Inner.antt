@@ -88,7 +88,9 @@ FileWritten d name bytes (Err failure) = ⊥
 pub record FailsWith (c : Option Command) (d : Disk) (s : SinkMoments) (failure : Failure) : Type 0 where
   pub line : List ℕ
   pub has_line : line_of_failure failure ≡ Some line
+  -- this failure with its line is an answer that the call may give
   pub answers : IsAnswerOfCall c d (record { outcome = Err failure; text = line })
+  -- nothing was written yet
   pub sink : s.after ≡ s.before
   pub counts : CountsReads d (Err failure)
   pub only_reads : OnlyReads d
@@ -110,6 +112,7 @@ ComesOf c contents d s came =
 
 -- a command whose input files hold this writes these bytes to this file, its only one, and `OK`
 pub record IsOutput (c : Command) (contents : List (List ℕ)) (name bytes : List ℕ) : Type 0 where
+  -- the file is the only one that the command writes
   pub outputs : outputs_of c ≡ name ∷ []
   pub writes : WritesOutputFile c contents name bytes
   pub says : CommandSays c contents (done_answer ok_line)
@@ -125,7 +128,9 @@ written_file o = record { name = o.name.now; bytes = o.bytes.now }
 
 -- a command whose input files hold this writes these two files, its only ones, the first one first, and `OK`
 pub record AreOutputs (c : Command) (contents : List (List ℕ)) (first second : WrittenFile) : Type 0 where
+  -- the two files are all that the command writes, in this order
   pub outputs : outputs_of c ≡ first.name ∷ second.name ∷ []
+  -- the two files have different names
   pub apart : first.name ≢ second.name
   pub writes_first : WritesOutputFile c contents first.name first.bytes
   pub writes_second : WritesOutputFile c contents second.name second.bytes

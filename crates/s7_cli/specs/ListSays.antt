@@ -51,6 +51,7 @@ pub record IsListing (source symbols : List ℕ) (p : Program) : Type 0 where
   pub source_is : source ≡ listed_source p
   pub symbols_are : symbols ≡ listed_names p.names
   pub short : IsShortListing p
+  -- the source compiles to the program, with these names
   pub compiles : HasListing p
 
 -- these are the texts of the listing of the program as which an image loads

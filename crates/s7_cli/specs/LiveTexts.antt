@@ -49,6 +49,8 @@ pub record FindsProgramAndScripts (text : LiveText) (loaded : LoadedProgram) (st
   pub loads : LoadsAs text.image.items (Ok loaded)
   pub are_stimuli : stimuli_of text.stimuli.items ≡ Ok stimuli
   pub are_scripts : scripts_from loaded.program.names 1 (scripts_of text) ≡ Ok scripts
+  -- the stimuli are regular entries of worker 2, those of script k of worker k + 2
   pub regular : AreRegularBy 2 (stimuli ∷ scripts)
   pub few : length stimuli + total_length scripts ≤ 2097152
+  -- a script was found for each file of scripts
   pub many : length scripts ≡ length text.scripts.items

@@ -33,11 +33,15 @@ opened_on loaded = record { program = loaded.program; profile = loaded.profile; 
 -- which leaves another mode than STOP at its place, and fewer only where the last one leaves STOP. The entries of worker 2 are the stimuli,
 -- those of worker k + 2 script k, each list whole and in its order. There are no other workers
 pub record IsLive (loaded : LoadedProgram) (steps : ℕ) (stimuli : List Entry) (scripts : List (List Entry)) (history : List Entry) : Type 0 where
+  -- how many steps worker 1 made
   pub count : ℕ
   pub few : count ≤ steps
   pub stepper : entries_of_worker 1 history ≡ replicate count one_step
+  -- each step but the last leaves another mode than STOP
   pub runs : RunsBefore 1 (opened_on loaded) 1 history
+  -- all steps were made, or the last one leaves STOP
   pub ends : (count ≡ steps) ⊎ EndsInStop (opened_on loaded) 1 history
+  -- the entries of the others are the stimuli and the scripts, each list whole
   pub others : StandInHistory 2 (stimuli ∷ scripts) history
   pub workers : All (λ e. (1 ≤ e.who) × (e.who ≤ 2 + length scripts)) history
 

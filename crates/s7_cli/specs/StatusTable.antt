@@ -29,8 +29,11 @@ HasOneText command = Unit {0}
 -- told files allow one outcome, and one answer where there is one text, and the call gave it: 0, 2, 3, 4, 8, 9 and 10 come exactly where
 -- the files say so
 pub record IsDecided (k : Command) (d : Disk) (s : SinkMoments) (code : ℕ) : Type 0 where
+  -- the answer that the call gave
   pub answer : Answer
   pub allowed : IsAllowed k d answer
+  -- another answer that the files allow has the same outcome, and the same text where there is
+  -- one
   pub only : (other : Answer) → IsAllowed k d other
       → (other.outcome ≡ answer.outcome) × (HasOneText k → other ≡ answer)
   pub status : code ≡ exit_status answer.outcome

@@ -50,7 +50,10 @@ pub record FindsWatch (text : WatchText) (loaded : LoadedProgram) (stimuli : Lis
   pub are_stimuli : stimuli_of text.stimuli.items ≡ Ok stimuli
   pub are_vars : watched_vars_of loaded.program.names text.vars.items ≡ Ok vars
   pub are_scripts : scripts_from loaded.program.names 1 (watch_scripts text) ≡ Ok scripts
+  -- the stimuli are regular entries of worker 2, those of script k of worker k + 2
   pub regular : AreRegularBy 2 (stimuli ∷ scripts)
+  -- the entry that reads the variables is a regular one of worker 6
   pub reads : IsRegularOf 6 (read_entry_of 6 vars)
   pub few : length stimuli + total_length scripts ≤ 2097152
+  -- a script was found for each file of scripts
   pub many : length scripts ≡ length text.scripts.items

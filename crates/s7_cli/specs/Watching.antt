@@ -72,9 +72,14 @@ pub record HasShown (s : LockView Opening) (e : Entry) (count : ℕ) (p : PassVi
 -- what a publisher leaves that was to make so many entries: it has begun, and where it wasn't refused has put each one's reply on the board
 pub record PublishesReplies (s : LockView Opening) (e : Entry) (count : ℕ) (p : PassView Opening Entry) (was now : KnownBoard) (noted : Result KnownBoard StationFault) : Type 0 where
   pub begun : HasBegun s e.who (replicate count e) p
+  -- the board is the same one as before
   pub board : now.board ≡ was.board
+  -- where it was refused, the fault is one that the station can have
   pub fault : IfErr noted (IsFaultAt s p.seen)
+  -- where it wasn't refused, the last note is what it leaves of the board
   pub note : IfOk noted (λ note. note ≡ now)
+  -- where it wasn't refused, the board has the replies of its entries, the last one at the end
+  -- of the story that it knows
   pub shown : OnOk noted (HasShown s e count p now.list × IsLastAt now.list (length p.seen))
 
 -- the numbers of items never fall
@@ -94,13 +99,17 @@ pub record AreSeenIn (list seen : List Shown) : Type 0 where
 
 -- what a viewer leaves that was to view so many times
 pub record ViewsBoard {E : Type 0} (count : ℕ) (was now : KnownBoard) (seen : List Shown) (viewed : Result Unit E) : Type 0 where
+  -- the board is the same one as before
   pub board : now.board ≡ was.board
+  -- where it wasn't refused, there were as many views as it was to make
   pub many : OnOk viewed (length seen ≡ count)
+  -- where it wasn't refused, the items were seen on the board, none older than the one before
   pub each : OnOk viewed (AreSeenIn now.list seen)
 
 -- all was published and viewed, and the viewer has come to the list of the publisher's last note
 pub record HasEnded {E : Type 0} (noted : Result KnownBoard StationFault) (viewed : Result Unit E) (viewer : KnownBoard) : Type 0 where
   pub viewed_all : IsOk viewed
+  -- the publisher's last note
   pub note : KnownBoard
   pub noted_all : noted ≡ Ok note
   pub list : viewer.list ≡ note.list

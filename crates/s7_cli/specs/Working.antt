@@ -29,15 +29,19 @@ entries_of_worker who story = entries_by (λ (e : Entry). e.who) who story
 
 -- a pass of this station that has made and joined nothing, and with which no value is out
 pub record IsFresh (s : LockView Opening) (p : PassView Opening Entry) : Type 0 where
+  -- the pass is one of this station
   pub lock : p.lock ≡ s
+  -- no value is out with it
   pub out : p.out ≡ false
   pub made : p.made ≡ record { number = p.number; entries = [] } ∷ []
+  -- it has seen no entry of its number
   pub agrees : IsMadeOf (λ e. e.who) p.seen p.made
 
 -- of these entries the pass has made the first ones, and nothing else
 pub record HasBegun (s : LockView Opening) (number : ℕ) (entries : List Entry) (p : PassView Opening Entry) : Type 0 where
   pub lock : p.lock ≡ s
   pub out : p.out ≡ false
+  -- the entries that it made
   pub done : List Entry
   pub begins : IsPrefix done entries
   pub made : p.made ≡ record { number = number; entries = done } ∷ []
@@ -89,7 +93,9 @@ pub record EndsInStop (o : Opening) (who : ℕ) (story : List Entry) : Type 0 wh
   pub last : Entry
   pub after : List Entry
   pub is : story ≡ before ++ last ∷ after
+  -- the entry is the worker's
   pub own : last.who ≡ who
+  -- the worker has no later entry
   pub none : entries_of_worker who after ≡ []
   pub stops : is_stop (mode_at o before last) ≡ true
 
@@ -99,23 +105,30 @@ pub record HasStepped (s : LockView Opening) (number steps : ℕ) (p : PassView 
   pub lock : p.lock ≡ s
   pub out : p.out ≡ false
   pub agrees : IsMadeOf (λ e. e.who) p.seen p.made
+  -- how many steps it made
   pub count : ℕ
   pub few : count ≤ steps
   pub made : p.made ≡ record { number = number; entries = replicate count (step_entry_by number) } ∷ []
+  -- each of its entries but the last leaves another mode than STOP
   pub runs : RunsBefore 1 (the_opening s.origin) number p.seen
+  -- where it wasn't refused, it made all steps, or its last one leaves STOP
   pub ends : whole ≡ true → (count ≡ steps) ⊎ EndsInStop (the_opening s.origin) number p.seen
 
 -- what the workers made together under the numbers of these passes, the stepper's first: it made steps alone, at most so many, each but
 -- the last of which leaves another mode than STOP, and the others the first entries of their lists. Where no worker was refused the lists
 -- were made whole, and there are fewer steps only where the last one leaves STOP
 pub record WorkedBy (s : LockView Opening) (p : PassView Opening Entry) (ps : List (PassView Opening Entry)) (steps : ℕ) (lists : List (List Entry)) (r : PassView Opening Entry) (whole : Bool) : Type 0 where
+  -- how many steps the stepper made
   pub count : ℕ
   pub few : count ≤ steps
+  -- what the other workers made
   pub others : List (Made Entry)
   pub made : r.made ≡ record { number = p.number; entries = replicate count (step_entry_by p.number) } ∷ others
   pub begun : HaveBegun ps lists others
   pub runs : RunsBefore 1 (the_opening s.origin) p.number r.seen
+  -- where no worker was refused, the other lists were made whole
   pub all : whole ≡ true → others ≡ passes_made_whole ps lists
+  -- where no worker was refused, all steps were made, or the last one leaves STOP
   pub ends : whole ≡ true → (count ≡ steps) ⊎ EndsInStop (the_opening s.origin) p.number r.seen
 
 -- what the workers of these passes made together, the stepper's pass first: it made at most

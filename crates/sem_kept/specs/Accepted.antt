@@ -24,11 +24,14 @@ pub record IsAccepted (source file : List ℕ) (symbols : List Symbol) (t : Tree
   pub short : length source ≤ source_limit
   pub file_short : length file ≤ symbols_limit
   pub language : Language
+  -- the symbols are those of the symbols file
   pub named : symbols_in language file ≡ Ok symbols
   pub tokens : List Token
   pub lexed : AreTokens source tokens
   pub parsed : IsTree source tokens t
+  -- no rule on layout is broken
   pub laid_out : least (layout_refusals t symbols) ≡ None
+  -- no rule on statements is broken
   pub checked : least (statement_refusals t symbols (layouts_of t symbols)) ≡ None
 
 -- the program that a tree with these symbols compiles to

@@ -32,6 +32,7 @@ RunsAsIn language profile source symbols running =
 
 -- a program has an image and verifies
 pub record IsRunnable (p : Program) : Type 0 where
+  -- the program has an image
   pub is : IsProgram p
   pub verifies : Verifies p
 
@@ -49,6 +50,7 @@ names_read_in language symbols = names_among (symbols_in language symbols)
 pub record KeepsSourceIn (language : Language) (profile : Profile) (source symbols : List ℕ)
     (p : Program) : Type 0 where
   pub runnable : IsRunnable p
+  -- its names are those that the symbols file gives
   pub names : p.names ≡ names_read_in language symbols
   pub runs : RunsAsIn language profile source symbols (code_of p)
 

@@ -17,8 +17,8 @@ use Rattle.machine.specs.Moved.{aimed_instr}
 use Rattle.stl_codegen.specs.Compiled.{SourceInstruction, ops_in, offset_of_statement}
 use Rattle.stl_codegen.specs.Instruction.{numbers_from}
 
--- what is fetched for the statement of number n: its instruction and the next position, with f
--- of each statement's number for that number
+-- what is fetched for the statement of number n: its instruction and the next position, where f
+-- gives the position of each statement by its number
 abbrev pub aimed_statement : (ℕ → ℕ) → (n : ℕ) → SourceInstruction → Fetched
 aimed_statement f n s =
     record { instr = aimed_instr f s.instr; next = f (suc n); line = s.line }
@@ -53,8 +53,11 @@ IsJu s = is_ju s.instr ≡ true
 -- the list of a JL: the JU statements behind it, at most 255, up to its target
 pub record IsList (n : ℕ) (targets : List ℕ) (otherwise : ℕ) (behind : List SourceInstruction) : Type 0 where
   pub few : length targets ≤ 255
+  -- the targets are the statements right behind the JL, in their order
   pub numbers : targets ≡ numbers_from (suc n) (length targets)
+  -- its label is right behind the list
   pub ends : otherwise ≡ suc n + length targets
+  -- as many statements stand behind the JL as there are targets
   pub there : length targets ≤ length behind
   pub jumps : AllByRecursion IsJu (take (length targets) behind)
 

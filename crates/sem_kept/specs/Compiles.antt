@@ -19,6 +19,7 @@ pub record CompilesTo (language : Language) (source symbols : List ℕ) (p : Pro
   pub named : HasSymbolsIn language symbols (Ok list)
   pub lexed : HasTokens source (Ok tokens)
   pub parsed : HasTreeOrRefusal source tokens (Ok tree)
+  -- no rule on layout or statements is broken
   pub right : least (refusals_of list tree) ≡ None
   pub program : program_in list tree ≡ p
 

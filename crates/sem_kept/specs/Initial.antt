@@ -58,8 +58,11 @@ writes_of l blocks block =
 pub record IsMadeByWrites (l : List BlockLayout) (blocks : List Block) (block len : ℕ) : Type 0 where
   pub made : initial_bytes l blocks block ≡ fold bytes_with_write (replicate len 0) (writes_of l blocks block)
   pub whole : AllByRecursion (IsWhole len) (writes_of l blocks block)
+  -- the block that declares its components is known
   pub known : is_some (structure_of l block) ≡ true
+  -- the components of each block have room for their initial values
   pub room : (k : ℕ) → AllByRecursion HasRoom (cells_at l k false)
+  -- each of its settings is written
   pub set : AllByRecursion (IsSettingWritten l block) (settings_at (slice_get blocks block))
 
 -- the initial bytes of each data block of an accepted source, whose elements are bytes, are made

@@ -29,7 +29,9 @@ pub record LandsRight (statements : List StatementSpot) (p : PlacedOp) : Type 0 
 -- no zone is open
 pub record AllLandRight (ops : List OpData) : Type 0 where
   pub each : AllByRecursion (LandsRight (statement_spots ops)) (code_places ops)
+  -- no bracket is open behind the last op
   pub closed : open_behind 0 [] ops ≡ []
+  -- no zone is open behind the last op
   pub ended : zones_left 0 [] ops ≡ []
 
 -- the code of each block of an accepted source has no fault by a jump, bracket or zone

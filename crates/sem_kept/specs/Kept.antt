@@ -14,6 +14,7 @@ use Rattle.sem_kept.specs.Statements.{stated_code, IsCompilable, program_with}
 -- memory with timers and counters, the scheduler and the diagnostics are the same, and every entry
 -- answers and shows the same
 pub record BehavesAlike (profile : Profile) (c d : Code) : Type 0 where
+  -- memory with timers and counters
   pub world : (history : List What) → (replay profile d history).world ≡ (replay profile c history).world
   pub mode : (history : List What) → (replay profile d history).mode ≡ (replay profile c history).mode
   pub sched : (history : List What) → (replay profile d history).sched ≡ (replay profile c history).sched
@@ -21,6 +22,7 @@ pub record BehavesAlike (profile : Profile) (c d : Code) : Type 0 where
       → (replay profile d history).diagnostics ≡ (replay profile c history).diagnostics
   pub reply : (history : List What) (entry : What)
       → (entry_result d (replay profile d history) entry).reply ≡ (entry_result c (replay profile c history) entry).reply
+  -- what an entry shows
   pub seen : (history : List What) (entry : What)
       → (entry_result d (replay profile d history) entry).seen ≡ (entry_result c (replay profile c history) entry).seen
 

@@ -26,9 +26,12 @@ activation_at_place (a ∷ below) place =
 pub record IsSuspended (profile : Profile) (code : Code) (history : List What) (place first last : ℕ) : Type 0 where
   pub earlier : first < last
   pub within : last ≤ length history
+  -- the mode isn't STOP
   pub goes_on : (k : ℕ) → first ≤ k → k ≤ last → is_stop (state_after_first profile code history k).mode ≡ false
+  -- before `last` entries an activation stands at the place, with another one above it
   pub suspended : (k : ℕ) → first ≤ k → k < last
       → place + 1 < length (state_after_first profile code history k).activations
+  -- after `last` entries the activation at the place is the topmost, which runs
   pub runs : length (state_after_first profile code history last).activations ≡ place + 1
 
 -- from `first` entries of a history on, up to `last`, the activation at a place is the same: its

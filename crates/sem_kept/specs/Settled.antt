@@ -31,6 +31,7 @@ use Rattle.sem_kept.specs.Accepted.{IsAccepted}
 pub record HasLabel (body : List Statement) (s : Statement) : Type 0 where
   pub name : List ℕ
   pub is : s.operand ≡ operand.Label name
+  -- the place of the label among the labels of the body, from 0
   pub place : ℕ
   pub there : name_place name (labels_of body) ≡ Some place
 
@@ -38,12 +39,16 @@ pub record HasLabel (body : List Statement) (s : Statement) : Type 0 where
 -- them, and no two the same one
 pub record HasCalled (c : Context) (s : Statement) : Type 0 where
   pub id : BlockId
+  -- the number of the data block that is its instance, where the call names one
   pub instance : Option ℕ
   pub called : resolved_operand c s ≡ Some (view.Called id instance)
   pub callee : Callee
   pub found : callee_of c s.operand ≡ Some callee
+  -- the block whose parameters are known is the one that is called
   pub same : callee.id ≡ id
+  -- each actual parameter names a parameter of the called block
   pub named : AllByRecursion (λ a. names_no_formal callee.formals a ≡ false) s.actuals
+  -- no two actual parameters name the same one
   pub once : actuals_supplied_twice callee.formals [] s.actuals ≡ []
 
 -- a statement that is no jump: its operand names what its instruction takes

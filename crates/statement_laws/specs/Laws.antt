@@ -348,8 +348,10 @@ is_call_instruction _ = false
 
 -- what an actual parameter resolves to is named
 pub record IsNamedActual (c : Context) (a : Actual) : Type 0 where
+  -- what it resolves to
   pub view : ResolvedOperand
   pub seen : resolution_of c a.value ≡ Resolved view
+  -- what it names
   pub named : NamedItem
   pub names : named_by c a.value ≡ Some named
 
