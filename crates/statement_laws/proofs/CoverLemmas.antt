@@ -1,5 +1,5 @@
 -- What an instruction takes is named.
-use Rattle.std.proofs.Common.{ℕ, ◌≡◌, Bool, true, is_some, Option, Some, None, refl, sym, ◌∙◌, ap}
+use Rattle.std.proofs.Common.{ℕ, ◌≡◌, Bool, true, false, is_some, Option, Some, None, refl, sym, ◌∙◌, ap}
 use Rattle.std.specs.Option.{option_map, option_and_then}
 use Rattle.std.proofs.lemmas.Bool.{false≢true}
 use Rattle.stl_ast.specs.declared.names.BlockName.{BlockName}
@@ -65,21 +65,39 @@ block_refused form.StepsCounter = refl
 block_refused form.Calls = refl
 block_refused form.Opens = refl
 
-target_there : (f : OperandRule) (t : Target) (v : ResolvedOperand) → rule_of_resolved_operand f v ≡ None
-    → Resolved (target_view t) ≡ Resolved v → There (target_named t)
-target_there f (target.Variable place width) v r e = (own.named_place place width, refl)
-target_there f (target.Timer number) v r e = (named.Timer (named.Written number), refl)
-target_there f (target.Counter number) v r e = (named.Counter (named.Written number), refl)
-target_there f (target.Block id) v r e = absurd (refused (sym (block_refused f) ∙ no_rule))
-  where
-    no_rule : rule_of_resolved_operand f view.Block ≡ None
-    no_rule = ap (rule_of_resolved_operand f) (resolved_same view.Block v e) ∙ r
+-- what names nothing: a block's symbol, and what isn't elementary
+abbrev pub has_no_name : ResolvedOperand → Bool
+has_no_name view.Block = true
+has_no_name view.Composite = true
+has_no_name view.Date = true
+has_no_name _ = false
 
-symbol_there : (f : OperandRule) (o : Option Symbol) (v : ResolvedOperand) → rule_of_resolved_operand f v ≡ None
+taken_named : (f : OperandRule) (v : ResolvedOperand) → rule_of_resolved_operand f v ≡ None → has_no_name v ≡ false
+unfolding rule_of_resolved_operand
+taken_named f view.Block e = absurd (refused (sym (block_refused f) ∙ e))
+taken_named f view.Composite e = absurd (refused e)
+taken_named f view.Date e = absurd (refused e)
+taken_named f _ e = refl
+
+-- what an instruction takes is none of them
+pub name_left : (c : Context) (f : OperandRule) (o : Operand) (v : ResolvedOperand)
+    → rule_by f (about o) v ≡ None → resolution_of c o ≡ Resolved v → has_no_name v ≡ false
+unfolding resolution_of
+name_left c f (operand.Constant value) v r e = ap has_no_name (sym (resolved_same view.Constant v e))
+name_left c f _ v r e = taken_named f v r
+
+target_there : (t : Target) (v : ResolvedOperand) → has_no_name v ≡ false
+    → Resolved (target_view t) ≡ Resolved v → There (target_named t)
+target_there (target.Variable place width) v r e = (own.named_place place width, refl)
+target_there (target.Timer number) v r e = (named.Timer (named.Written number), refl)
+target_there (target.Counter number) v r e = (named.Counter (named.Written number), refl)
+target_there (target.Block id) v r e = absurd (false≢true (sym (ap has_no_name (resolved_same view.Block v e) ∙ r)))
+
+symbol_there : (o : Option Symbol) (v : ResolvedOperand) → has_no_name v ≡ false
     → symbol_seen o ≡ Resolved v
     → There (option_and_then target_named (option_map (λ s. s.target) o))
-symbol_there f None v r e = absurd cc
-symbol_there f (Some s) v r e = target_there f s.target v r e
+symbol_there None v r e = absurd cc
+symbol_there (Some s) v r e = target_there s.target v r e
 
 in_block_there : (c : Context) (name : BlockName) (a : Letters) (w : Width) (byte bit : ℕ)
     (v : ResolvedOperand) (o : Option ℕ) → data_number c name ≡ o
@@ -100,32 +118,34 @@ opened_there c di name v (Some number) d e = (
   ap (option_map (λ number. named.DataBlock di (named.Written number))) (number_known c name number d),
 )
 
-named_there : (c : Context) (f : OperandRule) (o : Operand) (v : ResolvedOperand)
-    → has_fixed_name o ≡ true → rule_by f (about o) v ≡ None → resolution_of c o ≡ Resolved v
+pub named_there : (c : Context) (o : Operand) (v : ResolvedOperand)
+    → has_fixed_name o ≡ true → has_no_name v ≡ false → resolution_of c o ≡ Resolved v
     → There (named_by c o)
 unfolding resolution_of named_by
-named_there c f operand.Nothing v h r e = there _ refl
-named_there c f (operand.Direct None a w byte bit) v h r e = there _ refl
-named_there c f (operand.Direct (Some name) a w byte bit) v h r e =
+named_there c operand.Nothing v h r e = there _ refl
+named_there c (operand.Direct None a w byte bit) v h r e = there _ refl
+named_there c (operand.Direct (Some name) a w byte bit) v h r e =
     in_block_there c name a w byte bit v (data_number c name) refl e
-named_there c f (operand.Named (head.Symbol name) steps) v h r e =
-    symbol_there f (symbol_named name c.symbols) v r e
-named_there c f (operand.Named (head.Local name) steps) v h r e = absurd (false≢true h)
-named_there c f (operand.Named (head.InBlock name) steps) v h r e = absurd (false≢true h)
-named_there c f (operand.Other name) v h r e = there (register_named name) h
-named_there c f (operand.OpenBlock di name) v h r e =
+named_there c (operand.Named (head.Symbol name) steps) v h r e =
+    symbol_there (symbol_named name c.symbols) v r e
+named_there c (operand.Named (head.Local name) steps) v h r e = absurd (false≢true h)
+named_there c (operand.Named (head.InBlock name) steps) v h r e = absurd (false≢true h)
+named_there c (operand.Other name) v h r e = there (register_named name) h
+named_there c (operand.OpenBlock di name) v h r e =
     opened_there c di name v (data_number c name) refl e
-named_there c f (operand.Called name instance) v h r e = absurd (false≢true h)
-named_there c f (operand.Timer number) v h r e = there _ refl
-named_there c f (operand.Counter number) v h r e = there _ refl
-named_there c f (operand.ByMemory a w from byte) v h r e = there _ refl
-named_there c f (operand.NumberBy what from byte) v h r e = there _ refl
-named_there c f (operand.ByRegister a w register count) v h r e = there _ refl
-named_there c f (operand.Pointer a byte bit) v h r e = there _ refl
-named_there c f (operand.Constant value) v h r e = there _ refl
-named_there c f (operand.Label name) v h r e = there _ refl
-named_there c f (operand.OfStatus flag) v h r e = there _ refl
+named_there c (operand.Called name instance) v h r e = absurd (false≢true h)
+named_there c (operand.Timer number) v h r e = there _ refl
+named_there c (operand.Counter number) v h r e = there _ refl
+named_there c (operand.ByMemory a w from byte) v h r e = there _ refl
+named_there c (operand.NumberBy what from byte) v h r e = there _ refl
+named_there c (operand.ByRegister a w register count) v h r e = there _ refl
+named_there c (operand.Pointer a byte bit) v h r e = there _ refl
+named_there c (operand.Constant value) v h r e = there _ refl
+named_there c (operand.Label name) v h r e = there _ refl
+named_there c (operand.OfStatus flag) v h r e = there _ refl
 
 pub operands_are_named : OperandsAreNamed
 operands_are_named c s v h e =
-    named_there c (form_of s.code) s.operand v h ((resolved_parts c s v e).0) ((resolved_parts c s v e).1)
+    named_there c s.operand v h
+    (name_left c (form_of s.code) s.operand v ((resolved_parts c s v e).0) ((resolved_parts c s v e).1))
+    ((resolved_parts c s v e).1)

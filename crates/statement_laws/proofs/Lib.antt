@@ -10,3 +10,5 @@ pub mod CoverLemmas
 pub mod CallLemmas
 pub mod NumberLemmas
 pub mod VariableCover
+pub mod WordLemmas
+pub mod AcceptedLemmas

@@ -36,11 +36,9 @@ use Rattle.block_layout.specs.declared.walks.PathEnd.{PathEnd}
 use Rattle.block_layout.specs.declared.walks.PathEnd.TheVariants as walk
 use Rattle.stl_types.specs.Context.{Context, data_number, data_place, in_function, number_of_block}
 use Rattle.stl_types.specs.Forms.{form_of}
-use Rattle.stl_types.specs.Operands.{rule_of_resolved_operand}
 use Rattle.stl_types.specs.Resolution.{resolution_of}
 use Rattle.stl_types.specs.Variables.{data_at, data_path, data_variable, data_walked, variable_in_area, own_at, own_variable, own_walked, parameter_at}
 use Rattle.stl_types.specs.Variables as variables
-use Rattle.stl_types.specs.declared.forms.OperandRule.{OperandRule}
 use Rattle.stl_types.specs.declared.views.Resolution.TheVariants.{Resolved, Unknown}
 use Rattle.stl_types.specs.declared.views.ResolvedOperand.{ResolvedOperand}
 use Rattle.stl_types.specs.declared.views.ResolvedOperand.TheVariants as view
@@ -49,8 +47,8 @@ use Rattle.statement_laws.specs.Named.{NamedItem}
 use Rattle.statement_laws.specs.Named as named_as
 use Rattle.statement_laws.specs.Operands.{block_id_of_name, cell_width, component_named, components_of_block, has_result, is_fc, named_by, parameter_named, named_place, place_in_layout, variable_by, variable_named}
 use Rattle.statement_laws.specs.Operands as own
-use Rattle.statement_laws.proofs.RuleLemmas.{refused}
-use Rattle.statement_laws.proofs.SeenLemmas.{about, block_same, number_known, resolved_parts, resolved_same, rule_by}
+use Rattle.statement_laws.proofs.CoverLemmas.{has_no_name, name_left}
+use Rattle.statement_laws.proofs.SeenLemmas.{block_same, number_known, resolved_parts, resolved_same}
 use Rattle.statement_laws.proofs.VariableLemmas.{function_same, judged}
 
 abbrev There : Option NamedItem → Type 0
@@ -58,16 +56,15 @@ There o = (x : NamedItem) × (o ≡ Some x)
 
 -- ---- what isn't elementary is refused
 
-composite_refused : (f : OperandRule) (v : ResolvedOperand) (o : Option Cell) → rule_of_resolved_operand f v ≡ None
+composite_refused : (v : ResolvedOperand) (o : Option Cell) → has_no_name v ≡ false
     → Resolved (variables.composite_operand o) ≡ Resolved v → ⊥
-unfolding rule_of_resolved_operand
-composite_refused f v None r e =
-    refused (ap (rule_of_resolved_operand f) (resolved_same view.Composite v e) ∙ r)
-composite_refused f v (Some cell) r e = by cell.of e
+composite_refused v None r e =
+    false≢true (sym (ap has_no_name (resolved_same view.Composite v e) ∙ r))
+composite_refused v (Some cell) r e = by cell.of e
   where
     by : (of : Element) → Resolved (variables.date_or_composite of) ≡ Resolved v → ⊥
-    by element.DateAndTime h = refused (ap (rule_of_resolved_operand f) (resolved_same view.Date v h) ∙ r)
-    by _ h = refused (ap (rule_of_resolved_operand f) (resolved_same view.Composite v h) ∙ r)
+    by element.DateAndTime h = false≢true (sym (ap has_no_name (resolved_same view.Date v h) ∙ r))
+    by _ h = false≢true (sym (ap has_no_name (resolved_same view.Composite v h) ∙ r))
 
 area_there : (kind : Simple) (o : Option (Place × Width)) (v : ResolvedOperand)
     → variable_in_area kind o ≡ Resolved v → There (place_in_layout o)
@@ -76,39 +73,39 @@ area_there kind (Some p) v e = (named_place p.0 p.1, refl)
 
 -- ---- variables in an area
 
-temporary_spot : (c : Context) (f : OperandRule) (spot : ComponentAt) (o : Option Simple)
-    (v : ResolvedOperand) → rule_of_resolved_operand f v ≡ None → own_at c true spot o ≡ Resolved v
+temporary_spot : (c : Context) (spot : ComponentAt) (o : Option Simple)
+    (v : ResolvedOperand) → has_no_name v ≡ false → own_at c true spot o ≡ Resolved v
     → There (place_in_layout (elementary_place area.L 0 spot.offset o))
-temporary_spot c f spot None v r e =
-    absurd (composite_refused f v (slice_get (cells_at c.layouts spot.block spot.temporary) spot.place) r e)
-temporary_spot c f spot (Some kind) v r e =
+temporary_spot c spot None v r e =
+    absurd (composite_refused v (slice_get (cells_at c.layouts spot.block spot.temporary) spot.place) r e)
+temporary_spot c spot (Some kind) v r e =
     area_there kind (elementary_place area.L 0 spot.offset (Some kind)) v e
 
-temporary_end : (c : Context) (f : OperandRule) (end : PathEnd) (v : ResolvedOperand)
-    → rule_of_resolved_operand f v ≡ None → own_walked c true end ≡ Resolved v
+temporary_end : (c : Context) (end : PathEnd) (v : ResolvedOperand)
+    → has_no_name v ≡ false → own_walked c true end ≡ Resolved v
     → There (place_in_layout (place_at_path_end c.layouts area.L 0 end))
-temporary_end c f (walk.Reaches spot) v r e =
-    temporary_spot c f spot (elementary_at c.layouts spot) v r e
-temporary_end c f walk.Unknown v r e = absurd cc
-temporary_end c f walk.Rests v r e = absurd cc
+temporary_end c (walk.Reaches spot) v r e =
+    temporary_spot c spot (elementary_at c.layouts spot) v r e
+temporary_end c walk.Unknown v r e = absurd cc
+temporary_end c walk.Rests v r e = absurd cc
 
-static_spot : (c : Context) (f : OperandRule) (spot : ComponentAt) (o : Option Simple)
-    (v : ResolvedOperand) → rule_of_resolved_operand f v ≡ None → in_function c ≡ false
+static_spot : (c : Context) (spot : ComponentAt) (o : Option Simple)
+    (v : ResolvedOperand) → has_no_name v ≡ false → in_function c ≡ false
     → own_at c false spot o ≡ Resolved v → There (place_in_layout (elementary_place area.Di 0 spot.offset o))
-static_spot c f spot None v r fc e =
-    absurd (composite_refused f v (slice_get (cells_at c.layouts spot.block spot.temporary) spot.place) r e)
-static_spot c f spot (Some kind) v r fc e =
+static_spot c spot None v r fc e =
+    absurd (composite_refused v (slice_get (cells_at c.layouts spot.block spot.temporary) spot.place) r e)
+static_spot c spot (Some kind) v r fc e =
     area_there kind (elementary_place area.Di 0 spot.offset (Some kind)) v
     (sym (ap (λ (b : Bool). if b then parameter_at c spot kind
     else variable_in_area kind (elementary_place area.Di 0 spot.offset (Some kind))) fc) ∙ e)
 
-static_end : (c : Context) (f : OperandRule) (end : PathEnd) (v : ResolvedOperand)
-    → rule_of_resolved_operand f v ≡ None → in_function c ≡ false → own_walked c false end ≡ Resolved v
+static_end : (c : Context) (end : PathEnd) (v : ResolvedOperand)
+    → has_no_name v ≡ false → in_function c ≡ false → own_walked c false end ≡ Resolved v
     → There (place_in_layout (place_at_path_end c.layouts area.Di 0 end))
-static_end c f (walk.Reaches spot) v r fc e =
-    static_spot c f spot (elementary_at c.layouts spot) v r fc e
-static_end c f walk.Unknown v r fc e = absurd cc
-static_end c f walk.Rests v r fc e = absurd cc
+static_end c (walk.Reaches spot) v r fc e =
+    static_spot c spot (elementary_at c.layouts spot) v r fc e
+static_end c walk.Unknown v r fc e = absurd cc
+static_end c walk.Rests v r fc e = absurd cc
 
 judged_end : (c : Context) (temporary : Bool) (end : PathEnd) (v : ResolvedOperand)
     → own_walked c temporary end ≡ Resolved v → is_judged end ≡ true
@@ -251,8 +248,8 @@ parameter_there c name steps m v plain there e =
 
 -- ---- the block's own variables
 
-local_there : (c : Context) (f : OperandRule) (name : List ℕ) (steps : List PathStep)
-    (m : Option Member) (v : ResolvedOperand) → rule_of_resolved_operand f v ≡ None → HasElementaryParameters c
+local_there : (c : Context) (name : List ℕ) (steps : List PathStep)
+    (m : Option Member) (v : ResolvedOperand) → has_no_name v ≡ false → HasElementaryParameters c
     → component_of_name 0 0 0 name (components_of_block c) ≡ m
     → own_walked c (not (is_some m))
     (if is_some (whole_at c.layouts c.block)
@@ -272,14 +269,14 @@ local_there : (c : Context) (f : OperandRule) (name : List ℕ) (steps : List Pa
     else outermost_path_end c.layouts c.block true 0 name)
     (λ spot. leaves_array c.layouts spot steps)) ≡ true
     → There (variable_by c name steps m)
-local_there c f name steps None v r plain there e inside =
+local_there c name steps None v r plain there e inside =
     kept (leaves_from c.layouts c.block true (step.Named name ∷ steps))
     (place_at_path_end c.layouts area.L 0 (path_end_in_block c.layouts c.block true (step.Named name ∷ steps)))
     (stays _ _ (judged_end c true _ v e) inside)
-    (temporary_end c f (path_end_in_block c.layouts c.block true (step.Named name ∷ steps)) v r
+    (temporary_end c (path_end_in_block c.layouts c.block true (step.Named name ∷ steps)) v r
     (judged c true (is_some (whole_at c.layouts c.block))
     (path_end_in_block c.layouts c.block true (step.Named name ∷ steps)) v e))
-local_there c f name steps (Some m) v r plain there e inside =
+local_there c name steps (Some m) v r plain there e inside =
     by (is_fc (slice_get c.blocks c.block)) refl
   where
     by : (fc : Bool) → is_fc (slice_get c.blocks c.block) ≡ fc
@@ -293,36 +290,36 @@ local_there c f name steps (Some m) v r plain there e inside =
         kept (leaves_from c.layouts c.block false (step.Named name ∷ steps))
         (place_at_path_end c.layouts area.Di 0 (path_end_in_block c.layouts c.block false (step.Named name ∷ steps)))
         (stays _ _ (judged_end c false _ v e) inside)
-        (static_end c f (path_end_in_block c.layouts c.block false (step.Named name ∷ steps)) v r
+        (static_end c (path_end_in_block c.layouts c.block false (step.Named name ∷ steps)) v r
         (sym (function_same (slice_get c.blocks c.block)) ∙ fc)
         (judged c false (is_some (whole_at c.layouts c.block))
         (path_end_in_block c.layouts c.block false (step.Named name ∷ steps)) v e))
 
-variable_there : (c : Context) (f : OperandRule) (name : List ℕ) (steps : List PathStep)
-    (v : ResolvedOperand) → rule_of_resolved_operand f v ≡ None → HasElementaryParameters c
+variable_there : (c : Context) (name : List ℕ) (steps : List PathStep)
+    (v : ResolvedOperand) → has_no_name v ≡ false → HasElementaryParameters c
     → own_variable c name steps ≡ Resolved v
     → not (leaves_local c.layouts c.block name steps) ≡ true → There (variable_named c name steps)
 unfolding walked_local
-variable_there c f name steps v r plain e inside =
-    local_there c f name steps (component_of_name 0 0 0 name (components_of_block c)) v r plain refl e inside
+variable_there c name steps v r plain e inside =
+    local_there c name steps (component_of_name 0 0 0 name (components_of_block c)) v r plain refl e inside
 
 -- ---- components of data blocks
 
-data_spot_there : (c : Context) (f : OperandRule) (n : ℕ) (spot : ComponentAt) (o : Option Simple)
-    (v : ResolvedOperand) → rule_of_resolved_operand f v ≡ None → data_at c n spot o ≡ Resolved v
+data_spot_there : (c : Context) (n : ℕ) (spot : ComponentAt) (o : Option Simple)
+    (v : ResolvedOperand) → has_no_name v ≡ false → data_at c n spot o ≡ Resolved v
     → There (place_in_layout (elementary_place area.Db n spot.offset o))
-data_spot_there c f n spot None v r e =
-    absurd (composite_refused f v (slice_get (cells_at c.layouts spot.block spot.temporary) spot.place) r e)
-data_spot_there c f n spot (Some kind) v r e =
+data_spot_there c n spot None v r e =
+    absurd (composite_refused v (slice_get (cells_at c.layouts spot.block spot.temporary) spot.place) r e)
+data_spot_there c n spot (Some kind) v r e =
     area_there kind (elementary_place area.Db n spot.offset (Some kind)) v e
 
-data_end_there : (c : Context) (f : OperandRule) (n : ℕ) (end : PathEnd) (v : ResolvedOperand)
-    → rule_of_resolved_operand f v ≡ None → data_walked c n end ≡ Resolved v
+data_end_there : (c : Context) (n : ℕ) (end : PathEnd) (v : ResolvedOperand)
+    → has_no_name v ≡ false → data_walked c n end ≡ Resolved v
     → There (place_in_layout (place_at_path_end c.layouts area.Db n end))
-data_end_there c f n (walk.Reaches spot) v r e =
-    data_spot_there c f n spot (elementary_at c.layouts spot) v r e
-data_end_there c f n walk.Unknown v r e = absurd cc
-data_end_there c f n walk.Rests v r e = absurd cc
+data_end_there c n (walk.Reaches spot) v r e =
+    data_spot_there c n spot (elementary_at c.layouts spot) v r e
+data_end_there c n walk.Unknown v r e = absurd cc
+data_end_there c n walk.Rests v r e = absurd cc
 
 -- the block that declares the components of a data block, which a path is walked in
 left_judged : (l : List BlockLayout) (structure : Option ℕ) (steps : List PathStep)
@@ -334,25 +331,25 @@ left_judged l structure steps h = by (leaves_judged l structure steps) h
     by false e = refl
 
 -- a data block whose number is known is whole
-data_whole : (c : Context) (f : OperandRule) (id : BlockId) (steps : List PathStep) (place n : ℕ)
-    (block : Option BlockLayout) (v : ResolvedOperand) → rule_of_resolved_operand f v ≡ None
+data_whole : (c : Context) (id : BlockId) (steps : List PathStep) (place n : ℕ)
+    (block : Option BlockLayout) (v : ResolvedOperand) → has_no_name v ≡ false
     → is_data_block id.kind ≡ true
     → option_and_then (λ (b : BlockLayout). number_of_block b.id) block ≡ Some n
     → data_walked c id.number (path_end_in_data_block c.layouts place steps) ≡ Resolved v
     → not (leaves_judged c.layouts (structure_of c.layouts place) steps) ≡ true
     → There (place_in_layout (option_and_then (offsets.place_in_section c.layouts id section.Global steps)
     (if is_some block then Some place else None)))
-data_whole c f id steps place n None v r db d e inside = absurd cc
-data_whole c f id steps place n (Some b) v r db d e inside =
+data_whole c id steps place n None v r db d e inside = absurd cc
+data_whole c id steps place n (Some b) v r db d e inside =
     subst (λ (k : Bool). There (place_in_layout
     (if k then offsets.component_place c.layouts id.number place steps else None))) (sym db)
     (kept (leaves_judged c.layouts (structure_of c.layouts place) steps)
     (place_at_path_end c.layouts area.Db id.number (path_end_in_data_block c.layouts place steps))
     (left_judged c.layouts (structure_of c.layouts place) steps inside)
-    (data_end_there c f id.number (path_end_in_data_block c.layouts place steps) v r e))
+    (data_end_there c id.number (path_end_in_data_block c.layouts place steps) v r e))
 
-data_known_there : (c : Context) (f : OperandRule) (id : BlockId) (steps : List PathStep)
-    (number place : Option ℕ) (v : ResolvedOperand) → rule_of_resolved_operand f v ≡ None
+data_known_there : (c : Context) (id : BlockId) (steps : List PathStep)
+    (number place : Option ℕ) (v : ResolvedOperand) → has_no_name v ≡ false
     → is_data_block id.kind ≡ true
     → ((n : ℕ) → number ≡ Some n → n ≡ id.number)
     → number ≡ option_and_then (λ (b : BlockLayout). number_of_block b.id)
@@ -361,20 +358,20 @@ data_known_there : (c : Context) (f : OperandRule) (id : BlockId) (steps : List 
     → not (leaves_judged c.layouts (option_and_then (structure_of c.layouts) place) steps) ≡ true
     → There (place_in_layout (option_and_then (offsets.place_in_section c.layouts id section.Global steps)
     (option_and_then (if_whole c.layouts) place)))
-data_known_there c f id steps (Some number) (Some place) v r db is d e inside =
-    data_whole c f id steps place number (whole_at c.layouts place) v r db (sym d)
+data_known_there c id steps (Some number) (Some place) v r db is d e inside =
+    data_whole c id steps place number (whole_at c.layouts place) v r db (sym d)
     (ap (λ k. data_walked c k (path_end_in_data_block c.layouts place steps)) (sym (is number refl)) ∙ e) inside
-data_known_there c f id steps (Some number) None v r db is d e inside = absurd cc
-data_known_there c f id steps None (Some place) v r db is d e inside = absurd cc
-data_known_there c f id steps None None v r db is d e inside = absurd cc
+data_known_there c id steps (Some number) None v r db is d e inside = absurd cc
+data_known_there c id steps None (Some place) v r db is d e inside = absurd cc
+data_known_there c id steps None None v r db is d e inside = absurd cc
 
 no_data_path : (c : Context) (steps : List PathStep) (n : Option ℕ) (v : ResolvedOperand)
     → data_path c steps n None ≡ Resolved v → ⊥
 no_data_path c steps (Some k) v h = cc
 no_data_path c steps None v h = cc
 
-data_named_there : (c : Context) (f : OperandRule) (o : Option BlockId) (steps : List PathStep)
-    (number : Option ℕ) (v : ResolvedOperand) → rule_of_resolved_operand f v ≡ None
+data_named_there : (c : Context) (o : Option BlockId) (steps : List PathStep)
+    (number : Option ℕ) (v : ResolvedOperand) → has_no_name v ≡ false
     → ((n : ℕ) → number ≡ Some n → option_map (λ id. id.number) o ≡ Some n)
     → number ≡ option_and_then (λ (b : BlockLayout). number_of_block b.id)
     (option_and_then (whole_at c.layouts)
@@ -387,9 +384,9 @@ data_named_there : (c : Context) (f : OperandRule) (o : Option BlockId) (steps :
     steps) ≡ true
     → There (place_in_layout (option_and_then (λ id. place_of_path c.layouts id section.Global steps) o))
 unfolding place_of_path
-data_named_there c f None steps (Some number) v r is d e inside = absurd cc
-data_named_there c f None steps None v r is d e inside = absurd cc
-data_named_there c f (Some id) steps number v r is d e inside =
+data_named_there c None steps (Some number) v r is d e inside = absurd cc
+data_named_there c None steps None v r is d e inside = absurd cc
+data_named_there c (Some id) steps number v r is d e inside =
     by (is_data_block id.kind) refl d e inside
   where
     by : (db : Bool) → is_data_block id.kind ≡ db
@@ -409,38 +406,39 @@ data_named_there c f (Some id) steps number v r is d e inside =
         (option_and_then (if_whole c.layouts)
         (known_block id (map (λ (b : BlockLayout). b.id) c.layouts)))))
     by true db d e inside =
-        data_known_there c f id steps number (known_block id (map (λ (b : BlockLayout). b.id) c.layouts)) v
+        data_known_there c id steps number (known_block id (map (λ (b : BlockLayout). b.id) c.layouts)) v
         r db (λ k there. sym (same_Some id.number k (is k there))) d e inside
     by false db d e inside = absurd (no_data_path c steps number v e)
 
-component_there : (c : Context) (f : OperandRule) (name : BlockName) (steps : List PathStep)
-    (v : ResolvedOperand) → rule_of_resolved_operand f v ≡ None → data_variable c name steps ≡ Resolved v
+component_there : (c : Context) (name : BlockName) (steps : List PathStep)
+    (v : ResolvedOperand) → has_no_name v ≡ false → data_variable c name steps ≡ Resolved v
     → not (leaves_judged c.layouts (option_and_then (structure_of c.layouts) (data_place c name)) steps)
     ≡ true
     → There (component_named c name steps)
-component_there c f name steps v r e inside =
+component_there c name steps v r e inside =
     subst (λ o. There (place_in_layout
     (option_and_then (λ id. place_of_path c.layouts id section.Global steps) o)))
     (block_same c name)
-    (data_named_there c f (named_block c.symbols name) steps (data_number c name) v r
+    (data_named_there c (named_block c.symbols name) steps (data_number c name) v r
     (λ k there. ap (option_map (λ (id : BlockId). id.number)) (block_same c name)
     ∙ number_known c name k there)
     refl e inside)
 
 -- ---- both
 
-path_there : (c : Context) (f : OperandRule) (o : Operand) (v : ResolvedOperand)
+pub path_there : (c : Context) (o : Operand) (v : ResolvedOperand)
     → HasElementaryParameters c → is_variable o ≡ true → stays_inside c o ≡ true
-    → rule_by f (about o) v ≡ None → resolution_of c o ≡ Resolved v → There (named_by c o)
+    → has_no_name v ≡ false → resolution_of c o ≡ Resolved v → There (named_by c o)
 unfolding resolution_of named_by
-path_there c f (operand.Named (head.Local name) steps) v plain is inside r e =
-    variable_there c f (upper_case_name name) (folded_path steps) v r plain e inside
-path_there c f (operand.Named (head.InBlock name) steps) v plain is inside r e =
-    component_there c f name (folded_path steps) v r e inside
-path_there c f (operand.Named (head.Symbol name) steps) v plain is inside r e = absurd (false≢true is)
-path_there c f _ v plain is inside r e = absurd (false≢true is)
+path_there c (operand.Named (head.Local name) steps) v plain is inside r e =
+    variable_there c (upper_case_name name) (folded_path steps) v r plain e inside
+path_there c (operand.Named (head.InBlock name) steps) v plain is inside r e =
+    component_there c name (folded_path steps) v r e inside
+path_there c (operand.Named (head.Symbol name) steps) v plain is inside r e = absurd (false≢true is)
+path_there c _ v plain is inside r e = absurd (false≢true is)
 
 pub variables_are_named : VariablesAreNamed
 variables_are_named c s v plain is inside e =
-    path_there c (form_of s.code) s.operand v plain is inside
-    ((resolved_parts c s v e).0) ((resolved_parts c s v e).1)
+    path_there c s.operand v plain is inside
+    (name_left c (form_of s.code) s.operand v ((resolved_parts c s v e).0) ((resolved_parts c s v e).1))
+    ((resolved_parts c s v e).1)

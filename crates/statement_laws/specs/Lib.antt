@@ -5,3 +5,4 @@ pub mod Effects
 pub mod Jumps
 pub mod Calls
 pub mod Laws
+pub mod Accepted

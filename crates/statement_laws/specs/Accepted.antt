@@ -1,0 +1,130 @@
+-- What the statements of a source that breaks no rule name, and what they do.
+use Rattle.std.specs.Prelude.{◌≡◌, ℕ, Bool, true, false, ◌||◌, List, Option, Some, slice_get}
+use Rattle.std.specs.List.{AllByRecursion}
+use Rattle.plc_base.specs.declared.blocks.BlockId.{BlockId}
+use Rattle.stl_ast.specs.Literals.{AreBytes}
+use Rattle.stl_ast.specs.Statements.{is_empty_statement}
+use Rattle.stl_ast.specs.declared.blocks.Block.{Block}
+use Rattle.stl_ast.specs.declared.blocks.Tree.{Tree}
+use Rattle.stl_ast.specs.declared.mnemonics.Mnemonic.{Mnemonic}
+use Rattle.stl_ast.specs.declared.names.BlockName.{BlockName}
+use Rattle.stl_ast.specs.declared.operands.Operand.{Operand}
+use Rattle.stl_ast.specs.declared.operands.Operand.TheVariants as operand
+use Rattle.stl_ast.specs.declared.statements.Statement.{Statement}
+use Rattle.stl_symbols.specs.Symbol.{Symbol}
+use Rattle.stl_types.specs.Context.{Context}
+use Rattle.stl_types.specs.Parameters.{Callee, callee_of}
+use Rattle.stl_codegen.specs.Instruction.{instruction}
+use Rattle.flat_code.specs.Instr.{Instr}
+use Rattle.frames.specs.declared.Activation.{Activation}
+use Rattle.machine.specs.Code.{Code}
+use Rattle.machine.specs.Statement.{GlobalStore, StatementStep, instruction_step}
+use Rattle.sem_kept.specs.Accepted.{IsAccepted}
+use Rattle.sem_kept.specs.Settled.{HasLabel, context_of}
+use Rattle.statement_laws.specs.Calls.{bindings_of, calls_block, parameter_names}
+use Rattle.statement_laws.specs.Effects.{effect_of_statement}
+use Rattle.statement_laws.specs.Jumps.{ends_block, jumps_by_list, jumps_to_target, number_of_label}
+use Rattle.statement_laws.specs.Laws.{Acts, IsNamedActual, is_bit_logic, is_call_instruction, is_comparison, is_data_block_instruction, is_end, is_idle, is_in_family, is_jump_list, is_load_or_transfer, is_number_instruction, is_plain_jump, is_relay, is_shift, is_timing}
+use Rattle.statement_laws.specs.Named.{NamedItem}
+use Rattle.statement_laws.specs.Named as named
+use Rattle.statement_laws.specs.Operands.{named_by}
+
+-- ---- what is named
+
+-- an operand names something
+abbrev pub IsNamed : Context → Operand → Type 0
+IsNamed c o = (x : NamedItem) × (named_by c o ≡ Some x)
+
+-- a call names the block that it calls, whose parameters are known
+pub record NamesCalled (c : Context) (s : Statement) : Type 0 where
+  pub name : BlockName
+  -- the data block that is its instance, where the call names one
+  pub db : Option BlockName
+  pub is : s.operand ≡ operand.Called name db
+  -- the called block, and the number of its instance
+  pub id : BlockId
+  pub instance : Option ℕ
+  pub names : named_by c (operand.Called name db) ≡ Some (named.Called id instance)
+  pub callee : Callee
+  pub found : callee_of c (operand.Called name db) ≡ Some callee
+  -- the block whose parameters are known is the one that is called
+  pub same : callee.id ≡ id
+
+-- a statement names what it acts on: by its operand, as a call the called block, and by each actual
+-- parameter what is passed
+pub record IsNamedStatement (c : Context) (s : Statement) : Type 0 where
+  pub operand : IsNamed c s.operand
+  pub called : is_call_instruction s.code ≡ true → NamesCalled c s
+  pub actuals : AllByRecursion (IsNamedActual c) s.actuals
+
+-- each statement of each block of an accepted source, whose elements are bytes, names what it acts
+-- on
+abbrev pub AcceptedOperandsAreNamed : Type 0
+AcceptedOperandsAreNamed =
+    (source file : List ℕ) (symbols : List Symbol) (t : Tree) → IsAccepted source file symbols t
+    → AreBytes source → (k : ℕ) (b : Block) → slice_get t.blocks k ≡ Some b
+    → AllByRecursion (IsNamedStatement (context_of symbols t k)) b.body
+
+-- ---- what is done
+
+-- the mnemonics whose statement goes on to the next one or is an error: all but those of jumps, of
+-- ends of a block and of calls
+abbrev pub is_going_on : Mnemonic → Bool
+is_going_on m =
+    is_bit_logic m || is_load_or_transfer m || is_number_instruction m || is_comparison m || is_shift m
+    || is_timing m || is_relay m || is_data_block_instruction m || is_idle m
+
+-- a step of an instruction is this in every program, activation and memory
+abbrev pub Steps : Instr → (Code → ℕ → Activation → GlobalStore → StatementStep) → Type 0
+Steps i f =
+    (program : Code) (next : ℕ) (a : Activation) (w : GlobalStore) → instruction_step program i next a w ≡ f program next a w
+
+-- a statement that goes on does what its mnemonic says with what its operand names
+pub record ActsOnNamed (c : Context) (body : List Statement) (n : ℕ) (s : Statement) : Type 0 where
+  -- what its operand names
+  pub item : NamedItem
+  pub names : named_by c s.operand ≡ Some item
+  pub acts : Acts (instruction c body n s) (effect_of_statement s.code item)
+
+-- a jump but JL has a label of its body, and goes to the statement of that label or on, as its
+-- mnemonic says
+pub record JumpsToLabel (c : Context) (body : List Statement) (n : ℕ) (s : Statement) : Type 0 where
+  pub label : HasLabel body s
+  pub acts :
+      Steps (instruction c body n s)
+      (λ program next a w. jumps_to_target s.code (number_of_label label.name body) next a w)
+
+-- JL has a label of its body, and goes by the jumps behind it up to that label
+pub record JumpsByList (c : Context) (body : List Statement) (n : ℕ) (s : Statement) : Type 0 where
+  pub label : HasLabel body s
+  pub acts :
+      Steps (instruction c body n s) (λ program next a w. jumps_by_list n (number_of_label label.name body) a w)
+
+-- a call calls the block that it names, and each of that block's parameters stands for what is passed
+-- for its name, which is named
+pub record CallsNamed (c : Context) (body : List Statement) (n : ℕ) (s : Statement) : Type 0 where
+  pub called : NamesCalled c s
+  pub actuals : AllByRecursion (IsNamedActual c) s.actuals
+  pub acts :
+      Steps (instruction c body n s)
+      (calls_block s.code called.id called.instance (bindings_of c s.actuals (parameter_names c called.id)))
+
+-- the instruction of a statement of number n does what the statement says, by its family; it is of
+-- one of them
+pub record DoesAsWritten (c : Context) (body : List Statement) (n : ℕ) (s : Statement) : Type 0 where
+  pub family : is_in_family s.code ≡ true
+  pub goes_on : is_going_on s.code ≡ true → ActsOnNamed c body n s
+  pub jumps : is_plain_jump s.code ≡ true → JumpsToLabel c body n s
+  pub jumps_by_list : is_jump_list s.code ≡ true → JumpsByList c body n s
+  pub ends : is_end s.code ≡ true → Steps (instruction c body n s) (ends_block s.code)
+  pub calls : is_call_instruction s.code ≡ true → CallsNamed c body n s
+
+-- each statement but the empty ones of each block of an accepted source, whose elements are bytes,
+-- does as it is written
+abbrev pub AcceptedStatementsAct : Type 0
+AcceptedStatementsAct =
+    (source file : List ℕ) (symbols : List Symbol) (t : Tree) → IsAccepted source file symbols t
+    → AreBytes source → (k : ℕ) (b : Block) → slice_get t.blocks k ≡ Some b
+    → AllByRecursion
+    (λ s. is_empty_statement s.code ≡ false → (n : ℕ) → DoesAsWritten (context_of symbols t k) b.body n s)
+    b.body
