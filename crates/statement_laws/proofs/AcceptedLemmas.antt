@@ -1,15 +1,14 @@
 -- In a source that breaks no rule each statement names what it acts on, and does as it is written.
-use Rattle.std.proofs.Common.{ℕ, ◌≡◌, nat_eq, Bool, true, false, not, ◌&&◌, ◌||◌, is_some, List, [], ◌∷◌, length, map, slice_get, Option, Some, None, if◌then◌else◌, refl, sym, ◌∙◌, ap, ap₂, subst}
+use Rattle.std.proofs.Common.{ℕ, ◌≡◌, nat_eq, Bool, true, false, not, ◌&&◌, ◌||◌, is_some, List, [], ◌∷◌, length, slice_get, Option, Some, None, if◌then◌else◌, refl, sym, ◌∙◌, ap, ap₂, subst}
 use Rattle.std.specs.List.{AllByRecursion}
 use Rattle.std.specs.Option.{option_map, option_and_then}
 use Rattle.std.proofs.lemmas.Bool.{false≢true}
-use Rattle.plc_base.specs.Folding.{upper_case_name}
 use Rattle.plc_base.specs.Kinds.{is_data_block, is_function, is_system_function}
 use Rattle.plc_base.specs.declared.blocks.BlockId.{BlockId}
 use Rattle.plc_base.specs.declared.blocks.BlockKind.{BlockKind}
 use Rattle.plc_base.specs.declared.blocks.BlockKind.TheVariants as kinds
 use Rattle.stl_ast.specs.Literals.{AreBytes}
-use Rattle.stl_ast.specs.Statements.{IsActual, is_empty_statement}
+use Rattle.stl_ast.specs.Statements.{is_empty_statement}
 use Rattle.stl_ast.specs.declared.blocks.Block.{Block}
 use Rattle.stl_ast.specs.declared.blocks.PathStep.{PathStep}
 use Rattle.stl_ast.specs.declared.blocks.Tree.{Tree}
@@ -50,17 +49,17 @@ use Rattle.flat_code.specs.declared.operations.CallOperation.{CallOperation}
 use Rattle.flat_code.specs.declared.operations.CallOperation.TheVariants as how_called
 use Rattle.sem_kept.specs.Accepted.{IsAccepted}
 use Rattle.sem_kept.specs.Settled.{HasCalled, HasInstruction, HasLabel, HasOperand, HasPassed, IsSettled, context_of}
-use Rattle.sem_kept.proofs.accepted.Accepted.{IsSound, IsSoundActual, IsSoundStatement, IsSoundTree, all_both, all_mapped, right_tree}
+use Rattle.sem_kept.proofs.accepted.Accepted.{IsSound, IsSoundActual, IsSoundStatement, all_mapped, right_tree}
 use Rattle.sem_kept.proofs.accepted.OperandsCells.{all_there, cells_are, layout_of_block, measured_symbols}
-use Rattle.sem_kept.proofs.accepted.OperandsPlaces.{AreParameters, IsParameterCell, function_components}
+use Rattle.sem_kept.proofs.accepted.OperandsPlaces.{IsParameterCell, function_components}
 use Rattle.sem_kept.proofs.accepted.OperandsViews.{ids_same}
 use Rattle.sem_kept.proofs.accepted.Settled.{statements_settle}
 use Rattle.statement_laws.specs.Accepted.{AcceptedOperandsAreNamed, AcceptedStatementsAct, ActsOnNamed, CallsNamed, DoesAsWritten, IsNamed, IsNamedStatement, JumpsByList, JumpsToLabel, NamesCalled, is_going_on}
 use Rattle.statement_laws.specs.Effects.{effect_of_statement}
-use Rattle.statement_laws.specs.Laws.{Acts, HasElementaryParameters, IsNamedActual, StatementsAct, has_fixed_name, is_bit_logic, is_call_instruction, is_comparison, is_data_block_instruction, is_elementary_component, is_end, is_idle, is_in_family, is_jump_list, is_load_or_transfer, is_number_instruction, is_plain_jump, is_relay, is_shift, is_timing, is_variable, stays_inside}
+use Rattle.statement_laws.specs.Laws.{Acts, HasElementaryParameters, IsNamedActual, has_fixed_name, is_bit_logic, is_call_instruction, is_comparison, is_data_block_instruction, is_elementary_component, is_end, is_idle, is_jump_list, is_load_or_transfer, is_number_instruction, is_plain_jump, is_relay, is_shift, is_timing, is_variable, stays_inside}
 use Rattle.statement_laws.specs.Named.{NamedItem}
 use Rattle.statement_laws.specs.Named as named
-use Rattle.statement_laws.specs.Operands.{block_id_of_name, block_number, components_of_block, is_fc, named_by, with_instance}
+use Rattle.statement_laws.specs.Operands.{is_fc, named_by, with_instance}
 use Rattle.statement_laws.proofs.CallLemmas.{calls_act}
 use Rattle.statement_laws.proofs.CoverLemmas.{has_no_name, named_there, operands_are_named}
 use Rattle.statement_laws.proofs.FamilyLemmas as families

@@ -3,7 +3,7 @@ use Rattle.std.proofs.Common.{◌≡◌, refl, ℕ, Bool, true, false, ◌&&◌,
 use Rattle.std.specs.Prelude.{nat_lt, not, find}
 use Rattle.std.specs.Char.{to_ascii_lowercase, to_ascii_uppercase}
 use Rattle.std.specs.Str.{bytes_eq, str_eq_ignore_ascii_case, str_to_ascii_lowercase, str_to_ascii_uppercase}
-use Rattle.std.specs.List.{AllByRecursion, flat_map, slice_get}
+use Rattle.std.specs.List.{AllByRecursion, flat_map}
 use Rattle.std.specs.Option.{option_map, option_and_then, IfSome}
 use Rattle.std.proofs.lemmas.Bool.{false≢true}
 use Rattle.std.proofs.lemmas.Bool.Decides.{nat_tests}
@@ -256,7 +256,6 @@ register_known name e =
     (entry name (codes "AR2") named.SecondRegister _ _ (no_other name (codes "AR1")))))))
     e
 
-
 other_has : (source : List ℕ) (t : Token) → IfSome (reads.register_name_operand source t) Has
 unfolding reads.register_name_operand
 other_has source t = by (look_up registers (text_of source t)) refl
@@ -266,7 +265,6 @@ other_has source t = by (look_up registers (text_of source t)) refl
     by (Some true) e = register_known (text_of source t) e
     by (Some false) e = tt
     by None e = tt
-
 
 alone_has : (source : List ℕ) (t : Token) (rest : List Token)
     → IfSome (reads.lone_word_operand source t rest) Has
@@ -347,6 +345,7 @@ kind_has source t rest tokens kind.Local = local_has source t rest
 kind_has source t rest tokens kind.Mark = mark_has source t rest tokens
 kind_has source t rest tokens kind.SignWord = sign_has source t rest
 kind_has source t rest tokens _ = tt
+
 operand_has : (source : List ℕ) (tokens : List Token) → IfSome (reads.operand_of source tokens) Has
 unfolding reads.operand_of
 operand_has source [] = tt
@@ -576,6 +575,7 @@ reads_has source p ts (c ∷ cs) q rest reads =
           (clause_has source p ts),
       reads_has source reads.1 reads.0 cs q rest reads.3,
     )
+
 kept_has : (cs : List Clause) → AllByRecursion ClauseHas cs
     → AllByRecursion ClauseHas (filter is_kept_by_tree cs)
 kept_has [] h = tt
@@ -608,7 +608,6 @@ blocks_have (b ∷ bs) h = (
   block_has b (all_front ClauseHas (spelled_block b) (flat_map spelled_block bs) h),
   blocks_have bs (all_back ClauseHas (spelled_block b) (flat_map spelled_block bs) h),
 )
-
 
 -- in the tree of a source a word that stands alone as an operand is one of the registers
 pub words_known : (source : List ℕ) (tokens : List Token) (t : Tree) → IsTree source tokens t

@@ -1,4 +1,5 @@
 //! Laws of statements: each function does nothing, and its contract is the law.
+ghost use Rattle.statement_laws.specs.Accepted.{AcceptedOperandsAreNamed, AcceptedStatementsAct};
 ghost use Rattle.statement_laws.specs.Laws.{BitLogicActs, CallsAct, ComparisonsAct, DataBlocksAct, EndsAct, FamiliesAreAll, IdleActs, JumpListsAct, LoadsAct, NumbersAct, OperandsAreNamed, PlainJumpsAct, RelayActs, ShiftsAct, StatementsAreNumbered, TimingActs, VariablesAreNamed};
 
 /// Whatever its instruction takes, an operand that is no variable and no called block names something.
@@ -91,4 +92,18 @@ pub fn statements_are_numbered()
 /// Each mnemonic but that of the empty statement is of one of the families that the laws speak of.
 pub fn families_are_all()
     ensures { FamiliesAreAll }
+{}
+
+/// Each statement of each block of a source that breaks no rule names what it acts on: by its operand
+/// something, by that of a call the block that it calls, whose parameters are known, and by each actual
+/// parameter what is passed.
+pub fn accepted_operands_are_named()
+    ensures { AcceptedOperandsAreNamed }
+{}
+
+/// So each statement of a source that breaks no rule, but the empty ones, does what its mnemonic says
+/// with what its operand names: it goes on or is an error, jumps to a label of its body, ends the
+/// block, or calls a block with what is passed for its parameters.
+pub fn accepted_statements_act()
+    ensures { AcceptedStatementsAct }
 {}
