@@ -100,7 +100,7 @@ pub record JumpsByList (c : Context) (body : List Statement) (n : ℕ) (s : Stat
   pub acts :
       Steps (instruction c body n s) (λ program next a w. jumps_by_list n (number_of_label label.name body) a w)
 
--- a call calls the block that it names, and each of that block's parameters stands for what is passed
+-- a call calls the block that it names, and each parameter of that block stands for what is passed
 -- for its name, which is named
 pub record CallsNamed (c : Context) (body : List Statement) (n : ℕ) (s : Statement) : Type 0 where
   pub called : NamesCalled c s
@@ -109,8 +109,8 @@ pub record CallsNamed (c : Context) (body : List Statement) (n : ℕ) (s : State
       Steps (instruction c body n s)
       (calls_block s.code called.id called.instance (bindings_of c s.actuals (parameter_names c called.id)))
 
--- the instruction of a statement of number n does what the statement says, by its family; it is of
--- one of them
+-- the instruction of a statement does what the statement says, by its family, of which it has one; n
+-- is the number of the statement
 pub record DoesAsWritten (c : Context) (body : List Statement) (n : ℕ) (s : Statement) : Type 0 where
   pub family : is_in_family s.code ≡ true
   pub goes_on : is_going_on s.code ≡ true → ActsOnNamed c body n s
