@@ -5,7 +5,7 @@ use Rattle.plc_io.specs.Counts.{CountRose, SameCounts, NoCountFell}
 use Rattle.plc_io.specs.Moments.{SinkAt}
 use Rattle.plc_io.specs.Taken.{TookBytes, TookPrefix}
 use Rattle.s7_cli.specs.declared.failures.Failure.TheVariants.{ReadFault, WriteFault, NoMemory}
-use Rattle.s7_cli.specs.Answer.{Answer, Outcome, words_refused_answer, exit_status}
+use Rattle.s7_cli.specs.Answer.{CallAnswer, CallOutcome, words_refused_answer, exit_status}
 use Rattle.s7_cli.specs.Command.{Command, inputs_of, outputs_of}
 use Rattle.s7_cli.specs.Reading.{Disk, HoldBytesInTurn, ReadsFilesInTurn}
 use Rattle.s7_cli.specs.Says.{CommandSays, WritesOutputFile}
@@ -21,7 +21,7 @@ sink_moments before after = record { before = before; after = after }
 
 -- an answer that a call may give: of a command, by what its input files hold; of refused words,
 -- that they are
-abbrev pub IsAnswerOfCall : Option Command → Disk → Answer → Type 0
+abbrev pub IsAnswerOfCall : Option Command → Disk → CallAnswer → Type 0
 IsAnswerOfCall None d answer = answer ≡ words_refused_answer
 IsAnswerOfCall (Some c) d answer = ReadsFilesInTurn d (inputs_of c) (CommandSays c) answer
 
@@ -49,7 +49,7 @@ abbrev pub OutputRose : Option Command → Disk → Type 0
 OutputRose c d = RoseAmong d.before.failed_writes d.after.failed_writes (output_names c)
 
 -- the counts of failed reads rise with a read fault alone
-abbrev pub CountsReads : Disk → Outcome → Type 0
+abbrev pub CountsReads : Disk → CallOutcome → Type 0
 CountsReads d (Err ReadFault) = NoCountFell d.before.failed_reads d.after.failed_reads
 CountsReads d outcome = SameCounts d.before.failed_reads d.after.failed_reads
 
@@ -83,7 +83,7 @@ abbrev pub WritesOutputs : Option Command → Disk → Type 0
 WritesOutputs c d = (k : Command) → c ≡ Some k → (name : List ℕ) → Contains (outputs_of k) name → HoldsWhole k d name
 
 -- what an answer leaves of the files: only a result writes
-abbrev pub LeavesFiles : Option Command → Disk → Outcome → Type 0
+abbrev pub LeavesFiles : Option Command → Disk → CallOutcome → Type 0
 LeavesFiles c d (Ok done) = ChangesOutputs c d × WritesOutputs c d
 LeavesFiles c d (Err failure) = SameFiles d.before.contents d.after.contents
 
@@ -92,10 +92,10 @@ LeavesFiles c d (Err failure) = SameFiles d.before.contents d.after.contents
 abbrev pub CutShort : Option Command → Disk → SinkMoments → Type 0
 CutShort c d s =
     (s.after.taken ≡ s.before.taken)
-    ⊎ ((answer : Answer) × IsAnswerOfCall c d answer × CountsReads d answer.outcome × LeavesFiles c d answer.outcome × TookPrefix s.before s.after answer.text)
+    ⊎ ((answer : CallAnswer) × IsAnswerOfCall c d answer × CountsReads d answer.outcome × LeavesFiles c d answer.outcome × TookPrefix s.before s.after answer.text)
 
 -- the call said its whole text
-pub record SaysWholeText (c : Option Command) (d : Disk) (s : SinkMoments) (answer : Answer) : Type 0 where
+pub record SaysWholeText (c : Option Command) (d : Disk) (s : SinkMoments) (answer : CallAnswer) : Type 0 where
   pub answers : IsAnswerOfCall c d answer
   pub took : TookBytes s.before s.after answer.text
   pub faults : s.after.faults ≡ s.before.faults
@@ -136,11 +136,11 @@ pub record IsNoMemory (c : Option Command) (d : Disk) (s : SinkMoments) : Type 0
 
 -- a call came out with this outcome: cut short by a failed write or for want of memory, or else
 -- with its whole text said
-abbrev pub EndsWithOutcome : Option Command → Disk → SinkMoments → Outcome → Type 0
+abbrev pub EndsWithOutcome : Option Command → Disk → SinkMoments → CallOutcome → Type 0
 EndsWithOutcome c d s (Err WriteFault) = IsWriteFault c d s
 EndsWithOutcome c d s (Err NoMemory) = IsNoMemory c d s
 EndsWithOutcome c d s outcome = (text : List ℕ) × SaysWholeText c d s (record { outcome = outcome; text = text })
 
 -- a call came out with an outcome that has this exit status
 abbrev pub EndsWithStatus : Option Command → Disk → SinkMoments → ℕ → Type 0
-EndsWithStatus c d s code = (outcome : Outcome) × (code ≡ exit_status outcome) × EndsWithOutcome c d s outcome
+EndsWithStatus c d s code = (outcome : CallOutcome) × (code ≡ exit_status outcome) × EndsWithOutcome c d s outcome

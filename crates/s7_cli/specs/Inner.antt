@@ -9,7 +9,7 @@ use Rattle.plc_io.specs.declared.faults.IoFault.TheVariants as fault
 use Rattle.s7_cli.specs.declared.failures.Failure.{Failure}
 use Rattle.s7_cli.specs.declared.finish.Output.{Output}
 use Rattle.s7_cli.specs.declared.failures.Failure.TheVariants.{ReadFault, TooLong, Refused, ImageRefused, NoListing, SaysNo, TooDeep, WriteFault, NoMemory}
-use Rattle.s7_cli.specs.Answer.{Answer, Outcome, done_answer, refused_file_answer, refused_image_answer, no_listing_answer, says_no_answer, too_long_answer, read_fault_answer}
+use Rattle.s7_cli.specs.Answer.{CallAnswer, CallOutcome, done_answer, refused_file_answer, refused_image_answer, no_listing_answer, says_no_answer, too_long_answer, read_fault_answer}
 use Rattle.s7_cli.specs.Command.{Command, Input, inputs_of, outputs_of}
 use Rattle.s7_cli.specs.Ends.{SinkMoments, IsAnswerOfCall, CountsReads, SaysWholeText, IsWriteFault, IsNoMemory}
 use Rattle.s7_cli.specs.Lines.{line_of_failure, ok_line}
@@ -37,7 +37,7 @@ pub record HasRead (before after : FilesAt) (inputs : List Input) (contents : Li
   pub hold : HoldBytesInTurn before.contents inputs contents
 
 -- the reading of files, one after the other, ends at one of them
-abbrev pub StopsAmong : Disk → List Input → Answer → Type 0
+abbrev pub StopsAmong : Disk → List Input → CallAnswer → Type 0
 StopsAmong d [] answer = ⊥
 StopsAmong d (i ∷ is) answer =
     StopsAt d i answer
@@ -55,7 +55,7 @@ AllRead view d is (Err failure) = ⊥
 
 -- a failure by what files hold has an answer of which this is said: a refusal, a translation or
 -- listing that is too long, an image without a listing, or a certificate that doesn't hold
-abbrev pub SaysRefusal : {V : Type 0} → (Answer → Type 0) → Result V Failure → Type 0
+abbrev pub SaysRefusal : {V : Type 0} → (CallAnswer → Type 0) → Result V Failure → Type 0
 SaysRefusal says (Ok v) = Unit {0}
 SaysRefusal says (Err (Refused file refusal)) = says (refused_file_answer file refusal)
 SaysRefusal says (Err (ImageRefused fault)) = says (refused_image_answer fault)
@@ -67,7 +67,7 @@ SaysRefusal says (Err failure) = ⊥
 
 -- the writing of a whole text to the sink, by its outcome: all of it was taken, or a front of it
 -- where the sink failed or memory was wanting
-abbrev pub TextWritten : List ℕ → SinkMoments → Outcome → Type 0
+abbrev pub TextWritten : List ℕ → SinkMoments → CallOutcome → Type 0
 TextWritten text s (Ok done) = TookBytes s.before s.after text × (s.after.faults ≡ s.before.faults)
 TextWritten text s (Err WriteFault) =
     TookPrefix s.before s.after text × CountRose s.before.faults s.after.faults × (s.before.faults ≤ s.after.faults)
@@ -75,7 +75,7 @@ TextWritten text s (Err NoMemory) = TookPrefix s.before s.after text × (s.after
 TextWritten text s (Err failure) = ⊥
 
 -- the writing of a whole output file, by its outcome: done, failed, or no memory
-abbrev pub FileWritten : Disk → (name bytes : List ℕ) → Outcome → Type 0
+abbrev pub FileWritten : Disk → (name bytes : List ℕ) → CallOutcome → Type 0
 FileWritten d name bytes (Ok done) =
     LeavesWritten {X = Unit} d.before d.after name bytes (Ok done)
 FileWritten d name bytes (Err WriteFault) =
@@ -96,19 +96,19 @@ pub record FailsWith (c : Option Command) (d : Disk) (s : SinkMoments) (failure 
   pub only_reads : OnlyReads d
 
 -- how a command came out before the line of its failure is written; that of a chain which is too deep was written
-abbrev pub ComesOutAs : Option Command → Disk → SinkMoments → Outcome → Type 0
-ComesOutAs c d s (Ok done) = (text : List ℕ) × SaysWholeText c d s (record { outcome = Ok done; text = text })
-ComesOutAs c d s (Err WriteFault) = IsWriteFault c d s
-ComesOutAs c d s (Err NoMemory) = IsNoMemory c d s
-ComesOutAs c d s (Err TooDeep) =
+abbrev pub ComesBeforeLine : Option Command → Disk → SinkMoments → CallOutcome → Type 0
+ComesBeforeLine c d s (Ok done) = (text : List ℕ) × SaysWholeText c d s (record { outcome = Ok done; text = text })
+ComesBeforeLine c d s (Err WriteFault) = IsWriteFault c d s
+ComesBeforeLine c d s (Err NoMemory) = IsNoMemory c d s
+ComesBeforeLine c d s (Err TooDeep) =
     (text : List ℕ) × SaysWholeText c d s (record { outcome = Err TooDeep; text = text })
-ComesOutAs c d s (Err failure) = FailsWith c d s failure
+ComesBeforeLine c d s (Err failure) = FailsWith c d s failure
 
 -- how a command comes out behind the reading of its input files, which held these contents
-abbrev pub ComesOf : Command → (contents : List (List ℕ)) → Disk → SinkMoments → Outcome → Type 0
-ComesOf c contents d s came =
+abbrev pub CommandComesTo : Command → (contents : List (List ℕ)) → Disk → SinkMoments → CallOutcome → Type 0
+CommandComesTo c contents d s came =
     (start : FilesAt) → HasRead start d.before (inputs_of c) contents
-    → ComesOutAs (Some c) (disk_moments start d.after) s came
+    → ComesBeforeLine (Some c) (disk_moments start d.after) s came
 
 -- a command whose input files hold this writes these bytes to this file, its only one, and `OK`
 pub record IsOutput (c : Command) (contents : List (List ℕ)) (name bytes : List ℕ) : Type 0 where

@@ -8,7 +8,7 @@ use Rattle.s7_cli.specs.declared.failures.Failure.{Failure}
 use Rattle.s7_cli.specs.declared.failures.Failure.TheVariants.{Refused, NoMemory}
 use Rattle.s7_cli.specs.declared.failures.File.TheVariants.{Script}
 use Rattle.s7_cli.specs.declared.files.LiveText.{LiveText}
-use Rattle.s7_cli.specs.Answer.{Answer}
+use Rattle.s7_cli.specs.Answer.{CallAnswer}
 use Rattle.s7_cli.specs.LiveSays.{LiveSays, RefusedScript, scripts_from}
 use Rattle.s7_cli.specs.Living.{AreRegularBy, total_length}
 use Rattle.s7_cli.specs.Loads.{LoadsAs}
@@ -33,12 +33,12 @@ pub record IsLiveText (text : LiveText) : Type 0 where
   pub few : length text.scripts.items ≤ 4
 
 -- what `live` answers for these files
-abbrev pub LiveTextSays : (steps : ℕ) → LiveText → Answer → Type 0
+abbrev pub LiveTextSays : (steps : ℕ) → LiveText → CallAnswer → Type 0
 LiveTextSays steps text answer = LiveSays steps text.image.items text.stimuli.items (scripts_of text) answer
 
 -- the first script that is refused is told, or memory was wanting
-abbrev pub TellsScript : Result (List (List Entry)) RefusedScript → Failure → Type 0
-TellsScript scripts failure =
+abbrev pub IsScriptRefusal : Result (List (List Entry)) RefusedScript → Failure → Type 0
+IsScriptRefusal scripts failure =
     (failure ≡ NoMemory)
     ⊎ ((script : RefusedScript) × (scripts ≡ Err script)
     × (failure ≡ Refused (Script script.number) script.refusal))

@@ -4,7 +4,7 @@ use Rattle.plc_io.specs.Contents.{SameFiles}
 use Rattle.plc_io.specs.Counts.{CountRose}
 use Rattle.plc_io.specs.Taken.{TookBytes}
 use Rattle.s7_cli.specs.declared.failures.Failure.{Failure}
-use Rattle.s7_cli.specs.Answer.{Answer, exit_status}
+use Rattle.s7_cli.specs.Answer.{CallAnswer, exit_status}
 use Rattle.s7_cli.specs.BoundSays.{StacksSuffice}
 use Rattle.s7_cli.specs.Command.{Command, Live, Watch, Bound, inputs_of}
 use Rattle.s7_cli.specs.Ends.{SinkMoments, InputRose, OutputRose, CutShort, ChangesOutputs, WritesOutputs}
@@ -14,7 +14,7 @@ use Rattle.s7_cli.specs.Reading.{Disk, AllowsAnswer, FailsOnTheWay}
 use Rattle.s7_cli.specs.Says.{CommandSays}
 
 -- the answer of a command that its input files allow where no read of them fails
-abbrev pub IsAllowed : Command → Disk → Answer → Type 0
+abbrev pub IsAllowed : Command → Disk → CallAnswer → Type 0
 IsAllowed k d answer = AllowsAnswer d.before.contents (inputs_of k) (CommandSays k) answer
 
 -- told files allow one text of this command. The workers of `live` and `watch` take turns in
@@ -30,11 +30,11 @@ HasOneText command = Unit {0}
 -- the files say so
 pub record IsDecided (k : Command) (d : Disk) (s : SinkMoments) (code : ℕ) : Type 0 where
   -- the answer that the call gave
-  pub answer : Answer
+  pub answer : CallAnswer
   pub allowed : IsAllowed k d answer
   -- another answer that the files allow has the same outcome, and the same text where there is
   -- one
-  pub only : (other : Answer) → IsAllowed k d other
+  pub only : (other : CallAnswer) → IsAllowed k d other
       → (other.outcome ≡ answer.outcome) × (HasOneText k → other ≡ answer)
   pub status : code ≡ exit_status answer.outcome
   pub took : TookBytes s.before s.after answer.text

@@ -11,7 +11,7 @@ use Rattle.s7_cli.specs.declared.failures.Failure.{Failure}
 use Rattle.s7_cli.specs.declared.failures.Failure.TheVariants.{Refused}
 use Rattle.s7_cli.specs.declared.failures.File.TheVariants.{Vars}
 use Rattle.s7_cli.specs.declared.watch_files.WatchText.{WatchText}
-use Rattle.s7_cli.specs.Answer.{Answer}
+use Rattle.s7_cli.specs.Answer.{CallAnswer}
 use Rattle.s7_cli.specs.LiveSays.{scripts_from}
 use Rattle.s7_cli.specs.LiveTexts.{AreScriptsWithin}
 use Rattle.s7_cli.specs.Living.{AreRegularBy, total_length}
@@ -36,12 +36,12 @@ pub record IsWatchText (text : WatchText) : Type 0 where
   pub few : length text.scripts.items ≤ 3
 
 -- what `watch` answers for these files
-abbrev pub WatchTextSays : (steps : ℕ) → WatchText → Answer → Type 0
+abbrev pub WatchTextSays : (steps : ℕ) → WatchText → CallAnswer → Type 0
 WatchTextSays steps text answer = WatchSays steps text.image.items text.stimuli.items text.vars.items (watch_scripts text) answer
 
 -- why the variables are refused is told
-abbrev pub TellsVars : Result (List Var) Refusal → Failure → Type 0
-TellsVars vars failure = (refusal : Refusal) × (vars ≡ Err refusal) × (failure ≡ Refused Vars refusal)
+abbrev pub AreVarsRefused : Result (List Var) Refusal → Failure → Type 0
+AreVarsRefused vars failure = (refusal : Refusal) × (vars ≡ Err refusal) × (failure ≡ Refused Vars refusal)
 
 -- what is found in the files of a watch: the program, the lists of the workers and the
 -- variables; an entry has four bytes of its text at least

@@ -12,7 +12,7 @@ use Rattle.block_layout.specs.Layouts.{layouts_of}
 use Rattle.stl_codegen.specs.Compiled.{code_in}
 use Rattle.stl_codegen.specs.Generated.{code_blocks_of}
 use Rattle.sem_kept.specs.Accepted.{IsAccepted}
-use Rattle.sem_kept.specs.Operands.{AreFine}
+use Rattle.sem_kept.specs.Operands.{HaveNoOperandFaults}
 
 -- a jump, and nothing else, is checked by the statements of its block
 abbrev pub jump_fault_of : List StatementSpot → PlacedOp → Operand → Option ℕ
@@ -43,7 +43,7 @@ JumpsLandRight =
     (code_blocks_of t symbols (layouts_of t symbols))
 
 -- ops that have no fault by their operands, calls and marks have none at all where they land right
-abbrev pub FineIsFaultless : Type 0
-FineIsFaultless =
+abbrev pub NoOperandFaultIsNoFault : Type 0
+NoOperandFaultIsNoFault =
     (a : Environment) (lens : List (ℕ × ℕ)) (start : ℕ) (ops : List OpData) → a.data_lens ≡ Some lens
-    → AreFine a lens (statement_spots ops) (code_places ops) → AllLandRight ops → block_faults a start ops ≡ []
+    → HaveNoOperandFaults a lens (statement_spots ops) (code_places ops) → AllLandRight ops → block_faults a start ops ≡ []

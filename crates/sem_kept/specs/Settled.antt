@@ -63,13 +63,13 @@ HasInstruction c body s None = HasOperand c s (call_operation_of s.code)
 HasInstruction c body s (Some how) = HasLabel body s
 
 -- an actual parameter names what is passed
-abbrev pub HasPassed : Context → Actual → Type 0
-HasPassed c a = (p : Passed) × (passed_seen a.value (resolution_of c a.value) ≡ Some p)
+abbrev pub NamesWhatIsPassed : Context → Actual → Type 0
+NamesWhatIsPassed c a = (p : Passed) × (passed_seen a.value (resolution_of c a.value) ≡ Some p)
 
 -- a statement names what its instruction takes, and each of its actual parameters what is passed
-pub record IsSettled (c : Context) (body : List Statement) (s : Statement) : Type 0 where
+pub record IsResolvedStatement (c : Context) (body : List Statement) (s : Statement) : Type 0 where
   pub instruction : HasInstruction c body s (jump_operation_of s.code)
-  pub actuals : AllByRecursion (HasPassed c) s.actuals
+  pub actuals : AllByRecursion (NamesWhatIsPassed c) s.actuals
 
 -- what the block at a place is checked and compiled by
 abbrev pub context_of : List Symbol → Tree → ℕ → Context
@@ -86,4 +86,4 @@ abbrev pub StatementsSettle : Type 0
 StatementsSettle =
     (source file : List ℕ) (symbols : List Symbol) (t : Tree) → IsAccepted source file symbols t
     → AreBytes source → (k : ℕ) (b : Block) → slice_get t.blocks k ≡ Some b
-    → AllByRecursion (IsSettled (context_of symbols t k) b.body) b.body
+    → AllByRecursion (IsResolvedStatement (context_of symbols t k) b.body) b.body

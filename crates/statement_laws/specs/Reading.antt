@@ -25,7 +25,7 @@ use Rattle.machine.specs.ExecState.{ExecState, then_ok}
 use Rattle.machine.specs.declared.places.Access.{Access}
 use Rattle.machine.specs.declared.places.Access.TheVariants.{Reading, Writing}
 use Rattle.machine.specs.declared.places.Location.{Location}
-use Rattle.statement_laws.specs.Named.{NamedItem, Number, Spot}
+use Rattle.statement_laws.specs.Named.{NamedItem, ItemNumber, OperandPlace}
 use Rattle.statement_laws.specs.Named as named
 
 -- ---- constants
@@ -176,7 +176,7 @@ address_moved address count = (address % 2 ^ 19 + count % 2 ^ 19) % 2 ^ 19
 -- ---- the place of an operand
 
 -- the place of an operand, direct or indirect
-unfoldable pub place_of_spot : Access → Spot → ExecState → Result Location ℕ
+unfoldable pub place_of_spot : Access → OperandPlace → ExecState → Result Location ℕ
 place_of_spot access (named.Fixed a width byte bit) p = fixed_place access a width byte bit p
 place_of_spot access (named.ByMemory a width from byte) p =
     then_ok (stored_number from byte widths.Dword p) (λ pointer. place_of_pointer access a width pointer p)
@@ -208,17 +208,17 @@ number_of_parameter (Some (binding.Constant value)) p = Ok value
 number_of_parameter _ p = Err 0
 
 -- the number of a timer, counter or data block
-unfoldable pub number_of_item : Number → ExecState → Result ℕ ℕ
+unfoldable pub number_of_item : ItemNumber → ExecState → Result ℕ ℕ
 number_of_item (named.Written number) p = Ok number
 number_of_item (named.InWord from byte) p = stored_number from byte widths.Word p
 
 -- what is read of the timer of a number; error 26 where there is none
-abbrev pub of_timer : {A : Type 0} → (Timer → A) → Number → ExecState → Result A ℕ
+abbrev pub of_timer : {A : Type 0} → (Timer → A) → ItemNumber → ExecState → Result A ℕ
 of_timer read n p =
     then_ok (number_of_item n p) (λ number. ok_or (option_map read (slice_get p.timers number)) 0x26)
 
 -- what is read of the counter of a number; error 27 where there is none
-abbrev pub of_counter : {A : Type 0} → (Counter → A) → Number → ExecState → Result A ℕ
+abbrev pub of_counter : {A : Type 0} → (Counter → A) → ItemNumber → ExecState → Result A ℕ
 of_counter read n p =
     then_ok (number_of_item n p) (λ number. ok_or (option_map read (slice_get p.counters number)) 0x27)
 
