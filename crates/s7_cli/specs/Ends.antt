@@ -53,25 +53,27 @@ abbrev pub CountsReads : Disk → CallOutcome → Type 0
 CountsReads d (Err ReadFault) = NoCountFell d.before.failed_reads d.after.failed_reads
 CountsReads d outcome = SameCounts d.before.failed_reads d.after.failed_reads
 
--- what the command writes to an output file, for contents of its input files that agree with what is told
+-- what the command writes to an output file, for contents of its input files that agree with
+-- what is known of them
 abbrev pub WritesTo : Command → Disk → (name bytes : List ℕ) → Type 0
 WritesTo c d name bytes = (contents : List (List ℕ)) × HoldBytesInTurn d.before.contents (inputs_of c) contents × WritesOutputFile c contents name bytes
 
--- an output file holds what it held, or a front of what the command writes to it, or the whole
--- of that, where the files tell what they hold
+-- where the contents of files are known, an output file holds what it held, or a front of what the
+-- command writes to it, or the whole of that
 abbrev pub HoldsFront : Command → Disk → List ℕ → Type 0
 HoldsFront c d name =
     d.before.contents.told ≡ true → (d.after.contents.at name ≡ d.before.contents.at name)
     ⊎ ((bytes : List ℕ) × (n : ℕ) × WritesTo c d name bytes × (d.after.contents.at name ≡ Some (take n bytes)))
 
--- an output file holds the whole of what the command writes to it, where the files tell what
--- they hold
+-- where the contents of files are known, an output file holds the whole of what the command writes
+-- to it
 abbrev pub HoldsWhole : Command → Disk → List ℕ → Type 0
 HoldsWhole c d name =
     d.before.contents.told ≡ true → (bytes : List ℕ) × WritesTo c d name bytes × (d.after.contents.at name ≡ Some bytes)
 
 -- no file changed but output files
 pub record ChangesOutputs (c : Option Command) (d : Disk) : Type 0 where
+  -- whether the contents of files are known stays as it was
   pub told : d.after.contents.told ≡ d.before.contents.told
   -- a file that is no output file holds what it held
   pub elsewhere : (name : List ℕ) → (Contains (output_names c) name → ⊥) → d.after.contents.at name ≡ d.before.contents.at name
@@ -94,44 +96,64 @@ CutShort c d s =
     (s.after.taken ≡ s.before.taken)
     ⊎ ((answer : CallAnswer) × IsAnswerOfCall c d answer × CountsReads d answer.outcome × LeavesFiles c d answer.outcome × TookPrefix s.before s.after answer.text)
 
--- the call said its whole text
+-- the call gave this answer: the sink took its whole text, and the files and counts are as its
+-- outcome leaves them
 pub record SaysWholeText (c : Option Command) (d : Disk) (s : SinkMoments) (answer : CallAnswer) : Type 0 where
+  -- it is an answer that the call may give
   pub answers : IsAnswerOfCall c d answer
+  -- the sink took the text, behind what it had taken before
   pub took : TookBytes s.before s.after answer.text
+  -- no push to the sink failed
   pub faults : s.after.faults ≡ s.before.faults
+  -- no count of failed reads changed; with a read fault they may have risen
   pub reads : CountsReads d answer.outcome
+  -- no count of failed writes changed
   pub writes : SameCounts d.before.failed_writes d.after.failed_writes
+  -- a result leaves its output files whole, a failure all files as they were
   pub files : LeavesFiles c d answer.outcome
 
 -- the call was cut short, and no file but output files changed; the counts of failed reads may
 -- have risen
 pub record IsCallCutShort (c : Option Command) (d : Disk) (s : SinkMoments) : Type 0 where
+  -- the sink took nothing, or a front of an answer's text
   pub cut : CutShort c d s
+  -- no count of failed reads fell
   pub reads : NoCountFell d.before.failed_reads d.after.failed_reads
   -- no file changed but output files
   pub files : ChangesOutputs c d
 
 -- a write to the sink failed, and no write of a file
 pub record SinkFailed (d : Disk) (s : SinkMoments) : Type 0 where
+  -- the count of the sink's faults rose, or stands at its last value
   pub faults : CountRose s.before.faults s.after.faults
+  -- this count is no smaller than at the start
   pub never_fell : s.before.faults ≤ s.after.faults
+  -- no count of failed writes changed
   pub writes : SameCounts d.before.failed_writes d.after.failed_writes
 
 -- the write of an output file failed, and not the sink
 pub record OutputFailed (c : Option Command) (d : Disk) (s : SinkMoments) : Type 0 where
+  -- a count of failed writes of an output file rose
   pub rose : OutputRose c d
+  -- no count of failed writes fell
   pub writes : NoCountFell d.before.failed_writes d.after.failed_writes
+  -- no push to the sink failed
   pub faults : s.after.faults ≡ s.before.faults
 
 -- the call was cut short by a failed write, to the sink or of an output file
 pub record IsWriteFault (c : Option Command) (d : Disk) (s : SinkMoments) : Type 0 where
+  -- the call was cut short
   pub cut : IsCallCutShort c d s
+  -- a write to the sink failed, or one of an output file
   pub failed : SinkFailed d s ⊎ OutputFailed c d s
 
 -- the call was cut short for want of memory, and no write failed
 pub record IsNoMemory (c : Option Command) (d : Disk) (s : SinkMoments) : Type 0 where
+  -- the call was cut short
   pub cut : IsCallCutShort c d s
+  -- no push to the sink failed
   pub faults : s.after.faults ≡ s.before.faults
+  -- no count of failed writes changed
   pub writes : SameCounts d.before.failed_writes d.after.failed_writes
 
 -- a call came out with this outcome: cut short by a failed write or for want of memory, or else

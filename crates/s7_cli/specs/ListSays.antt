@@ -27,8 +27,8 @@ pub record IsShortListing (p : Program) : Type 0 where
 abbrev pub HasListing : Program → Type 0
 HasListing p = CompilesTo English (listed_source p) (listed_names p.names) p
 
--- what `list` answers for a program: the length of its listing is judged first, and then the
--- listing is compiled
+-- what `list` answers for a program: the length of its listing is checked first, and then
+-- the listing is compiled
 abbrev pub ListedAnswer : Program → CallAnswer → Type 0
 ListedAnswer p answer =
     (IsLongListing p × (answer ≡ too_long_answer Listing))

@@ -36,7 +36,8 @@ pub record IsLiveText (text : LiveText) : Type 0 where
 abbrev pub LiveTextSays : (steps : ℕ) → LiveText → CallAnswer → Type 0
 LiveTextSays steps text answer = LiveSays steps text.image.items text.stimuli.items (scripts_of text) answer
 
--- the first script that is refused is told, or memory was wanting
+-- the first script that is refused is answered, by its number and its refusal, or memory was
+-- wanting
 abbrev pub IsScriptRefusal : Result (List (List Entry)) RefusedScript → Failure → Type 0
 IsScriptRefusal scripts failure =
     (failure ≡ NoMemory)

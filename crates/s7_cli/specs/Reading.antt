@@ -17,7 +17,9 @@ disk_moments before after = record { before = before; after = after }
 
 -- the file holds these bytes, no more than it may
 pub record HoldsBytes (c : Contents) (i : Input) (bytes : List ℕ) : Type 0 where
+  -- where contents are known, the file of this name holds exactly these bytes
   pub agrees : FileHoldsBytes c i.name bytes
+  -- they are no more than the limit of such a file
   pub within : length bytes ≤ limit_of i.file
 
 -- the files hold these bytes, one after the other
@@ -39,7 +41,8 @@ ReadsFilesInTurn d (i ∷ is) says answer =
     StopsAt d i answer
     ⊎ ((bytes : List ℕ) × HoldsBytes d.before.contents i bytes × ReadsFilesInTurn d is (λ files. says (bytes ∷ files)) answer)
 
--- over files that tell what they hold the reading ends at a file: it is absent, or holds a byte past its limit
+-- over files whose contents are known the reading ends at a file: it is absent, or holds a byte
+-- past its limit
 abbrev pub StopsWhereContentsKnown : Contents → Input → CallAnswer → Type 0
 StopsWhereContentsKnown c i answer =
     ((c.at i.name ≡ None) × (answer ≡ read_fault_answer))
@@ -47,10 +50,13 @@ StopsWhereContentsKnown c i answer =
 
 -- the file is there, within its limit
 pub record IsFileThere (c : Contents) (i : Input) (bytes : List ℕ) : Type 0 where
+  -- the file of this name holds these bytes
   pub there : c.at i.name ≡ Some bytes
+  -- they are no more than the limit of such a file
   pub within : length bytes ≤ limit_of i.file
 
--- what told files allow where no read fails: the first that is absent or too long ends the reading, else this is said of all contents
+-- what files whose contents are known allow where no read fails: the first that is absent or too
+-- long ends the reading, else this is said of all contents
 abbrev pub AllowsAnswer : Contents → List Input → (List (List ℕ) → CallAnswer → Type 0) → CallAnswer → Type 0
 AllowsAnswer c [] says answer = says [] answer
 AllowsAnswer c (i ∷ is) says answer =

@@ -40,14 +40,14 @@ SaysByTranslation says (Ok text) answer =
     IfFits (nat_le (length text) (limit_of Translation)) (says text answer) answer
 
 -- what `says` has of the translation of a source into a language: its tokens and its words are
--- judged first, and then how long the translation is
+-- checked first, and then how long the translation is
 abbrev pub SaysTranslated :
     Language → (source : List ℕ) → (says : List ℕ → CallAnswer → Type 0) → CallAnswer → Type 0
 SaysTranslated language source says answer =
     (translation : Result (List ℕ) Refusal) × TranslatesSource language source translation
     × SaysByTranslation says translation answer
 
--- what `says` has of the English translation of a source with these symbols, which are judged
+-- what `says` has of the English translation of a source with these symbols, which are checked
 -- before
 abbrev pub SaysWithSymbols : Result (List Symbol) Refusal → (source : List ℕ)
     → (says : List ℕ → CallAnswer → Type 0) → CallAnswer → Type 0
@@ -55,7 +55,7 @@ SaysWithSymbols (Err refusal) source says answer = answer ≡ refused_file_answe
 SaysWithSymbols (Ok list) source says answer = SaysTranslated English source says answer
 
 -- what `says` has of the English text of a source: an English one itself, or the translation of
--- a German one, whose symbols are judged before
+-- a German one, whose symbols are checked before
 abbrev pub SaysInEnglish : (german : Bool) → (source symbols : List ℕ)
     → (says : List ℕ → CallAnswer → Type 0) → CallAnswer → Type 0
 SaysInEnglish false source symbols says answer = says source answer

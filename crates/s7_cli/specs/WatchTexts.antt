@@ -39,7 +39,7 @@ pub record IsWatchText (text : WatchText) : Type 0 where
 abbrev pub WatchTextSays : (steps : ℕ) → WatchText → CallAnswer → Type 0
 WatchTextSays steps text answer = WatchSays steps text.image.items text.stimuli.items text.vars.items (watch_scripts text) answer
 
--- why the variables are refused is told
+-- the variables are refused, and their refusal is answered
 abbrev pub AreVarsRefused : Result (List Var) Refusal → Failure → Type 0
 AreVarsRefused vars failure = (refusal : Refusal) × (vars ≡ Err refusal) × (failure ≡ Refused Vars refusal)
 
