@@ -21,13 +21,17 @@ jump_fault_of statements p _ = None
 
 -- an op whose jump, bracket and zone have no fault
 pub record LandsRight (statements : List StatementSpot) (p : PlacedOp) : Type 0 where
+  -- its jump, if it is one, leads to a statement as it may
   pub jump : jump_fault_of statements p p.op.operand ≡ None
+  -- it neither closes a bracket that isn't open nor opens one too many
   pub brackets : bracket_fault p.op.code p.brackets ≡ None
+  -- it neither ends a zone that isn't open nor opens one too many
   pub zones : zone_fault p.op.code p.zones ≡ None
 
 -- no op of a block has a fault by its jump, bracket or zone, and behind the last no bracket and
 -- no zone is open
 pub record AllLandRight (ops : List OpData) : Type 0 where
+  -- no op has a fault by its jump, bracket or zone
   pub each : AllByRecursion (LandsRight (statement_spots ops)) (code_places ops)
   -- no bracket is open behind the last op
   pub closed : open_behind 0 [] ops ≡ []

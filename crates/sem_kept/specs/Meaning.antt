@@ -46,7 +46,7 @@ abbrev pub refusals_of : List Symbol → Tree → List Refusal
 refusals_of symbols tree =
     layout_refusals tree symbols ++ statement_refusals tree symbols (layouts_of tree symbols)
 
--- a tree, judged by the least of its refusals: the tree itself where there is none, or else that
+-- a tree, checked by the least of its refusals: the tree itself where there is none, or else that
 -- refusal
 abbrev pub sound_by : Tree → Option Refusal → Result Tree Refusal
 sound_by tree None = Ok tree

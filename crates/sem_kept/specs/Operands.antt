@@ -57,7 +57,8 @@ abbrev pub PassesAlone : CallOperation → List Passing → Type 0
 PassesAlone calls.Call ps = Unit {0}
 PassesAlone _ ps = ps ≡ []
 
--- an instruction fits what surrounds its block
+-- an instruction fits the environment of its block (its kind, local bytes and parameters, and the
+-- code blocks of its program) and `lens`, the numbers and lengths in bytes of the data blocks
 abbrev pub InstrFits : Environment → List (ℕ × ℕ) → Instr → Type 0
 InstrFits a lens (Does use_db w o) =
     (prepares_statement (op_code_of w) ≡ false) × IsOperandRightFor a (op_with_end_mark w o) o × IsOpenedFor o use_db
@@ -72,8 +73,11 @@ InstrFits a lens _ = Unit {0}
 
 -- an op has no fault by its operand, but a jump's, by its call or by its end mark
 pub record HasNoOperandFault (a : Environment) (lens : List (ℕ × ℕ)) (ss : List StatementSpot) (p : PlacedOp) : Type 0 where
+  -- its operand has no fault, where it is no jump's
   pub operand : IsStill p.op.operand → operand_fault a ss p p.op.operand ≡ None
+  -- its call has no fault
   pub call : call_fault a (Some lens) p ≡ None
+  -- its end mark has no fault
   pub mark : mark_fault p.op ≡ None
 
 -- each of these ops has no fault by its operand, but a jump's, by its call or by its end mark

@@ -1,4 +1,4 @@
--- Stages of judging: each makes something of what it is given, or refuses it.
+-- Stages of checking: each makes something of what it is given, or refuses it.
 use Rattle.std.specs.Prelude.{◌≡◌, ◌⊎◌, Result, Ok, Err}
 use Rattle.plc_base.specs.declared.refusals.Refusal.{Refusal}
 
