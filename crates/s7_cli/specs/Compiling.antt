@@ -79,8 +79,11 @@ LaysOutTree symbols tree (Err fault) = IsRefusedByFault symbols tree fault
 
 -- a source is laid out so with its symbols, and breaks no rule on its tokens, clauses and layout
 pub record IsSourceLaidOut (source : List ℕ) (laid : LaidSource) : Type 0 where
+  -- its tokens and clauses break no rule, and it has this tree
   pub parsed : HaveOutcomeInTurn HasTokens (HasTreeOrRefusal source) source (Ok laid.tree)
+  -- it breaks no rule on layout
   pub right : least (layout_refusals laid.tree laid.symbols) ≡ None
+  -- these are the layouts of its blocks
   pub layout : laid.layouts ≡ layouts_of laid.tree laid.symbols
 
 -- each source that is laid out with this tree, symbols and layouts is refused by this fault

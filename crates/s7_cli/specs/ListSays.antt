@@ -48,8 +48,11 @@ ListSays image answer =
 -- these are the texts of the listing of a program: they aren't longer than they may be and
 -- compile to it
 pub record IsListing (source symbols : List ℕ) (p : Program) : Type 0 where
+  -- the first is the source that is listed of it
   pub source_is : source ≡ listed_source p
+  -- the second is the symbols file that is listed of its names
   pub symbols_are : symbols ≡ listed_names p.names
+  -- both are no longer than they may be
   pub short : IsShortListing p
   -- the source compiles to the program, with these names
   pub compiles : HasListing p

@@ -36,12 +36,15 @@ abbrev pub live_text : LoadedProgram → List Entry → List ℕ
 live_text loaded history =
     history_text history ++ (codes "---\n" ++ run_text loaded.profile (code_of loaded.program) history)
 
--- the workers made some live history of these lists, of which the text is told
+-- the workers made some live history of these lists, and its text is the answer
 pub record RanLive (loaded : LoadedProgram) (steps : ℕ) (stimuli : List Entry) (scripts : List (List Entry)) (answer : CallAnswer) : Type 0 where
+  -- the history that the workers made
   pub history : List Entry
+  -- it is a live history of these lists
   pub live : IsLive loaded steps stimuli scripts history
   -- where it isn't longer than a history may be, `run` gives the written history the same text
   pub read_back : history_of_text loaded.program.names (history_text history) ≡ Ok history
+  -- the answer is its text, done
   pub says : answer ≡ done_answer (live_text loaded history)
 
 -- what `live` answers for a program: the stimuli are checked first, then the scripts in their

@@ -29,7 +29,9 @@ AreScriptsWithin scripts = AllByRecursion (λ bytes. length bytes ≤ 1048576) s
 pub record IsLiveText (text : LiveText) : Type 0 where
   pub stimuli : length text.stimuli.items ≤ 4194304
   pub scripts : AreScriptsWithin (scripts_of text)
+  -- there is a script
   pub some : 1 ≤ length text.scripts.items
+  -- there are at most four
   pub few : length text.scripts.items ≤ 4
 
 -- what `live` answers for these files
@@ -47,11 +49,15 @@ IsScriptRefusal scripts failure =
 -- what is found in the files of a live run: the program and the lists of the workers; an entry
 -- has four bytes of its text at least
 pub record FindsProgramAndScripts (text : LiveText) (loaded : LoadedProgram) (stimuli : List Entry) (scripts : List (List Entry)) : Type 0 where
+  -- the image loads as this program
   pub loads : LoadsAs text.image.items (Ok loaded)
+  -- the stimuli break no rule and are these entries
   pub are_stimuli : stimuli_of text.stimuli.items ≡ Ok stimuli
+  -- the scripts break no rule and are these lists
   pub are_scripts : scripts_from loaded.program.names 1 (scripts_of text) ≡ Ok scripts
   -- the stimuli are regular entries of worker 2, those of script k of worker k + 2
   pub regular : AreRegularBy 2 (stimuli ∷ scripts)
+  -- stimuli and scripts have no more entries than this together
   pub few : length stimuli + total_length scripts ≤ 2097152
   -- a script was found for each file of scripts
   pub many : length scripts ≡ length text.scripts.items

@@ -44,12 +44,17 @@ watch_text loaded history vars seen = live_text loaded history ++ (codes "---\n"
 -- the workers made some live history of these lists, in which operator 4 read the variables again and again. Each line of a view but that
 -- of the opening item has the number and the reply of one of operator 4's entries, and the numbers never fall
 pub record RanWatch (loaded : LoadedProgram) (steps : ℕ) (stimuli : List Entry) (vars : List Var) (scripts : List (List Entry)) (answer : CallAnswer) : Type 0 where
+  -- the history that the workers made
   pub history : List Entry
+  -- it is a live history of these lists, and of the reads of operator 4
   pub live : IsLive loaded steps stimuli (watch_lists watch_count scripts vars) history
   -- where it isn't longer than a history may be, `run` gives the written history the same text
   pub read_back : history_of_text loaded.program.names (history_text history) ≡ Ok history
+  -- the items that were viewed
   pub seen : List Shown
+  -- each is the opening item or a reply to one of these reads, and their numbers never fall
   pub views : AreViews (read_entry_of 6 vars) (opened_on loaded) history watch_count seen
+  -- the answer is the text of the history and of the views, done
   pub says : answer ≡ done_answer (watch_text loaded history vars seen)
 
 -- what `watch` answers for a program: the stimuli are checked first, then the variables, then
