@@ -1,4 +1,5 @@
--- The types of the parameters of a source's blocks are handed on by its calls.
+-- The types of the parameters of a source's blocks are handed on by its calls. What a source "owes"
+-- for a call is what must hold of it there, so that the call hands the types on.
 use Rattle.std.specs.Prelude.{◌≡◌, ◌||◌, ℕ, true, false, find, List, [], ◌∷◌, ◌++◌, length, map, Option, Some, slice_get, unwrap_or, if◌then◌else◌}
 use Rattle.std.specs.List.{AllByRecursion, list_any}
 use Rattle.std.specs.Str.{bytes_eq}

@@ -1,4 +1,5 @@
--- The types of a source's parameters, in the listing of its program.
+-- The types of a source's parameters, in the listing of its program. What a source "owes" for types
+-- is what must hold of its bodies and calls, so that its program hands the types on at each call.
 use Rattle.std.specs.Prelude.{◌≡◌, ℕ, suc, true, List, [], ◌∷◌, length, map, Option, Some}
 use Rattle.std.specs.List.{AllByRecursion}
 use Rattle.plc_base.specs.Kinds.{is_code}
@@ -29,8 +30,11 @@ StatementOwesTypes kinds all c s =
 -- statement owes what it calls
 pub record BodyOwesTypes (kinds : BlockId → List Simple) (all : List CodeBlock) (c : Context) (b : Block) (l : BlockLayout) (id : BlockId)
     : Type 0 where
+  -- there are as many types as parameters
   pub size : length (kinds id) ≡ length (params_of b l)
+  -- the body sees each parameter with its type
   pub sees : SeesOwn c (kinds id)
+  -- of each call in the body holds what the source owes for it
   pub statements : AllByRecursion (StatementOwesTypes kinds all c) b.body
 
 -- what a source owes for its code blocks, given the blocks with their layouts, of which the first
