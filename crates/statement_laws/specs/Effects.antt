@@ -53,7 +53,7 @@ use Rattle.statement_laws.specs.Reading.{bcd_to_load, bit_of_operand, bits_of_li
 abbrev pub registers_of : ExecState → Regs
 registers_of p = p.local.regs
 
--- other registers; all else stays
+-- the state with these registers; all else stays
 abbrev pub with_regs : Regs → ExecState → ExecState
 with_regs r p = record p { local = record p.local { regs = r } }
 
@@ -61,8 +61,8 @@ with_regs r p = record p { local = record p.local { regs = r } }
 abbrev pub on_regs : (Regs → Regs) → ExecState → Result ExecState ℕ
 on_regs f p = Ok (with_regs (f (registers_of p)) p)
 
--- other data of the innermost frame: data block registers, brackets or master control relay; all
--- else stays
+-- the state with these data of the innermost frame, such as data block registers, brackets and
+-- master control relay; all else stays
 abbrev pub with_inner : FrameData → ExecState → ExecState
 with_inner i p = record p { local = record p.local { inner = i } }
 
@@ -93,7 +93,8 @@ abbrev pub checks_or : NamedItem → ExecState → Result ExecState ℕ
 checks_or named.Nothing p = on_regs or_bare p
 checks_or x p = checks_bit check.O x p
 
--- another list of open brackets; all else stays
+-- the state with these open brackets in the innermost frame, the innermost one first; all else
+-- stays
 abbrev pub with_bracket_list : List Bracket → ExecState → ExecState
 with_bracket_list brackets p = with_inner (record p.local.inner { brackets = brackets }) p
 
@@ -151,7 +152,7 @@ tells_edge rising x p =
 
 -- ---- the master control relay
 
--- another state of the master control relay; all else stays
+-- the state with this master control relay in the innermost frame; all else stays
 abbrev pub with_relay : Relay → ExecState → ExecState
 with_relay r p = with_inner (record p.local.inner { relay = r }) p
 
@@ -220,11 +221,11 @@ transfers_accumulator x p = puts_number (if is_relay_closed p then 0 else (regis
 
 -- ---- address registers
 
--- another address in address register 1
+-- the state with this address in address register 1; all else stays
 abbrev pub with_ar1 : ℕ → ExecState → ExecState
 with_ar1 n p = with_regs (record (registers_of p) { ar1 = n }) p
 
--- another address in address register 2
+-- the state with this address in address register 2; all else stays
 abbrev pub with_ar2 : ℕ → ExecState → ExecState
 with_ar2 n p = with_regs (record (registers_of p) { ar2 = n }) p
 
@@ -357,7 +358,8 @@ frees_operand x p = Err 0
 abbrev pub is_data_block_loaded : ℕ → ExecState → Bool
 is_data_block_loaded n p = is_some (map.get p.memory.data_blocks n)
 
--- the data block of this number is open in the DI register (true) or in the DB register (false)
+-- the state with the data block of this number open in the DI register (true) or in the DB register
+-- (false); all else stays
 abbrev pub with_open : (di : Bool) → ℕ → ExecState → ExecState
 with_open true n p = with_inner (record p.local.inner { di = Some n }) p
 with_open false n p = with_inner (record p.local.inner { db = Some n }) p

@@ -254,15 +254,16 @@ bit_of_operand x p = then_ok (number_of_operand x p) (λ n. Ok (n == 1))
 
 -- ---- writing
 
--- other local bytes; all else stays
+-- the state with these local bytes; all else stays
 abbrev pub with_other_locals : LocalData → ExecState → ExecState
 with_other_locals l p = record p { local = record p.local { locals = l } }
 
--- another memory; all else stays
+-- the state with this memory; all else stays
 abbrev pub with_other_memory : Areas → ExecState → ExecState
 with_other_memory m p = record p { memory = m }
 
--- a number at a place, in local bytes or in memory; none where there is no such place
+-- the state with this number written at this place, in local bytes or in memory; none where there
+-- is no such place
 abbrev pub with_number_written : Area → Location → ℕ → ExecState → Option ExecState
 with_number_written area.L b n p =
     option_map (λ l. with_other_locals l p)
@@ -270,6 +271,7 @@ with_number_written area.L b n p =
 with_number_written _ b n p =
     option_map (λ m. with_other_memory m p) (memory.number_written p.memory b.place b.width n)
 
--- another number at a place; the error where there is no such place
+-- the state with this number written at this place, in local bytes or in memory; the error of a
+-- write where there is no such place, 43 in the peripheral area, else 23
 unfoldable pub with_number_at : Location → ℕ → ExecState → Result ExecState ℕ
 with_number_at b n p = ok_or (with_number_written b.place.area b n p) (missing_place_error Writing b.place.area)
