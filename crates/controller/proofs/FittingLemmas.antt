@@ -51,7 +51,7 @@ use Rattle.controller.specs.Beginning.{ob_block_id, ob_frame, with_start_bytes, 
 use Rattle.controller.specs.CyclePoint.{cycle_point, cycle_finished, cycle_info}
 use Rattle.controller.specs.Errors.{is_synchronous, cause_without, error_event, with_caller_registers, error_in, error_ob_started, error_raised}
 use Rattle.controller.specs.Event.{entry_counted, entry_effect, state_after}
-use Rattle.controller.specs.Fitting.{AllFit, AreInRange, EntriesKeepFit, FitIsReady, HistoriesAreFit, IsFit, IsSchedule, StartIsFit}
+use Rattle.controller.specs.Fitting.{AllFit, AreInRange, EntriesKeepFit, FitIsReady, HistoriesAreFit, IsFit, HasWholeSchedule, StartIsFit}
 use Rattle.controller.specs.MachineLaws.{MachineLaws}
 use Rattle.controller.specs.Ready.{IsReady}
 use Rattle.controller.specs.Replay.{entry_result, state_after_entries, replay}
@@ -95,7 +95,7 @@ moved_memory l p s w same fit = record {
   sched = fit.sched;
 }
 
-other_sched : (p : Program) (s : State) (sched : Scheduler) → IsSchedule sched → IsFit p s
+other_sched : (p : Program) (s : State) (sched : Scheduler) → HasWholeSchedule sched → IsFit p s
     → IsFit p (record s { sched = sched })
 other_sched p s sched is fit = record {
   memory = fit.memory;
@@ -254,13 +254,13 @@ failed_fits l p error at a below s verifies all standing fit = by (is_synchronou
 -- what a system function leaves fits
 record Kept (p : Program) (m : Areas) (s : Scheduler) (a : Activation) : Type 0 where
   pub fits : FitsProgram p m a
-  pub sched : IsSchedule s
+  pub sched : HasWholeSchedule s
 
 KeepsReturned : Program → Areas → SystemFunctionResult → Type 0
 KeepsReturned p m r = Kept p m r.sched r.activation
 
 returns : (l : MachineLaws) (p : Program) (m : Areas) (s : Scheduler) (a : Activation) (value : ℕ)
-    → FitsProgram p m a → IsSchedule s → KeepsReturned p m (int_result s a value)
+    → FitsProgram p m a → HasWholeSchedule s → KeepsReturned p m (int_result s a value)
 unfolding KeepsReturned
 returns l p m s a value fit is = record {
   fits = l.registers p m a _ fit;
@@ -268,14 +268,14 @@ returns l p m s a value fit is = record {
 }
 
 dis_airt_fits : (l : MachineLaws) (p : Program) (m : Areas) (s : Scheduler) (a : Activation)
-    → FitsProgram p m a → IsSchedule s → KeepsReturned p m (dis_airt s a)
+    → FitsProgram p m a → HasWholeSchedule s → KeepsReturned p m (dis_airt s a)
 unfolding dis_airt
 dis_airt_fits l p m s a fit is =
     returns l p m s (with_delay (min (a.delay + 1) 32767) a) (min (a.delay + 1) 32767)
     (l.delay p m a (min (a.delay + 1) 32767) fit) is
 
 en_airt_fits : (l : MachineLaws) (p : Program) (m : Areas) (s : Scheduler) (a : Activation)
-    → FitsProgram p m a → IsSchedule s → KeepsReturned p m (en_airt s a)
+    → FitsProgram p m a → HasWholeSchedule s → KeepsReturned p m (en_airt s a)
 unfolding en_airt
 en_airt_fits l p m s a fit is =
     of_either (KeepsReturned p m) (a.delay == 0) (int_result s a 0x8080)
@@ -284,28 +284,28 @@ en_airt_fits l p m s a fit is =
     (returns l p m s (with_delay (a.delay - 1) a) (a.delay - 1) (l.delay p m a (a.delay - 1) fit) is)
 
 set_fits : (l : MachineLaws) (p : Program) (m : Areas) (code : Option ℕ) (disabled : Bool)
-    (mode ob_nr : ℕ) (s : Scheduler) (a : Activation) → FitsProgram p m a → IsSchedule s
+    (mode ob_nr : ℕ) (s : Scheduler) (a : Activation) → FitsProgram p m a → HasWholeSchedule s
     → KeepsReturned p m (disabled_or_error code disabled mode ob_nr s a)
 set_fits l p m (Some code) disabled mode ob_nr s a fit is = returns l p m s a code fit is
 set_fits l p m None disabled mode ob_nr s a fit is =
     returns l p m (selected_disabled disabled mode ob_nr s) a 0 fit (all_schedule disabled mode ob_nr s is)
 
 dis_irt_fits : (l : MachineLaws) (p : Program) (m : Areas) (s : Scheduler) (a : Activation)
-    (mode ob_nr : ℕ) → FitsProgram p m a → IsSchedule s
+    (mode ob_nr : ℕ) → FitsProgram p m a → HasWholeSchedule s
     → KeepsReturned p m (dis_irt s a mode ob_nr)
 unfolding dis_irt
 dis_irt_fits l p m s a mode ob_nr fit is =
     set_fits l p m (selection_error_code mode ob_nr) true mode ob_nr s a fit is
 
 en_irt_fits : (l : MachineLaws) (p : Program) (m : Areas) (s : Scheduler) (a : Activation)
-    (mode ob_nr : ℕ) → FitsProgram p m a → IsSchedule s
+    (mode ob_nr : ℕ) → FitsProgram p m a → HasWholeSchedule s
     → KeepsReturned p m (en_irt s a mode ob_nr)
 unfolding en_irt
 en_irt_fits l p m s a mode ob_nr fit is =
     set_fits l p m (selection_error_code mode ob_nr) false mode ob_nr s a fit is
 
 srt_dint_fits : (l : MachineLaws) (p : Program) (m : Areas) (s : Scheduler) (a : Activation)
-    (ob_nr dtime sign : ℕ) → FitsProgram p m a → IsSchedule s
+    (ob_nr dtime sign : ℕ) → FitsProgram p m a → HasWholeSchedule s
     → KeepsReturned p m (srt_dint s a ob_nr dtime sign)
 unfolding srt_dint
 srt_dint_fits l p m s a ob_nr dtime sign fit is =
@@ -317,7 +317,7 @@ srt_dint_fits l p m s a ob_nr dtime sign fit is =
     (returns l p m (delay_started ob_nr dtime s) a 0 fit (delay_schedule ob_nr dtime s is)))
 
 can_dint_fits : (l : MachineLaws) (p : Program) (m : Areas) (s : Scheduler) (a : Activation) (ob_nr : ℕ)
-    → FitsProgram p m a → IsSchedule s → KeepsReturned p m (can_dint s a ob_nr)
+    → FitsProgram p m a → HasWholeSchedule s → KeepsReturned p m (can_dint s a ob_nr)
 unfolding can_dint
 can_dint_fits l p m s a ob_nr fit is =
     of_either (KeepsReturned p m) (not (is_delay ob_nr)) (int_result s a 0x8090) _
@@ -328,7 +328,7 @@ can_dint_fits l p m s a ob_nr fit is =
     (returns l p m s a 0x80A0 fit is))
 
 time_tck_fits : (l : MachineLaws) (p : Program) (m : Areas) (s : Scheduler) (a : Activation)
-    → FitsProgram p m a → IsSchedule s → KeepsReturned p m (time_tck s a)
+    → FitsProgram p m a → HasWholeSchedule s → KeepsReturned p m (time_tck s a)
 unfolding time_tck KeepsReturned
 time_tck_fits l p m s a fit is = record { fits = l.registers p m a _ fit; sched = is }
 
@@ -338,7 +338,7 @@ KeepsServed p m (Passes sched a) = Kept p m sched a
 KeepsServed p m (Halts cause a) = Unit {0}
 
 served_fits : (l : MachineLaws) (p : Program) (m : Areas) (number : ℕ) (inputs : List ℕ) (s : Scheduler)
-    (a : Activation) → FitsProgram p m a → IsSchedule s
+    (a : Activation) → FitsProgram p m a → HasWholeSchedule s
     → KeepsServed p m (system_function_served number inputs s a)
 unfolding system_function_served KeepsServed
 served_fits l p m number inputs s a fit is =
@@ -507,7 +507,7 @@ stopped_fits : (l : MachineLaws) (p : Program) (cause : Option ℕ) (s : State) 
 stopped_fits l p None s fit = fit
 stopped_fits l p (Some cause) s fit = halted_fits l p cause s fit
 
-course_fits : (l : MachineLaws) (p : Program) (c : TickState) (s : State) → IsSchedule c.sched → IsFit p s
+course_fits : (l : MachineLaws) (p : Program) (c : TickState) (s : State) → HasWholeSchedule c.sched → IsFit p s
     → IsFit p (tick_state_taken (code_of p) c s)
 course_fits l p c s is fit =
     stopped_fits l p c.passed.stop
@@ -527,7 +527,7 @@ arrived_fits l p ob value s known fit =
     (course_begun s.sched) (arrival_waits ob known) fit.sched)
     fit)
 
-tick_fits : (l : MachineLaws) (p : Program) (c : TickState) (s : State) → IsSchedule c.sched → IsFit p s
+tick_fits : (l : MachineLaws) (p : Program) (c : TickState) (s : State) → HasWholeSchedule c.sched → IsFit p s
     → IsFit p (tick_taken (code_of p) c s)
 tick_fits l p c s is fit =
     course_fits l p c (record s { world = timers_moved c.passed.ms s.world }) is

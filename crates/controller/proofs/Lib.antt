@@ -9,7 +9,7 @@ pub mod MonitoringLemmas
 mod MovedLemmas
 pub mod ObservingLemmas
 pub mod ProfileLemmas
-pub mod QuietLemmas
+pub mod SilentLemmas
 pub mod ReadyLemmas
 pub mod ReplayLemmas
 pub mod SameLemmas

@@ -7,15 +7,15 @@ use Rattle.machine.specs.Statement.{GlobalStore, StatementStep, Went, Ended, Syn
 use Rattle.machine.specs.declared.outcomes.Outcome.{Outcome}
 use Rattle.machine.specs.declared.outcomes.Outcome.TheVariants as outcome
 use Rattle.ob_sched.specs.Scheduler.{Scheduler}
-use Rattle.controller.specs.Leaves.{LeavesStatementStep, LeavesStepOf, regs_finished, statement_stand, record_of_statement}
-use Rattle.controller.specs.Monitoring.{regs_after, regs_left, step_record}
+use Rattle.controller.specs.Leaves.{LeavesStatementStep, LeavesStepOf, regs_finished, position_of_running_statement, record_of_statement}
+use Rattle.controller.specs.Monitoring.{regs_after, regs_before_service, step_record}
 use Rattle.controller.specs.State.{State}
 use Rattle.controller.specs.declared.activations.At.{At}
 
 -- the registers after a statement, from those before a system function did its work
 regs_done : (s : Scheduler) (step : StatementStep) (a : Activation) (below new : List Activation) (w w' : GlobalStore)
     (done : Outcome) → LeavesStepOf step a below new w w' done
-    → regs_finished done s new (regs_left step a) ≡ regs_after s step a
+    → regs_finished done s new (regs_before_service step a) ≡ regs_after s step a
 regs_done s (Went b then) a below new w w' outcome.Went steps = refl
 regs_done s (Ended regs then) a below new w w' outcome.Ended steps = refl
 regs_done s (SyncError code b) a below new w w' (outcome.SyncError error) steps = refl
@@ -35,7 +35,7 @@ recorded_on code s (a ∷ below) new w' done steps =
     steps.0
     ∙ ap
     (λ (r : Regs). record_of_statement code s.monitored
-    (statement_stand a (regs_left (statement_step code a s.world) a)) r)
+    (position_of_running_statement a (regs_before_service (statement_step code a s.world) a)) r)
     (regs_done s.sched (statement_step code a s.world) a below new s.world w' done.1 steps.1)
 
 pub step_recorded : (code : Code) (s : State) (new : List Activation) (w' : GlobalStore)

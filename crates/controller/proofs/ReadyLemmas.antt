@@ -11,7 +11,7 @@ use Rattle.image_file.specs.Readers.{block_by_id, line_at_offset}
 use Rattle.machine.specs.Code.{Code, Fetched}
 use Rattle.machine.specs.Flat.{code_of, statement_fetched, op_run_at, most_ops_of_statement, OpRun, fetched_of}
 use Rattle.machine.specs.Statement.{GlobalStore, IsNotStuck, step_found, statement_step}
-use Rattle.controller.specs.Ready.{HasStatement, CanGo}
+use Rattle.controller.specs.Ready.{HasStatement, CanExecute}
 use Rattle.controller.specs.Start.{global_store_at_rest}
 use Rattle.controller.specs.Stopping.{statement_spot}
 
@@ -62,7 +62,7 @@ unfolding HasStatement
 spot_read p block at there = block_spot block at (block_by_id block p.code_blocks) there
 
 -- the same where the activation can go
-pub can_go_there : (code : Code) (a : Activation) → CanGo code a
+pub can_go_there : (code : Code) (a : Activation) → CanExecute code a
     → HasStatement code a.running.frame.block a.running.frame.at
 can_go_there code a can =
     statement_there code a (global_store_at_rest Small code) (can.there (global_store_at_rest Small code))

@@ -22,7 +22,7 @@ use Rattle.ob_sched.specs.declared.start_infos.StartEvent.{StartEvent}
 use Rattle.ob_sched.specs.declared.start_infos.StartEvent.TheVariants.{CycleTime, Missed, Delay, Period, NotLoaded as OfNotLoaded}
 use Rattle.ob_sched.proofs.CountdownLemmas.{ending_known, due_known, delay_number, cyclic_number}
 use Rattle.sys_funcs.specs.Disabling.{is_interrupt_selected, disabled_if_selected, selected_disabled_from, selected_disabled}
-use Rattle.controller.specs.Fitting.{IsSchedule}
+use Rattle.controller.specs.Fitting.{HasWholeSchedule}
 
 -- what holds of both branches holds of a choice
 pub of_either : {A : Type 0} (P : A → Type 0) (test : Bool) (x y : A) → P x → P y
@@ -67,71 +67,71 @@ best_waits mode (first ∷ rest) best is all =
 
 -- ---- single calls
 
-pub rest_schedule : (loaded : List ℕ) → IsSchedule (sched_at_rest loaded)
+pub rest_schedule : (loaded : List ℕ) → HasWholeSchedule (sched_at_rest loaded)
 rest_schedule loaded = record { pending = refl; delays = refl; periods = refl }
 
-pub started_schedule : (s : Scheduler) → IsSchedule s → IsSchedule (best_removed s)
+pub started_schedule : (s : Scheduler) → HasWholeSchedule s → HasWholeSchedule (best_removed s)
 started_schedule s h = record {
   pending = drop_waits s.pending h.pending;
   delays = h.delays;
   periods = h.periods;
 }
 
-pub stopped_schedule : (s : Scheduler) → IsSchedule s → IsSchedule (sched_stopped s)
+pub stopped_schedule : (s : Scheduler) → HasWholeSchedule s → HasWholeSchedule (sched_stopped s)
 stopped_schedule s h = record { pending = refl; delays = refl; periods = h.periods }
 
-pub run_schedule : (s : Scheduler) → IsSchedule s → IsSchedule (run_begun s)
+pub run_schedule : (s : Scheduler) → HasWholeSchedule s → HasWholeSchedule (run_begun s)
 run_schedule s h = record { pending = h.pending; delays = h.delays; periods = refl }
 
-pub cycle_schedule : (s : Scheduler) → IsSchedule s → IsSchedule (cycle_begun s)
+pub cycle_schedule : (s : Scheduler) → HasWholeSchedule s → HasWholeSchedule (cycle_begun s)
 cycle_schedule s h = record { pending = h.pending; delays = h.delays; periods = h.periods }
 
-pub restarted_schedule : (s : Scheduler) → IsSchedule s → IsSchedule (sched_restarted s)
+pub restarted_schedule : (s : Scheduler) → HasWholeSchedule s → HasWholeSchedule (sched_restarted s)
 restarted_schedule s h = record { pending = h.pending; delays = h.delays; periods = h.periods }
 
-pub retriggered_schedule : (s : Scheduler) → IsSchedule s → IsSchedule (cycle_retriggered s)
+pub retriggered_schedule : (s : Scheduler) → HasWholeSchedule s → HasWholeSchedule (cycle_retriggered s)
 retriggered_schedule s h = record { pending = h.pending; delays = h.delays; periods = h.periods }
 
-pub delay_schedule : (ob ms : ℕ) (s : Scheduler) → IsSchedule s → IsSchedule (delay_started ob ms s)
+pub delay_schedule : (ob ms : ℕ) (s : Scheduler) → HasWholeSchedule s → HasWholeSchedule (delay_started ob ms s)
 delay_schedule ob ms s h = record {
   pending = h.pending;
   delays = length-set s.countdowns.delays (ob - 20) (Some ms) ∙ h.delays;
   periods = h.periods;
 }
 
-pub cancelled_schedule : (ob : ℕ) (s : Scheduler) → IsSchedule s
-    → IsSchedule (delay_cancelled ob s)
+pub cancelled_schedule : (ob : ℕ) (s : Scheduler) → HasWholeSchedule s
+    → HasWholeSchedule (delay_cancelled ob s)
 cancelled_schedule ob s h = record {
   pending = h.pending;
   delays = length-set s.countdowns.delays (ob - 20) None ∙ h.delays;
   periods = h.periods;
 }
 
-disabled_schedule : (disabled : Bool) (ob : ℕ) (s : Scheduler) → IsSchedule s
-    → IsSchedule (disabled_as disabled ob s)
+disabled_schedule : (disabled : Bool) (ob : ℕ) (s : Scheduler) → HasWholeSchedule s
+    → HasWholeSchedule (disabled_as disabled ob s)
 disabled_schedule disabled ob s h =
     record { pending = h.pending; delays = h.delays; periods = h.periods }
 
-each_schedule : (disabled : Bool) (mode ob_nr ob count : ℕ) (s : Scheduler) → IsSchedule s
-    → IsSchedule (selected_disabled_from disabled mode ob_nr ob count s)
+each_schedule : (disabled : Bool) (mode ob_nr ob count : ℕ) (s : Scheduler) → HasWholeSchedule s
+    → HasWholeSchedule (selected_disabled_from disabled mode ob_nr ob count s)
 each_schedule disabled mode ob_nr ob zero s h = h
 each_schedule disabled mode ob_nr ob (suc n) s h =
     each_schedule disabled mode ob_nr (ob + 1) n (disabled_if_selected (is_interrupt_selected mode ob_nr ob) disabled ob s)
-    (of_either IsSchedule (is_interrupt_selected mode ob_nr ob) (disabled_as disabled ob s) s
+    (of_either HasWholeSchedule (is_interrupt_selected mode ob_nr ob) (disabled_as disabled ob s) s
     (disabled_schedule disabled ob s h) h)
 
-pub all_schedule : (disabled : Bool) (mode ob_nr : ℕ) (s : Scheduler) → IsSchedule s
-    → IsSchedule (selected_disabled disabled mode ob_nr s)
+pub all_schedule : (disabled : Bool) (mode ob_nr : ℕ) (s : Scheduler) → HasWholeSchedule s
+    → HasWholeSchedule (selected_disabled disabled mode ob_nr s)
 unfolding selected_disabled
 all_schedule disabled mode ob_nr s h = each_schedule disabled mode ob_nr 10 38 s h
 
 -- ---- requests and what they lead to
 
 abbrev Known : TickState → Type 0
-Known c = IsSchedule c.sched
+Known c = HasWholeSchedule c.sched
 
 arrived_by : (a : Arrived) (ob : ℕ) (info : StartInfo) (s : Scheduler) → can_wait ob ≡ true
-    → IsSchedule s → IsSchedule (after_arrival a ob info s)
+    → HasWholeSchedule s → HasWholeSchedule (after_arrival a ob info s)
 arrived_by Queued ob info s known h = record {
   pending = queued_wait (ob, info) s.pending known h.pending;
   delays = h.delays;
@@ -142,7 +142,7 @@ arrived_by NotLoaded ob info s known h = h
 arrived_by Full ob info s known h = h
 
 arrived_schedule : (ob : ℕ) (info : StartInfo) (s : Scheduler) → can_wait ob ≡ true
-    → IsSchedule s → IsSchedule (request_arrived ob info s)
+    → HasWholeSchedule s → HasWholeSchedule (request_arrived ob info s)
 arrived_schedule ob info s known h = arrived_by (arrival s ob) ob info s known h
 
 error_known : (ob cause : ℕ) (a : Arrived) (c : TickState) → Known c
@@ -177,7 +177,7 @@ request_known mode ob NotLoaded c h = not_loaded_known mode ob c h
 request_known mode ob Full c h = time_error_known mode (lost_event ob) ob c h
 
 pub requested_known : (mode : Mode) (ob : ℕ) (info : StartInfo) (c : TickState)
-    → can_wait ob ≡ true → IsSchedule c.sched → IsSchedule (ob_requested mode ob info c).sched
+    → can_wait ob ≡ true → HasWholeSchedule c.sched → HasWholeSchedule (ob_requested mode ob info c).sched
 unfolding ob_requested
 requested_known mode ob info c known h =
     request_known mode ob (arrival c.sched ob) (record c { sched = request_arrived ob info c.sched })
@@ -313,8 +313,8 @@ iterate_known mode active zero c h = h
 iterate_known mode active (suc n) c h =
     iterate_known mode active n (after_ms mode active c) (ms_known mode active c h)
 
-pub ticked_known : (mode : Mode) (active : List ℕ) (n : ℕ) (s : Scheduler) → IsSchedule s
-    → IsSchedule (after_tick mode active n s).sched
+pub ticked_known : (mode : Mode) (active : List ℕ) (n : ℕ) (s : Scheduler) → HasWholeSchedule s
+    → HasWholeSchedule (after_tick mode active n s).sched
 ticked_known Run active n s h = iterate_known Run active n (tick_begun s) h
 ticked_known Startup active n s h = iterate_known Startup active n (tick_begun s) h
 ticked_known (Stop cause at) active n s h = h

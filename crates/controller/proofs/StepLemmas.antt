@@ -16,8 +16,8 @@ use Rattle.machine.specs.declared.outcomes.Outcome.TheVariants as outcome
 use Rattle.ob_sched.specs.OrganizationBlock.{can_wait, is_error}
 use Rattle.controller.specs.CyclePoint.{cycle_point}
 use Rattle.controller.specs.Errors.{error_raised, error_ob_started, error_in, is_synchronous}
-use Rattle.controller.specs.Leaves.{LeavesStatementStep, LeavesStepOf, statement_stand, mode_after, statement_finished}
-use Rattle.controller.specs.Monitoring.{regs_left}
+use Rattle.controller.specs.Leaves.{LeavesStatementStep, LeavesStepOf, position_of_running_statement, mode_after, statement_finished}
+use Rattle.controller.specs.Monitoring.{regs_before_service}
 use Rattle.controller.specs.Ready.{HasStatement, IsReady}
 use Rattle.controller.specs.Serving.{ServiceResult, Returns, Passes, Stops as Halts, after_service, system_function_served}
 use Rattle.controller.specs.Stack.{IsStarted, IsErrorIn, StandsOn, RunsInStartup, IsActivationStack}
@@ -92,7 +92,7 @@ step_done : (code : Code) (s : State) (step : StatementStep) (a : Activation) (r
     (below new : List Activation) (w' : GlobalStore) (done : Outcome) → s.activations ≡ a ∷ below
     → LeavesStepOf step a below new s.world w' done
     → after code step a below s
-    ≡ statement_finished code (statement_stand a regs) done (record s { world = w'; activations = new })
+    ≡ statement_finished code (position_of_running_statement a regs) done (record s { world = w'; activations = new })
 unfolding statement_finished
 step_done code s (Went a' w) a regs below new w' outcome.Went were steps = rw (steps.0, steps.1) refl
 step_done code s (Ended r w) a regs below new w' outcome.Ended were steps = rw (steps.0, steps.1) refl
@@ -113,7 +113,7 @@ running_on : (code : Code) (s : State) (old new : List Activation) (w' : GlobalS
     → step_of_first code old s ≡ statement_finished code done.0 done.1 (record s { world = w'; activations = new })
 running_on code s [] new w' done were steps = absurd steps
 running_on code s (a ∷ below) new w' done were steps =
-    step_done code s (statement_step code a s.world) a (regs_left (statement_step code a s.world) a) below new
+    step_done code s (statement_step code a s.world) a (regs_before_service (statement_step code a s.world) a) below new
     w' done.1 were steps.1
     ∙ ap (λ (stand : At). statement_finished code stand done.1 (record s { world = w'; activations = new }))
     (sym steps.0)

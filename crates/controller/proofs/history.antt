@@ -1,4 +1,4 @@
 -- Lemmas on the history that the controller keeps.
 pub mod BlockLemmas
-pub mod QuietLemmas
+pub mod SilentLemmas
 pub mod ReplayLemmas

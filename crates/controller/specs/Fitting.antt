@@ -28,7 +28,7 @@ AllFit p m (a ∷ below) = FitsProgram p m a × AllFit p m below
 
 -- each pending request is of an OB that can wait; there are the four delays of OB 20 to 23, and the
 -- nine periods of OB 30 to 38
-pub record IsSchedule (s : Scheduler) : Type 0 where
+pub record HasWholeSchedule (s : Scheduler) : Type 0 where
   -- each pending request is of an OB that can wait
   pub pending : list_all (λ (request : Request). can_wait request.0) s.pending ≡ true
   -- the delays of OB 20 to 23
@@ -46,7 +46,7 @@ pub record IsFit (p : Program) (s : State) : Type 0 where
   -- the activations stand on each other as the mode has it
   pub standing : IsActivationStack s.mode s.activations
   -- what is pending can wait, and each delay and period is there
-  pub sched : IsSchedule s.sched
+  pub sched : HasWholeSchedule s.sched
 
 -- what each entry of a history does is in the ranges; its worker isn't asked for
 abbrev pub AreInRange : List What → Type 0

@@ -16,7 +16,7 @@ use Rattle.ob_sched.specs.Scheduler.{Scheduler}
 use Rattle.sys_funcs.specs.Returned.{LeavesSystemFunctionResult}
 use Rattle.status_word.specs.declared.Regs.{Regs}
 use Rattle.controller.specs.Errors.{error_in, error_raised}
-use Rattle.controller.specs.Monitoring.{regs_left, regs_served, statement_record}
+use Rattle.controller.specs.Monitoring.{regs_before_service, regs_served, statement_record}
 use Rattle.controller.specs.Serving.{ServiceResult, Returns, Passes, Stops, result_given, after_service, system_function_served}
 use Rattle.controller.specs.State.{State}
 use Rattle.controller.specs.Stepping.{ob_ended}
@@ -32,8 +32,8 @@ running_of (a ∷ below) = Some a
 
 -- where its statement stood: its OB, and the innermost block with the position in that block; and the
 -- registers after it
-abbrev pub statement_stand : Activation → Regs → At
-statement_stand a regs = record {
+abbrev pub position_of_running_statement : Activation → Regs → At
+position_of_running_statement a regs = record {
   ob = a.ob;
   block = a.running.frame.block;
   at = a.running.frame.at;
@@ -83,7 +83,7 @@ abbrev pub LeavesStatementStep :
     Code → (old new : List Activation) (w w' : GlobalStore) → Option (At × Outcome) → Type 0
 LeavesStatementStep code [] new w w' None = (new ≡ []) × (w' ≡ w)
 LeavesStatementStep code (a ∷ below) new w w' (Some done) =
-    (done.0 ≡ statement_stand a (regs_left (statement_step code a w) a))
+    (done.0 ≡ position_of_running_statement a (regs_before_service (statement_step code a w) a))
     × LeavesStepOf (statement_step code a w) a below new w w' done.1
 LeavesStatementStep code old new w w' answer = ⊥
 

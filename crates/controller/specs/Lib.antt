@@ -9,7 +9,7 @@ pub mod Leaves
 pub mod MachineLaws
 pub mod Monitoring
 pub mod Moved
-pub mod Quiet
+pub mod SilentSteps
 pub mod Ready
 pub mod Recording
 pub mod Replay

@@ -25,18 +25,18 @@ regs_served (Stops cause a) = a.running.regs
 
 -- the registers of activation `a` after its statement, and before a system function that it calls does
 -- its work. One that fails, or stops by block depth or local data, changes none
-abbrev pub regs_left : StatementStep → (a : Activation) → Regs
-regs_left (Went b w) a = b.running.regs
-regs_left (Ended regs w) a = regs
-regs_left (SyncError code b) a = b.running.regs
-regs_left (SysCall number given b) a = b.running.regs
-regs_left (Stop cause) a = a.running.regs
-regs_left Stuck a = a.running.regs
+abbrev pub regs_before_service : StatementStep → (a : Activation) → Regs
+regs_before_service (Went b w) a = b.running.regs
+regs_before_service (Ended regs w) a = regs
+regs_before_service (SyncError code b) a = b.running.regs
+regs_before_service (SysCall number given b) a = b.running.regs
+regs_before_service (Stop cause) a = a.running.regs
+regs_before_service Stuck a = a.running.regs
 
--- after the whole statement, the work of the system function included
+-- the registers of activation `a` after its whole statement, the work of the system function included
 abbrev pub regs_after : Scheduler → StatementStep → (a : Activation) → Regs
 regs_after s (SysCall number given b) a = regs_served (system_function_served number given.inputs s b)
-regs_after s step a = regs_left step a
+regs_after s step a = regs_before_service step a
 
 -- a block is the monitored one
 abbrev pub is_monitored : (monitored : Option BlockId) → BlockId → Bool

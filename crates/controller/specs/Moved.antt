@@ -13,15 +13,15 @@ use Rattle.controller.specs.State.{State}
 abbrev pub moved_state : (BlockId → ℕ → ℕ) → State → State
 moved_state f s = record s { activations = map (moved_activation f) s.activations }
 
--- what happened, with the state moved so; the answer and what was shown are the same
-abbrev pub moved_happened : (BlockId → ℕ → ℕ) → EntryResult → EntryResult
-moved_happened f h = record h { state = moved_state f h.state }
+-- the result of an entry with its frames at other positions; the answer and what was shown are the same
+abbrev pub moved_result : (BlockId → ℕ → ℕ) → EntryResult → EntryResult
+moved_result f h = record h { state = moved_state f h.state }
 
 -- an entry does the same in a code that follows
 abbrev pub EntriesMove : Type 0
 EntriesMove =
     (f : BlockId → ℕ → ℕ) (c d : Code) (s : State) (what : What) → FollowsCode f c d
-    → entry_result d (moved_state f s) what ≡ moved_happened f (entry_result c s what)
+    → entry_result d (moved_state f s) what ≡ moved_result f (entry_result c s what)
 
 -- a history does the same in a code that follows: the state after it is the same with its positions
 -- moved, so mode, memory, scheduler and diagnostics are equal

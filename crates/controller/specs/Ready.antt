@@ -11,7 +11,7 @@ unfoldable pub HasStatement : Code → BlockId → (at : ℕ) → Type 0
 HasStatement code block at = IsSome (code.fetch block at)
 
 -- a frame stands, each frame has its local data, and nothing that its statement needs is missing
-pub record CanGo (code : Code) (a : Activation) : Type 0 where
+pub record CanExecute (code : Code) (a : Activation) : Type 0 where
   -- a frame stands
   pub stands : a.left ≡ false
   -- each frame has its local data
@@ -23,4 +23,4 @@ pub record CanGo (code : Code) (a : Activation) : Type 0 where
 -- nothing that its statement needs is missing
 abbrev pub IsReady : Code → List Activation → Type 0
 IsReady code [] = Unit {0}
-IsReady code (a ∷ below) = CanGo code a
+IsReady code (a ∷ below) = CanExecute code a

@@ -17,9 +17,9 @@ entry_events history = map (λ (e : Entry). e.what) history
 abbrev pub final_state : Recording → State
 final_state r = replay r.profile (code_of r.program) (entry_events r.history)
 
--- what a further entry does then
-abbrev pub next_happens : Recording → Entry → EntryResult
-next_happens r e = entry_result (code_of r.program) (final_state r) e.what
+-- the result of one more entry behind the history
+abbrev pub next_result : Recording → Entry → EntryResult
+next_result r e = entry_result (code_of r.program) (final_state r) e.what
 
 -- what the last entry showed; nothing before the first one
 abbrev pub last_shown : Recording → Observed
@@ -29,6 +29,6 @@ last_shown r = last_observed r.profile (code_of r.program) (entry_events r.histo
 abbrev pub final_data_blocks : Recording → List (ℕ × List ℕ)
 final_data_blocks r = finmap.entries (final_state r).world.memory.data_blocks
 
--- a number with its bytes
-abbrev pub block_bytes : (number : ℕ) → (bytes : List ℕ) → ℕ × List ℕ
-block_bytes number bytes = (number, bytes)
+-- the number of a data block, with its bytes
+abbrev pub number_with_bytes : (number : ℕ) → (bytes : List ℕ) → ℕ × List ℕ
+number_with_bytes number bytes = (number, bytes)

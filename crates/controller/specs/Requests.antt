@@ -14,7 +14,7 @@ abbrev pub stopped_if : Code → (cause : Option ℕ) → State → State
 stopped_if code None s = s
 stopped_if code (Some cause) s = stop_entered code cause s
 
--- the scheduler as its course leaves it; its records are made, then it stops, if there is a cause
+-- the state as a tick leaves it: with its scheduler, its records made, and then STOP, if it has a cause
 abbrev pub tick_state_taken : Code → TickState → State → State
 tick_state_taken code c s =
     stopped_if code c.passed.stop

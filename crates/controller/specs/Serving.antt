@@ -50,7 +50,7 @@ abbrev pub result_given : Option Binding → (value : ℕ) → Activation → Ar
 result_given None value a m = record { activation = a; memory = m }
 result_given (Some to) value a m = return_state_of a (with_ret_val to value (local_memory_of a.running m))
 
--- the running activation goes on, with another scheduler and another memory
+-- the running activation goes on behind a system function, with another scheduler and another memory
 abbrev pub resume_with : ReturnState → Scheduler → (below : List Activation) → State → State
 resume_with stage sched below s =
     record s {

@@ -80,8 +80,9 @@ global_store_after_restart profile w = record w {
   counters = counters_retained w.counters;
 }
 
--- disabling, the clock, the cycle counter and its mark are cleared too, and the first cycle is to
--- come again; the monitored block and the records of diagnostics stay
+-- what a warm restart clears: memory, timers and counters but those that are retained, disabling of interrupts,
+-- the clock, the cycle counter and its mark; the first cycle is to come again, and the monitored block and the
+-- records of diagnostics stay
 abbrev pub restart_cleared : State → State
 restart_cleared s =
     record s {

@@ -47,7 +47,7 @@ diagnosis_recorded code info s =
       diagnostics = last_records s.diagnostics (record { entry = s.entries; code = code; info = info });
     }
 
--- records one after another
+-- the state with records of diagnostics made, each a code and its detail, one after another
 abbrev pub each_diagnosed : List (ℕ × ℕ) → State → State
 each_diagnosed [] s = s
 each_diagnosed (one ∷ rest) s = each_diagnosed rest (diagnosis_recorded one.0 one.1 s)

@@ -40,6 +40,6 @@ stop_entered_at at cause s =
       sched = sched_stopped s.sched;
     }
 
--- at the statement at which the running activation stands
+-- STOP with a cause, at the statement at which the running activation stands
 unfoldable pub stop_entered : Code → (cause : ℕ) → State → State
 stop_entered code cause s = stop_entered_at (running_spot code s.activations) cause s

@@ -10,7 +10,7 @@ use Rattle.ob_sched.specs.Millisecond.{after_tick}
 use Rattle.controller.specs.State.{State}
 use Rattle.controller.specs.Requests.{tick_state_taken}
 
--- the running timers, so many single milliseconds
+-- the store in which so many milliseconds have passed, one by one, for the running timers
 abbrev pub timers_moved : (ms : ℕ) → GlobalStore → GlobalStore
 timers_moved ms w = record w { timers = iterate (map timer_after_ms) ms w.timers }
 
@@ -18,8 +18,8 @@ timers_moved ms w = record w { timers = iterate (map timer_after_ms) ms w.timers
 abbrev pub active_obs : List Activation → List ℕ
 active_obs activations = map (λ (a : Activation). a.ob) (reverse activations)
 
--- in each millisecond the timers move first, so they move in all that have passed, in that of a stop
--- too
+-- the state as a tick leaves it, with the timers moved by each millisecond that has passed. In each
+-- millisecond the timers move first, so they move in that of a stop too
 abbrev pub tick_taken : Code → TickState → State → State
 tick_taken code c s =
     tick_state_taken code c (record s { world = timers_moved c.passed.ms s.world })

@@ -9,8 +9,8 @@ ghost use Rattle.ob_sched.specs.Views.{scheduler_of};
 ghost use Rattle.controller.specs.Beginning.{ob_block_id as block_of_ob, ob_activation, with_start_bytes};
 ghost use Rattle.controller.specs.Errors.{error_in};
 ghost use Rattle.controller.specs.Leaves.{ObBegins, ErrorBegins, HandsRegsOn, LeavesStatementStep, ServesRunning, running_of};
-ghost use Rattle.controller.specs.Quiet.{GoesOnQuietly, GoesOnReady, goes_on_quietly};
-ghost use Rattle.controller.specs.Ready.{CanGo, IsReady};
+ghost use Rattle.controller.specs.SilentSteps.{GoesOnSilently, GoesOnReady, goes_on_silently};
+ghost use Rattle.controller.specs.Ready.{CanExecute, IsReady};
 ghost use Rattle.controller.specs.Settling.{may_start};
 ghost use Rattle.controller.specs.Stopping.{running_spot, spot_of_frame};
 ghost use Rattle.controller.specs.Ticking.{active_obs};
@@ -73,7 +73,7 @@ impl Model for Activations {
 // The block of an activation's statement, and its line.
 #[tactic(auto, using(crate::proofs::ReadyLemmas::can_go_there))]
 fn spot_of(program: &Loaded, a: &Activation) -> Option<Spot>
-    requires { CanGo (code_of program.now.program) a.now }
+    requires { CanExecute (code_of program.now.program) a.now }
     ensures { result ≡ spot_of_frame (code_of program.now.program) a.now.running.frame }
 {
     spot_at(program, a.running.frame.block, a.running.frame.at)
@@ -342,9 +342,9 @@ impl Activations {
     ) -> u64
         requires { GoesOnReady program.now.program self.old (global_store m.old t.old n.old) }
         ensures few { result ≤ most }
-        ensures runs { GoesOnQuietly (code_of program.now.program) result self.old self.new
+        ensures runs { GoesOnSilently (code_of program.now.program) result self.old self.new
             (global_store m.old t.old n.old) (global_store m.new t.new n.new) }
-        ensures stops { result < most → goes_on_quietly (code_of program.now.program) self.new
+        ensures stops { result < most → goes_on_silently (code_of program.now.program) self.new
             (global_store m.new t.new n.new) ≡ false }
     {
         let Some(place) = self.standing.checked_sub(1) else {

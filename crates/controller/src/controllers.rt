@@ -9,9 +9,9 @@ ghost use Rattle.var_access.specs.Entry.{IsRequest, IsValid};
 ghost use Rattle.var_access.specs.Runs.{AreRuns, entries_of_runs};
 ghost use Rattle.var_access.specs.declared.What.TheVariants.{Step};
 ghost use Rattle.controller.specs.Asking.{request_reply};
-ghost use Rattle.controller.specs.Quiet.{ShowNothing, steps_quietly};
+ghost use Rattle.controller.specs.SilentSteps.{ShowNothing, steps_silently};
 ghost use Rattle.controller.specs.Replay.{state_after_entries};
-ghost use Rattle.controller.specs.Replayed.{final_data_blocks as blocks_after, next_happens, block_bytes as with_number, final_state, last_shown};
+ghost use Rattle.controller.specs.Replayed.{final_data_blocks as blocks_after, next_result, number_with_bytes as with_number, final_state, last_shown};
 
 use crate::cpus::Cpu;
 use crate::observing::{Observed, Observer};
@@ -116,8 +116,8 @@ impl Controller {
           history = self.old.history ++ e.now ∷ [];
           spare = self.old.spare - 1;
         } }
-        ensures shown { last_shown self.new ≡ (next_happens self.old e.now).seen }
-        ensures state { final_state self.new ≡ (next_happens self.old e.now).state }
+        ensures shown { last_shown self.new ≡ (next_result self.old e.now).seen }
+        ensures state { final_state self.new ≡ (next_result self.old e.now).state }
     {
         crate::laws::continues_replay();
         crate::laws::counts_entries();
@@ -138,9 +138,9 @@ impl Controller {
           history = self.old.history ++ e ∷ [];
           spare = self.old.spare - 1;
         } }
-        ensures reply { result ≡ (next_happens self.old e).reply }
-        ensures shown { last_shown self.new ≡ (next_happens self.old e).seen }
-        ensures state { final_state self.new ≡ (next_happens self.old e).state }
+        ensures reply { result ≡ (next_result self.old e).reply }
+        ensures shown { last_shown self.new ≡ (next_result self.old e).seen }
+        ensures state { final_state self.new ≡ (next_result self.old e).state }
     {
         let reply = match &e.what {
             What::Ask { request } => self.answer(request),
@@ -167,7 +167,7 @@ impl Controller {
         ensures state { final_state self.new ≡ state_after_entries (code_of self.old.program)
             (final_state self.old) (replicate result Step) }
         ensures stops { result < most
-            → steps_quietly (code_of self.old.program) (final_state self.new) ≡ false }
+            → steps_silently (code_of self.old.program) (final_state self.new) ≡ false }
     {
         crate::laws::continues_replay();
         crate::laws::counts_entries();

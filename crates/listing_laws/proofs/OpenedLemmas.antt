@@ -47,7 +47,7 @@ use Rattle.listing_laws.proofs.BlockLemmas.{all_sorted}
 use Rattle.listing_laws.proofs.NameLemmas.{either_way}
 use Rattle.listing_laws.proofs.RunLemmas.{runs_found}
 use Rattle.listing_laws.specs.Bodies.{IsOpenedIn}
-use Rattle.listing_laws.specs.Opened.{ActsIn, AreOpenedRight, OpensRight, PassesIn, PreparesIn}
+use Rattle.listing_laws.specs.Opened.{ActsInOpened, AreOpenedRight, OpensRight, PassesInOpened, PreparesInOpened}
 use Rattle.listing_laws.specs.Statements.{statement_offset, run_of}
 
 -- ---- places
@@ -56,32 +56,32 @@ area_is : (a : Area) → is_db a ≡ true → a ≡ area.Db
 area_is area.Db h = refl
 area_is _ h = absurd (false≢true h)
 
-acts_freely : (o : FlatOperand) → ActsIn None o
+acts_freely : (o : FlatOperand) → ActsInOpened None o
 acts_freely (flat.Direct a w byte bit) = tt
 acts_freely _ = tt
 
 place_acts : (place : Place) → IsOpenedIn (if is_in_named_block place then Some place.number else None) place.area
 place_acts place = cond_both (is_in_named_block place) (Some place.number) None (λ o. IsOpenedIn o place.area) (λ e. area_is place.area (and_parts (is_db place.area) _ e).0) (λ e. tt)
 
-view_acts : (o : Operand) (v : ResolvedOperand) → ActsIn (block_opened_by_operand v) (flat_operand_of o v)
+view_acts : (o : Operand) (v : ResolvedOperand) → ActsInOpened (block_opened_by_operand v) (flat_operand_of o v)
 unfolding flat_operand_of
 view_acts o (view.Direct place width side declared) = place_acts place
 view_acts o (view.NumberBy what from byte) = acts_freely _
 view_acts o (view.Register which) = acts_freely _
 view_acts o _ = tt
 
-passed_in : (place : Place) (w : Width) → PassesIn (passed_place place w)
+passed_in : (place : Place) (w : Width) → PassesInOpened (passed_place place w)
 passed_in place w =
-    cond_both (is_in_named_block place) (passed.InBlock place.number place.area w place.byte place.bit) (passed.Direct place.area w place.byte place.bit) PassesIn
+    cond_both (is_in_named_block place) (passed.InBlock place.number place.area w place.byte place.bit) (passed.Direct place.area w place.byte place.bit) PassesInOpened
     (λ e. area_is place.area (and_parts (is_db place.area) _ e).0) (λ e. tt)
 
 -- ---- instructions
 
 abbrev ArePassedIn : List Passing → Type 0
-ArePassedIn ps = AllByRecursion (λ p. PassesIn p.actual) ps
+ArePassedIn ps = AllByRecursion (λ p. PassesInOpened p.actual) ps
 
 abbrev OpensInstr : Instr → Type 0
-OpensInstr (Does use_db w o) = ActsIn use_db o
+OpensInstr (Does use_db w o) = ActsInOpened use_db o
 OpensInstr (Calls how block instance passings) = ArePassedIn passings
 OpensInstr _ = Unit {0}
 
@@ -102,7 +102,7 @@ actual_in c index (Some a) = seen_in index a.value (resolution_of c a.value)
 passings_in : (c : Context) (actuals : List Actual) (index : ℕ) (fs : List Formal) → ArePassedIn (passings_from c actuals index fs)
 passings_in c actuals index [] = tt
 passings_in c actuals index (f ∷ fs) =
-    all_append (λ p. PassesIn p.actual) (passed_actual c index (actual_of_formal actuals f)) (passings_from c actuals (suc index) fs) (actual_in c index (actual_of_formal actuals f)) (passings_in c actuals (suc index) fs)
+    all_append (λ p. PassesInOpened p.actual) (passed_actual c index (actual_of_formal actuals f)) (passings_from c actuals (suc index) fs) (actual_in c index (actual_of_formal actuals f)) (passings_in c actuals (suc index) fs)
 
 callee_in : (c : Context) (s : Statement) (o : Option Callee) → ArePassedIn (passings_to c s o)
 callee_in c s None = tt
@@ -164,11 +164,11 @@ blocks_open c (b ∷ bs) (l ∷ ls) = all_append IsOpen (code_block_of c b l l.i
 
 -- ---- runs
 
-aimed_acts : (f : ℕ → ℕ) (opened : Option ℕ) (o : FlatOperand) → ActsIn opened o → ActsIn opened (operand_with_target f o)
+aimed_acts : (f : ℕ → ℕ) (opened : Option ℕ) (o : FlatOperand) → ActsInOpened opened o → ActsInOpened opened (operand_with_target f o)
 aimed_acts f opened (flat.Jump kind target) h = tt
 aimed_acts f opened _ h = h
 
-passing_in : (ps : List Passing) → ArePassedIn ps → AllByRecursion (λ op. PreparesIn op.operand) (pass_ops ps)
+passing_in : (ps : List Passing) → ArePassedIn ps → AllByRecursion (λ op. PreparesInOpened op.operand) (pass_ops ps)
 passing_in [] h = tt
 passing_in (p ∷ ps) (one, more) = (one, passing_in ps more)
 

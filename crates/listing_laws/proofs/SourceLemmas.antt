@@ -32,7 +32,7 @@ use Rattle.flat_code.specs.declared.operands.Passed.{Passed}
 use Rattle.stl_list.specs.Operands.{block_opened_by_ops}
 use Rattle.listing_laws.proofs.CompiledLemmas.{written_compiled}
 use Rattle.listing_laws.proofs.OpenedLemmas.{opened_right}
-use Rattle.listing_laws.specs.Opened.{ActsIn, OpensRight, PassesIn, PreparesIn}
+use Rattle.listing_laws.specs.Opened.{ActsInOpened, OpensRight, PassesInOpened, PreparesInOpened}
 use Rattle.listing_laws.proofs.EndLemmas.{ends_free}
 use Rattle.listing_laws.proofs.RunLemmas.{runs_found}
 use Rattle.listing_laws.proofs.WordLemmas.{have_words}
@@ -55,7 +55,7 @@ use Rattle.listing_laws.proofs.PlaceLemmas.{HasLines, all_have_lines, lines_coun
 use Rattle.listing_laws.proofs.RangeLemmas.{program_listed}
 use Rattle.listing_laws.specs.Forms.{IsPrintedFrame}
 use Rattle.listing_laws.specs.Ranges.{IsOffsetWritable, IsWrittenBlock, IsWrittenProgram}
-use Rattle.listing_laws.specs.Sources.{ActsOn, IsRunNamed, IsNamedProgram, IsSourceBlock, PassesPlaceOn, PreparesOn}
+use Rattle.listing_laws.specs.Sources.{ActsOnNamed, IsRunNamed, IsNamedProgram, IsSourceBlock, PassesPlaceOn, PreparesOnNamed}
 
 signatures_words : (ss : List Signature) → AreSignatures ss → AreBlocksWords ss
 signatures_words [] h = tt
@@ -160,20 +160,20 @@ program_words t symbols layouts =
     all_sorted HasWords is_code_before (each_block (λ c b l. code_block_of c b l l.id) (first_context symbols layouts t.blocks) t.blocks layouts)
     (blocks_have_words (first_context symbols layouts t.blocks) t.blocks layouts)
 
-passes_place : (p : Passed) → PassesIn p → PassesPlaceOn p → PassesPlace p
+passes_place : (p : Passed) → PassesInOpened p → PassesPlaceOn p → PassesPlace p
 passes_place (passed.Direct a w byte bit) h k = k
 passes_place (passed.InBlock number a w byte bit) h k = (h, k)
 passes_place _ h k = tt
 
-prepares_place : (o : FlatOperand) → PreparesIn o → PreparesOn o → Prepares o
+prepares_place : (o : FlatOperand) → PreparesInOpened o → PreparesOnNamed o → Prepares o
 prepares_place (flat.Pass index p) h k = passes_place p h k
 prepares_place _ h k = tt
 
-all_prepare : (ops : List OpData) → AllByRecursion (λ op. PreparesIn op.operand) ops → AllByRecursion (λ op. PreparesOn op.operand) ops → AllByRecursion (λ op. Prepares op.operand) ops
+all_prepare : (ops : List OpData) → AllByRecursion (λ op. PreparesInOpened op.operand) ops → AllByRecursion (λ op. PreparesOnNamed op.operand) ops → AllByRecursion (λ op. Prepares op.operand) ops
 all_prepare [] h k = tt
 all_prepare (op ∷ ops) (one, more) (on, others) = (prepares_place op.operand one on, all_prepare ops more others)
 
-shows : (before : List OpData) (code : ℕ) (o : FlatOperand) → ActsIn (block_opened_by_ops before) o → IsOffsetWritable o → ActsOn before code o → IsLastOperandPrinted before code o
+shows : (before : List OpData) (code : ℕ) (o : FlatOperand) → ActsInOpened (block_opened_by_ops before) o → IsOffsetWritable o → ActsOnNamed before code o → IsLastOperandPrinted before code o
 shows before code (flat.Direct a w byte bit) h k on = (h, on)
 shows before code (flat.ByRegister a w register bits) h k on = k
 shows before code (flat.Called kind number instance) h k on = on

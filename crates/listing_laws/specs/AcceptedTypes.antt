@@ -13,7 +13,7 @@ use Rattle.sem_kept.specs.Accepted.{IsAccepted}
 use Rattle.listing_laws.specs.Chains.{AreTypesAsDeclared}
 use Rattle.listing_laws.specs.HandedOn.{declared_type_in}
 use Rattle.listing_laws.specs.Owned.{own_kinds}
-use Rattle.listing_laws.specs.SourceTypes.{OwesSource}
+use Rattle.listing_laws.specs.SourceTypes.{SourceOwesTypes}
 
 -- the types of the parameters of the block at a place, by their index
 abbrev pub kinds_at : Context → Option ℕ → List Simple
@@ -32,7 +32,7 @@ declared_kinds t symbols id =
 abbrev pub AreAcceptedTypesOwed : Type 0
 AreAcceptedTypesOwed =
     (source file : List ℕ) (symbols : List Symbol) (t : Tree) → IsAccepted source file symbols t
-    → OwesSource (declared_kinds t symbols) t symbols (layouts_of t symbols)
+    → SourceOwesTypes (declared_kinds t symbols) t symbols (layouts_of t symbols)
 
 -- what the listing of an accepted source's program says is INT or TIME was so in the source, widths
 -- stay, and both ends of a passing have one type

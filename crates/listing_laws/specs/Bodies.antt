@@ -56,7 +56,8 @@ abbrev pub Prepares : Operand → Type 0
 Prepares (flat.Pass index p) = PassesPlace p
 Prepares _ = Unit {0}
 
--- CALL passes parameters, and has no instance or that of a function block (3); UC and CC do neither
+-- CALL (`code`) passes parameters by the ops `before`, and has no instance (0) or that of a
+-- function block, whose kind number is 3; UC and CC do neither
 abbrev pub IsCallBy : (before : List OpData) → (code kind instance : ℕ) → Type 0
 IsCallBy before code kind instance =
     ((code ≡ op_code_of (operation.Call calls.Call)) × ((instance ≡ 0) ⊎ (kind ≡ 3)))

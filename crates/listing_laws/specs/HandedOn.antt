@@ -1,4 +1,5 @@
--- The types of the parameters of a source's blocks are handed on by its calls.
+-- The types of the parameters of a source's blocks are handed on by its calls. What a source "owes"
+-- for a call is what must hold of it there, so that the call hands the types on.
 use Rattle.std.specs.Prelude.{◌≡◌, ◌||◌, ℕ, true, false, find, List, [], ◌∷◌, ◌++◌, length, map, Option, Some, slice_get, unwrap_or, if◌then◌else◌}
 use Rattle.std.specs.List.{AllByRecursion, list_any}
 use Rattle.std.specs.Str.{bytes_eq}
@@ -58,19 +59,19 @@ IsCallable blocks id =
     × ((is_system_function id.kind || list_any (λ (b : CodeBlock). is_same_block b.id id) blocks) ≡ true)
 
 -- an instruction hands on the types of the parameters of its block
-abbrev pub HandsOn : (kinds : BlockId → List Simple) → List CodeBlock → (own : List Simple) → Instr → Type 0
-HandsOn kinds blocks own (Calls how id instance ps) =
+abbrev pub HandsTypesOn : (kinds : BlockId → List Simple) → List CodeBlock → (own : List Simple) → Instr → Type 0
+HandsTypesOn kinds blocks own (Calls how id instance ps) =
     IsCallable blocks id
     × AllByRecursion (λ p. IsHandedOn own (called_kinds kinds id) p.index p.actual) ps
-HandsOn kinds blocks own _ = Unit {0}
+HandsTypesOn kinds blocks own _ = Unit {0}
 
 -- blocks with as many types as parameters, all of whose instructions hand these types on
-pub record HandOn (kinds : BlockId → List Simple) (blocks : List StatedBlock) : Type 0 where
+pub record BlocksHandTypesOn (kinds : BlockId → List Simple) (blocks : List StatedBlock) : Type 0 where
   -- there are as many types as parameters
   pub lengths : AllByRecursion (λ (b : StatedBlock). length (kinds b.id) ≡ length b.params) blocks
   -- each instruction hands the types on
   pub calls : AllByRecursion
-      (λ (b : StatedBlock). AllByRecursion (λ s. HandsOn kinds (map compiled_block blocks) (kinds b.id) s.instr) b.statements)
+      (λ (b : StatedBlock). AllByRecursion (λ s. HandsTypesOn kinds (map compiled_block blocks) (kinds b.id) s.instr) b.statements)
       blocks
 
 -- ---- links
@@ -79,7 +80,7 @@ pub record HandOn (kinds : BlockId → List Simple) (blocks : List StatedBlock) 
 -- are there, and of one type
 abbrev pub AreLinksHandedOn : Type 0
 AreLinksHandedOn =
-    (kinds : BlockId → List Simple) (blocks : List StatedBlock) → HandOn kinds blocks
+    (kinds : BlockId → List Simple) (blocks : List StatedBlock) → BlocksHandTypesOn kinds blocks
     → AllByRecursion (IsLinkBelow (total_parameter_count (map compiled_block blocks))) (links (map compiled_block blocks))
     × AllByRecursion (IsKeptBy (declared_type_in kinds (map compiled_block blocks))) (links (map compiled_block blocks))
 
@@ -87,7 +88,7 @@ AreLinksHandedOn =
 -- what was declared
 abbrev pub AreTypesListed : Type 0
 AreTypesListed =
-    (kinds : BlockId → List Simple) (blocks : List StatedBlock) → HandOn kinds blocks
+    (kinds : BlockId → List Simple) (blocks : List StatedBlock) → BlocksHandTypesOn kinds blocks
     → AreTypesAsDeclared (map compiled_block blocks) (declared_type_in kinds (map compiled_block blocks))
 
 -- ---- calls of a source
@@ -121,8 +122,8 @@ ArePassedOn =
 
 -- what a source owes for a statement that calls a block: the block is there, its parameters are found by
 -- their names and have these types, and what is passed for them fits
-abbrev pub OwesCall : (kinds : BlockId → List Simple) → List CodeBlock → Context → Statement → BlockId → Type 0
-OwesCall kinds blocks c s id =
+abbrev pub CallOwesTypes : (kinds : BlockId → List Simple) → List CodeBlock → Context → Statement → BlockId → Type 0
+CallOwesTypes kinds blocks c s id =
     IsCallable blocks id
     × ((callee : Callee) → callee_of c s.operand ≡ Some callee
     → AllByRecursion (IsFoundAmong callee.formals) (formals_by_index c callee)
@@ -137,5 +138,5 @@ AreStatementsHandedOn =
     (kinds : BlockId → List Simple) (blocks : List CodeBlock) (c : Context) (own : List Simple)
     (body : List Statement) (n : ℕ) (s : Statement) → SeesOwn c own
     → ((id : BlockId) (instance : Option ℕ) → resolved_operand c s ≡ Some (view.Called id instance)
-    → OwesCall kinds blocks c s id)
-    → HandsOn kinds blocks own (instruction c body n s)
+    → CallOwesTypes kinds blocks c s id)
+    → HandsTypesOn kinds blocks own (instruction c body n s)

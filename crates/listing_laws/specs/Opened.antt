@@ -16,26 +16,26 @@ use Rattle.listing_laws.specs.Bodies.{IsOpenedIn}
 
 -- an operand that is a fixed place lies in area DB, where the statement opens a data block first;
 -- `opened` is the number of that block
-abbrev pub ActsIn : (opened : Option ℕ) → Operand → Type 0
-ActsIn opened (flat.Direct a w byte bit) = IsOpenedIn opened a
-ActsIn opened _ = Unit {0}
+abbrev pub ActsInOpened : (opened : Option ℕ) → Operand → Type 0
+ActsInOpened opened (flat.Direct a w byte bit) = IsOpenedIn opened a
+ActsInOpened opened _ = Unit {0}
 
 -- what is passed as a place in a data block of its own number lies in area DB
-abbrev pub PassesIn : Passed → Type 0
-PassesIn (passed.InBlock number a w byte bit) = a ≡ area.Db
-PassesIn _ = Unit {0}
+abbrev pub PassesInOpened : Passed → Type 0
+PassesInOpened (passed.InBlock number a w byte bit) = a ≡ area.Db
+PassesInOpened _ = Unit {0}
 
 -- the operand of an op before a call: where it passes a place in a data block of its own number,
 -- the place lies in area DB
-abbrev pub PreparesIn : Operand → Type 0
-PreparesIn (flat.Pass index p) = PassesIn p
-PreparesIn _ = Unit {0}
+abbrev pub PreparesInOpened : Operand → Type 0
+PreparesInOpened (flat.Pass index p) = PassesInOpened p
+PreparesInOpened _ = Unit {0}
 
 -- a statement, by its ops: where it opens a data block, or passes a place in one, this place lies
 -- in area DB
 pub record OpensRight (r : Run) : Type 0 where
-  pub acts : ActsIn (block_opened_by_ops r.before) r.op.operand
-  pub prepares : AllByRecursion (λ op. PreparesIn op.operand) r.before
+  pub acts : ActsInOpened (block_opened_by_ops r.before) r.op.operand
+  pub prepares : AllByRecursion (λ op. PreparesInOpened op.operand) r.before
 
 -- in the program of each source, with whatever layouts, each place that a statement acts on in a
 -- data block that it opens, or passes, lies in area DB

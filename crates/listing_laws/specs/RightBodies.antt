@@ -24,7 +24,9 @@ use Rattle.stl_types.specs.Zones.{rule_47, rule_48, rule_49}
 use Rattle.sem_kept.specs.Accepted.{IsAccepted}
 use Rattle.listing_laws.specs.Again.{IsWholeAgain, listed_again}
 
--- no body of the blocks breaks a rule: those of the layout on operands, 23 and 42, and those of statements
+-- no body of the blocks breaks a rule of a source (docs/REFUSALS.md): those of the layout on
+-- operands, 23 and 42, and those of statements; the field `by_20` states that rule 20 isn't broken,
+-- and so on
 pub record AreBodiesRight (y : Types) (c : Context) (blocks : List Block) : Type 0 where
   -- no operand and no actual parameter has an unknown name or component
   pub by_20 : in_contexts (λ c body. in_body (operand_20 c) body) c blocks ≡ []

@@ -44,21 +44,21 @@ PassesPlaceOn (passed.InBlock number a w byte bit) = IsPlace a w bit
 PassesPlaceOn _ = Unit {0}
 
 -- the operand of an op before a call: a place that it passes has a bit number as in a source
-abbrev pub PreparesOn : Operand → Type 0
-PreparesOn (flat.Pass index p) = PassesPlaceOn p
-PreparesOn _ = Unit {0}
+abbrev pub PreparesOnNamed : Operand → Type 0
+PreparesOnNamed (flat.Pass index p) = PassesPlaceOn p
+PreparesOnNamed _ = Unit {0}
 
 -- the operand of the last op of a statement: a place has a bit number as in a source, and a call is
 -- one of a source. `before` are the ops before it, `code` is its op code
-abbrev pub ActsOn : (before : List OpData) → (code : ℕ) → Operand → Type 0
-ActsOn before code (flat.Direct a w byte bit) = IsPlace a w bit
-ActsOn before code (flat.Called kind number instance) = IsCallBy before code kind instance
-ActsOn before code _ = Unit {0}
+abbrev pub ActsOnNamed : (before : List OpData) → (code : ℕ) → Operand → Type 0
+ActsOnNamed before code (flat.Direct a w byte bit) = IsPlace a w bit
+ActsOnNamed before code (flat.Called kind number instance) = IsCallBy before code kind instance
+ActsOnNamed before code _ = Unit {0}
 
 -- what a statement acts on, calls and passes is named as in a source
 pub record IsRunNamed (r : Run) : Type 0 where
-  pub prepares : AllByRecursion (λ op. PreparesOn op.operand) r.before
-  pub acts : ActsOn r.before r.op.code r.op.operand
+  pub prepares : AllByRecursion (λ op. PreparesOnNamed op.operand) r.before
+  pub acts : ActsOnNamed r.before r.op.code r.op.operand
 
 -- what each statement of a program acts on, calls and passes is named as in a source
 abbrev pub IsNamedProgram : Program → Type 0

@@ -12,11 +12,11 @@ use Rattle.machine.specs.ExecState.{LocalMemory}
 use Rattle.machine.specs.Places.{location_at, location_number}
 use Rattle.machine.specs.Values.{number_written_at}
 
--- IN and IN_OUT come in, OUT and IN_OUT go out
+-- an IN or IN_OUT parameter: copied into the instance by the call
 abbrev pub is_copied_in : Param → Bool
 is_copied_in p = p.section == section_in || p.section == section_in_out
 
--- OUT and IN_OUT: copied out of the instance by the return
+-- an OUT or IN_OUT parameter: copied out of the instance by the return
 abbrev pub is_copied_out : Param → Bool
 is_copied_out p = p.section == section_out || p.section == section_in_out
 
@@ -29,11 +29,11 @@ abbrev pub local_memory_or : LocalMemory → Result LocalMemory ℕ → LocalMem
 local_memory_or before (Ok after) = after
 local_memory_or before (Err e) = before
 
--- a number to a place
+-- a number stored at a place, cut to its width; nothing changes where the place isn't there
 abbrev pub number_stored : Location → ℕ → LocalMemory → LocalMemory
 number_stored to n c = local_memory_or c (number_written_at to (n % 2 ^ bit_count to.width) c.local c.memory)
 
--- the number at a place to a place
+-- the number at one place copied to another; 0 where the first place isn't there
 unfoldable pub number_copied : (from to : Location) → LocalMemory → LocalMemory
 number_copied from to c = number_stored to (unwrap_or (location_number from c.local.locals c.memory) 0) c
 

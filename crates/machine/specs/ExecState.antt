@@ -15,12 +15,12 @@ pub record Local : Type 0 where
   pub inner : FrameData
   pub locals : LocalData
 
--- that, and memory
+-- what an instruction may see and change of the running block (registers, brackets, local data), and memory
 pub record LocalMemory : Type 0 where
   pub local : Local
   pub memory : Areas
 
--- that, and timers and counters
+-- all that an instruction may see and change: what the running block has of its own, memory, timers and counters
 pub record ExecState : Type 0 where
   pub local : Local
   pub memory : Areas

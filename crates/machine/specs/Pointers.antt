@@ -18,7 +18,7 @@ abbrev pub address_loaded : Operand → Local → Areas → Result ℕ ℕ
 address_loaded operand.Nothing s m = Ok s.regs.a1
 address_loaded o s m = operand_number o s m
 
--- other registers, in a scene that else stays
+-- a running block with other registers, and memory; all else stays
 abbrev pub regs_set : Regs → Local → Areas → LocalMemory
 regs_set r s m = record { local = record s { regs = r }; memory = m }
 

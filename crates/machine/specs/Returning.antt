@@ -17,7 +17,7 @@ pub record ReturnState : Type 0 where
   pub activation : Activation
   pub memory : Areas
 
--- with what a scene has of the running block and of memory; the frames below stay
+-- an activation with other local data and registers of its running block, and a memory; the frames below stay
 abbrev pub return_state_of : Activation → LocalMemory → ReturnState
 return_state_of a c = record {
   activation = record a { running = with_local a.running c.local };

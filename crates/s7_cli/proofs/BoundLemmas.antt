@@ -21,18 +21,18 @@ use Rattle.stack_bound.specs.declared.finding.Found.{Found}
 use Rattle.stack_bound.specs.declared.finding.Found.TheVariants as found
 use Rattle.stack_bound.specs.declared.texts.CertificateFault.{CertificateFault}
 use Rattle.stack_bound.specs.declared.texts.CertificateFault.TheVariants as certificate
-use Rattle.s7_cli.specs.declared.bound_command.Told.{Told}
-use Rattle.s7_cli.specs.declared.bound_command.Told.TheVariants as told
+use Rattle.s7_cli.specs.declared.bound_command.BoundText.{BoundText}
+use Rattle.s7_cli.specs.declared.bound_command.BoundText.TheVariants as told
 use Rattle.s7_cli.specs.declared.failures.File.TheVariants.{Certificate}
 use Rattle.s7_cli.specs.declared.failures.Failure.{Failure}
 use Rattle.s7_cli.specs.declared.failures.Failure.TheVariants.{WordsRefused, ReadFault, TooLong, Refused, ImageRefused, NoListing, SaysNo, TooDeep, WriteFault, NoMemory}
-use Rattle.s7_cli.specs.Answer.{Answer, Outcome, exit_status, done_answer, read_fault_answer, refused_file_answer, refused_image_answer, says_no_answer, too_deep_answer, too_long_answer}
+use Rattle.s7_cli.specs.Answer.{CallAnswer, CallOutcome, exit_status, done_answer, read_fault_answer, refused_file_answer, refused_image_answer, says_no_answer, too_deep_answer, too_long_answer}
 use Rattle.s7_cli.specs.BoundSays.{BoundAnswer, BoundSays, CheckedAnswer, HeldAnswer, RecheckAnswer, RecheckSays, StacksSuffice, image_bounded}
-use Rattle.s7_cli.specs.BoundTexts.{IsChainLine, IsCertificateOfImage, IsToldOf, TellsOf}
+use Rattle.s7_cli.specs.BoundTexts.{IsChainLine, IsCertificateOfImage, IsBoundText, IsBoundTextOfImage}
 use Rattle.s7_cli.specs.Command.{Command, Go, Check, Compile, Translate, Run, Gen, Live, Watch, Upgrade, ListImage, Bound, Recheck, Input, inputs_of}
 use Rattle.s7_cli.specs.Ends.{SinkMoments, IsAnswerOfCall, IsCallCutShort}
 use Rattle.s7_cli.specs.Faults.{failure_of_certificate, failure_of_loading}
-use Rattle.s7_cli.specs.Inner.{ComesOutAs, HasRead, SaysRefusal, TextWritten}
+use Rattle.s7_cli.specs.Inner.{ComesBeforeLine, HasRead, SaysRefusal, TextWritten}
 use Rattle.s7_cli.specs.Lines.{ok_line}
 use Rattle.s7_cli.specs.Loads.{LoadsAs}
 use Rattle.s7_cli.specs.Reading.{Disk, ReadsFilesInTurn, StopsAt, disk_moments}
@@ -44,35 +44,35 @@ use Rattle.s7_cli.proofs.Verdicts.{IsVerdict}
 
 -- ---- one outcome, and one answer of `recheck`
 
-held-one : (l : LoadedProgram) (list : List BoundOf) (a b : Answer) → HeldAnswer l list a → HeldAnswer l list b → a ≡ b
+held-one : (l : LoadedProgram) (list : List BoundOf) (a b : CallAnswer) → HeldAnswer l list a → HeldAnswer l list b → a ≡ b
 held-one l list a b (inl p) (inl q) = p.1 ∙ sym q.1
 held-one l list a b (inl p) (inr q) = absurd (q.0 p.0)
 held-one l list a b (inr p) (inl q) = absurd (p.0 q.0)
 held-one l list a b (inr p) (inr q) = p.1 ∙ sym q.1
 
-checked-one : (l : LoadedProgram) (read : Result (List BoundOf) Refusal) (a b : Answer) → CheckedAnswer l read a → CheckedAnswer l read b → a ≡ b
+checked-one : (l : LoadedProgram) (read : Result (List BoundOf) Refusal) (a b : CallAnswer) → CheckedAnswer l read a → CheckedAnswer l read b → a ≡ b
 checked-one l (Err refusal) a b p q = p ∙ sym q
 checked-one l (Ok list) a b p q = held-one l list a b p q
 
-answer-one : (v : Result LoadedProgram LoadFault) (certificate : List ℕ) (a b : Answer) → RecheckAnswer v certificate a → RecheckAnswer v certificate b
+answer-one : (v : Result LoadedProgram LoadFault) (certificate : List ℕ) (a b : CallAnswer) → RecheckAnswer v certificate a → RecheckAnswer v certificate b
     → a ≡ b
 answer-one (Err fault) certificate a b p q = p ∙ sym q
 answer-one (Ok l) certificate a b p q = checked-one l (certificate_of l.program certificate) a b p q
 
-pub recheck-one : (image certificate : List ℕ) (a b : Answer) → RecheckSays image certificate a → RecheckSays image certificate b → a ≡ b
+pub recheck-one : (image certificate : List ℕ) (a b : CallAnswer) → RecheckSays image certificate a → RecheckSays image certificate b → a ≡ b
 recheck-one image certificate a b p q =
     answer-one p.0 certificate a b p.2
     (subst (λ (v : Result LoadedProgram LoadFault). RecheckAnswer v certificate b) (loads-one image q.0 p.0 q.1 p.1) q.2)
 
 -- the outcome of an answer that is known
-outcome-of : (a b : Answer) → a ≡ b → a.outcome ≡ b.outcome
-outcome-of a b is = ap (λ (x : Answer). x.outcome) is
+outcome-of : (a b : CallAnswer) → a ≡ b → a.outcome ≡ b.outcome
+outcome-of a b is = ap (λ (x : CallAnswer). x.outcome) is
 
 deep-or-not : (l : LoadedProgram) (list : List BoundOf) (chain : List BlockId) → IsLeastCertificate l.profile l.program list
     → IsDeepChain l.profile l.program chain → ⊥
 deep-or-not l list chain least deep = least.fits chain deep.is_chain deep.deep
 
-bounded-one : (v : Result LoadedProgram LoadFault) (a b : Answer) → BoundAnswer v a → BoundAnswer v b → a.outcome ≡ b.outcome
+bounded-one : (v : Result LoadedProgram LoadFault) (a b : CallAnswer) → BoundAnswer v a → BoundAnswer v b → a.outcome ≡ b.outcome
 bounded-one (Err fault) a b p q = outcome-of a b (p ∙ sym q)
 bounded-one (Ok l) a b (inl p) (inl q) = outcome-of a b (p.1 ∙ sym q.1)
 bounded-one (Ok l) a b (inl p) (inr q) = absurd (deep-or-not l p.0.0 q.0 p.0.1 q.1)
@@ -80,36 +80,36 @@ bounded-one (Ok l) a b (inr p) (inl q) = absurd (deep-or-not l q.0.0 p.0 q.0.1 p
 bounded-one (Ok l) a b (inr p) (inr q) =
     outcome-of a (too_deep_answer p.0) p.2 ∙ sym (outcome-of b (too_deep_answer q.0) q.2)
 
-pub bound-outcome : (image : List ℕ) (a b : Answer) → BoundSays image a → BoundSays image b → a.outcome ≡ b.outcome
+pub bound-outcome : (image : List ℕ) (a b : CallAnswer) → BoundSays image a → BoundSays image b → a.outcome ≡ b.outcome
 bound-outcome image a b p q =
     bounded-one p.0 a b p.2 (subst (λ (v : Result LoadedProgram LoadFault). BoundAnswer v b) (loads-one image q.0 p.0 q.1 p.1) q.2)
 
 -- ---- which answers there are
 
-pub bound-verdict : (v : Result LoadedProgram LoadFault) (a : Answer) → BoundAnswer v a → IsVerdict a
+pub bound-verdict : (v : Result LoadedProgram LoadFault) (a : CallAnswer) → BoundAnswer v a → IsVerdict a
 bound-verdict (Err fault) a said = inr (inr (inl (fault, said)))
 bound-verdict (Ok l) a (inl fits) = inl (ok_line, fits.1)
 bound-verdict (Ok l) a (inr deep) = inr (inr (inr (inr (inl (deep.0, deep.2)))))
 
-checked-verdict : (l : LoadedProgram) (read : Result (List BoundOf) Refusal) (a : Answer) → CheckedAnswer l read a → IsVerdict a
+checked-verdict : (l : LoadedProgram) (read : Result (List BoundOf) Refusal) (a : CallAnswer) → CheckedAnswer l read a → IsVerdict a
 checked-verdict l (Err refusal) a said = inr (inl (Certificate, refusal, said))
 checked-verdict l (Ok list) a (inl held) = inl (ok_line, held.1)
 checked-verdict l (Ok list) a (inr fails) = inr (inr (inr (inl fails.1)))
 
-pub recheck-verdict : (v : Result LoadedProgram LoadFault) (certificate : List ℕ) (a : Answer) → RecheckAnswer v certificate a → IsVerdict a
+pub recheck-verdict : (v : Result LoadedProgram LoadFault) (certificate : List ℕ) (a : CallAnswer) → RecheckAnswer v certificate a → IsVerdict a
 recheck-verdict (Err fault) certificate a said = inr (inr (inl (fault, said)))
 recheck-verdict (Ok l) certificate a said = checked-verdict l (certificate_of l.program certificate) a said
 
 -- ---- where the answer is that it is done, no history stops for want of stack
 
-not-done : (a b : Answer) → a ≡ b → exit_status a.outcome ≡ 0 → (exit_status b.outcome ≡ 0 → ⊥) → ⊥
-not-done a b is zero other = other (sym (ap (λ (x : Answer). exit_status x.outcome) is) ∙ zero)
+not-done : (a b : CallAnswer) → a ≡ b → exit_status a.outcome ≡ 0 → (exit_status b.outcome ≡ 0 → ⊥) → ⊥
+not-done a b is zero other = other (sym (ap (λ (x : CallAnswer). exit_status x.outcome) is) ∙ zero)
 
 -- a loaded program that no history overflows
 abbrev Suffices : LoadedProgram → Type 0
 Suffices l = NeverOverflows l.profile l.program
 
-bound-suffices : CertificatesKeepStacks → (image : List ℕ) (v : Result LoadedProgram LoadFault) (a : Answer) (l : LoadedProgram)
+bound-suffices : CertificatesKeepStacks → (image : List ℕ) (v : Result LoadedProgram LoadFault) (a : CallAnswer) (l : LoadedProgram)
     → LoadsAs image v → BoundAnswer v a → exit_status a.outcome ≡ 0 → LoadsAs image (Ok l) → Suffices l
 bound-suffices keep image (Err fault) a l loads said zero is = absurd (not-done a (refused_image_answer fault) said zero (λ e. omega (arith, e)))
 bound-suffices keep image (Ok m) a l loads (inr deep) zero is = absurd (not-done a (too_deep_answer deep.0) deep.2 zero (λ e. omega (arith, e)))
@@ -119,13 +119,13 @@ bound-suffices keep image (Ok m) a l loads (inl fits) zero is =
     same : m ≡ l
     same = let equal : Ok m ≡ Ok l = loads-one image (Ok m) (Ok l) loads is in cc
 
-checked-suffices : CertificatesKeepStacks → (l : LoadedProgram) (read : Result (List BoundOf) Refusal) (a : Answer) → Verifies l.program
+checked-suffices : CertificatesKeepStacks → (l : LoadedProgram) (read : Result (List BoundOf) Refusal) (a : CallAnswer) → Verifies l.program
     → CheckedAnswer l read a → exit_status a.outcome ≡ 0 → Suffices l
 checked-suffices keep l (Err refusal) a verifies said zero = absurd (not-done a (refused_file_answer Certificate refusal) said zero (λ e. omega (arith, e)))
 checked-suffices keep l (Ok list) a verifies (inl held) zero = keep l.profile l.program list verifies held.0
 checked-suffices keep l (Ok list) a verifies (inr fails) zero = absurd (not-done a says_no_answer fails.1 zero (λ e. omega (arith, e)))
 
-recheck-suffices : CertificatesKeepStacks → (image certificate : List ℕ) (v : Result LoadedProgram LoadFault) (a : Answer) (l : LoadedProgram)
+recheck-suffices : CertificatesKeepStacks → (image certificate : List ℕ) (v : Result LoadedProgram LoadFault) (a : CallAnswer) (l : LoadedProgram)
     → LoadsAs image v → RecheckAnswer v certificate a → exit_status a.outcome ≡ 0 → LoadsAs image (Ok l) → Suffices l
 recheck-suffices keep image certificate (Err fault) a l loads said zero is =
     absurd (not-done a (refused_image_answer fault) said zero (λ e. omega (arith, e)))
@@ -135,7 +135,7 @@ recheck-suffices keep image certificate (Ok m) a l loads said zero is =
     same : m ≡ l
     same = let equal : Ok m ≡ Ok l = loads-one image (Ok m) (Ok l) loads is in cc
 
-stopped : (d : Disk) (i : Input) (a : Answer) → StopsAt d i a → exit_status a.outcome ≡ 0 → ⊥
+stopped : (d : Disk) (i : Input) (a : CallAnswer) → StopsAt d i a → exit_status a.outcome ≡ 0 → ⊥
 stopped d i a (inl (rose, gives)) zero = not-done a read_fault_answer gives zero (λ e. omega (arith, e))
 stopped d i a (inr (bytes, agrees, long, gives)) zero = not-done a (too_long_answer i.file) gives zero (λ e. omega (arith, e))
 
@@ -149,7 +149,7 @@ no_name : (k : Command) (name : List ℕ) → image_bounded k ≡ None → image
 no_name k name none some = let e : None ≡ Some name = sym none ∙ some in cc
 
 -- of the bytes that the image holds
-bound-stacks : CertificatesKeepStacks → (d : Disk) (image certificate : List ℕ) (a : Answer)
+bound-stacks : CertificatesKeepStacks → (d : Disk) (image certificate : List ℕ) (a : CallAnswer)
     → ReadsFilesInTurn d (inputs_of (Bound image certificate)) (CommandSays (Bound image certificate)) a → exit_status a.outcome ≡ 0
     → StacksSuffice (Bound image certificate) d
 bound-stacks keep d image certificate a (inl stops) zero = absurd (stopped d _ a stops zero)
@@ -159,7 +159,7 @@ bound-stacks keep d image certificate a (inr (bytes, holds, said)) zero = λ nam
     let same : held ≡ bytes = same_bytes d.before.contents image held bytes here (holds.agrees told) in
     bound-suffices keep bytes said.0 a l said.1 said.2 zero (subst (λ (b : List ℕ). LoadsAs b (Ok l)) same loads)
 
-recheck-stacks : CertificatesKeepStacks → (d : Disk) (image certificate : List ℕ) (a : Answer)
+recheck-stacks : CertificatesKeepStacks → (d : Disk) (image certificate : List ℕ) (a : CallAnswer)
     → ReadsFilesInTurn d (inputs_of (Recheck image certificate)) (CommandSays (Recheck image certificate)) a → exit_status a.outcome ≡ 0
     → StacksSuffice (Recheck image certificate) d
 recheck-stacks keep d image certificate a (inl stops) zero = absurd (stopped d _ a stops zero)
@@ -170,7 +170,7 @@ recheck-stacks keep d image certificate a (inr (bytes, holds, inr (text, within,
     let same : held ≡ bytes = same_bytes d.before.contents image held bytes here (holds.agrees told) in
     recheck-suffices keep bytes text said.0 a l said.1 said.2 zero (subst (λ (b : List ℕ). LoadsAs b (Ok l)) same loads)
 
-pub stacks-suffice : CertificatesKeepStacks → (k : Command) (d : Disk) (a : Answer) → ReadsFilesInTurn d (inputs_of k) (CommandSays k) a
+pub stacks-suffice : CertificatesKeepStacks → (k : Command) (d : Disk) (a : CallAnswer) → ReadsFilesInTurn d (inputs_of k) (CommandSays k) a
     → exit_status a.outcome ≡ 0 → StacksSuffice k d
 stacks-suffice keep (Bound image certificate) d a said zero = bound-stacks keep d image certificate a said zero
 stacks-suffice keep (Recheck image certificate) d a said zero = recheck-stacks keep d image certificate a said zero
@@ -233,8 +233,8 @@ yes-said image text (l, loads, list, spells, holds) =
 
 -- ---- what is told of an image
 
-pub tells : (image : List ℕ) (l : LoadedProgram) (found : Found) (told : Told) → LoadsAs image (Ok l)
-    → IsFindingFor l.profile l.program found → IsToldOf found told → TellsOf image told
+pub tells : (image : List ℕ) (l : LoadedProgram) (found : Found) (told : BoundText) → LoadsAs image (Ok l)
+    → IsFindingFor l.profile l.program found → IsBoundText found told → IsBoundTextOfImage image told
 tells image l (found.Fits list) (told.Fits certificate) loads finds is = (l, loads, list.items, finds, is)
 tells image l (found.Deep chain) (told.Deep line) loads finds is = (l, loads, chain.items, finds, is)
 tells image l (found.Fits list) (told.Deep line) loads finds is = absurd is
@@ -251,7 +251,7 @@ deep-said img cert start now image l chain read loads deep =
 
 pub deep-written : (img cert : List ℕ) (start now : FilesAt) (s : SinkMoments) (image line : List ℕ)
     → HasRead start now (inputs_of (Bound img cert)) (image ∷ []) → IsChainLine line image → TextWritten line s (Ok tt)
-    → ComesOutAs (Some (Bound img cert)) (disk_moments start now) s (Err TooDeep)
+    → ComesBeforeLine (Some (Bound img cert)) (disk_moments start now) s (Err TooDeep)
 deep-written img cert start now s image line read (l, loads, chain, deep, is) took = (
   chain_text chain,
   record {
@@ -276,7 +276,7 @@ deep-cut img cert start now s image l chain read loads deep took = record {
 
 deep-fails : (img cert : List ℕ) (start now : FilesAt) (s : SinkMoments) (image : List ℕ) (l : LoadedProgram) (chain : List BlockId) (failure : Failure)
     → HasRead start now (inputs_of (Bound img cert)) (image ∷ []) → LoadsAs image (Ok l) → IsDeepChain l.profile l.program chain
-    → TextWritten (chain_text chain) s (Err failure) → ComesOutAs (Some (Bound img cert)) (disk_moments start now) s (Err failure)
+    → TextWritten (chain_text chain) s (Err failure) → ComesBeforeLine (Some (Bound img cert)) (disk_moments start now) s (Err failure)
 deep-fails img cert start now s image l chain WriteFault read loads deep took = record {
   cut = deep-cut img cert start now s image l chain read loads deep took.0;
   failed = inl (record { faults = took.1; never_fell = took.2; writes = read.same.writes });
@@ -295,10 +295,10 @@ deep-fails img cert start now s image l chain NoListing read loads deep took = a
 deep-fails img cert start now s image l chain SaysNo read loads deep took = absurd took
 deep-fails img cert start now s image l chain TooDeep read loads deep took = absurd took
 
-pub deep-unwritten : (img cert : List ℕ) (start now : FilesAt) (s : SinkMoments) (image line : List ℕ) (failure : Failure) (came : Outcome)
+pub deep-unwritten : (img cert : List ℕ) (start now : FilesAt) (s : SinkMoments) (image line : List ℕ) (failure : Failure) (came : CallOutcome)
     → came ≡ Err failure → HasRead start now (inputs_of (Bound img cert)) (image ∷ []) → IsChainLine line image
-    → TextWritten line s (Err failure) → ComesOutAs (Some (Bound img cert)) (disk_moments start now) s came
+    → TextWritten line s (Err failure) → ComesBeforeLine (Some (Bound img cert)) (disk_moments start now) s came
 deep-unwritten img cert start now s image line failure came fails read (l, loads, chain, deep, is) took =
-    subst (λ (o : Outcome). ComesOutAs (Some (Bound img cert)) (disk_moments start now) s o) (sym fails)
+    subst (λ (o : CallOutcome). ComesBeforeLine (Some (Bound img cert)) (disk_moments start now) s o) (sym fails)
     (deep-fails img cert start now s image l chain failure read loads deep
     (subst (λ (text : List ℕ). TextWritten text s (Err failure)) is took))

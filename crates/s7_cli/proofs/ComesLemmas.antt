@@ -6,10 +6,10 @@ use Rattle.plc_io.specs.FileCalls.{AreFilesUnchanged}
 use Rattle.plc_io.specs.Moments.{FilesAt, SinkAt}
 use Rattle.s7_cli.specs.declared.failures.Failure.{Failure}
 use Rattle.s7_cli.specs.declared.failures.Failure.TheVariants.{WordsRefused, ReadFault, TooLong, Refused, ImageRefused, NoListing, SaysNo, TooDeep, WriteFault, NoMemory}
-use Rattle.s7_cli.specs.Answer.{Answer, Outcome, done_answer, refused_file_answer, refused_image_answer, no_listing_answer, says_no_answer, read_fault_answer, too_long_answer}
+use Rattle.s7_cli.specs.Answer.{CallAnswer, CallOutcome, done_answer, refused_file_answer, refused_image_answer, no_listing_answer, says_no_answer, read_fault_answer, too_long_answer}
 use Rattle.s7_cli.specs.Command.{Command, Input, inputs_of, outputs_of}
 use Rattle.s7_cli.specs.Ends.{SinkMoments, sink_moments, IsAnswerOfCall, ChangesOutputs, WritesOutputs}
-use Rattle.s7_cli.specs.Inner.{OnlyReads, FileRead, HasRead, StopsAmong, AllRead, SaysRefusal, TextWritten, ComesOutAs, ComesOf}
+use Rattle.s7_cli.specs.Inner.{OnlyReads, FileRead, HasRead, StopsAmong, AllRead, SaysRefusal, TextWritten, ComesBeforeLine, CommandComesTo}
 use Rattle.s7_cli.specs.Reading.{Disk, disk_moments, HoldsBytes, HoldBytesInTurn, StopsAt, ReadsFilesInTurn}
 use Rattle.s7_cli.specs.Says.{CommandSays}
 use Rattle.s7_cli.proofs.ReadingLemmas.{reads-all}
@@ -61,7 +61,7 @@ since start middle now same later = record {
   writes = λ name. later.writes name ∙ same.writes name;
 }
 
-stops-since : (start middle now : FilesAt) (i : Input) (a : Answer) → AreFilesUnchanged start middle → StopsAt (disk_moments middle now) i a
+stops-since : (start middle now : FilesAt) (i : Input) (a : CallAnswer) → AreFilesUnchanged start middle → StopsAt (disk_moments middle now) i a
     → StopsAt (disk_moments start now) i a
 stops-since start middle now i a same (inl (rose, gives)) =
     inl (subst (λ (n : ℕ). CountRose n (now.failed_reads i.name)) (same.reads i.name) rose, gives)
@@ -69,27 +69,27 @@ stops-since start middle now i a same (inr (bytes, agrees, long, gives)) =
     inr (bytes, agrees-before start.contents middle.contents i.name bytes same.contents agrees, long, gives)
 
 -- memory was wanting before anything was written
-pub wanting : (c : Option Command) (d : Disk) (at : SinkAt) → OnlyReads d → ComesOutAs c d (sink_moments at at) (Err NoMemory)
+pub wanting : (c : Option Command) (d : Disk) (at : SinkAt) → OnlyReads d → ComesBeforeLine c d (sink_moments at at) (Err NoMemory)
 wanting c d at only = record {
   cut = record { cut = inl refl; reads = only.reads; files = same-files c d only.files };
   faults = refl;
   writes = only.writes;
 }
 
-stops-among-since : (start middle now : FilesAt) (is : List Input) (a : Answer) → AreFilesUnchanged start middle → StopsAmong (disk_moments middle now) is a
+stops-among-since : (start middle now : FilesAt) (is : List Input) (a : CallAnswer) → AreFilesUnchanged start middle → StopsAmong (disk_moments middle now) is a
     → StopsAmong (disk_moments start now) is a
 stops-among-since start middle now [] a same stops = stops
 stops-among-since start middle now (i ∷ is) a same (inl stops) = inl (stops-since start middle now i a same stops)
 stops-among-since start middle now (i ∷ is) a same (inr (bytes, holds, stops)) =
     inr (bytes, held-before start.contents middle.contents i bytes same.contents holds, stops-among-since start middle now is a same stops)
 
-stops-behind : (d : Disk) (is js : List Input) (contents : List (List ℕ)) (a : Answer) → HoldBytesInTurn d.before.contents is contents
+stops-behind : (d : Disk) (is js : List Input) (contents : List (List ℕ)) (a : CallAnswer) → HoldBytesInTurn d.before.contents is contents
     → StopsAmong d js a → StopsAmong d (is ++ js) a
 stops-behind d [] js contents a hold stops = stops
 stops-behind d (i ∷ is) js [] a hold stops = absurd hold
 stops-behind d (i ∷ is) js (bytes ∷ more) a hold stops = inr (bytes, hold.0, stops-behind d is js more a hold.1 stops)
 
-stops-reads : (d : Disk) (is rest : List Input) (says : List (List ℕ) → Answer → Type 0) (a : Answer) → StopsAmong d is a
+stops-reads : (d : Disk) (is rest : List Input) (says : List (List ℕ) → CallAnswer → Type 0) (a : CallAnswer) → StopsAmong d is a
     → ReadsFilesInTurn d (is ++ rest) says a
 stops-reads d [] rest says a stops = absurd stops
 stops-reads d (i ∷ is) rest says a (inl stops) = inl stops
@@ -184,7 +184,7 @@ unread-then {V} {W} view views start middle now is js contents failure r equal f
 
 not-read : {V : Type 0} (view : V → List (List ℕ)) (c : Command) (start now : FilesAt) (at : SinkAt) (is rest : List Input)
     (failure : Failure) → inputs_of c ≡ is ++ rest → AllRead view (disk_moments start now) is (Err failure)
-    → ComesOutAs (Some c) (disk_moments start now) (sink_moments at at) (Err failure)
+    → ComesBeforeLine (Some c) (disk_moments start now) (sink_moments at at) (Err failure)
 not-read view c start now at is rest ReadFault are (only, stops) = record {
   line = read_fault_answer.text;
   has_line = refl;
@@ -213,17 +213,17 @@ not-read view c start now at is rest TooDeep are read = absurd read
 not-read view c start now at is rest WriteFault are read = absurd read
 
 pub comes-unread : {V : Type 0} (view : V → List (List ℕ)) (c : Command) (start now : FilesAt) (at : SinkAt) (is rest : List Input)
-    (failure : Failure) (came : Outcome) → inputs_of c ≡ is ++ rest → came ≡ Err failure
-    → AllRead view (disk_moments start now) is (Err failure) → ComesOutAs (Some c) (disk_moments start now) (sink_moments at at) came
+    (failure : Failure) (came : CallOutcome) → inputs_of c ≡ is ++ rest → came ≡ Err failure
+    → AllRead view (disk_moments start now) is (Err failure) → ComesBeforeLine (Some c) (disk_moments start now) (sink_moments at at) came
 comes-unread view c start now at is rest failure came are equal read =
-    subst (λ (o : Outcome). ComesOutAs (Some c) (disk_moments start now) (sink_moments at at) o) (sym equal)
+    subst (λ (o : CallOutcome). ComesBeforeLine (Some c) (disk_moments start now) (sink_moments at at) o) (sym equal)
     (not-read view c start now at is rest failure are read)
 
 -- ---- what the files hold is refused
 
 refuses : (V : Type 0) (c : Command) (start now : FilesAt) (at : SinkAt) (contents : List (List ℕ)) (failure : Failure)
     → HasRead start now (inputs_of c) contents → SaysRefusal {V = V} (CommandSays c contents) (Err failure)
-    → ComesOutAs (Some c) (disk_moments start now) (sink_moments at at) (Err failure)
+    → ComesBeforeLine (Some c) (disk_moments start now) (sink_moments at at) (Err failure)
 refuses V c start now at contents (Refused file refusal) read said = record {
   line = (refused_file_answer file refusal).text;
   has_line = refl;
@@ -270,12 +270,12 @@ refuses V c start now at contents (TooLong file) read said = record {
 }
 refuses V c start now at contents WriteFault read said = absurd said
 
-pub comes-refused : (V : Type 0) (c : Command) (start now : FilesAt) (at : SinkAt) (contents : List (List ℕ)) (said : Answer → Type 0)
-    (failure : Failure) (came : Outcome) → came ≡ Err failure → HasRead start now (inputs_of c) contents
-    → ((a : Answer) → said a → CommandSays c contents a) → SaysRefusal {V = V} said (Err failure)
-    → ComesOutAs (Some c) (disk_moments start now) (sink_moments at at) came
+pub comes-refused : (V : Type 0) (c : Command) (start now : FilesAt) (at : SinkAt) (contents : List (List ℕ)) (said : CallAnswer → Type 0)
+    (failure : Failure) (came : CallOutcome) → came ≡ Err failure → HasRead start now (inputs_of c) contents
+    → ((a : CallAnswer) → said a → CommandSays c contents a) → SaysRefusal {V = V} said (Err failure)
+    → ComesBeforeLine (Some c) (disk_moments start now) (sink_moments at at) came
 comes-refused V c start now at contents said failure came equal read each told =
-    subst (λ (o : Outcome). ComesOutAs (Some c) (disk_moments start now) (sink_moments at at) o) (sym equal)
+    subst (λ (o : CallOutcome). ComesBeforeLine (Some c) (disk_moments start now) (sink_moments at at) o) (sym equal)
     (refuses V c start now at contents failure read (allowed V V said (CommandSays c contents) failure each told))
 
 -- ---- the result was written, or a front of it
@@ -287,8 +287,8 @@ no-outputs c d none = λ k is_k name within.
     let here : Contains [] name = subst (λ (names : List (List ℕ)). Contains names name) (ap outputs_of (sym same) ∙ none) within in
     absurd (omega (arith, here.1))
 
-writes : (c : Command) (start now : FilesAt) (s : SinkMoments) (text : List ℕ) (came : Outcome) → AreFilesUnchanged start now → outputs_of c ≡ []
-    → IsAnswerOfCall (Some c) (disk_moments start now) (done_answer text) → TextWritten text s came → ComesOutAs (Some c) (disk_moments start now) s came
+writes : (c : Command) (start now : FilesAt) (s : SinkMoments) (text : List ℕ) (came : CallOutcome) → AreFilesUnchanged start now → outputs_of c ≡ []
+    → IsAnswerOfCall (Some c) (disk_moments start now) (done_answer text) → TextWritten text s came → ComesBeforeLine (Some c) (disk_moments start now) s came
 writes c start now s text (Ok ok) same none answers took = (
   text,
   record {
@@ -326,9 +326,9 @@ writes c start now s text (Err NoListing) same none answers took = absurd took
 writes c start now s text (Err SaysNo) same none answers took = absurd took
 writes c start now s text (Err TooDeep) same none answers took = absurd took
 
-pub comes-written : (c : Command) (start now : FilesAt) (s : SinkMoments) (contents : List (List ℕ)) (text : List ℕ) (came : Outcome)
+pub comes-written : (c : Command) (start now : FilesAt) (s : SinkMoments) (contents : List (List ℕ)) (text : List ℕ) (came : CallOutcome)
     → outputs_of c ≡ [] → HasRead start now (inputs_of c) contents → CommandSays c contents (done_answer text)
-    → TextWritten text s came → ComesOutAs (Some c) (disk_moments start now) s came
+    → TextWritten text s came → ComesBeforeLine (Some c) (disk_moments start now) s came
 comes-written c start now s contents text came none read said took =
     writes c start now s text came read.same none
     (reads-all (disk_moments start now) (inputs_of c) contents (CommandSays c) (done_answer text) read.hold said)
@@ -337,9 +337,9 @@ comes-written c start now s contents text came none read said took =
 -- ---- what comes behind the reading of all input files
 
 -- of one, whose bytes are lent
-pub behind-one : {V : Type 0} (view : V → List ℕ) (c : Command) (i : Input) (start middle now : FilesAt) (v : V) (lent : List ℕ) (s : SinkMoments) (came : Outcome)
-    → inputs_of c ≡ i ∷ [] → lent ≡ view v → FileRead view (disk_moments start middle) i (Ok v) → ComesOf c (lent ∷ []) (disk_moments middle now) s came
-    → ComesOutAs (Some c) (disk_moments start now) s came
+pub behind-one : {V : Type 0} (view : V → List ℕ) (c : Command) (i : Input) (start middle now : FilesAt) (v : V) (lent : List ℕ) (s : SinkMoments) (came : CallOutcome)
+    → inputs_of c ≡ i ∷ [] → lent ≡ view v → FileRead view (disk_moments start middle) i (Ok v) → CommandComesTo c (lent ∷ []) (disk_moments middle now) s came
+    → ComesBeforeLine (Some c) (disk_moments start now) s came
 behind-one view c i start middle now v lent s came are is read comes =
     comes start
     (subst (λ (bytes : List ℕ). HasRead start middle (inputs_of c) (bytes ∷ [])) (sym is)
@@ -347,8 +347,8 @@ behind-one view c i start middle now v lent s came are is read comes =
 
 -- of two
 pub behind-two : {V : Type 0} (view : V → List ℕ) (c : Command) (i j : Input) (start middle now : FilesAt) (v w : V) (one two : List ℕ) (s : SinkMoments)
-    (came : Outcome) → inputs_of c ≡ i ∷ j ∷ [] → one ≡ view v → two ≡ view w → FileRead view (disk_moments start middle) i (Ok v)
-    → FileRead view (disk_moments middle now) j (Ok w) → ComesOf c (one ∷ two ∷ []) (disk_moments now now) s came → ComesOutAs (Some c) (disk_moments start now) s came
+    (came : CallOutcome) → inputs_of c ≡ i ∷ j ∷ [] → one ≡ view v → two ≡ view w → FileRead view (disk_moments start middle) i (Ok v)
+    → FileRead view (disk_moments middle now) j (Ok w) → CommandComesTo c (one ∷ two ∷ []) (disk_moments now now) s came → ComesBeforeLine (Some c) (disk_moments start now) s came
 behind-two view c i j start middle now v w one two s came are first second read then comes =
     comes start
     (subst (λ (bytes : List ℕ). HasRead start now (inputs_of c) (bytes ∷ two ∷ [])) (sym first)
@@ -358,8 +358,8 @@ behind-two view c i j start middle now v w one two s came are first second read 
 
 -- of several, and then of one whose bytes are lent
 pub behind-more : {V W : Type 0} (views : V → List (List ℕ)) (view : W → List ℕ) (c : Command) (is : List Input) (j : Input) (start middle now : FilesAt)
-    (v : V) (w : W) (lent : List ℕ) (s : SinkMoments) (came : Outcome) → inputs_of c ≡ is ++ j ∷ [] → lent ≡ view w → HasRead start middle is (views v)
-    → FileRead view (disk_moments middle now) j (Ok w) → ComesOf c (views v ++ lent ∷ []) (disk_moments now now) s came → ComesOutAs (Some c) (disk_moments start now) s came
+    (v : V) (w : W) (lent : List ℕ) (s : SinkMoments) (came : CallOutcome) → inputs_of c ≡ is ++ j ∷ [] → lent ≡ view w → HasRead start middle is (views v)
+    → FileRead view (disk_moments middle now) j (Ok w) → CommandComesTo c (views v ++ lent ∷ []) (disk_moments now now) s came → ComesBeforeLine (Some c) (disk_moments start now) s came
 behind-more views view c is j start middle now v w lent s came are same read then comes =
     comes start
     (subst (λ (bytes : List ℕ). HasRead start now (inputs_of c) (views v ++ bytes ∷ [])) (sym same)

@@ -23,13 +23,13 @@ use Rattle.stl_codegen.specs.Generated.{program_of}
 use Rattle.sem_kept.specs.Agreement.{AreFiles, KeepsSourceIn, ProgramsRun}
 use Rattle.sem_kept.specs.Compiles.{CompilesTo, IsProgramUnique}
 use Rattle.sem_kept.specs.Stages.{HaveOutcomeInTurn}
-use Rattle.sem_kept.specs.Meaning.{HasSymbolsIn, HasTokens, HasTreeOrRefusal, refusals_of, sound_by, IsSound, IsCheckedWith, IsCheckedIn, ExcludesRefusal, InSource, InSymbols, MeansCodeIn, stated_code_of_tree}
+use Rattle.sem_kept.specs.Meaning.{HasSymbolsIn, HasTokens, HasTreeOrRefusal, refusals_of, sound_by, IsSound, IsCheckedWith, HasOutcomeOfSourceIn, ExcludesRefusal, InSource, InSymbols, MeansCodeIn, stated_code_of_tree}
 use Rattle.stl_symbols.specs.declared.languages.Language.{Language}
 use Rattle.stl_symbols.specs.declared.languages.Language.TheVariants.{English}
 use Rattle.s7_cli.specs.declared.compiling.LaidSource.{LaidSource}
 use Rattle.s7_cli.specs.declared.faults.CompileFault.{CompileFault}
 use Rattle.s7_cli.specs.declared.faults.CompileFault.TheVariants as compiling
-use Rattle.s7_cli.specs.Compiling.{CompilesWith, MakesOrRefuses, HasProgramWith, IsSourceLaidOut, IsRefusedByFault, KeepsWith, RefusedHaveNone, RefusesBy, RefusesIn, RefusesLaid, RefusesSymbols, RefusesWith, fault_in_symbols, fault_in_source}
+use Rattle.s7_cli.specs.Compiling.{CompilesWith, MakesOrRefuses, HasProgramWith, IsSourceLaidOut, IsRefusedByFault, KeepsWith, RefusedHaveNone, RefusesEnglish, RefusesInLanguage, RefusesLaid, RefusesSymbols, RefusesForSymbols, fault_in_symbols, fault_in_source}
 
 -- the lesser of a refusal and another is one
 one_of : (before : Bool) (r s : Refusal)
@@ -106,8 +106,8 @@ symbols_refused language symbols (found.Refused refusal) h = h
 symbols_refused language symbols found.NoMemory h = tt
 
 pub by_symbols : (language : Language) (source symbols : List ℕ) (fault : CompileFault)
-    → RefusesSymbols language symbols fault → RefusesIn language source symbols fault
-unfolding IsCheckedIn
+    → RefusesSymbols language symbols fault → RefusesInLanguage language source symbols fault
+unfolding HasOutcomeOfSourceIn
 by_symbols language source symbols (compiling.Symbols refusal) h = inl (refusal, refl, h)
 by_symbols language source symbols (compiling.Source refusal) h = absurd h
 by_symbols language source symbols compiling.NoMemory h = tt
@@ -120,16 +120,16 @@ with_tree source symbols refusal (inr (tokens, are, refused)) = inr (tokens, are
 
 pub tree_fault : (source : List ℕ) (list : List Symbol) (fault : SourceFault)
     → MakesOrRefuses (HaveOutcomeInTurn HasTokens (HasTreeOrRefusal source) source) (Err fault)
-    → RefusesWith source list (fault_in_source fault)
-unfolding IsCheckedIn
+    → RefusesForSymbols source list (fault_in_source fault)
+unfolding HasOutcomeOfSourceIn
 tree_fault source list (found.Refused refusal) h = λ language symbols has.
     inr (list, has, (refusal, refl, with_tree source list refusal h))
 tree_fault source list found.NoMemory h = λ language symbols has. tt
 
 pub program_fault : (source : List ℕ) (list : List Symbol) (tree : Tree) (fault : SourceFault)
     → HaveOutcomeInTurn HasTokens (HasTreeOrRefusal source) source (Ok tree) → IsRefusedByFault list tree fault
-    → RefusesWith source list (fault_in_source fault)
-unfolding IsCheckedIn
+    → RefusesForSymbols source list (fault_in_source fault)
+unfolding HasOutcomeOfSourceIn
 program_fault source list tree (found.Refused refusal) (tokens, are, is) h = λ language symbols has.
     inr (list, has, (refusal, refl, inr (tokens, are, inr (tree, is, inl h))))
 program_fault source list tree found.NoMemory at h = λ language symbols has. tt
@@ -145,7 +145,7 @@ all_bytes (b ∷ bytes) small =
 pub statements_fault : (source : List ℕ) (laid : LaidSource) (checked : Tree) (fault : SourceFault)
     → IsSourceLaidOut source laid
     → ChecksTree (least (statement_refusals laid.tree laid.symbols laid.layouts)) checked (Err fault)
-    → RefusesWith source laid.symbols (fault_in_source fault)
+    → RefusesForSymbols source laid.symbols (fault_in_source fault)
 statements_fault source laid checked (found.Refused refusal) is h =
     program_fault source laid.symbols laid.tree (found.Refused refusal) is.parsed
     (refused_by_statements laid.symbols laid.tree laid.layouts refusal is.right is.layout h)
@@ -154,9 +154,9 @@ statements_fault source laid checked found.NoMemory is h = λ language symbols h
 -- with the symbols that it was laid out with
 pub refused_laid : (source : List ℕ) (laid : LaidSource) (list : List Symbol) (fault : CompileFault)
     → laid.symbols ≡ list → IsSourceLaidOut source laid → RefusesLaid laid fault
-    → RefusesWith source list fault
+    → RefusesForSymbols source list fault
 refused_laid source laid list fault are is refuses =
-    subst (λ (l : List Symbol). RefusesWith source l fault) are (refuses source is)
+    subst (λ (l : List Symbol). RefusesForSymbols source l fault) are (refuses source is)
 
 -- where its statements break no rule, its program runs
 accepted_runs : ProgramsRun → (language : Language) (source symbols : List ℕ) (laid : LaidSource)
@@ -235,7 +235,7 @@ one_program one_list one_tree language source symbols p q a b =
 means : (language : Language) (source symbols : List ℕ) (p : Program)
     → (a : CompilesTo language source symbols p)
     → MeansCodeIn language source symbols (stated_code_of_tree a.list a.tree)
-unfolding IsCheckedIn
+unfolding HasOutcomeOfSourceIn
 means language source symbols p a = (
   a.list,
   a.named,
@@ -249,7 +249,7 @@ refused_have_none excludes language source symbols refused p is made =
 
 -- a fault of compiling, but want of memory, is a refusal
 pub none_by_fault : RefusedHaveNone → (source symbols : List ℕ) (fault : CompileFault) (p : Program)
-    → fault ≢ compiling.NoMemory → RefusesBy source symbols fault
+    → fault ≢ compiling.NoMemory → RefusesEnglish source symbols fault
     → CompilesTo English source symbols p → ⊥
 none_by_fault none source symbols (compiling.Symbols refusal) p other refuses made =
     none English source symbols (InSymbols refusal) p refuses made

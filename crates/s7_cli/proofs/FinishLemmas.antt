@@ -6,7 +6,7 @@ use Rattle.s7_cli.specs.declared.failures.Failure.{Failure}
 use Rattle.s7_cli.specs.declared.failures.Failure.TheVariants.{WordsRefused, ReadFault, TooLong, Refused, ImageRefused, NoListing, SaysNo, TooDeep, WriteFault, NoMemory}
 use Rattle.s7_cli.specs.Command.{Command}
 use Rattle.s7_cli.specs.Ends.{sink_moments, IsCallCutShort, SaysWholeText, IsWriteFault, IsNoMemory, EndsWithOutcome}
-use Rattle.s7_cli.specs.Inner.{FailsWith, TextWritten, ComesOutAs, LineWritten}
+use Rattle.s7_cli.specs.Inner.{FailsWith, TextWritten, ComesBeforeLine, LineWritten}
 use Rattle.s7_cli.specs.Lines.{line_of_failure}
 use Rattle.s7_cli.specs.Reading.{Disk}
 use Rattle.s7_cli.proofs.ComesLemmas.{same-files}
@@ -77,7 +77,7 @@ with-line c d a b z failure ended fails written =
     (subst (λ (m : SinkAt). LineWritten (Some fails.line) failure (sink_moments m z) ended) fails.sink line)
 
 -- how the call ends behind a failure
-pub finish-ends : (c : Option Command) (d : Disk) (a b z : SinkAt) (failure ended : Failure) → ComesOutAs c d (sink_moments a b) (Err failure)
+pub finish-ends : (c : Option Command) (d : Disk) (a b z : SinkAt) (failure ended : Failure) → ComesBeforeLine c d (sink_moments a b) (Err failure)
     → LineWritten (line_of_failure failure) failure (sink_moments b z) ended → EndsWithOutcome c d (sink_moments a z) (Err ended)
 finish-ends c d a b z WriteFault ended came (is, same) =
     subst (λ (f : Failure). EndsWithOutcome c d (sink_moments a z) (Err f)) (sym is)

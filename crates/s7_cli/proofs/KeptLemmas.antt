@@ -20,7 +20,7 @@ use Rattle.s7_cli.specs.run_text.RunText.{run_text}
 use Rattle.s7_cli.specs.Answer.{done_answer}
 use Rattle.s7_cli.specs.KeptImages.{KeptImagesAnswerAlike, KeptImagesRunAlike}
 use Rattle.s7_cli.specs.Loads.{LoadsAs}
-use Rattle.s7_cli.specs.Says.{go_answer, run_outcome, run_answer}
+use Rattle.s7_cli.specs.Says.{go_answer, run_loaded_answer, run_answer}
 use Rattle.s7_cli.proofs.LoadLemmas.{loads-one}
 use Rattle.s7_cli.proofs.RunLemmas.{texts-kept}
 use Rattle.s7_cli.proofs.SaysLemmas.{MeansOne}
@@ -51,7 +51,7 @@ run-alike continues one images language image source symbols l c kept loads mean
 -- what a program answers that keeps a source, by how the history reads
 ran-so : ContinuesReplay → IsMeaningUnique → (language : Language) (source symbols : List ℕ) (l : LoadedProgram) (c : Code)
     → KeepsSourceIn language l.profile source symbols l.program → MeansCodeIn language source symbols c → (read : Result (List Entry) Refusal)
-    → run_outcome l read ≡ go_answer l.profile (Ok c) read
+    → run_loaded_answer l read ≡ go_answer l.profile (Ok c) read
 ran-so continues one language source symbols l c keeps means (Err refusal) = refl
 ran-so continues one language source symbols l c keeps means (Ok entries) =
     ap done_answer (texts-of continues one language l.profile source symbols l.program c keeps means entries)
@@ -60,7 +60,7 @@ answers-so : ContinuesReplay → IsMeaningUnique → (language : Language) (sour
     → KeepsSourceIn language l.profile source symbols l.program → MeansCodeIn language source symbols c → (history : List ℕ)
     → run_answer (Ok l) history ≡ go_answer l.profile (Ok c) (history_of_text (names_read_in language symbols) history)
 answers-so continues one language source symbols l c keeps means history =
-    ap (λ (names : List NameEntry). run_outcome l (history_of_text names history)) keeps.names
+    ap (λ (names : List NameEntry). run_loaded_answer l (history_of_text names history)) keeps.names
     ∙ ran-so continues one language source symbols l c keeps means (history_of_text (names_read_in language symbols) history)
 
 pub answer-alike : ContinuesReplay → MeansOne → IsMeaningUnique → GivesExactlyImages → KeptImagesAnswerAlike

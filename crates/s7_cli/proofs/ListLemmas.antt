@@ -21,7 +21,7 @@ use Rattle.stl_symbols.specs.declared.languages.Language.{Language}
 use Rattle.stl_symbols.specs.declared.languages.Language.TheVariants.{English}
 use Rattle.s7_cli.specs.declared.failures.File.TheVariants.{Listing}
 use Rattle.s7_cli.specs.declared.failures.Failure.{Failure}
-use Rattle.s7_cli.specs.Answer.{Answer, exit_status}
+use Rattle.s7_cli.specs.Answer.{CallAnswer, exit_status}
 use Rattle.s7_cli.specs.Command.{Command, Go, Check, Compile, Translate, Run, Gen, Live, Watch, Upgrade, ListImage, Bound, Recheck, inputs_of}
 use Rattle.s7_cli.specs.Faults.{failure_of_loading}
 use Rattle.s7_cli.specs.Inner.{SaysRefusal}
@@ -42,7 +42,7 @@ not-both : (p : Program) → IsLongListing p → IsShortListing p → ⊥
 not-both p (inl long) short = omega (arith, long, short.source)
 not-both p (inr long) short = omega (arith, long, short.symbols)
 
-listed-one : (p : Program) (a b : Answer) → ListedAnswer p a → ListedAnswer p b → a ≡ b
+listed-one : (p : Program) (a b : CallAnswer) → ListedAnswer p a → ListedAnswer p b → a ≡ b
 listed-one p a b (inl (long, gives)) (inl (also, other)) = gives ∙ sym other
 listed-one p a b (inl (long, gives)) (inr (inl (short, none, other))) = absurd (not-both p long short)
 listed-one p a b (inl (long, gives)) (inr (inr (short, has, other))) = absurd (not-both p long short)
@@ -53,21 +53,21 @@ listed-one p a b (inr (inr (short, has, gives))) (inl (long, other)) = absurd (n
 listed-one p a b (inr (inr (short, has, gives))) (inr (inl (also, none, other))) = absurd (none has)
 listed-one p a b (inr (inr (short, has, gives))) (inr (inr (also, too, other))) = gives ∙ sym other
 
-answer-one : (v : Result LoadedProgram LoadFault) (a b : Answer) → ListAnswer v a → ListAnswer v b → a ≡ b
+answer-one : (v : Result LoadedProgram LoadFault) (a b : CallAnswer) → ListAnswer v a → ListAnswer v b → a ≡ b
 answer-one (Err fault) a b p q = p ∙ sym q
 answer-one (Ok l) a b p q = listed-one l.program a b p q
 
-pub list-one : (image : List ℕ) (a b : Answer) → ListSays image a → ListSays image b → a ≡ b
+pub list-one : (image : List ℕ) (a b : CallAnswer) → ListSays image a → ListSays image b → a ≡ b
 list-one image a b p q =
     answer-one p.0 a b p.2
     (subst (λ (v : Result LoadedProgram LoadFault). ListAnswer v b) (loads-one image q.0 p.0 q.1 p.1) q.2)
 
-listed-verdict : (p : Program) (a : Answer) → ListedAnswer p a → IsVerdict a
+listed-verdict : (p : Program) (a : CallAnswer) → ListedAnswer p a → IsVerdict a
 listed-verdict p a (inl (long, gives)) = inr (inr (inr (inr (inr (inl (Listing, gives))))))
 listed-verdict p a (inr (inl (short, none, gives))) = inr (inr (inr (inr (inr (inr gives)))))
 listed-verdict p a (inr (inr (short, has, gives))) = inl (ok_line, gives)
 
-pub list-verdict : (v : Result LoadedProgram LoadFault) (a : Answer) → ListAnswer v a → IsVerdict a
+pub list-verdict : (v : Result LoadedProgram LoadFault) (a : CallAnswer) → ListAnswer v a → IsVerdict a
 list-verdict (Err fault) a said = inr (inr (inl (fault, said)))
 list-verdict (Ok l) a said = listed-verdict l.program a said
 
@@ -81,7 +81,7 @@ list-refused V image loading.NoMemory r fails least =
     subst (λ (q : Result V Failure). SaysRefusal (ListSays image) q) (sym fails) tt
 
 -- what is said of the program is said of its image
-says-of : (image : List ℕ) (l : LoadedProgram) → LoadsAs image (Ok l) → (a : Answer) → ListedAnswer l.program a → ListSays image a
+says-of : (image : List ℕ) (l : LoadedProgram) → LoadsAs image (Ok l) → (a : CallAnswer) → ListedAnswer l.program a → ListSays image a
 says-of image l loads a said = (Ok l, loads, said)
 
 pub listing-refused : (V : Type 0) (image : List ℕ) (l : LoadedProgram) (r : Result V Failure) → LoadsAs image (Ok l)
@@ -122,14 +122,14 @@ give-listings compile images german image source symbols (english, translated, (
 
 -- ---- 9 never comes of an image that `compile` wrote
 
-listed-never : (p : Program) (a : Answer) → (IsShortListing p → HasListing p) → ListedAnswer p a → exit_status a.outcome ≡ 9 → ⊥
-listed-never p a has (inl (long, gives)) nine = let e : exit_status a.outcome ≡ 8 = ap (λ (b : Answer). exit_status b.outcome) gives in omega (arith, e, nine)
+listed-never : (p : Program) (a : CallAnswer) → (IsShortListing p → HasListing p) → ListedAnswer p a → exit_status a.outcome ≡ 9 → ⊥
+listed-never p a has (inl (long, gives)) nine = let e : exit_status a.outcome ≡ 8 = ap (λ (b : CallAnswer). exit_status b.outcome) gives in omega (arith, e, nine)
 listed-never p a has (inr (inl (short, none, gives))) nine = none (has short)
-listed-never p a has (inr (inr (short, too, gives))) nine = let e : exit_status a.outcome ≡ 0 = ap (λ (b : Answer). exit_status b.outcome) gives in omega (arith, e, nine)
+listed-never p a has (inr (inr (short, too, gives))) nine = let e : exit_status a.outcome ≡ 0 = ap (λ (b : CallAnswer). exit_status b.outcome) gives in omega (arith, e, nine)
 
-answer-never : (image : List ℕ) (a : Answer) → ((l : LoadedProgram) → LoadsAs image (Ok l) → IsShortListing l.program → HasListing l.program)
+answer-never : (image : List ℕ) (a : CallAnswer) → ((l : LoadedProgram) → LoadsAs image (Ok l) → IsShortListing l.program → HasListing l.program)
     → (v : Result LoadedProgram LoadFault) → LoadsAs image v → ListAnswer v a → exit_status a.outcome ≡ 9 → ⊥
-answer-never image a has (Err fault) loads said nine = let e : exit_status a.outcome ≡ 3 = ap (λ (b : Answer). exit_status b.outcome) said in omega (arith, e, nine)
+answer-never image a has (Err fault) loads said nine = let e : exit_status a.outcome ≡ 3 = ap (λ (b : CallAnswer). exit_status b.outcome) said in omega (arith, e, nine)
 answer-never image a has (Ok l) loads said nine = listed-never l.program a (has l loads) said nine
 
 same_bytes : (c : Contents) (name xs ys : List ℕ) → c.at name ≡ Some xs → c.at name ≡ Some ys → xs ≡ ys
@@ -138,13 +138,13 @@ same_bytes c name xs ys p q = let e : Some xs ≡ Some ys = sym p ∙ q in cc
 other_name : (name other : List ℕ) → Some name ≡ Some other → name ≡ other
 other_name name other is = cc
 
-list-never : CompiledHaveListings → (d : Disk) (image source symbols : List ℕ) (a : Answer)
+list-never : CompiledHaveListings → (d : Disk) (image source symbols : List ℕ) (a : CallAnswer)
     → ReadsFilesInTurn d (inputs_of (ListImage image source symbols)) (CommandSays (ListImage image source symbols)) a → exit_status a.outcome ≡ 9
     → IsNotCompiled (ListImage image source symbols) d
 list-never have d image source symbols a (inl (inl (rose, gives))) nine =
-    let e : exit_status a.outcome ≡ 5 = ap (λ (b : Answer). exit_status b.outcome) gives in absurd (omega (arith, e, nine))
+    let e : exit_status a.outcome ≡ 5 = ap (λ (b : CallAnswer). exit_status b.outcome) gives in absurd (omega (arith, e, nine))
 list-never have d image source symbols a (inl (inr (bytes, agrees, long, gives))) nine =
-    let e : exit_status a.outcome ≡ 8 = ap (λ (b : Answer). exit_status b.outcome) gives in absurd (omega (arith, e, nine))
+    let e : exit_status a.outcome ≡ 8 = ap (λ (b : CallAnswer). exit_status b.outcome) gives in absurd (omega (arith, e, nine))
 list-never have d image source symbols a (inr (bytes, holds, said)) nine = λ name held german s y is told there made.
     let here : d.before.contents.at image ≡ Some held =
     subst (λ (n : List ℕ). d.before.contents.at n ≡ Some held) (sym (other_name image name is)) there in
@@ -155,7 +155,7 @@ list-never have d image source symbols a (inr (bytes, holds, said)) nine = λ na
 no_name : (k : Command) (name : List ℕ) → image_listed k ≡ None → image_listed k ≡ Some name → ⊥
 no_name k name none some = let e : None ≡ Some name = sym none ∙ some in cc
 
-pub never-compiled : CompiledHaveListings → (k : Command) (d : Disk) (a : Answer) → ReadsFilesInTurn d (inputs_of k) (CommandSays k) a
+pub never-compiled : CompiledHaveListings → (k : Command) (d : Disk) (a : CallAnswer) → ReadsFilesInTurn d (inputs_of k) (CommandSays k) a
     → exit_status a.outcome ≡ 9 → IsNotCompiled k d
 never-compiled have (ListImage i s y) d a said nine = list-never have d i s y a said nine
 never-compiled have (Go s y g h) d a said nine = λ name held german source symbols is told there made. no_name (Go s y g h) name refl is

@@ -21,12 +21,12 @@ use Rattle.s7_cli.specs.declared.failures.Failure.{Failure}
 use Rattle.s7_cli.specs.declared.failures.Failure.TheVariants.{WordsRefused, ReadFault, TooLong, Refused, ImageRefused, NoListing, SaysNo, TooDeep, WriteFault, NoMemory}
 use Rattle.s7_cli.specs.declared.failures.File.TheVariants.{Stimuli, Script}
 use Rattle.s7_cli.specs.declared.files.LiveText.{LiveText}
-use Rattle.s7_cli.specs.Answer.{Answer, done_answer}
+use Rattle.s7_cli.specs.Answer.{CallAnswer, done_answer}
 use Rattle.s7_cli.specs.Command.{Input, live_inputs, script_inputs}
 use Rattle.s7_cli.specs.Faults.{failure_of_loading, failure_of_text}
 use Rattle.s7_cli.specs.Inner.{AllRead, FileRead, HasRead, SaysRefusal}
 use Rattle.s7_cli.specs.LiveSays.{LiveAnswer, RefusedScript, live_text, script_first, scripts_from}
-use Rattle.s7_cli.specs.LiveTexts.{AreScriptsWithin, FindsProgramAndScripts, IsLiveText, TellsScript, LiveTextSays, live_contents, scripts_of}
+use Rattle.s7_cli.specs.LiveTexts.{AreScriptsWithin, FindsProgramAndScripts, IsLiveText, IsScriptRefusal, LiveTextSays, live_contents, scripts_of}
 use Rattle.s7_cli.specs.Living.{AreRegularBy, IsLive, total_length}
 use Rattle.s7_cli.specs.Loads.{LoadsAs}
 use Rattle.s7_cli.specs.Reading.{HoldBytesInTurn, disk_moments}
@@ -206,7 +206,7 @@ checked-last names all number rest lists so_far none =
 
 tells-script : (names : List NameEntry) (number : ℕ) (bytes : List ℕ) (more : List (List ℕ)) (lists : List (List Entry)) (fault : TextFault)
     → IsTextFault (script_of (number + 2) names bytes) fault
-    → TellsScript (behind lists (scripts_from names number (bytes ∷ more))) (failure_of_text (Script number) fault)
+    → IsScriptRefusal (behind lists (scripts_from names number (bytes ∷ more))) (failure_of_text (Script number) fault)
 tells-script names number bytes more lists (broken.BadLine line rule) is = inr (
   record { number = number; refusal = record { line = line; rule = rule } },
   ap (λ (s : Result (List Entry) Refusal). behind lists (script_first number s (scripts_from names (number + 1) more))) is,
@@ -217,17 +217,17 @@ tells-script names number bytes more lists broken.NoMemory is = inl refl
 pub checked-cut : (names : List NameEntry) (all : List (List ℕ)) (number : ℕ) (rest : List (List ℕ)) (bytes : List ℕ) (more : List (List ℕ))
     (lists : List (List Entry)) (fault : TextFault) (failure : Failure) → AreChecked names all number rest lists → rest ≡ bytes ∷ more
     → failure ≡ failure_of_text (Script number) fault → IsTextFault (script_of (number + 2) names bytes) fault
-    → TellsScript (scripts_from names 1 all) failure
+    → IsScriptRefusal (scripts_from names 1 all) failure
 checked-cut names all number rest bytes more lists fault failure so_far first fails is =
-    subst (λ (f : Failure). TellsScript (scripts_from names 1 all) f) (sym fails)
-    (subst (λ (s : Result (List (List Entry)) RefusedScript). TellsScript s (failure_of_text (Script number) fault))
+    subst (λ (f : Failure). IsScriptRefusal (scripts_from names 1 all) f) (sym fails)
+    (subst (λ (s : Result (List (List Entry)) RefusedScript). IsScriptRefusal s (failure_of_text (Script number) fault))
     (sym (so_far.spells ∙ ap (λ (r : List (List ℕ)). behind lists (scripts_from names number r)) first))
     (tells-script names number bytes more lists fault is))
 
 -- ---- what is said of all
 
 said-so : (steps : ℕ) (text : LiveText) (p : LoadedProgram) (stimuli : Result (List Entry) Refusal) (scripts : Result (List (List Entry)) RefusedScript)
-    (a : Answer) → LoadsAs text.image.items (Ok p) → stimuli_of text.stimuli.items ≡ stimuli → scripts_from p.program.names 1 (scripts_of text) ≡ scripts
+    (a : CallAnswer) → LoadsAs text.image.items (Ok p) → stimuli_of text.stimuli.items ≡ stimuli → scripts_from p.program.names 1 (scripts_of text) ≡ scripts
     → LiveAnswer p steps stimuli scripts a → LiveTextSays steps text a
 said-so steps text p stimuli scripts a loads are_stimuli are_scripts answers = (
   Ok p,
@@ -256,7 +256,7 @@ stimuli-refused V text p fault r fails loads is = λ steps.
     subst (λ (q : Result V Failure). SaysRefusal (LiveTextSays steps text) q) (sym fails) (stimuli-refuse V steps text p fault loads is)
 
 scripts-refuse : (V : Type 0) (steps : ℕ) (text : LiveText) (p : LoadedProgram) (stimuli : List Entry) (failure : Failure) → LoadsAs text.image.items (Ok p)
-    → stimuli_of text.stimuli.items ≡ Ok stimuli → TellsScript (scripts_from p.program.names 1 (scripts_of text)) failure
+    → stimuli_of text.stimuli.items ≡ Ok stimuli → IsScriptRefusal (scripts_from p.program.names 1 (scripts_of text)) failure
     → SaysRefusal {V = V} (LiveTextSays steps text) (Err failure)
 scripts-refuse V steps text p stimuli failure loads are (inl is) =
     subst (λ (f : Failure). SaysRefusal {V = V} (LiveTextSays steps text) (Err f)) (sym is) tt
@@ -265,12 +265,12 @@ scripts-refuse V steps text p stimuli failure loads are (inr (script, refuses, i
     (said-so steps text p (Ok stimuli) (Err script) _ loads are refuses refl)
 
 pub scripts-refused : (V : Type 0) (text : LiveText) (p : LoadedProgram) (stimuli : List Entry) (failure : Failure) (r : Result V Failure) → r ≡ Err failure
-    → LoadsAs text.image.items (Ok p) → stimuli_of text.stimuli.items ≡ Ok stimuli → TellsScript (scripts_from p.program.names 1 (scripts_of text)) failure
+    → LoadsAs text.image.items (Ok p) → stimuli_of text.stimuli.items ≡ Ok stimuli → IsScriptRefusal (scripts_from p.program.names 1 (scripts_of text)) failure
     → (steps : ℕ) → SaysRefusal (LiveTextSays steps text) r
 scripts-refused V text p stimuli failure r fails loads are tells = λ steps.
     subst (λ (q : Result V Failure). SaysRefusal (LiveTextSays steps text) q) (sym fails) (scripts-refuse V steps text p stimuli failure loads are tells)
 
-on : (V W : Type 0) (says : Answer → Type 0) (failure : Failure) → SaysRefusal {V = V} says (Err failure) → SaysRefusal {V = W} says (Err failure)
+on : (V W : Type 0) (says : CallAnswer → Type 0) (failure : Failure) → SaysRefusal {V = V} says (Err failure) → SaysRefusal {V = W} says (Err failure)
 on V W says (Refused file refusal) told = told
 on V W says (ImageRefused fault) told = told
 on V W says NoListing told = told
@@ -283,7 +283,7 @@ on V W says (TooLong file) told = told
 on V W says WriteFault told = absurd told
 
 -- a refusal is handed on
-pub refused-on : (V W : Type 0) (says : Answer → Type 0) (failure : Failure) (r : Result W Failure) → r ≡ Err failure
+pub refused-on : (V W : Type 0) (says : CallAnswer → Type 0) (failure : Failure) (r : Result W Failure) → r ≡ Err failure
     → SaysRefusal {V = V} says (Err failure) → SaysRefusal says r
 refused-on V W says failure r fails told =
     subst (λ (q : Result W Failure). SaysRefusal says q) (sym fails) (on V W says failure told)

@@ -7,10 +7,10 @@ use Rattle.plc_io.specs.FileCalls.{AreFilesUnchanged}
 use Rattle.plc_io.specs.Moments.{FilesAt, SinkAt}
 use Rattle.s7_cli.specs.declared.failures.Failure.{Failure}
 use Rattle.s7_cli.specs.declared.failures.Failure.TheVariants.{WordsRefused, ReadFault, TooLong, Refused, ImageRefused, NoListing, SaysNo, TooDeep, WriteFault, NoMemory}
-use Rattle.s7_cli.specs.Answer.{Outcome, done_answer}
+use Rattle.s7_cli.specs.Answer.{CallOutcome, done_answer}
 use Rattle.s7_cli.specs.Command.{Command, inputs_of, outputs_of}
 use Rattle.s7_cli.specs.Ends.{SinkMoments, sink_moments, IsAnswerOfCall, ChangesOutputs, WritesOutputs, HoldsFront, HoldsWhole, RoseAmong, WritesTo}
-use Rattle.s7_cli.specs.Inner.{HasRead, FileWritten, TextWritten, ComesOutAs}
+use Rattle.s7_cli.specs.Inner.{HasRead, FileWritten, TextWritten, ComesBeforeLine}
 use Rattle.s7_cli.specs.Reading.{disk_moments}
 use Rattle.s7_cli.specs.Says.{CommandSays, WritesOutputFile}
 use Rattle.s7_cli.proofs.ComesLemmas.{never-fell}
@@ -78,7 +78,7 @@ front-left c start middle now contents name bytes read writes cut = λ told.
 
 fails : (c : Command) (start middle now : FilesAt) (at : SinkAt) (contents : List (List ℕ)) (name bytes : List ℕ) (failure : Failure)
     → outputs_of c ≡ name ∷ [] → HasRead start middle (inputs_of c) contents → WritesOutputFile c contents name bytes
-    → FileWritten (disk_moments middle now) name bytes (Err failure) → ComesOutAs (Some c) (disk_moments start now) (sink_moments at at) (Err failure)
+    → FileWritten (disk_moments middle now) name bytes (Err failure) → ComesBeforeLine (Some c) (disk_moments start now) (sink_moments at at) (Err failure)
 fails c start middle now at contents name bytes WriteFault are read writes left =
     let later : Since start now name = since start middle now name read.same left.elsewhere left.reads in record {
       cut = record {
@@ -113,19 +113,19 @@ fails c start middle now at contents name bytes SaysNo are read writes left = ab
 fails c start middle now at contents name bytes TooDeep are read writes left = absurd left
 
 pub comes-unwritten : (c : Command) (start middle now : FilesAt) (at : SinkAt) (contents : List (List ℕ)) (name bytes : List ℕ)
-    (failure : Failure) (came : Outcome) → came ≡ Err failure → outputs_of c ≡ name ∷ [] → HasRead start middle (inputs_of c) contents
+    (failure : Failure) (came : CallOutcome) → came ≡ Err failure → outputs_of c ≡ name ∷ [] → HasRead start middle (inputs_of c) contents
     → WritesOutputFile c contents name bytes → FileWritten (disk_moments middle now) name bytes (Err failure)
-    → ComesOutAs (Some c) (disk_moments start now) (sink_moments at at) came
+    → ComesBeforeLine (Some c) (disk_moments start now) (sink_moments at at) came
 comes-unwritten c start middle now at contents name bytes failure came is are read writes left =
-    subst (λ (o : Outcome). ComesOutAs (Some c) (disk_moments start now) (sink_moments at at) o) (sym is)
+    subst (λ (o : CallOutcome). ComesBeforeLine (Some c) (disk_moments start now) (sink_moments at at) o) (sym is)
     (fails c start middle now at contents name bytes failure are read writes left)
 
 -- ---- the output files were written, and then the text, or a front of it
 
-pub text-behind : (c : Command) (start now : FilesAt) (s : SinkMoments) (text : List ℕ) (came : Outcome)
+pub text-behind : (c : Command) (start now : FilesAt) (s : SinkMoments) (text : List ℕ) (came : CallOutcome)
     → IsAnswerOfCall (Some c) (disk_moments start now) (done_answer text) → SameCounts start.failed_reads now.failed_reads
     → SameCounts start.failed_writes now.failed_writes → ChangesOutputs (Some c) (disk_moments start now) → WritesOutputs (Some c) (disk_moments start now)
-    → TextWritten text s came → ComesOutAs (Some c) (disk_moments start now) s came
+    → TextWritten text s came → ComesBeforeLine (Some c) (disk_moments start now) s came
 text-behind c start now s text (Ok ok) answers reads counts changed whole took = (
   text,
   record {
@@ -163,10 +163,10 @@ text-behind c start now s text (Err NoListing) answers reads counts changed whol
 text-behind c start now s text (Err SaysNo) answers reads counts changed whole took = absurd took
 text-behind c start now s text (Err TooDeep) answers reads counts changed whole took = absurd took
 
-pub comes-output : (c : Command) (start middle now : FilesAt) (s : SinkMoments) (contents : List (List ℕ)) (name bytes text : List ℕ) (came : Outcome)
+pub comes-output : (c : Command) (start middle now : FilesAt) (s : SinkMoments) (contents : List (List ℕ)) (name bytes text : List ℕ) (came : CallOutcome)
     → outputs_of c ≡ name ∷ [] → HasRead start middle (inputs_of c) contents → WritesOutputFile c contents name bytes
     → FileWritten (disk_moments middle now) name bytes (Ok tt) → CommandSays c contents (done_answer text) → TextWritten text s came
-    → ComesOutAs (Some c) (disk_moments start now) s came
+    → ComesBeforeLine (Some c) (disk_moments start now) s came
 comes-output c start middle now s contents name bytes text came are read writes left said took =
     text-behind c start now s text came
     (reads-all (disk_moments start now) (inputs_of c) contents (CommandSays c) (done_answer text) read.hold said)

@@ -5,10 +5,10 @@ use Rattle.plc_io.specs.Counts.{CountRose, SameCounts}
 use Rattle.plc_io.specs.Moments.{FilesAt, SinkAt}
 use Rattle.s7_cli.specs.declared.failures.Failure.{Failure}
 use Rattle.s7_cli.specs.declared.failures.Failure.TheVariants.{WordsRefused, ReadFault, TooLong, Refused, ImageRefused, NoListing, SaysNo, TooDeep, WriteFault, NoMemory}
-use Rattle.s7_cli.specs.Answer.{Outcome, done_answer}
+use Rattle.s7_cli.specs.Answer.{CallOutcome, done_answer}
 use Rattle.s7_cli.specs.Command.{Command, inputs_of, outputs_of}
 use Rattle.s7_cli.specs.Ends.{SinkMoments, sink_moments, ChangesOutputs, HoldsFront, HoldsWhole, RoseAmong}
-use Rattle.s7_cli.specs.Inner.{AreOutputs, HasRead, FileWritten, TextWritten, ComesOutAs, WrittenFile}
+use Rattle.s7_cli.specs.Inner.{AreOutputs, HasRead, FileWritten, TextWritten, ComesBeforeLine, WrittenFile}
 use Rattle.s7_cli.specs.Lines.{ok_line}
 use Rattle.s7_cli.specs.Reading.{HoldBytesInTurn, disk_moments}
 use Rattle.s7_cli.specs.Says.{CommandSays, WritesOutputFile}
@@ -94,7 +94,7 @@ first-changes c start middle now contents one two are read elsewhere reads cut =
 
 pub first-fails : (c : Command) (start middle now : FilesAt) (at : SinkAt) (contents : List (List ℕ)) (one two : WrittenFile) (failure : Failure)
     → AreOutputs c contents one two → HasRead start middle (inputs_of c) contents
-    → FileWritten (disk_moments middle now) one.name one.bytes (Err failure) → ComesOutAs (Some c) (disk_moments start now) (sink_moments at at) (Err failure)
+    → FileWritten (disk_moments middle now) one.name one.bytes (Err failure) → ComesBeforeLine (Some c) (disk_moments start now) (sink_moments at at) (Err failure)
 first-fails c start middle now at contents one two WriteFault are read left = record {
   cut = record {
     cut = inl refl;
@@ -127,10 +127,10 @@ first-fails c start middle now at contents one two SaysNo are read left = absurd
 first-fails c start middle now at contents one two TooDeep are read left = absurd left
 
 pub first-unwritten : (c : Command) (start middle now : FilesAt) (at : SinkAt) (contents : List (List ℕ)) (one two : WrittenFile) (failure : Failure)
-    (came : Outcome) → came ≡ Err failure → AreOutputs c contents one two → HasRead start middle (inputs_of c) contents
-    → FileWritten (disk_moments middle now) one.name one.bytes (Err failure) → ComesOutAs (Some c) (disk_moments start now) (sink_moments at at) came
+    (came : CallOutcome) → came ≡ Err failure → AreOutputs c contents one two → HasRead start middle (inputs_of c) contents
+    → FileWritten (disk_moments middle now) one.name one.bytes (Err failure) → ComesBeforeLine (Some c) (disk_moments start now) (sink_moments at at) came
 first-unwritten c start middle now at contents one two failure came is are read left =
-    subst (λ (o : Outcome). ComesOutAs (Some c) (disk_moments start now) (sink_moments at at) o) (sym is)
+    subst (λ (o : CallOutcome). ComesBeforeLine (Some c) (disk_moments start now) (sink_moments at at) o) (sym is)
     (first-fails c start middle now at contents one two failure are read left)
 
 -- ---- the first file was written
@@ -190,7 +190,7 @@ second-changes c start between now contents one two has elsewhere reads cut =
 
 second-fails : (c : Command) (start between now : FilesAt) (at : SinkAt) (contents : List (List ℕ)) (one two : WrittenFile) (failure : Failure)
     → HasFirst c start between contents one two → FileWritten (disk_moments between now) two.name two.bytes (Err failure)
-    → ComesOutAs (Some c) (disk_moments start now) (sink_moments at at) (Err failure)
+    → ComesBeforeLine (Some c) (disk_moments start now) (sink_moments at at) (Err failure)
 second-fails c start between now at contents one two WriteFault has left = record {
   cut = record {
     cut = inl refl;
@@ -223,19 +223,19 @@ second-fails c start between now at contents one two SaysNo has left = absurd le
 second-fails c start between now at contents one two TooDeep has left = absurd left
 
 pub second-unwritten : (c : Command) (start middle between now : FilesAt) (at : SinkAt) (contents : List (List ℕ)) (one two : WrittenFile)
-    (failure : Failure) (came : Outcome) → came ≡ Err failure → AreOutputs c contents one two → HasRead start middle (inputs_of c) contents
+    (failure : Failure) (came : CallOutcome) → came ≡ Err failure → AreOutputs c contents one two → HasRead start middle (inputs_of c) contents
     → FileWritten (disk_moments middle between) one.name one.bytes (Ok tt) → FileWritten (disk_moments between now) two.name two.bytes (Err failure)
-    → ComesOutAs (Some c) (disk_moments start now) (sink_moments at at) came
+    → ComesBeforeLine (Some c) (disk_moments start now) (sink_moments at at) came
 second-unwritten c start middle between now at contents one two failure came is are read first left =
-    subst (λ (o : Outcome). ComesOutAs (Some c) (disk_moments start now) (sink_moments at at) o) (sym is)
+    subst (λ (o : CallOutcome). ComesBeforeLine (Some c) (disk_moments start now) (sink_moments at at) o) (sym is)
     (second-fails c start between now at contents one two failure (first-written c start middle between contents one two are read first) left)
 
 -- ---- both were written, and then the text, or a front of it
 
-pub comes-outputs : (c : Command) (start middle between now : FilesAt) (s : SinkMoments) (contents : List (List ℕ)) (one two : WrittenFile) (came : Outcome)
+pub comes-outputs : (c : Command) (start middle between now : FilesAt) (s : SinkMoments) (contents : List (List ℕ)) (one two : WrittenFile) (came : CallOutcome)
     → AreOutputs c contents one two → HasRead start middle (inputs_of c) contents
     → FileWritten (disk_moments middle between) one.name one.bytes (Ok tt) → FileWritten (disk_moments between now) two.name two.bytes (Ok tt)
-    → TextWritten ok_line s came → ComesOutAs (Some c) (disk_moments start now) s came
+    → TextWritten ok_line s came → ComesBeforeLine (Some c) (disk_moments start now) s came
 comes-outputs c start middle between now s contents one two came are read first second took =
     text-behind c start now s ok_line came
     (reads-all (disk_moments start now) (inputs_of c) contents (CommandSays c) (done_answer ok_line) read.hold are.says)

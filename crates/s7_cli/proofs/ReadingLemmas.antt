@@ -1,18 +1,18 @@
 -- The reading of a command's input files, one after the other.
 use Rattle.std.proofs.Common.{◌≡◌, ◌<◌, ◌≤◌, ◌⊎◌, inl, inr, sym, ◌∙◌, ap, subst, ℕ, List, [], ◌∷◌, length, map, Some, None, true, arith}
 use Rattle.plc_io.specs.Contents.{Contents}
-use Rattle.s7_cli.specs.Answer.{Answer, read_fault_answer, too_long_answer}
+use Rattle.s7_cli.specs.Answer.{CallAnswer, read_fault_answer, too_long_answer}
 use Rattle.s7_cli.specs.Command.{Input, limit_of}
 use Rattle.s7_cli.specs.Ends.{RoseAmong}
 use Rattle.s7_cli.specs.Reading.{Disk, HoldBytesInTurn, ReadsFilesInTurn, IsFileThere, AllowsAnswer, FailsOnTheWay}
 
 -- what is said of the contents of the files behind these
 abbrev pub Saying : Type 1
-Saying = List (List ℕ) → Answer → Type 0
+Saying = List (List ℕ) → CallAnswer → Type 0
 
 -- ---- files that were read hold bytes of which this is said
 
-pub reads-all : (d : Disk) (is : List Input) (contents : List (List ℕ)) (says : Saying) (a : Answer)
+pub reads-all : (d : Disk) (is : List Input) (contents : List (List ℕ)) (says : Saying) (a : CallAnswer)
     → HoldBytesInTurn d.before.contents is contents → says contents a → ReadsFilesInTurn d is says a
 reads-all d [] [] says a hold said = said
 reads-all d [] (bytes ∷ more) says a hold said = absurd hold
@@ -23,7 +23,7 @@ reads-all d (i ∷ is) (bytes ∷ more) says a hold said =
 -- ---- over files that tell what they hold
 
 -- a read on the way failed, or the answer is one that the files allow
-pub reads-told : (d : Disk) (is : List Input) (says : Saying) (a : Answer) → d.before.contents.told ≡ true
+pub reads-told : (d : Disk) (is : List Input) (says : Saying) (a : CallAnswer) → d.before.contents.told ≡ true
     → ReadsFilesInTurn d is says a → ((a ≡ read_fault_answer) × FailsOnTheWay d is) ⊎ AllowsAnswer d.before.contents is says a
 reads-told d [] says a told said = inr said
 reads-told d (i ∷ is) says a told (inl (inl (rose, gives))) = inl (gives, inl rose)
@@ -38,8 +38,8 @@ reads-told d (i ∷ is) says a told (inr (bytes, holds, more)) =
     held = record { there = holds.agrees told; within = holds.within }
 
 -- two answers to any contents are alike
-abbrev pub AnswersAlike : (Alike : Answer → Answer → Type 0) → Saying → Type 0
-AnswersAlike Alike says = (contents : List (List ℕ)) (a b : Answer) → says contents a → says contents b → Alike a b
+abbrev pub AnswersAlike : (Alike : CallAnswer → CallAnswer → Type 0) → Saying → Type 0
+AnswersAlike Alike says = (contents : List (List ℕ)) (a b : CallAnswer) → says contents a → says contents b → Alike a b
 
 one_file : (c : Contents) (name xs ys : List ℕ) → c.at name ≡ Some xs → c.at name ≡ Some ys → xs ≡ ys
 one_file c name xs ys p q = let e : Some xs ≡ Some ys = sym p ∙ q in cc
@@ -51,8 +51,8 @@ not_both : (i : Input) (xs ys : List ℕ) → xs ≡ ys → limit_of i.file < le
 not_both i xs ys same long within = omega (arith, ap length same)
 
 -- so are two that told files allow
-pub allows-alike : (c : Contents) (Alike : Answer → Answer → Type 0) → ((a b : Answer) → a ≡ b → Alike a b) → (is : List Input) (says : Saying)
-    → AnswersAlike Alike says → (a b : Answer) → AllowsAnswer c is says a → AllowsAnswer c is says b → Alike a b
+pub allows-alike : (c : Contents) (Alike : CallAnswer → CallAnswer → Type 0) → ((a b : CallAnswer) → a ≡ b → Alike a b) → (is : List Input) (says : Saying)
+    → AnswersAlike Alike says → (a b : CallAnswer) → AllowsAnswer c is says a → AllowsAnswer c is says b → Alike a b
 allows-alike c Alike same [] says alike a b p q = alike [] a b p q
 allows-alike c Alike same (i ∷ is) says alike a b (inl (inl p)) (inl (inl q)) = same a b (p.1 ∙ sym q.1)
 allows-alike c Alike same (i ∷ is) says alike a b (inl (inl p)) (inl (inr q)) = absurd (no_file c i.name q.0 p.0 q.1)
@@ -79,7 +79,7 @@ fails-rose d (i ∷ is) (inr (bytes, held, more)) = inr (fails-rose d is more)
 -- ---- which answers there are
 
 -- a read of an input file failed, a file is too long, or this is said of some contents
-pub reads-kinds : (d : Disk) (is : List Input) (says : Saying) (a : Answer) → ReadsFilesInTurn d is says a
+pub reads-kinds : (d : Disk) (is : List Input) (says : Saying) (a : CallAnswer) → ReadsFilesInTurn d is says a
     → ((a ≡ read_fault_answer) × RoseAmong d.before.failed_reads d.after.failed_reads (map (λ i. i.name) is))
     ⊎ ((i : Input) × (a ≡ too_long_answer i.file)) ⊎ ((contents : List (List ℕ)) × says contents a)
 reads-kinds d [] says a said = inr (inr ([], said))

@@ -2,10 +2,10 @@
 use Rattle.std.proofs.Common.{◌≡◌, sym, subst, Result, Err}
 use Rattle.s7_cli.specs.declared.failures.Failure.{Failure}
 use Rattle.s7_cli.specs.declared.failures.Failure.TheVariants.{WordsRefused, ReadFault, TooLong, Refused, ImageRefused, NoListing, SaysNo, TooDeep, WriteFault, NoMemory}
-use Rattle.s7_cli.specs.Answer.{Answer, refused_file_answer, refused_image_answer, no_listing_answer, says_no_answer, too_long_answer}
+use Rattle.s7_cli.specs.Answer.{CallAnswer, refused_file_answer, refused_image_answer, no_listing_answer, says_no_answer, too_long_answer}
 use Rattle.s7_cli.specs.Inner.{SaysRefusal}
 
-pub allowed : (V W : Type 0) (said says : Answer → Type 0) (failure : Failure) → ((a : Answer) → said a → says a)
+pub allowed : (V W : Type 0) (said says : CallAnswer → Type 0) (failure : Failure) → ((a : CallAnswer) → said a → says a)
     → SaysRefusal {V = V} said (Err failure) → SaysRefusal {V = W} says (Err failure)
 allowed V W said says (Refused file refusal) each told = each (refused_file_answer file refusal) told
 allowed V W said says (ImageRefused fault) each told = each (refused_image_answer fault) told
@@ -18,7 +18,7 @@ allowed V W said says WordsRefused each told = absurd told
 allowed V W said says ReadFault each told = absurd told
 allowed V W said says WriteFault each told = absurd told
 
-pub refused-more : (V W : Type 0) (said says : Answer → Type 0) (failure : Failure) (r : Result W Failure) → r ≡ Err failure
-    → ((a : Answer) → said a → says a) → SaysRefusal {V = V} said (Err failure) → SaysRefusal says r
+pub refused-more : (V W : Type 0) (said says : CallAnswer → Type 0) (failure : Failure) (r : Result W Failure) → r ≡ Err failure
+    → ((a : CallAnswer) → said a → says a) → SaysRefusal {V = V} said (Err failure) → SaysRefusal says r
 refused-more V W said says failure r is each told =
     subst (λ (q : Result W Failure). SaysRefusal says q) (sym is) (allowed V W said says failure each told)

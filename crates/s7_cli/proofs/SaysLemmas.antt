@@ -17,7 +17,7 @@ use Rattle.machine.specs.Flat.{code_of}
 use Rattle.generator.specs.History.{generated_history}
 use Rattle.generator.specs.Source.{source_text}
 use Rattle.sem_kept.specs.Agreement.{names_read_in}
-use Rattle.sem_kept.specs.Meaning.{HasSymbolsIn, IsCheckedIn, IsMeaningUnique, ExcludesRefusal, IsRefusalUnique, RefusedFile, InSymbols, InSource, MeansCodeIn}
+use Rattle.sem_kept.specs.Meaning.{HasSymbolsIn, HasOutcomeOfSourceIn, IsMeaningUnique, ExcludesRefusal, IsRefusalUnique, RefusedFile, InSymbols, InSource, MeansCodeIn}
 use Rattle.stl_symbols.specs.Symbol.{Symbol}
 use Rattle.stl_symbols.specs.Symbols.{symbols_in}
 use Rattle.stl_symbols.specs.declared.languages.Language.{Language}
@@ -27,13 +27,13 @@ use Rattle.event_text.specs.Texts.{history_of_text, stimuli_of}
 use Rattle.event_text.specs.declared.TextFault.{TextFault}
 use Rattle.event_text.specs.declared.TextFault.TheVariants as text
 use Rattle.s7_cli.specs.run_text.RunText.{run_text}
-use Rattle.s7_cli.specs.Compiling.{RefusesBy, RefusesIn, RefusesSymbols, RefusesWith}
+use Rattle.s7_cli.specs.Compiling.{RefusesEnglish, RefusesInLanguage, RefusesSymbols, RefusesForSymbols}
 use Rattle.s7_cli.specs.declared.faults.CompileFault.{CompileFault}
 use Rattle.s7_cli.specs.declared.faults.CompileFault.TheVariants as compiling
 use Rattle.s7_cli.specs.declared.failures.File.TheVariants.{Source, Symbols, History, Stimuli, Script}
 use Rattle.s7_cli.specs.declared.failures.Failure.{Failure}
 use Rattle.s7_cli.specs.declared.files.ProgramText.{ProgramText}
-use Rattle.s7_cli.specs.Answer.{Answer, done_answer, refused_file_answer}
+use Rattle.s7_cli.specs.Answer.{CallAnswer, done_answer, refused_file_answer}
 use Rattle.s7_cli.specs.Command.{Command, Input, Go, Check, Compile, Translate, Run, Gen, Live, Watch, Upgrade, ListImage, Bound, Recheck, symbols_inputs, program_inputs}
 use Rattle.s7_cli.specs.Faults.{failure_of_compiling, failure_of_history, failure_of_loading}
 use Rattle.s7_cli.specs.GenText.{summary_text}
@@ -42,10 +42,10 @@ use Rattle.s7_cli.specs.Lines.{ok_line}
 use Rattle.s7_cli.specs.LiveSays.{LiveAnswer, LiveSays, LoadedLive, RefusedScript, live_text, scripts_from}
 use Rattle.s7_cli.specs.Loads.{LoadsAs}
 use Rattle.s7_cli.specs.Reading.{HoldBytesInTurn}
-use Rattle.s7_cli.specs.Says.{GoSays, CheckSays, RefusedProgram, RefusedText, RunSays, SourceSays, ChecksAs, TranslateSays, GenSays, UpgradeSays, refused_program, go_answer, check_answer, run_answer, run_outcome, gen_answer, upgrade_answer, CommandSays, WritesOutputFile}
+use Rattle.s7_cli.specs.Says.{GoSays, CheckSays, RefusedProgram, RefusedText, RunSays, SourceSays, ChecksAs, TranslateSays, GenSays, UpgradeSays, refused_source_answer, go_answer, check_answer, run_answer, run_loaded_answer, gen_answer, upgrade_answer, CommandSays, WritesOutputFile}
 use Rattle.s7_cli.specs.StatusTable.{HasOneText}
 use Rattle.s7_cli.specs.Texts.{AreFilesWithinLimits, file_contents_of, symbols_file}
-use Rattle.s7_cli.specs.Translating.{IsEnglish, IsSourceImage, KeepsText, NotInEnglish, NotTranslated, OfSymbols, language_of}
+use Rattle.s7_cli.specs.Translating.{IsEnglish, IsSourceImage, KeepsText, NotInEnglish, NotTranslated, SaysWithSymbols, language_of}
 use Rattle.s7_cli.proofs.BoundLemmas.{bound-outcome, bound-verdict, recheck-one, recheck-verdict}
 use Rattle.s7_cli.proofs.ListLemmas.{list-one, list-verdict}
 use Rattle.s7_cli.proofs.LoadLemmas.{loads-one}
@@ -60,8 +60,8 @@ use Rattle.s7_cli.proofs.WatchSaysLemmas.{watch-one, watch-verdict}
 -- a source with its symbols means one code, or is refused in one way
 abbrev pub MeansOne : Type 0
 MeansOne =
-    (language : Language) (source symbols : List ℕ) (v w : Result Code RefusedFile) → IsCheckedIn language source symbols v
-    → IsCheckedIn language source symbols w → v ≡ w
+    (language : Language) (source symbols : List ℕ) (v w : Result Code RefusedFile) → HasOutcomeOfSourceIn language source symbols v
+    → HasOutcomeOfSourceIn language source symbols w → v ≡ w
 
 pub means-one : IsMeaningUnique → ExcludesRefusal → IsRefusalUnique → MeansOne
 means-one meaning excludes refusal language source symbols (Ok c) (Ok d) p q = ap Ok (meaning language source symbols c d p q)
@@ -78,7 +78,7 @@ go-one : MeansOne → (language : Language) (symbols history : List ℕ) → Say
 go-one one language symbols history text a b p q =
     p.2 ∙ ap (λ v. go_answer Large v (history_of_text (names_read_in language symbols) history)) (one language text symbols p.0 q.0 p.1 q.1) ∙ sym q.2
 
-go-german-one : OneEach → (german : Bool) (source symbols history : List ℕ) (a b : Answer) → GoSays german source symbols history a
+go-german-one : OneEach → (german : Bool) (source symbols history : List ℕ) (a b : CallAnswer) → GoSays german source symbols history a
     → GoSays german source symbols history b → a ≡ b
 go-german-one one german source symbols history a b p q =
     english-one one.translates german source symbols (λ text. SourceSays (language_of german) Large text symbols history)
@@ -87,28 +87,28 @@ go-german-one one german source symbols history a b p q =
 text-one : MeansOne → (language : Language) (symbols : List ℕ) → SaysOne (ChecksAs language symbols)
 text-one one language symbols text a b p q = p.2 ∙ ap check_answer (one language text symbols p.0 q.0 p.1 q.1) ∙ sym q.2
 
-check-one : OneEach → (german : Bool) (source symbols : List ℕ) (a b : Answer) → CheckSays german source symbols a
+check-one : OneEach → (german : Bool) (source symbols : List ℕ) (a b : CallAnswer) → CheckSays german source symbols a
     → CheckSays german source symbols b → a ≡ b
 check-one one german source symbols a b p q =
     english-one one.translates german source symbols (ChecksAs (language_of german) symbols) (text-one one.means (language_of german) symbols) a b p q
 
-translate-one : OneEach → (language : Language) (source : List ℕ) (a b : Answer) → TranslateSays language source a
+translate-one : OneEach → (language : Language) (source : List ℕ) (a b : CallAnswer) → TranslateSays language source a
     → TranslateSays language source b → a ≡ b
 translate-one one language source a b p q =
     translated-one one.translates language source (λ text answer. answer ≡ done_answer ok_line) (λ text x y m n. m ∙ sym n) a b p q
 
-run-one : (image history : List ℕ) (a b : Answer) → RunSays image history a → RunSays image history b → a ≡ b
+run-one : (image history : List ℕ) (a b : CallAnswer) → RunSays image history a → RunSays image history b → a ≡ b
 run-one image history a b p q =
     p.2 ∙ ap (λ v. run_answer v history) (loads-one image p.0 q.0 p.1 q.1) ∙ sym q.2
 
-upgrade-one : (image : List ℕ) (a b : Answer) → UpgradeSays image a → UpgradeSays image b → a ≡ b
+upgrade-one : (image : List ℕ) (a b : CallAnswer) → UpgradeSays image a → UpgradeSays image b → a ≡ b
 upgrade-one image a b p q = p.2 ∙ ap upgrade_answer (loads-one image p.0 q.0 p.1 q.1) ∙ sym q.2
 
-gen-one : OneEach → (number : ℕ) (a b : Answer) → GenSays number a → GenSays number b → a ≡ b
+gen-one : OneEach → (number : ℕ) (a b : CallAnswer) → GenSays number a → GenSays number b → a ≡ b
 gen-one one number a b p q = p.2 ∙ ap (gen_answer number) (one.means English (source_text number) [] p.0 q.0 p.1 q.1) ∙ sym q.2
 
 -- a command with one text says one thing of any contents
-says-one : OneEach → (k : Command) → HasOneText k → (contents : List (List ℕ)) (a b : Answer) → CommandSays k contents a → CommandSays k contents b → a ≡ b
+says-one : OneEach → (k : Command) → HasOneText k → (contents : List (List ℕ)) (a b : CallAnswer) → CommandSays k contents a → CommandSays k contents b → a ≡ b
 says-one one (Go _ None german _) text [] a b p q = absurd p
 says-one one (Go _ None german _) text (x ∷ []) a b p q = absurd p
 says-one one (Go _ None german _) text (source ∷ history ∷ []) a b p q = go-german-one one german source [] history a b p q
@@ -156,37 +156,37 @@ says-one one (Recheck _ _) text (image ∷ certificate ∷ []) a b p q = recheck
 says-one one (Recheck _ _) text (x ∷ y ∷ more ∷ rest) a b p q = absurd p
 
 -- `live` has one outcome
-stimulated-one : (p : LoadedProgram) (steps : ℕ) (s : Result (List Entry) Refusal) (r : Result (List (List Entry)) RefusedScript) (a b : Answer)
+stimulated-one : (p : LoadedProgram) (steps : ℕ) (s : Result (List Entry) Refusal) (r : Result (List (List Entry)) RefusedScript) (a b : CallAnswer)
     → LiveAnswer p steps s r a → LiveAnswer p steps s r b → a.outcome ≡ b.outcome
-stimulated-one p steps (Err refusal) r a b m n = ap (λ (x : Answer). x.outcome) (m ∙ sym n)
-stimulated-one p steps (Ok stimuli) (Err script) a b m n = ap (λ (x : Answer). x.outcome) (m ∙ sym n)
-stimulated-one p steps (Ok stimuli) (Ok scripts) a b m n = ap (λ (x : Answer). x.outcome) m.says ∙ sym (ap (λ (x : Answer). x.outcome) n.says)
+stimulated-one p steps (Err refusal) r a b m n = ap (λ (x : CallAnswer). x.outcome) (m ∙ sym n)
+stimulated-one p steps (Ok stimuli) (Err script) a b m n = ap (λ (x : CallAnswer). x.outcome) (m ∙ sym n)
+stimulated-one p steps (Ok stimuli) (Ok scripts) a b m n = ap (λ (x : CallAnswer). x.outcome) m.says ∙ sym (ap (λ (x : CallAnswer). x.outcome) n.says)
 
-loaded-one : (v : Result LoadedProgram LoadFault) (steps : ℕ) (stimuli : List ℕ) (scripts : List (List ℕ)) (a b : Answer)
+loaded-one : (v : Result LoadedProgram LoadFault) (steps : ℕ) (stimuli : List ℕ) (scripts : List (List ℕ)) (a b : CallAnswer)
     → LoadedLive v steps stimuli scripts a → LoadedLive v steps stimuli scripts b → a.outcome ≡ b.outcome
-loaded-one (Err fault) steps stimuli scripts a b m n = ap (λ (x : Answer). x.outcome) (m ∙ sym n)
+loaded-one (Err fault) steps stimuli scripts a b m n = ap (λ (x : CallAnswer). x.outcome) (m ∙ sym n)
 loaded-one (Ok p) steps stimuli scripts a b m n =
     stimulated-one p steps (stimuli_of stimuli) (scripts_from p.program.names 1 scripts) a b m n
 
-live-one : (steps : ℕ) (image stimuli : List ℕ) (scripts : List (List ℕ)) (a b : Answer) → LiveSays steps image stimuli scripts a
+live-one : (steps : ℕ) (image stimuli : List ℕ) (scripts : List (List ℕ)) (a b : CallAnswer) → LiveSays steps image stimuli scripts a
     → LiveSays steps image stimuli scripts b → a.outcome ≡ b.outcome
 live-one steps image stimuli scripts a b p q =
     loaded-one p.0 steps stimuli scripts a b p.2
     (subst (λ (v : Result LoadedProgram LoadFault). LoadedLive v steps stimuli scripts b) (loads-one image q.0 p.0 q.1 p.1) q.2)
 
-says-outcome : OneEach → (k : Command) (contents : List (List ℕ)) (a b : Answer) → CommandSays k contents a → CommandSays k contents b → a.outcome ≡ b.outcome
-says-outcome one (Go s y g h) contents a b p q = ap (λ (x : Answer). x.outcome) (says-one one (Go s y g h) tt contents a b p q)
-says-outcome one (Check s y g) contents a b p q = ap (λ (x : Answer). x.outcome) (says-one one (Check s y g) tt contents a b p q)
-says-outcome one (Compile s y g i) contents a b p q = ap (λ (x : Answer). x.outcome) (says-one one (Compile s y g i) tt contents a b p q)
-says-outcome one (Translate d s t) contents a b p q = ap (λ (x : Answer). x.outcome) (says-one one (Translate d s t) tt contents a b p q)
-says-outcome one (Run i h) contents a b p q = ap (λ (x : Answer). x.outcome) (says-one one (Run i h) tt contents a b p q)
-says-outcome one (Upgrade i u) contents a b p q = ap (λ (x : Answer). x.outcome) (says-one one (Upgrade i u) tt contents a b p q)
-says-outcome one (ListImage i s y) contents a b p q = ap (λ (x : Answer). x.outcome) (says-one one (ListImage i s y) tt contents a b p q)
-says-outcome one (Recheck i k) contents a b p q = ap (λ (x : Answer). x.outcome) (says-one one (Recheck i k) tt contents a b p q)
+says-outcome : OneEach → (k : Command) (contents : List (List ℕ)) (a b : CallAnswer) → CommandSays k contents a → CommandSays k contents b → a.outcome ≡ b.outcome
+says-outcome one (Go s y g h) contents a b p q = ap (λ (x : CallAnswer). x.outcome) (says-one one (Go s y g h) tt contents a b p q)
+says-outcome one (Check s y g) contents a b p q = ap (λ (x : CallAnswer). x.outcome) (says-one one (Check s y g) tt contents a b p q)
+says-outcome one (Compile s y g i) contents a b p q = ap (λ (x : CallAnswer). x.outcome) (says-one one (Compile s y g i) tt contents a b p q)
+says-outcome one (Translate d s t) contents a b p q = ap (λ (x : CallAnswer). x.outcome) (says-one one (Translate d s t) tt contents a b p q)
+says-outcome one (Run i h) contents a b p q = ap (λ (x : CallAnswer). x.outcome) (says-one one (Run i h) tt contents a b p q)
+says-outcome one (Upgrade i u) contents a b p q = ap (λ (x : CallAnswer). x.outcome) (says-one one (Upgrade i u) tt contents a b p q)
+says-outcome one (ListImage i s y) contents a b p q = ap (λ (x : CallAnswer). x.outcome) (says-one one (ListImage i s y) tt contents a b p q)
+says-outcome one (Recheck i k) contents a b p q = ap (λ (x : CallAnswer). x.outcome) (says-one one (Recheck i k) tt contents a b p q)
 says-outcome one (Bound i k) [] a b p q = absurd p
 says-outcome one (Bound i k) (image ∷ []) a b p q = bound-outcome image a b p q
 says-outcome one (Bound i k) (x ∷ more ∷ rest) a b p q = absurd p
-says-outcome one (Gen n) contents a b p q = ap (λ (x : Answer). x.outcome) (says-one one (Gen n) tt contents a b p q)
+says-outcome one (Gen n) contents a b p q = ap (λ (x : CallAnswer). x.outcome) (says-one one (Gen n) tt contents a b p q)
 says-outcome one (Live i s o n) [] a b p q = absurd p
 says-outcome one (Live i s o n) (x ∷ []) a b p q = absurd p
 says-outcome one (Live i s o n) (image ∷ stimuli ∷ scripts) a b p q = live-one n image stimuli scripts a b p q
@@ -196,72 +196,72 @@ says-outcome one (Watch i s v o n) (x ∷ y ∷ []) a b p q = absurd p
 says-outcome one (Watch i s v o n) (image ∷ stimuli ∷ vars ∷ scripts) a b p q = watch-one n image stimuli vars scripts a b p q
 
 -- two answers of a command that told files allow
-abbrev pub Alike : Command → Answer → Answer → Type 0
+abbrev pub Alike : Command → CallAnswer → CallAnswer → Type 0
 Alike k a b = (a.outcome ≡ b.outcome) × (HasOneText k → a ≡ b)
 
-pub same-alike : (k : Command) (a b : Answer) → a ≡ b → Alike k a b
-same-alike k a b same = (ap (λ (x : Answer). x.outcome) same, λ text. same)
+pub same-alike : (k : Command) (a b : CallAnswer) → a ≡ b → Alike k a b
+same-alike k a b same = (ap (λ (x : CallAnswer). x.outcome) same, λ text. same)
 
 pub says-alike : OneEach → (k : Command) → AnswersAlike (Alike k) (CommandSays k)
 says-alike one k contents a b p q = (says-outcome one k contents a b p q, λ text. says-one one k text contents a b p q)
 
 -- ---- which answers there are
 
-refused-verdict : (a : Answer) (why : RefusedFile) → a ≡ refused_program why → IsVerdict a
+refused-verdict : (a : CallAnswer) (why : RefusedFile) → a ≡ refused_source_answer why → IsVerdict a
 refused-verdict a (InSymbols refusal) gives = inr (inl (Symbols, refusal, gives))
 refused-verdict a (InSource refusal) gives = inr (inl (Source, refusal, gives))
 
-told-verdict : (a : Answer) (v : Result Code RefusedFile) (h : Result (List Entry) Refusal) → a ≡ go_answer Large v h → IsVerdict a
+told-verdict : (a : CallAnswer) (v : Result Code RefusedFile) (h : Result (List Entry) Refusal) → a ≡ go_answer Large v h → IsVerdict a
 told-verdict a (Err why) h gives = refused-verdict a why gives
 told-verdict a (Ok code) (Err refusal) gives = inr (inl (History, refusal, gives))
 told-verdict a (Ok code) (Ok entries) gives = inl (run_text Large code entries, gives)
 
-go-verdict : (german : Bool) (source symbols history : List ℕ) (a : Answer) → GoSays german source symbols history a → IsVerdict a
+go-verdict : (german : Bool) (source symbols history : List ℕ) (a : CallAnswer) → GoSays german source symbols history a → IsVerdict a
 go-verdict german source symbols history a said =
     english-verdict german source symbols (λ text. SourceSays (language_of german) Large text symbols history)
     (λ text b says. told-verdict b says.0 (history_of_text (names_read_in (language_of german) symbols) history) says.2) a said
 
-check-verdict : (a : Answer) (v : Result Code RefusedFile) → a ≡ check_answer v → IsVerdict a
+check-verdict : (a : CallAnswer) (v : Result Code RefusedFile) → a ≡ check_answer v → IsVerdict a
 check-verdict a (Err why) gives = refused-verdict a why gives
 check-verdict a (Ok code) gives = inl (ok_line, gives)
 
-check-verdict : (german : Bool) (source symbols : List ℕ) (a : Answer) → CheckSays german source symbols a → IsVerdict a
+check-verdict : (german : Bool) (source symbols : List ℕ) (a : CallAnswer) → CheckSays german source symbols a → IsVerdict a
 check-verdict german source symbols a said =
     english-verdict german source symbols (ChecksAs (language_of german) symbols) (λ text b says. check-verdict b says.0 says.2) a said
 
-translate-verdict : (language : Language) (source : List ℕ) (a : Answer) → TranslateSays language source a → IsVerdict a
+translate-verdict : (language : Language) (source : List ℕ) (a : CallAnswer) → TranslateSays language source a → IsVerdict a
 translate-verdict language source a said =
     translated-verdict language source (λ text answer. answer ≡ done_answer ok_line) (λ text b gives. inl (ok_line, gives)) a said
 
-ran-verdict : (a : Answer) (l : LoadedProgram) (h : Result (List Entry) Refusal) → a ≡ run_outcome l h → IsVerdict a
+ran-verdict : (a : CallAnswer) (l : LoadedProgram) (h : Result (List Entry) Refusal) → a ≡ run_loaded_answer l h → IsVerdict a
 ran-verdict a l (Err refusal) gives = inr (inl (History, refusal, gives))
 ran-verdict a l (Ok entries) gives = inl (run_text l.profile (code_of l.program) entries, gives)
 
-run-verdict : (a : Answer) (v : Result LoadedProgram LoadFault) (history : List ℕ) → a ≡ run_answer v history → IsVerdict a
+run-verdict : (a : CallAnswer) (v : Result LoadedProgram LoadFault) (history : List ℕ) → a ≡ run_answer v history → IsVerdict a
 run-verdict a (Err fault) history gives = inr (inr (inl (fault, gives)))
 run-verdict a (Ok l) history gives = ran-verdict a l (history_of_text l.program.names history) gives
 
-upgrade-verdict : (a : Answer) (v : Result LoadedProgram LoadFault) → a ≡ upgrade_answer v → IsVerdict a
+upgrade-verdict : (a : CallAnswer) (v : Result LoadedProgram LoadFault) → a ≡ upgrade_answer v → IsVerdict a
 upgrade-verdict a (Err fault) gives = inr (inr (inl (fault, gives)))
 upgrade-verdict a (Ok l) gives = inl (ok_line, gives)
 
-gen-verdict : (a : Answer) (number : ℕ) (v : Result Code RefusedFile) → a ≡ gen_answer number v → IsVerdict a
+gen-verdict : (a : CallAnswer) (number : ℕ) (v : Result Code RefusedFile) → a ≡ gen_answer number v → IsVerdict a
 gen-verdict a number (Err why) gives = refused-verdict a why gives
 gen-verdict a number (Ok code) gives = inl (summary_text number Large code (generated_history number), gives)
 
-stimulated-verdict : (p : LoadedProgram) (steps : ℕ) (s : Result (List Entry) Refusal) (r : Result (List (List Entry)) RefusedScript) (a : Answer)
+stimulated-verdict : (p : LoadedProgram) (steps : ℕ) (s : Result (List Entry) Refusal) (r : Result (List (List Entry)) RefusedScript) (a : CallAnswer)
     → LiveAnswer p steps s r a → IsVerdict a
 stimulated-verdict p steps (Err refusal) r a said = inr (inl (Stimuli, refusal, said))
 stimulated-verdict p steps (Ok stimuli) (Err script) a said = inr (inl (Script script.number, script.refusal, said))
 stimulated-verdict p steps (Ok stimuli) (Ok scripts) a said = inl (live_text p said.history, said.says)
 
-live-verdict : (v : Result LoadedProgram LoadFault) (steps : ℕ) (stimuli : List ℕ) (scripts : List (List ℕ)) (a : Answer)
+live-verdict : (v : Result LoadedProgram LoadFault) (steps : ℕ) (stimuli : List ℕ) (scripts : List (List ℕ)) (a : CallAnswer)
     → LoadedLive v steps stimuli scripts a → IsVerdict a
 live-verdict (Err fault) steps stimuli scripts a said = inr (inr (inl (fault, said)))
 live-verdict (Ok p) steps stimuli scripts a said =
     stimulated-verdict p steps (stimuli_of stimuli) (scripts_from p.program.names 1 scripts) a said
 
-pub says-verdict : (k : Command) (contents : List (List ℕ)) (a : Answer) → CommandSays k contents a → IsVerdict a
+pub says-verdict : (k : Command) (contents : List (List ℕ)) (a : CallAnswer) → CommandSays k contents a → IsVerdict a
 says-verdict (Go _ None german _) [] a said = absurd said
 says-verdict (Go _ None german _) (x ∷ []) a said = absurd said
 says-verdict (Go _ None german _) (source ∷ history ∷ []) a said = go-verdict german source [] history a said
@@ -339,7 +339,7 @@ symbols-held c (Some name) None i other hold = absurd hold.1
 symbols-held c (Some name) (Some bytes) i other hold = (hold.0, tt)
 
 pub go-said : (c : Contents) (src : List ℕ) (symbols : Option (List ℕ)) (german : Bool) (hist source : List ℕ) (bytes : Option (List ℕ))
-    (history : List ℕ) (a : Answer) → HoldBytesInTurn c (symbols_inputs symbols) (option_to_list bytes)
+    (history : List ℕ) (a : CallAnswer) → HoldBytesInTurn c (symbols_inputs symbols) (option_to_list bytes)
     → GoSays german source (unwrap_or bytes []) history a
     → CommandSays (Go src symbols german hist) ((source ∷ option_to_list bytes) ++ history ∷ []) a
 go-said c src None german hist source None history a hold said = said
@@ -348,7 +348,7 @@ go-said c src (Some name) german hist source None history a hold said = absurd h
 go-said c src (Some name) german hist source (Some bytes) history a hold said = said
 
 pub check-said : (c : Contents) (src : List ℕ) (symbols : Option (List ℕ)) (german : Bool) (source : List ℕ) (bytes : Option (List ℕ))
-    (a : Answer) → HoldBytesInTurn c (symbols_inputs symbols) (option_to_list bytes) → CheckSays german source (unwrap_or bytes []) a
+    (a : CallAnswer) → HoldBytesInTurn c (symbols_inputs symbols) (option_to_list bytes) → CheckSays german source (unwrap_or bytes []) a
     → CommandSays (Check src symbols german) (source ∷ option_to_list bytes) a
 check-said c src None german source None a hold said = said
 check-said c src None german source (Some bytes) a hold said = absurd hold
@@ -356,7 +356,7 @@ check-said c src (Some name) german source None a hold said = absurd hold
 check-said c src (Some name) german source (Some bytes) a hold said = said
 
 pub compile-said : (c : Contents) (src : List ℕ) (symbols : Option (List ℕ)) (german : Bool) (img source : List ℕ) (bytes : Option (List ℕ))
-    (a : Answer) → HoldBytesInTurn c (symbols_inputs symbols) (option_to_list bytes) → CheckSays german source (unwrap_or bytes []) a
+    (a : CallAnswer) → HoldBytesInTurn c (symbols_inputs symbols) (option_to_list bytes) → CheckSays german source (unwrap_or bytes []) a
     → CommandSays (Compile src symbols german img) (source ∷ option_to_list bytes) a
 compile-said c src None german img source None a hold said = said
 compile-said c src None german img source (Some bytes) a hold said = absurd hold
@@ -374,31 +374,31 @@ compile-writes c src (Some name) german img source (Some bytes) image hold keeps
 -- ---- a source that isn't compiled
 
 -- what refuses it is what `check` and `go` say
-pub refused-checks : (german : Bool) (source symbols : List ℕ) (a : Answer) → RefusedProgram german source symbols a → CheckSays german source symbols a
+pub refused-checks : (german : Bool) (source symbols : List ℕ) (a : CallAnswer) → RefusedProgram german source symbols a → CheckSays german source symbols a
 refused-checks german source symbols a told =
     english-weaker german source symbols (RefusedText (language_of german) symbols) (ChecksAs (language_of german) symbols)
     (λ text b refused. (Err refused.0, refused.1, refused.2)) a told
 
-pub refused-goes : (german : Bool) (source symbols history : List ℕ) (a : Answer) → RefusedProgram german source symbols a
+pub refused-goes : (german : Bool) (source symbols history : List ℕ) (a : CallAnswer) → RefusedProgram german source symbols a
     → GoSays german source symbols history a
 refused-goes german source symbols history a told =
     english-weaker german source symbols (RefusedText (language_of german) symbols)
     (λ text. SourceSays (language_of german) Large text symbols history) (λ text b refused. (Err refused.0, refused.1, refused.2)) a told
 
-pub text-refuses : (V : Type 0) (language : Language) (symbols text : List ℕ) (fault : CompileFault) → RefusesIn language text symbols fault
+pub text-refuses : (V : Type 0) (language : Language) (symbols text : List ℕ) (fault : CompileFault) → RefusesInLanguage language text symbols fault
     → SaysRefusal {V = V} (RefusedText language symbols text) (Err (failure_of_compiling fault))
 text-refuses V language symbols text (compiling.Symbols refusal) breaks = (InSymbols refusal, breaks, refl)
 text-refuses V language symbols text (compiling.Source refusal) breaks = (InSource refusal, breaks, refl)
 text-refuses V language symbols text compiling.NoMemory breaks = tt
 
 refused-so : (source source' symbols symbols' : List ℕ) (fault : CompileFault) → source' ≡ source → symbols' ≡ symbols
-    → RefusesBy source' symbols' fault → RefusesBy source symbols fault
+    → RefusesEnglish source' symbols' fault → RefusesEnglish source symbols fault
 refused-so source source' symbols symbols' fault is are breaks =
-    subst (λ (s : List ℕ). RefusesBy s symbols fault) is (subst (λ (y : List ℕ). RefusesBy source' y fault) are breaks)
+    subst (λ (s : List ℕ). RefusesEnglish s symbols fault) is (subst (λ (y : List ℕ). RefusesEnglish source' y fault) are breaks)
 
 -- an English one
 pub program-refused : (V : Type 0) (source source' symbols symbols' : List ℕ) (fault : CompileFault) (r : Result V Failure)
-    → source' ≡ source → symbols' ≡ symbols → r ≡ Err (failure_of_compiling fault) → RefusesBy source' symbols' fault
+    → source' ≡ source → symbols' ≡ symbols → r ≡ Err (failure_of_compiling fault) → RefusesEnglish source' symbols' fault
     → SaysRefusal (RefusedProgram false source symbols) r
 program-refused V source source' symbols symbols' fault r is are fails breaks =
     subst (λ (q : Result V Failure). SaysRefusal (RefusedProgram false source symbols) q) (sym fails)
@@ -409,7 +409,7 @@ pub symbols-refused : (V : Type 0) (source symbols : List ℕ) (fault : CompileF
     → RefusesSymbols German symbols fault → SaysRefusal (NotInEnglish source symbols) r
 symbols-refused V source symbols (compiling.Symbols refusal) r fails has =
     subst (λ (q : Result V Failure). SaysRefusal (NotInEnglish source symbols) q) (sym fails)
-    (subst (λ (read : Result (List Symbol) Refusal). OfSymbols read source (λ text a. ⊥) (refused_file_answer Symbols refusal)) has refl)
+    (subst (λ (read : Result (List Symbol) Refusal). SaysWithSymbols read source (λ text a. ⊥) (refused_file_answer Symbols refusal)) has refl)
 symbols-refused V source symbols (compiling.Source refusal) r fails has = absurd has
 symbols-refused V source symbols compiling.NoMemory r fails has =
     subst (λ (q : Result V Failure). SaysRefusal (NotInEnglish source symbols) q) (sym fails) tt
@@ -419,7 +419,7 @@ pub translation-refused : (V W : Type 0) (source source' symbols : List ℕ) (li
     → SaysRefusal {V = W} (NotTranslated English source') (Err failure) → SaysRefusal (NotInEnglish source symbols) r
 translation-refused V W source source' symbols list failure r fails is has told =
     refused-more W V (NotTranslated English source') (NotInEnglish source symbols) failure r fails
-    (λ (a : Answer) no. german-so (symbols_in German symbols) list source (λ text b. ⊥) a has
+    (λ (a : CallAnswer) no. german-so (symbols_in German symbols) list source (λ text b. ⊥) a has
     (subst (λ (s : List ℕ). NotTranslated English s a) is no))
     told
 
@@ -427,15 +427,15 @@ pub english-refused : (V W : Type 0) (source symbols : List ℕ) (failure : Fail
     → SaysRefusal {V = W} (NotInEnglish source symbols) (Err failure) → SaysRefusal (RefusedProgram true source symbols) r
 english-refused V W source symbols failure r fails told =
     refused-more W V (NotInEnglish source symbols) (RefusedProgram true source symbols) failure r fails
-    (λ (a : Answer) no. english-weaker true source symbols (λ text b. ⊥) (RefusedText German symbols) (λ text b none. absurd none) a no)
+    (λ (a : CallAnswer) no. english-weaker true source symbols (λ text b. ⊥) (RefusedText German symbols) (λ text b none. absurd none) a no)
     told
 
 pub text-refused : (V : Type 0) (source symbols text : List ℕ) (list : List Symbol) (fault : CompileFault) (r : Result V Failure)
     → r ≡ Err (failure_of_compiling fault) → HasSymbolsIn German symbols (Ok list) → IsEnglish true source text
-    → RefusesWith text list fault → SaysRefusal (RefusedProgram true source symbols) r
+    → RefusesForSymbols text list fault → SaysRefusal (RefusedProgram true source symbols) r
 text-refused V source symbols text list fault r fails has is refuses =
     refused-more V V (RefusedText German symbols text) (RefusedProgram true source symbols) (failure_of_compiling fault) r fails
-    (λ (a : Answer) told. in-english true source symbols text list (RefusedText German symbols) a has is told)
+    (λ (a : CallAnswer) told. in-english true source symbols text list (RefusedText German symbols) a has is told)
     (text-refuses V German symbols text fault (refuses German symbols has))
 
 -- ---- what a source with a program says
@@ -443,7 +443,7 @@ text-refused V source symbols text list fault r fails has is refuses =
 -- the symbols that were read
 pub means-symbols : (language : Language) (source symbols : List ℕ) (code : Code) → MeansCodeIn language source symbols code
     → (list : List Symbol) × HasSymbolsIn language symbols (Ok list)
-unfolding IsCheckedIn
+unfolding HasOutcomeOfSourceIn
 means-symbols language source symbols code means = (means.0, means.1)
 
 pub checks-ok : (german : Bool) (source symbols text : List ℕ) (code : Code) → MeansCodeIn (language_of german) text symbols code
@@ -486,7 +486,7 @@ image-refused V image history loading.NoMemory r fails least =
 run-refuses : (V : Type 0) (image : List ℕ) (l : LoadedProgram) (history : List ℕ) (fault : TextFault) → LoadsAs image (Ok l)
     → IsTextFault (history_of_text l.program.names history) fault
     → SaysRefusal {V = V} (RunSays image history) (Err (failure_of_history fault))
-run-refuses V image l history (text.BadLine line rule) loads is = (Ok l, loads, ap (run_outcome l) (sym is))
+run-refuses V image l history (text.BadLine line rule) loads is = (Ok l, loads, ap (run_loaded_answer l) (sym is))
 run-refuses V image l history text.NoMemory loads is = tt
 
 pub run-refused : (V : Type 0) (image : List ℕ) (l : LoadedProgram) (history : List ℕ) (fault : TextFault) (r : Result V Failure)

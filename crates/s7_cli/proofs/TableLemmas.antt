@@ -8,7 +8,7 @@ use Rattle.s7_cli.specs.declared.failures.File.{File}
 use Rattle.s7_cli.specs.declared.failures.File.TheVariants.{Source, Translation, Symbols, Image, Listing, History, Stimuli, Vars, Script, Certificate}
 use Rattle.s7_cli.specs.declared.failures.Failure.{Failure}
 use Rattle.s7_cli.specs.declared.failures.Failure.TheVariants.{WordsRefused, ReadFault, TooLong, Refused, ImageRefused, NoListing, SaysNo, TooDeep, WriteFault, NoMemory}
-use Rattle.s7_cli.specs.Answer.{Answer, Outcome, refused_file_answer, refused_image_answer, no_listing_answer, says_no_answer, too_deep_answer, read_fault_answer, too_long_answer, words_refused_answer, exit_status}
+use Rattle.s7_cli.specs.Answer.{CallAnswer, CallOutcome, refused_file_answer, refused_image_answer, no_listing_answer, says_no_answer, too_deep_answer, read_fault_answer, too_long_answer, words_refused_answer, exit_status}
 use Rattle.stack_bound.specs.Overflow.{CertificatesKeepStacks}
 use Rattle.s7_cli.specs.BoundSays.{StacksSuffice}
 use Rattle.s7_cli.specs.Command.{Command, inputs_of}
@@ -137,54 +137,54 @@ file-status Vars refusal = refused-status 4 (omega arith) (omega arith)
 file-status (Script number) refusal = refused-status 4 (omega arith) (omega arith)
 file-status Certificate refusal = refused-status 4 (omega arith) (omega arith)
 
-rows-verdict : (c : Option Command) (d : Disk) (s : SinkMoments) (k : Command) (a : Answer) → c ≡ Some k → IsVerdict a
+rows-verdict : (c : Option Command) (d : Disk) (s : SinkMoments) (k : Command) (a : CallAnswer) → c ≡ Some k → IsVerdict a
     → TookBytes s.before s.after a.text → Rows c d s (exit_status a.outcome)
 rows-verdict c d s k a is (inl (text, gives)) took =
-    subst (λ (b : Answer). Rows c d s (exit_status b.outcome)) (sym gives) (rows-done c d s k is)
+    subst (λ (b : CallAnswer). Rows c d s (exit_status b.outcome)) (sym gives) (rows-done c d s k is)
 rows-verdict c d s k a is (inr (inl (file, refusal, gives))) took =
-    subst (λ (b : Answer). Rows c d s (exit_status b.outcome)) (sym gives)
+    subst (λ (b : CallAnswer). Rows c d s (exit_status b.outcome)) (sym gives)
     (rows-file c d s k (Refused file refusal) (refused_file_answer file refusal).text (exit_status (refused_file_answer file refusal).outcome) is refl refl
-    (subst (λ (b : Answer). TookBytes s.before s.after b.text) gives took) (file-status file refusal))
+    (subst (λ (b : CallAnswer). TookBytes s.before s.after b.text) gives took) (file-status file refusal))
 rows-verdict c d s k a is (inr (inr (inl (fault, gives)))) took =
-    subst (λ (b : Answer). Rows c d s (exit_status b.outcome)) (sym gives)
+    subst (λ (b : CallAnswer). Rows c d s (exit_status b.outcome)) (sym gives)
     (rows-file c d s k (ImageRefused fault) (refused_image_answer fault).text 3 is refl refl
-    (subst (λ (b : Answer). TookBytes s.before s.after b.text) gives took) (refused-status 3 (omega arith) (omega arith)))
+    (subst (λ (b : CallAnswer). TookBytes s.before s.after b.text) gives took) (refused-status 3 (omega arith) (omega arith)))
 rows-verdict c d s k a is (inr (inr (inr (inl gives)))) took =
-    subst (λ (b : Answer). Rows c d s (exit_status b.outcome)) (sym gives)
+    subst (λ (b : CallAnswer). Rows c d s (exit_status b.outcome)) (sym gives)
     (rows-file c d s k SaysNo says_no_answer.text 10 is refl refl
-    (subst (λ (b : Answer). TookBytes s.before s.after b.text) gives took) certificate-status)
+    (subst (λ (b : CallAnswer). TookBytes s.before s.after b.text) gives took) certificate-status)
 rows-verdict c d s k a is (inr (inr (inr (inr (inl (chain, gives)))))) took =
-    subst (λ (b : Answer). Rows c d s (exit_status b.outcome)) (sym gives)
+    subst (λ (b : CallAnswer). Rows c d s (exit_status b.outcome)) (sym gives)
     (rows-file c d s k TooDeep (too_deep_answer chain).text 10 is refl (chain, refl)
-    (subst (λ (b : Answer). TookBytes s.before s.after b.text) gives took) certificate-status)
+    (subst (λ (b : CallAnswer). TookBytes s.before s.after b.text) gives took) certificate-status)
 rows-verdict c d s k a is (inr (inr (inr (inr (inr (inl (file, gives))))))) took =
-    subst (λ (b : Answer). Rows c d s (exit_status b.outcome)) (sym gives)
+    subst (λ (b : CallAnswer). Rows c d s (exit_status b.outcome)) (sym gives)
     (rows-file c d s k (TooLong file) (too_long_answer file).text 8 is refl refl
-    (subst (λ (b : Answer). TookBytes s.before s.after b.text) gives took) too-long-status)
+    (subst (λ (b : CallAnswer). TookBytes s.before s.after b.text) gives took) too-long-status)
 rows-verdict c d s k a is (inr (inr (inr (inr (inr (inr gives)))))) took =
-    subst (λ (b : Answer). Rows c d s (exit_status b.outcome)) (sym gives)
+    subst (λ (b : CallAnswer). Rows c d s (exit_status b.outcome)) (sym gives)
     (rows-file c d s k NoListing no_listing_answer.text 9 is refl refl
-    (subst (λ (b : Answer). TookBytes s.before s.after b.text) gives took) no-listing-status)
+    (subst (λ (b : CallAnswer). TookBytes s.before s.after b.text) gives took) no-listing-status)
 
-rows-command : (k : Command) (d : Disk) (s : SinkMoments) (a : Answer) → ReadsFilesInTurn d (inputs_of k) (CommandSays k) a
+rows-command : (k : Command) (d : Disk) (s : SinkMoments) (a : CallAnswer) → ReadsFilesInTurn d (inputs_of k) (CommandSays k) a
     → TookBytes s.before s.after a.text → Rows (Some k) d s (exit_status a.outcome)
 rows-command k d s a reads took =
     elim (reads-kinds d (inputs_of k) (CommandSays k) a reads) [
       | inl (gives, rose) ↦
-          subst (λ (b : Answer). Rows (Some k) d s (exit_status b.outcome)) (sym gives)
-          (rows-read (Some k) d s k read_fault_answer.text refl refl (subst (λ (b : Answer). TookBytes s.before s.after b.text) gives took) rose)
+          subst (λ (b : CallAnswer). Rows (Some k) d s (exit_status b.outcome)) (sym gives)
+          (rows-read (Some k) d s k read_fault_answer.text refl refl (subst (λ (b : CallAnswer). TookBytes s.before s.after b.text) gives took) rose)
       | inr (inl (i, gives)) ↦
-          subst (λ (b : Answer). Rows (Some k) d s (exit_status b.outcome)) (sym gives)
+          subst (λ (b : CallAnswer). Rows (Some k) d s (exit_status b.outcome)) (sym gives)
           (rows-file (Some k) d s k (TooLong i.file) (too_long_answer i.file).text 8 refl refl refl
-          (subst (λ (b : Answer). TookBytes s.before s.after b.text) gives took) too-long-status)
+          (subst (λ (b : CallAnswer). TookBytes s.before s.after b.text) gives took) too-long-status)
       | inr (inr (contents, says)) ↦ rows-verdict (Some k) d s k a refl (says-verdict k contents a says) took
     ]
 
-rows : (c : Option Command) (d : Disk) (s : SinkMoments) (a : Answer) → IsAnswerOfCall c d a → TookBytes s.before s.after a.text
+rows : (c : Option Command) (d : Disk) (s : SinkMoments) (a : CallAnswer) → IsAnswerOfCall c d a → TookBytes s.before s.after a.text
     → Rows c d s (exit_status a.outcome)
 rows None d s a gives took =
-    subst (λ (b : Answer). Rows None d s (exit_status b.outcome)) (sym gives)
-    (rows-words None d s words_refused_answer.text refl (subst (λ (b : Answer). TookBytes s.before s.after b.text) gives took) refl)
+    subst (λ (b : CallAnswer). Rows None d s (exit_status b.outcome)) (sym gives)
+    (rows-words None d s words_refused_answer.text refl (subst (λ (b : CallAnswer). TookBytes s.before s.after b.text) gives took) refl)
 rows (Some k) d s a reads took = rows-command k d s a reads took
 
 -- ---- the answer over files that tell what they hold
@@ -192,11 +192,11 @@ rows (Some k) d s a reads took = rows-command k d s a reads took
 abbrev Decided : Command → Disk → SinkMoments → ℕ → Type 0
 Decided k d s code = ((code ≡ 5) × FailsOnTheWay d (inputs_of k)) ⊎ IsCutOff code ⊎ IsDecided k d s code
 
-decided-command : OneEach → (k : Command) (d : Disk) (s : SinkMoments) (a : Answer) → d.before.contents.told ≡ true
+decided-command : OneEach → (k : Command) (d : Disk) (s : SinkMoments) (a : CallAnswer) → d.before.contents.told ≡ true
     → ReadsFilesInTurn d (inputs_of k) (CommandSays k) a → TookBytes s.before s.after a.text → Decided k d s (exit_status a.outcome)
 decided-command one k d s a told reads took =
     elim (reads-told d (inputs_of k) (CommandSays k) a told reads) [
-      | inl fails ↦ inl (ap (λ (b : Answer). exit_status b.outcome) fails.0, fails.1)
+      | inl fails ↦ inl (ap (λ (b : CallAnswer). exit_status b.outcome) fails.0, fails.1)
       | inr allowed ↦ inr (inr (record {
         answer = a;
         allowed = allowed;
@@ -206,7 +206,7 @@ decided-command one k d s a told reads took =
       }))
     ]
 
-decided : OneEach → (c : Option Command) (d : Disk) (s : SinkMoments) (a : Answer) → IsAnswerOfCall c d a → TookBytes s.before s.after a.text
+decided : OneEach → (c : Option Command) (d : Disk) (s : SinkMoments) (a : CallAnswer) → IsAnswerOfCall c d a → TookBytes s.before s.after a.text
     → (k : Command) → c ≡ Some k → d.before.contents.told ≡ true → Decided k d s (exit_status a.outcome)
 decided one c d s a answers took k is told =
     decided-command one k d s a told (subst (λ (o : Option Command). IsAnswerOfCall o d a) is answers) took
@@ -227,7 +227,7 @@ complete c d s code decides six k is told no_input no_output no_fault =
 
 -- ---- counts and files
 
-reads-said : (d : Disk) (outcome : Outcome) (name : List ℕ) → CountsReads d outcome → d.before.failed_reads name < d.after.failed_reads name
+reads-said : (d : Disk) (outcome : CallOutcome) (name : List ℕ) → CountsReads d outcome → d.before.failed_reads name < d.after.failed_reads name
     → exit_status outcome ≡ 5
 reads-said d (Err ReadFault) name counts more = refl
 reads-said d outcome name counts more = absurd (omega (arith, counts name))
@@ -244,32 +244,32 @@ not-done (Refused (Script number) refusal) e = omega arith
 not-done (Refused Certificate refusal) e = omega arith
 not-done failure e = omega arith
 
-unchanged-said : (c : Option Command) (d : Disk) (outcome : Outcome) → LeavesFiles c d outcome → exit_status outcome ≢ 0
+unchanged-said : (c : Option Command) (d : Disk) (outcome : CallOutcome) → LeavesFiles c d outcome → exit_status outcome ≢ 0
     → SameFiles d.before.contents d.after.contents
 unchanged-said c d (Ok ok) leaves isnt = absurd (isnt refl)
 unchanged-said c d (Err failure) leaves isnt = leaves
 
-outputs-said : (c : Option Command) (d : Disk) (outcome : Outcome) → LeavesFiles c d outcome → ChangesOutputs c d
+outputs-said : (c : Option Command) (d : Disk) (outcome : CallOutcome) → LeavesFiles c d outcome → ChangesOutputs c d
 outputs-said c d (Ok ok) leaves = leaves.0
 outputs-said c d (Err failure) leaves = same-files c d leaves
 
-whole-said : (c : Option Command) (d : Disk) (outcome : Outcome) → LeavesFiles c d outcome → exit_status outcome ≡ 0 → WritesOutputs c d
+whole-said : (c : Option Command) (d : Disk) (outcome : CallOutcome) → LeavesFiles c d outcome → exit_status outcome ≡ 0 → WritesOutputs c d
 whole-said c d (Ok ok) leaves e = leaves.1
 whole-said c d (Err failure) leaves e = absurd (not-done failure e)
 
-stacks-said : CertificatesKeepStacks → (c : Option Command) (d : Disk) (a : Answer) → IsAnswerOfCall c d a → exit_status a.outcome ≡ 0
+stacks-said : CertificatesKeepStacks → (c : Option Command) (d : Disk) (a : CallAnswer) → IsAnswerOfCall c d a → exit_status a.outcome ≡ 0
     → (k : Command) → c ≡ Some k → StacksSuffice k d
 stacks-said keep c d a answers zero k is =
     stacks-suffice keep k d a (subst (λ (o : Option Command). IsAnswerOfCall o d a) is answers) zero
 
-listed-said : CompiledHaveListings → (c : Option Command) (d : Disk) (a : Answer) → IsAnswerOfCall c d a → exit_status a.outcome ≡ 9
+listed-said : CompiledHaveListings → (c : Option Command) (d : Disk) (a : CallAnswer) → IsAnswerOfCall c d a → exit_status a.outcome ≡ 9
     → (k : Command) → c ≡ Some k → IsNotCompiled k d
 listed-said have c d a answers nine k is =
     never-compiled have k d a (subst (λ (o : Option Command). IsAnswerOfCall o d a) is answers) nine
 
 -- ---- the table
 
-table-said : OneEach → CertificatesKeepStacks → CompiledHaveListings → (c : Option Command) (d : Disk) (s : SinkMoments) (a : Answer) → SaysWholeText c d s a → StatusTable c d s (exit_status a.outcome)
+table-said : OneEach → CertificatesKeepStacks → CompiledHaveListings → (c : Option Command) (d : Disk) (s : SinkMoments) (a : CallAnswer) → SaysWholeText c d s a → StatusTable c d s (exit_status a.outcome)
 table-said one keep have c d s a said =
     let r : Rows c d s (exit_status a.outcome) = rows c d s a said.answers said.took in
     let six : exit_status a.outcome ≡ 6 → CountRose s.before.faults s.after.faults ⊎ OutputRose c d = λ e. absurd (r.whole (inl e)) in record {
@@ -329,7 +329,7 @@ table-memory c d s wanting =
     table-cut c d s 7 (inr refl) wanting.cut (λ e. absurd (omega arith)) (λ name more. absurd (omega (arith, wanting.writes name)))
     (λ more. absurd (omega (arith, wanting.faults)))
 
-table-ends : OneEach → CertificatesKeepStacks → CompiledHaveListings → (c : Option Command) (d : Disk) (s : SinkMoments) (outcome : Outcome) → EndsWithOutcome c d s outcome
+table-ends : OneEach → CertificatesKeepStacks → CompiledHaveListings → (c : Option Command) (d : Disk) (s : SinkMoments) (outcome : CallOutcome) → EndsWithOutcome c d s outcome
     → StatusTable c d s (exit_status outcome)
 table-ends one keep have c d s (Err WriteFault) ends = table-write c d s ends
 table-ends one keep have c d s (Err NoMemory) ends = table-memory c d s ends

@@ -9,13 +9,13 @@ use Rattle.stl_symbols.specs.Symbols.{symbols_in}
 use Rattle.stl_symbols.specs.declared.languages.Language.{Language}
 use Rattle.stl_symbols.specs.declared.languages.Language.TheVariants.{English, German}
 use Rattle.s7_cli.specs.declared.failures.File.TheVariants.{Source, Translation, Symbols}
-use Rattle.s7_cli.specs.Answer.{Answer, too_long_answer}
-use Rattle.s7_cli.specs.Translating.{IfFits, InEnglish, IsEnglish, NotTranslated, OfSymbols, OfTranslation, SaysTranslated, TranslatesSource, language_of}
+use Rattle.s7_cli.specs.Answer.{CallAnswer, too_long_answer}
+use Rattle.s7_cli.specs.Translating.{IfFits, SaysInEnglish, IsEnglish, NotTranslated, SaysWithSymbols, SaysByTranslation, SaysTranslated, TranslatesSource, language_of}
 use Rattle.s7_cli.proofs.Verdicts.{IsVerdict}
 
 -- what is said of a text
 abbrev pub Says : Type 1
-Says = List ℕ → Answer → Type 0
+Says = List ℕ → CallAnswer → Type 0
 
 -- ---- one answer
 
@@ -36,93 +36,93 @@ translates-one text excludes violation language source (Err r) (Err s) p q =
 
 -- one answer is said of each text
 abbrev pub SaysOne : Says → Type 0
-SaysOne says = (text : List ℕ) (a b : Answer) → says text a → says text b → a ≡ b
+SaysOne says = (text : List ℕ) (a b : CallAnswer) → says text a → says text b → a ≡ b
 
-fits-one : (fits : Bool) (says : Says) → SaysOne says → (text : List ℕ) (a b : Answer) → IfFits fits (says text a) a
+fits-one : (fits : Bool) (says : Says) → SaysOne says → (text : List ℕ) (a b : CallAnswer) → IfFits fits (says text a) a
     → IfFits fits (says text b) b → a ≡ b
 fits-one true says one text a b p q = one text a b p q
 fits-one false says one text a b p q = p ∙ sym q
 
-translation-one : (says : Says) → SaysOne says → (v : Result (List ℕ) Refusal) (a b : Answer) → OfTranslation says v a
-    → OfTranslation says v b → a ≡ b
+translation-one : (says : Says) → SaysOne says → (v : Result (List ℕ) Refusal) (a b : CallAnswer) → SaysByTranslation says v a
+    → SaysByTranslation says v b → a ≡ b
 translation-one says one (Err refusal) a b p q = p ∙ sym q
 translation-one says one (Ok text) a b p q = fits-one (nat_le (length text) 1048576) says one text a b p q
 
-pub translated-one : TranslatesOne → (language : Language) (source : List ℕ) (says : Says) → SaysOne says → (a b : Answer)
+pub translated-one : TranslatesOne → (language : Language) (source : List ℕ) (says : Says) → SaysOne says → (a b : CallAnswer)
     → SaysTranslated language source says a → SaysTranslated language source says b → a ≡ b
 translated-one each language source says one a b p q =
     translation-one says one p.0 a b p.2
-    (subst (λ (v : Result (List ℕ) Refusal). OfTranslation says v b) (each language source q.0 p.0 q.1 p.1) q.2)
+    (subst (λ (v : Result (List ℕ) Refusal). SaysByTranslation says v b) (each language source q.0 p.0 q.1 p.1) q.2)
 
-symbols-one : TranslatesOne → (read : Result (List Symbol) Refusal) (source : List ℕ) (says : Says) → SaysOne says → (a b : Answer)
-    → OfSymbols read source says a → OfSymbols read source says b → a ≡ b
+symbols-one : TranslatesOne → (read : Result (List Symbol) Refusal) (source : List ℕ) (says : Says) → SaysOne says → (a b : CallAnswer)
+    → SaysWithSymbols read source says a → SaysWithSymbols read source says b → a ≡ b
 symbols-one each (Err refusal) source says one a b p q = p ∙ sym q
 symbols-one each (Ok list) source says one a b p q = translated-one each English source says one a b p q
 
-pub english-one : TranslatesOne → (german : Bool) (source symbols : List ℕ) (says : Says) → SaysOne says → (a b : Answer)
-    → InEnglish german source symbols says a → InEnglish german source symbols says b → a ≡ b
+pub english-one : TranslatesOne → (german : Bool) (source symbols : List ℕ) (says : Says) → SaysOne says → (a b : CallAnswer)
+    → SaysInEnglish german source symbols says a → SaysInEnglish german source symbols says b → a ≡ b
 english-one each false source symbols says one a b p q = one source a b p q
 english-one each true source symbols says one a b p q = symbols-one each (symbols_in German symbols) source says one a b p q
 
 -- ---- which answers there are
 
 abbrev pub SaysVerdict : Says → Type 0
-SaysVerdict says = (text : List ℕ) (a : Answer) → says text a → IsVerdict a
+SaysVerdict says = (text : List ℕ) (a : CallAnswer) → says text a → IsVerdict a
 
-fits-verdict : (fits : Bool) (says : Says) → SaysVerdict says → (text : List ℕ) (a : Answer) → IfFits fits (says text a) a → IsVerdict a
+fits-verdict : (fits : Bool) (says : Says) → SaysVerdict says → (text : List ℕ) (a : CallAnswer) → IfFits fits (says text a) a → IsVerdict a
 fits-verdict true says each text a said = each text a said
 fits-verdict false says each text a said = inr (inr (inr (inr (inr (inl (Translation, said))))))
 
-translation-verdict : (says : Says) → SaysVerdict says → (v : Result (List ℕ) Refusal) (a : Answer) → OfTranslation says v a → IsVerdict a
+translation-verdict : (says : Says) → SaysVerdict says → (v : Result (List ℕ) Refusal) (a : CallAnswer) → SaysByTranslation says v a → IsVerdict a
 translation-verdict says each (Err refusal) a said = inr (inl (Source, refusal, said))
 translation-verdict says each (Ok text) a said = fits-verdict (nat_le (length text) 1048576) says each text a said
 
-pub translated-verdict : (language : Language) (source : List ℕ) (says : Says) → SaysVerdict says → (a : Answer)
+pub translated-verdict : (language : Language) (source : List ℕ) (says : Says) → SaysVerdict says → (a : CallAnswer)
     → SaysTranslated language source says a → IsVerdict a
 translated-verdict language source says each a said = translation-verdict says each said.0 a said.2
 
-symbols-verdict : (read : Result (List Symbol) Refusal) (source : List ℕ) (says : Says) → SaysVerdict says → (a : Answer)
-    → OfSymbols read source says a → IsVerdict a
+symbols-verdict : (read : Result (List Symbol) Refusal) (source : List ℕ) (says : Says) → SaysVerdict says → (a : CallAnswer)
+    → SaysWithSymbols read source says a → IsVerdict a
 symbols-verdict (Err refusal) source says each a said = inr (inl (Symbols, refusal, said))
 symbols-verdict (Ok list) source says each a said = translated-verdict English source says each a said
 
-pub english-verdict : (german : Bool) (source symbols : List ℕ) (says : Says) → SaysVerdict says → (a : Answer)
-    → InEnglish german source symbols says a → IsVerdict a
+pub english-verdict : (german : Bool) (source symbols : List ℕ) (says : Says) → SaysVerdict says → (a : CallAnswer)
+    → SaysInEnglish german source symbols says a → IsVerdict a
 english-verdict false source symbols says each a said = each source a said
 english-verdict true source symbols says each a said = symbols-verdict (symbols_in German symbols) source says each a said
 
 -- ---- more is said
 
-fits-weaker : (fits : Bool) (said says : Type 0) (a : Answer) → (said → says) → IfFits fits said a → IfFits fits says a
+fits-weaker : (fits : Bool) (said says : Type 0) (a : CallAnswer) → (said → says) → IfFits fits said a → IfFits fits says a
 fits-weaker true said says a each told = each told
 fits-weaker false said says a each told = told
 
-translation-weaker : (said says : Says) → ((text : List ℕ) (a : Answer) → said text a → says text a) → (v : Result (List ℕ) Refusal)
-    (a : Answer) → OfTranslation said v a → OfTranslation says v a
+translation-weaker : (said says : Says) → ((text : List ℕ) (a : CallAnswer) → said text a → says text a) → (v : Result (List ℕ) Refusal)
+    (a : CallAnswer) → SaysByTranslation said v a → SaysByTranslation says v a
 translation-weaker said says each (Err refusal) a told = told
 translation-weaker said says each (Ok text) a told = fits-weaker (nat_le (length text) 1048576) (said text a) (says text a) a (each text a) told
 
-pub translated-weaker : (language : Language) (source : List ℕ) (said says : Says) → ((text : List ℕ) (a : Answer) → said text a → says text a)
-    → (a : Answer) → SaysTranslated language source said a → SaysTranslated language source says a
+pub translated-weaker : (language : Language) (source : List ℕ) (said says : Says) → ((text : List ℕ) (a : CallAnswer) → said text a → says text a)
+    → (a : CallAnswer) → SaysTranslated language source said a → SaysTranslated language source says a
 translated-weaker language source said says each a told = (told.0, told.1, translation-weaker said says each told.0 a told.2)
 
 symbols-weaker : (read : Result (List Symbol) Refusal) (source : List ℕ) (said says : Says)
-    → ((text : List ℕ) (a : Answer) → said text a → says text a) → (a : Answer) → OfSymbols read source said a → OfSymbols read source says a
+    → ((text : List ℕ) (a : CallAnswer) → said text a → says text a) → (a : CallAnswer) → SaysWithSymbols read source said a → SaysWithSymbols read source says a
 symbols-weaker (Err refusal) source said says each a told = told
 symbols-weaker (Ok list) source said says each a told = translated-weaker English source said says each a told
 
-pub english-weaker : (german : Bool) (source symbols : List ℕ) (said says : Says) → ((text : List ℕ) (a : Answer) → said text a → says text a)
-    → (a : Answer) → InEnglish german source symbols said a → InEnglish german source symbols says a
+pub english-weaker : (german : Bool) (source symbols : List ℕ) (said says : Says) → ((text : List ℕ) (a : CallAnswer) → said text a → says text a)
+    → (a : CallAnswer) → SaysInEnglish german source symbols said a → SaysInEnglish german source symbols says a
 english-weaker false source symbols said says each a told = each source a told
 english-weaker true source symbols said says each a told = symbols-weaker (symbols_in German symbols) source said says each a told
 
 -- ---- the English text is known
 
-fitting : (fits : Bool) (said : Type 0) (a : Answer) → fits ≡ true → said → IfFits fits said a
+fitting : (fits : Bool) (said : Type 0) (a : CallAnswer) → fits ≡ true → said → IfFits fits said a
 fitting true said a is told = told
 fitting false said a is told = absurd (true≢false (sym is))
 
-too-long : (fits : Bool) (said : Type 0) (a : Answer) → fits ≡ false → a ≡ too_long_answer Translation → IfFits fits said a
+too-long : (fits : Bool) (said : Type 0) (a : CallAnswer) → fits ≡ false → a ≡ too_long_answer Translation → IfFits fits said a
 too-long true said a is gives = absurd (true≢false is)
 too-long false said a is gives = gives
 
@@ -133,18 +133,18 @@ pub long-translation : (language : Language) (source text : List ℕ) → IsTran
 long-translation language source text is long =
     (Ok text, is, too-long (nat_le (length text) 1048576) ⊥ (too_long_answer Translation) (grind (arith, nat_tests)) refl)
 
-pub says-translated : (language : Language) (source text : List ℕ) (says : Says) (a : Answer) → IsTranslation language source text
+pub says-translated : (language : Language) (source text : List ℕ) (says : Says) (a : CallAnswer) → IsTranslation language source text
     → length text ≤ 1048576 → says text a → SaysTranslated language source says a
 says-translated language source text says a is short said =
     (Ok text, is, fitting (nat_le (length text) 1048576) (says text a) a (grind (arith, nat_tests)) said)
 
-pub german-so : (read : Result (List Symbol) Refusal) (list : List Symbol) (source : List ℕ) (says : Says) (a : Answer) → Ok list ≡ read
-    → SaysTranslated English source says a → OfSymbols read source says a
-german-so read list source says a has said = subst (λ (r : Result (List Symbol) Refusal). OfSymbols r source says a) has said
+pub german-so : (read : Result (List Symbol) Refusal) (list : List Symbol) (source : List ℕ) (says : Says) (a : CallAnswer) → Ok list ≡ read
+    → SaysTranslated English source says a → SaysWithSymbols read source says a
+german-so read list source says a has said = subst (λ (r : Result (List Symbol) Refusal). SaysWithSymbols r source says a) has said
 
 -- it is said of it
-pub in-english : (german : Bool) (source symbols text : List ℕ) (list : List Symbol) (says : Says) (a : Answer)
-    → HasSymbolsIn (language_of german) symbols (Ok list) → IsEnglish german source text → says text a → InEnglish german source symbols says a
+pub in-english : (german : Bool) (source symbols text : List ℕ) (list : List Symbol) (says : Says) (a : CallAnswer)
+    → HasSymbolsIn (language_of german) symbols (Ok list) → IsEnglish german source text → says text a → SaysInEnglish german source symbols says a
 in-english false source symbols text list says a has is said = subst (λ (t : List ℕ). says t a) is said
 in-english true source symbols text list says a has is said =
     german-so (symbols_in German symbols) list source says a has (says-translated English source text says a is.0 is.1 said)

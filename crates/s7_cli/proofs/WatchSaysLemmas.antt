@@ -8,29 +8,29 @@ use Rattle.var_access.specs.declared.Var.{Var}
 use Rattle.event_text.specs.Texts.{stimuli_of}
 use Rattle.event_text.specs.WatchedVars.{watched_vars_of}
 use Rattle.s7_cli.specs.declared.failures.File.TheVariants.{Stimuli, Vars, Script}
-use Rattle.s7_cli.specs.Answer.{Answer}
+use Rattle.s7_cli.specs.Answer.{CallAnswer}
 use Rattle.s7_cli.specs.LiveSays.{RefusedScript, scripts_from}
 use Rattle.s7_cli.specs.WatchSays.{LoadedWatch, WatchAnswer, WatchSays, watch_text}
 use Rattle.s7_cli.proofs.LoadLemmas.{loads-one}
 use Rattle.s7_cli.proofs.Verdicts.{IsVerdict}
 
-same-outcome : (a b c : Answer) → a ≡ c → b ≡ c → a.outcome ≡ b.outcome
-same-outcome a b c m n = ap (λ (x : Answer). x.outcome) (m ∙ sym n)
+same-outcome : (a b c : CallAnswer) → a ≡ c → b ≡ c → a.outcome ≡ b.outcome
+same-outcome a b c m n = ap (λ (x : CallAnswer). x.outcome) (m ∙ sym n)
 
-checked-one : (p : LoadedProgram) (steps : ℕ) (s : Result (List Entry) Refusal) (v : Result (List Var) Refusal) (r : Result (List (List Entry)) RefusedScript) (a b : Answer)
+checked-one : (p : LoadedProgram) (steps : ℕ) (s : Result (List Entry) Refusal) (v : Result (List Var) Refusal) (r : Result (List (List Entry)) RefusedScript) (a b : CallAnswer)
     → WatchAnswer p steps s v r a → WatchAnswer p steps s v r b → a.outcome ≡ b.outcome
 checked-one p steps (Err refusal) v r a b m n = same-outcome a b _ m n
 checked-one p steps (Ok stimuli) (Err refusal) r a b m n = same-outcome a b _ m n
 checked-one p steps (Ok stimuli) (Ok vars) (Err script) a b m n = same-outcome a b _ m n
-checked-one p steps (Ok stimuli) (Ok vars) (Ok scripts) a b m n = ap (λ (x : Answer). x.outcome) m.says ∙ sym (ap (λ (x : Answer). x.outcome) n.says)
+checked-one p steps (Ok stimuli) (Ok vars) (Ok scripts) a b m n = ap (λ (x : CallAnswer). x.outcome) m.says ∙ sym (ap (λ (x : CallAnswer). x.outcome) n.says)
 
-loaded-one : (l : Result LoadedProgram LoadFault) (steps : ℕ) (stimuli vars : List ℕ) (scripts : List (List ℕ)) (a b : Answer)
+loaded-one : (l : Result LoadedProgram LoadFault) (steps : ℕ) (stimuli vars : List ℕ) (scripts : List (List ℕ)) (a b : CallAnswer)
     → LoadedWatch l steps stimuli vars scripts a → LoadedWatch l steps stimuli vars scripts b → a.outcome ≡ b.outcome
 loaded-one (Err fault) steps stimuli vars scripts a b m n = same-outcome a b _ m n
 loaded-one (Ok p) steps stimuli vars scripts a b m n =
     checked-one p steps (stimuli_of stimuli) (watched_vars_of p.program.names vars) (scripts_from p.program.names 1 scripts) a b m n
 
-pub watch-one : (steps : ℕ) (image stimuli vars : List ℕ) (scripts : List (List ℕ)) (a b : Answer) → WatchSays steps image stimuli vars scripts a
+pub watch-one : (steps : ℕ) (image stimuli vars : List ℕ) (scripts : List (List ℕ)) (a b : CallAnswer) → WatchSays steps image stimuli vars scripts a
     → WatchSays steps image stimuli vars scripts b → a.outcome ≡ b.outcome
 watch-one steps image stimuli vars scripts a b p q =
     loaded-one p.0 steps stimuli vars scripts a b p.2
@@ -38,18 +38,18 @@ watch-one steps image stimuli vars scripts a b p q =
 
 -- ---- it is done, or refuses a file or the image
 
-checked-verdict : (p : LoadedProgram) (steps : ℕ) (s : Result (List Entry) Refusal) (v : Result (List Var) Refusal) (r : Result (List (List Entry)) RefusedScript) (a : Answer)
+checked-verdict : (p : LoadedProgram) (steps : ℕ) (s : Result (List Entry) Refusal) (v : Result (List Var) Refusal) (r : Result (List (List Entry)) RefusedScript) (a : CallAnswer)
     → WatchAnswer p steps s v r a → IsVerdict a
 checked-verdict p steps (Err refusal) v r a said = inr (inl (Stimuli, refusal, said))
 checked-verdict p steps (Ok stimuli) (Err refusal) r a said = inr (inl (Vars, refusal, said))
 checked-verdict p steps (Ok stimuli) (Ok vars) (Err script) a said = inr (inl (Script script.number, script.refusal, said))
 checked-verdict p steps (Ok stimuli) (Ok vars) (Ok scripts) a said = inl (watch_text p said.history vars said.seen, said.says)
 
-loaded-verdict : (l : Result LoadedProgram LoadFault) (steps : ℕ) (stimuli vars : List ℕ) (scripts : List (List ℕ)) (a : Answer)
+loaded-verdict : (l : Result LoadedProgram LoadFault) (steps : ℕ) (stimuli vars : List ℕ) (scripts : List (List ℕ)) (a : CallAnswer)
     → LoadedWatch l steps stimuli vars scripts a → IsVerdict a
 loaded-verdict (Err fault) steps stimuli vars scripts a said = inr (inr (inl (fault, said)))
 loaded-verdict (Ok p) steps stimuli vars scripts a said =
     checked-verdict p steps (stimuli_of stimuli) (watched_vars_of p.program.names vars) (scripts_from p.program.names 1 scripts) a said
 
-pub watch-verdict : (steps : ℕ) (image stimuli vars : List ℕ) (scripts : List (List ℕ)) (a : Answer) → WatchSays steps image stimuli vars scripts a → IsVerdict a
+pub watch-verdict : (steps : ℕ) (image stimuli vars : List ℕ) (scripts : List (List ℕ)) (a : CallAnswer) → WatchSays steps image stimuli vars scripts a → IsVerdict a
 watch-verdict steps image stimuli vars scripts a said = loaded-verdict said.0 steps stimuli vars scripts a said.2

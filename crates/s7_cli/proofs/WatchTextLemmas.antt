@@ -20,12 +20,12 @@ use Rattle.s7_cli.specs.declared.failures.Failure.{Failure}
 use Rattle.s7_cli.specs.declared.failures.Failure.TheVariants.{Refused, NoMemory}
 use Rattle.s7_cli.specs.declared.failures.File.TheVariants.{Stimuli, Vars}
 use Rattle.s7_cli.specs.declared.watch_files.WatchText.{WatchText}
-use Rattle.s7_cli.specs.Answer.{Answer, done_answer}
+use Rattle.s7_cli.specs.Answer.{CallAnswer, done_answer}
 use Rattle.s7_cli.specs.Command.{watch_inputs}
 use Rattle.s7_cli.specs.Faults.{failure_of_loading, failure_of_text}
 use Rattle.s7_cli.specs.Inner.{SaysRefusal}
 use Rattle.s7_cli.specs.LiveSays.{RefusedScript, scripts_from}
-use Rattle.s7_cli.specs.LiveTexts.{TellsScript}
+use Rattle.s7_cli.specs.LiveTexts.{IsScriptRefusal}
 use Rattle.s7_cli.specs.Living.{IsLive, opened_on}
 use Rattle.s7_cli.specs.Loads.{LoadsAs}
 use Rattle.s7_cli.specs.Reading.{HoldBytesInTurn}
@@ -52,7 +52,7 @@ watch-within c image stimuli vars names text count same are some few hold =
 -- ---- what is said of all
 
 said-so : (steps : ℕ) (text : WatchText) (p : LoadedProgram) (stimuli : Result (List Entry) Refusal) (vars : Result (List Var) Refusal)
-    (scripts : Result (List (List Entry)) RefusedScript) (a : Answer) → LoadsAs text.image.items (Ok p) → stimuli_of text.stimuli.items ≡ stimuli
+    (scripts : Result (List (List Entry)) RefusedScript) (a : CallAnswer) → LoadsAs text.image.items (Ok p) → stimuli_of text.stimuli.items ≡ stimuli
     → watched_vars_of p.program.names text.vars.items ≡ vars → scripts_from p.program.names 1 (watch_scripts text) ≡ scripts
     → WatchAnswer p steps stimuli vars scripts a → WatchTextSays steps text a
 said-so steps text p stimuli vars scripts a loads are_stimuli are_vars are_scripts answers = (
@@ -94,7 +94,7 @@ watch-vars-refused V text p stimuli refusal r fails loads are is = λ steps.
 
 scripts-refuse : (V : Type 0) (steps : ℕ) (text : WatchText) (p : LoadedProgram) (stimuli : List Entry) (vars : List Var) (failure : Failure)
     → LoadsAs text.image.items (Ok p) → stimuli_of text.stimuli.items ≡ Ok stimuli → watched_vars_of p.program.names text.vars.items ≡ Ok vars
-    → TellsScript (scripts_from p.program.names 1 (watch_scripts text)) failure → SaysRefusal {V = V} (WatchTextSays steps text) (Err failure)
+    → IsScriptRefusal (scripts_from p.program.names 1 (watch_scripts text)) failure → SaysRefusal {V = V} (WatchTextSays steps text) (Err failure)
 scripts-refuse V steps text p stimuli vars failure loads are watched (inl is) =
     subst (λ (f : Failure). SaysRefusal {V = V} (WatchTextSays steps text) (Err f)) (sym is) tt
 scripts-refuse V steps text p stimuli vars failure loads are watched (inr (script, refuses, is)) =
@@ -103,7 +103,7 @@ scripts-refuse V steps text p stimuli vars failure loads are watched (inr (scrip
 
 pub watch-scripts-refused : (V : Type 0) (text : WatchText) (p : LoadedProgram) (stimuli : List Entry) (vars : List Var) (failure : Failure) (r : Result V Failure)
     → r ≡ Err failure → LoadsAs text.image.items (Ok p) → stimuli_of text.stimuli.items ≡ Ok stimuli → watched_vars_of p.program.names text.vars.items ≡ Ok vars
-    → TellsScript (scripts_from p.program.names 1 (watch_scripts text)) failure → (steps : ℕ) → SaysRefusal (WatchTextSays steps text) r
+    → IsScriptRefusal (scripts_from p.program.names 1 (watch_scripts text)) failure → (steps : ℕ) → SaysRefusal (WatchTextSays steps text) r
 watch-scripts-refused V text p stimuli vars failure r fails loads are watched tells = λ steps.
     subst (λ (q : Result V Failure). SaysRefusal (WatchTextSays steps text) q) (sym fails) (scripts-refuse V steps text p stimuli vars failure loads are watched tells)
 

@@ -11,49 +11,49 @@ use Rattle.s7_cli.specs.declared.failures.Failure.TheVariants.{WordsRefused, Rea
 use Rattle.s7_cli.specs.Lines.{words_refused_text, read_fault_text, too_long_text, refusal_text, image_refused_text, no_listing_text, says_no_text}
 
 -- how a call comes out: done, or why not
-abbrev pub Outcome : Type 0
-Outcome = Result Unit Failure
+abbrev pub CallOutcome : Type 0
+CallOutcome = Result Unit Failure
 
 -- how a call comes out, with the whole text that goes with it
-pub record Answer : Type 0 where
-  pub outcome : Outcome
+pub record CallAnswer : Type 0 where
+  pub outcome : CallOutcome
   pub text : List ℕ
 
 -- done, with a text as the result
-abbrev pub done_answer : List ℕ → Answer
+abbrev pub done_answer : List ℕ → CallAnswer
 done_answer text = record { outcome = Ok tt; text = text }
 
 -- a file breaks a rule
-abbrev pub refused_file_answer : File → Refusal → Answer
+abbrev pub refused_file_answer : File → Refusal → CallAnswer
 refused_file_answer file refusal = record { outcome = Err (Refused file refusal); text = refusal_text file refusal }
 
 -- an image isn't that of a program that verifies
-abbrev pub refused_image_answer : LoadFault → Answer
+abbrev pub refused_image_answer : LoadFault → CallAnswer
 refused_image_answer fault =
     record { outcome = Err (ImageRefused fault); text = image_refused_text fault }
 
 -- a file holds a byte past its limit, or a translation or a text of a listing would
-abbrev pub too_long_answer : File → Answer
+abbrev pub too_long_answer : File → CallAnswer
 too_long_answer file = record { outcome = Err (TooLong file); text = too_long_text file }
 
 -- a file can't be read
-abbrev pub read_fault_answer : Answer
+abbrev pub read_fault_answer : CallAnswer
 read_fault_answer = record { outcome = Err ReadFault; text = read_fault_text }
 
 -- the listing of an image doesn't compile to its program
-abbrev pub no_listing_answer : Answer
+abbrev pub no_listing_answer : CallAnswer
 no_listing_answer = record { outcome = Err NoListing; text = no_listing_text }
 
 -- a certificate doesn't hold
-abbrev pub says_no_answer : Answer
+abbrev pub says_no_answer : CallAnswer
 says_no_answer = record { outcome = Err SaysNo; text = says_no_text }
 
 -- a chain of calls is too deep, and this is such a chain
-abbrev pub too_deep_answer : List BlockId → Answer
+abbrev pub too_deep_answer : List BlockId → CallAnswer
 too_deep_answer chain = record { outcome = Err TooDeep; text = chain_text chain }
 
 -- the words aren't those of a command
-abbrev pub words_refused_answer : Answer
+abbrev pub words_refused_answer : CallAnswer
 words_refused_answer = record { outcome = Err WordsRefused; text = words_refused_text }
 
 -- the exit status of a refused file
@@ -70,7 +70,7 @@ refused_file_status (Script number) = 4
 refused_file_status Certificate = 4
 
 -- the exit status of an outcome
-abbrev pub exit_status : Outcome → ℕ
+abbrev pub exit_status : CallOutcome → ℕ
 exit_status (Ok done) = 0
 exit_status (Err WordsRefused) = 1
 exit_status (Err (Refused file refusal)) = refused_file_status file

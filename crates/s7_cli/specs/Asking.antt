@@ -4,11 +4,11 @@ use Rattle.s7_cli.specs.declared.words.Asked.{Asked}
 use Rattle.s7_cli.specs.declared.words.Asked.TheVariants as asked
 
 -- the call compiles a source: `go`, `check` and `compile`
-abbrev pub compiles : Asked → Bool
-compiles (asked.Go source symbols german history) = true
-compiles (asked.Check source symbols german) = true
-compiles (asked.Compile source symbols german image) = true
-compiles _ = false
+abbrev pub compiles_a_source : Asked → Bool
+compiles_a_source (asked.Go source symbols german history) = true
+compiles_a_source (asked.Check source symbols german) = true
+compiles_a_source (asked.Compile source symbols german image) = true
+compiles_a_source _ = false
 
 -- the call works on an image without workers: `run`, `upgrade`, `list`, `bound` and `recheck`
 abbrev pub takes_image : Asked → Bool

@@ -10,7 +10,7 @@ use Rattle.stack_bound.specs.Finding.{IsDeepChain, IsLeastCertificate}
 use Rattle.stack_bound.specs.Overflow.{NeverOverflows}
 use Rattle.stack_bound.specs.declared.certificates.Bound.{Bound}
 use Rattle.s7_cli.specs.declared.failures.File.TheVariants.{Certificate}
-use Rattle.s7_cli.specs.Answer.{Answer, done_answer, refused_file_answer, refused_image_answer, says_no_answer, too_deep_answer}
+use Rattle.s7_cli.specs.Answer.{CallAnswer, done_answer, refused_file_answer, refused_image_answer, says_no_answer, too_deep_answer}
 use Rattle.s7_cli.specs.Command.{Command, Bound as BoundCommand, Recheck}
 use Rattle.s7_cli.specs.Lines.{ok_line}
 use Rattle.s7_cli.specs.Loads.{LoadsAs}
@@ -24,14 +24,14 @@ HasLeastCertificate l = (list : List Bound) × IsLeastCertificate l.profile l.pr
 
 -- what `bound` answers by how its image loads: it is refused, the certificate is written, or a
 -- chain of calls is told that is too deep
-abbrev pub BoundAnswer : Result LoadedProgram LoadFault → Answer → Type 0
+abbrev pub BoundAnswer : Result LoadedProgram LoadFault → CallAnswer → Type 0
 BoundAnswer (Err fault) answer = answer ≡ refused_image_answer fault
 BoundAnswer (Ok l) answer =
     (HasLeastCertificate l × (answer ≡ done_answer ok_line))
     ⊎ ((chain : List BlockId) × IsDeepChain l.profile l.program chain × (answer ≡ too_deep_answer chain))
 
 -- what `bound` answers, over the contents of its file
-abbrev pub BoundSays : (image : List ℕ) → Answer → Type 0
+abbrev pub BoundSays : (image : List ℕ) → CallAnswer → Type 0
 BoundSays image answer =
     (loaded : Result LoadedProgram LoadFault) × LoadsAs image loaded × BoundAnswer loaded answer
 
@@ -44,26 +44,26 @@ IsCertificate bytes image =
 -- ---- `recheck`: the image is loaded first, and then the certificate is read
 
 -- what `recheck` answers for a certificate that was read: it holds of the program, or says no
-abbrev pub HeldAnswer : LoadedProgram → List Bound → Answer → Type 0
+abbrev pub HeldAnswer : LoadedProgram → List Bound → CallAnswer → Type 0
 HeldAnswer l list answer =
     (IsCertificateOf l.profile l.program list × (answer ≡ done_answer ok_line))
     ⊎ ((IsCertificateOf l.profile l.program list → ⊥) × (answer ≡ says_no_answer))
 
 -- what `recheck` answers by how the certificate was read: a text that is none is refused by its
 -- first bad line
-abbrev pub CheckedAnswer : LoadedProgram → Result (List Bound) Refusal → Answer → Type 0
+abbrev pub CheckedAnswer : LoadedProgram → Result (List Bound) Refusal → CallAnswer → Type 0
 CheckedAnswer l (Err refusal) answer = answer ≡ refused_file_answer Certificate refusal
 CheckedAnswer l (Ok list) answer = HeldAnswer l list answer
 
 -- what `recheck` answers by how its image loads; the blocks of the certificate are those of the
 -- image
-abbrev pub RecheckAnswer : Result LoadedProgram LoadFault → (certificate : List ℕ) → Answer → Type 0
+abbrev pub RecheckAnswer : Result LoadedProgram LoadFault → (certificate : List ℕ) → CallAnswer → Type 0
 RecheckAnswer (Err fault) certificate answer = answer ≡ refused_image_answer fault
 RecheckAnswer (Ok l) certificate answer =
     CheckedAnswer l (certificate_of l.program certificate) answer
 
 -- what `recheck` answers, over the contents of its files
-abbrev pub RecheckSays : (image certificate : List ℕ) → Answer → Type 0
+abbrev pub RecheckSays : (image certificate : List ℕ) → CallAnswer → Type 0
 RecheckSays image certificate answer =
     (loaded : Result LoadedProgram LoadFault) × LoadsAs image loaded
     × RecheckAnswer loaded certificate answer

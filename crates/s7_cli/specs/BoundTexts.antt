@@ -9,17 +9,17 @@ use Rattle.stack_bound.specs.Finding.{IsDeepChain}
 use Rattle.stack_bound.specs.declared.certificates.Bound.{Bound}
 use Rattle.stack_bound.specs.declared.finding.Found.{Found}
 use Rattle.stack_bound.specs.declared.finding.Found.TheVariants as found
-use Rattle.s7_cli.specs.declared.bound_command.Told.{Told}
-use Rattle.s7_cli.specs.declared.bound_command.Told.TheVariants as told
+use Rattle.s7_cli.specs.declared.bound_command.BoundText.{BoundText}
+use Rattle.s7_cli.specs.declared.bound_command.BoundText.TheVariants as told
 use Rattle.s7_cli.specs.BoundSays.{IsCertificate}
 use Rattle.s7_cli.specs.Loads.{LoadsAs}
 
 -- the text that is told of what was found: a certificate, or the line of a chain that is too
 -- deep
-abbrev pub IsToldOf : Found → Told → Type 0
-IsToldOf (found.Fits list) (told.Fits certificate) = certificate.items ≡ certificate_text list.items
-IsToldOf (found.Deep chain) (told.Deep line) = line.items ≡ chain_text chain.items
-IsToldOf _ _ = ⊥
+abbrev pub IsBoundText : Found → BoundText → Type 0
+IsBoundText (found.Fits list) (told.Fits certificate) = certificate.items ≡ certificate_text list.items
+IsBoundText (found.Deep chain) (told.Deep line) = line.items ≡ chain_text chain.items
+IsBoundText _ _ = ⊥
 
 -- bytes are the line of a chain of an image that is too deep
 abbrev pub IsChainLine : (line image : List ℕ) → Type 0
@@ -28,9 +28,9 @@ IsChainLine line image =
     × IsDeepChain l.profile l.program chain × (line ≡ chain_text chain)
 
 -- what is told of an image: its certificate, or the line of a chain that is too deep
-abbrev pub TellsOf : (image : List ℕ) → Told → Type 0
-TellsOf image (told.Fits certificate) = IsCertificate certificate.items image
-TellsOf image (told.Deep line) = IsChainLine line.items image
+abbrev pub IsBoundTextOfImage : (image : List ℕ) → BoundText → Type 0
+IsBoundTextOfImage image (told.Fits certificate) = IsCertificate certificate.items image
+IsBoundTextOfImage image (told.Deep line) = IsChainLine line.items image
 
 -- a text spells a certificate that holds of an image
 abbrev pub IsCertificateOfImage : (image certificate : List ℕ) → Type 0

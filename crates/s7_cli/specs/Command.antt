@@ -28,7 +28,9 @@ pub data Command : Type 0 where
 
 -- a file that a command reads: what it is read as, and its name
 pub record Input : Type 0 where
+  -- what it is read as
   pub file : File
+  -- its name, as the call gives it
   pub name : List ℕ
 
 -- the symbols file, where `--symbols` names one

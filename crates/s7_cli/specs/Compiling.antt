@@ -24,17 +24,17 @@ use Rattle.s7_cli.specs.declared.faults.CompileFault.TheVariants as fault
 
 -- a source with its symbols, whose addresses are those of a language, is refused by this fault;
 -- nothing is said where memory is wanting
-abbrev pub RefusesIn : Language → (source symbols : List ℕ) → CompileFault → Type 0
-RefusesIn language source symbols (fault.Symbols refusal) =
+abbrev pub RefusesInLanguage : Language → (source symbols : List ℕ) → CompileFault → Type 0
+RefusesInLanguage language source symbols (fault.Symbols refusal) =
     IsRefusedSourceIn language source symbols (InSymbols refusal)
-RefusesIn language source symbols (fault.Source refusal) =
+RefusesInLanguage language source symbols (fault.Source refusal) =
     IsRefusedSourceIn language source symbols (InSource refusal)
-RefusesIn language source symbols fault.NoMemory = Unit {0}
+RefusesInLanguage language source symbols fault.NoMemory = Unit {0}
 
 -- a source with its symbols, whose addresses are English, is refused by this fault; nothing is
 -- said where memory is wanting
-abbrev pub RefusesBy : (source symbols : List ℕ) → CompileFault → Type 0
-RefusesBy source symbols fault = RefusesIn English source symbols fault
+abbrev pub RefusesEnglish : (source symbols : List ℕ) → CompileFault → Type 0
+RefusesEnglish source symbols fault = RefusesInLanguage English source symbols fault
 
 -- a symbols file with addresses in a language is refused by this fault, whatever the source is
 abbrev pub RefusesSymbols : Language → (symbols : List ℕ) → CompileFault → Type 0
@@ -44,10 +44,10 @@ RefusesSymbols language symbols fault.NoMemory = Unit {0}
 
 -- a source is refused by this fault with each symbols file, in whichever language, that has
 -- these symbols
-abbrev pub RefusesWith : (source : List ℕ) → List Symbol → CompileFault → Type 0
-RefusesWith source list fault =
+abbrev pub RefusesForSymbols : (source : List ℕ) → List Symbol → CompileFault → Type 0
+RefusesForSymbols source list fault =
     (language : Language) (symbols : List ℕ) → HasSymbolsIn language symbols (Ok list)
-    → RefusesIn language source symbols fault
+    → RefusesInLanguage language source symbols fault
 
 -- the fault of compiling by a fault of the symbols file: its refusal, or want of memory
 abbrev pub fault_in_symbols : SourceFault → CompileFault
@@ -79,14 +79,17 @@ LaysOutTree symbols tree (Err fault) = IsRefusedByFault symbols tree fault
 
 -- a source is laid out so with its symbols, and breaks no rule on its tokens, clauses and layout
 pub record IsSourceLaidOut (source : List ℕ) (laid : LaidSource) : Type 0 where
+  -- its tokens and clauses break no rule, and it has this tree
   pub parsed : HaveOutcomeInTurn HasTokens (HasTreeOrRefusal source) source (Ok laid.tree)
+  -- it breaks no rule on layout
   pub right : least (layout_refusals laid.tree laid.symbols) ≡ None
+  -- these are the layouts of its blocks
   pub layout : laid.layouts ≡ layouts_of laid.tree laid.symbols
 
 -- each source that is laid out with this tree, symbols and layouts is refused by this fault
 abbrev pub RefusesLaid : LaidSource → CompileFault → Type 0
 RefusesLaid laid fault =
-    (source : List ℕ) → IsSourceLaidOut source laid → RefusesWith source laid.symbols fault
+    (source : List ℕ) → IsSourceLaidOut source laid → RefusesForSymbols source laid.symbols fault
 
 -- a source with its symbols has a program that keeps it, at the large profile
 abbrev pub HasProgramIn : Language → (source symbols : List ℕ) → Type 0

@@ -9,7 +9,7 @@ use Rattle.plc_io.specs.declared.faults.IoFault.TheVariants as fault
 use Rattle.s7_cli.specs.declared.failures.Failure.{Failure}
 use Rattle.s7_cli.specs.declared.finish.Output.{Output}
 use Rattle.s7_cli.specs.declared.failures.Failure.TheVariants.{ReadFault, TooLong, Refused, ImageRefused, NoListing, SaysNo, TooDeep, WriteFault, NoMemory}
-use Rattle.s7_cli.specs.Answer.{Answer, Outcome, done_answer, refused_file_answer, refused_image_answer, no_listing_answer, says_no_answer, too_long_answer, read_fault_answer}
+use Rattle.s7_cli.specs.Answer.{CallAnswer, CallOutcome, done_answer, refused_file_answer, refused_image_answer, no_listing_answer, says_no_answer, too_long_answer, read_fault_answer}
 use Rattle.s7_cli.specs.Command.{Command, Input, inputs_of, outputs_of}
 use Rattle.s7_cli.specs.Ends.{SinkMoments, IsAnswerOfCall, CountsReads, SaysWholeText, IsWriteFault, IsNoMemory}
 use Rattle.s7_cli.specs.Lines.{line_of_failure, ok_line}
@@ -18,8 +18,11 @@ use Rattle.s7_cli.specs.Says.{CommandSays, WritesOutputFile}
 
 -- a reading has ended, and only counts of failed reads may have changed
 pub record OnlyReads (d : Disk) : Type 0 where
+  -- each file holds what it held
   pub files : SameFiles d.before.contents d.after.contents
+  -- no count of failed reads fell
   pub reads : NoCountFell d.before.failed_reads d.after.failed_reads
+  -- no count of failed writes changed
   pub writes : SameCounts d.before.failed_writes d.after.failed_writes
 
 -- the reading of one input file, by its outcome: the bytes that it holds, a failed read, a byte
@@ -33,11 +36,13 @@ FileRead view d i (Err failure) = ⊥
 
 -- these input files were read and hold these contents, one after the other, and nothing changed
 pub record HasRead (before after : FilesAt) (inputs : List Input) (contents : List (List ℕ)) : Type 0 where
+  -- neither contents nor counts of the files changed
   pub same : AreFilesUnchanged before after
+  -- each file holds its contents, no longer than it may be
   pub hold : HoldBytesInTurn before.contents inputs contents
 
 -- the reading of files, one after the other, ends at one of them
-abbrev pub StopsAmong : Disk → List Input → Answer → Type 0
+abbrev pub StopsAmong : Disk → List Input → CallAnswer → Type 0
 StopsAmong d [] answer = ⊥
 StopsAmong d (i ∷ is) answer =
     StopsAt d i answer
@@ -55,7 +60,7 @@ AllRead view d is (Err failure) = ⊥
 
 -- a failure by what files hold has an answer of which this is said: a refusal, a translation or
 -- listing that is too long, an image without a listing, or a certificate that doesn't hold
-abbrev pub SaysRefusal : {V : Type 0} → (Answer → Type 0) → Result V Failure → Type 0
+abbrev pub SaysRefusal : {V : Type 0} → (CallAnswer → Type 0) → Result V Failure → Type 0
 SaysRefusal says (Ok v) = Unit {0}
 SaysRefusal says (Err (Refused file refusal)) = says (refused_file_answer file refusal)
 SaysRefusal says (Err (ImageRefused fault)) = says (refused_image_answer fault)
@@ -67,7 +72,7 @@ SaysRefusal says (Err failure) = ⊥
 
 -- the writing of a whole text to the sink, by its outcome: all of it was taken, or a front of it
 -- where the sink failed or memory was wanting
-abbrev pub TextWritten : List ℕ → SinkMoments → Outcome → Type 0
+abbrev pub TextWritten : List ℕ → SinkMoments → CallOutcome → Type 0
 TextWritten text s (Ok done) = TookBytes s.before s.after text × (s.after.faults ≡ s.before.faults)
 TextWritten text s (Err WriteFault) =
     TookPrefix s.before s.after text × CountRose s.before.faults s.after.faults × (s.before.faults ≤ s.after.faults)
@@ -75,7 +80,7 @@ TextWritten text s (Err NoMemory) = TookPrefix s.before s.after text × (s.after
 TextWritten text s (Err failure) = ⊥
 
 -- the writing of a whole output file, by its outcome: done, failed, or no memory
-abbrev pub FileWritten : Disk → (name bytes : List ℕ) → Outcome → Type 0
+abbrev pub FileWritten : Disk → (name bytes : List ℕ) → CallOutcome → Type 0
 FileWritten d name bytes (Ok done) =
     LeavesWritten {X = Unit} d.before d.after name bytes (Ok done)
 FileWritten d name bytes (Err WriteFault) =
@@ -86,35 +91,45 @@ FileWritten d name bytes (Err failure) = ⊥
 
 -- a command comes to a failure whose line isn't written yet
 pub record FailsWith (c : Option Command) (d : Disk) (s : SinkMoments) (failure : Failure) : Type 0 where
+  -- the line of the failure
   pub line : List ℕ
+  -- it is the one that this failure has
   pub has_line : line_of_failure failure ≡ Some line
   -- this failure with its line is an answer that the call may give
   pub answers : IsAnswerOfCall c d (record { outcome = Err failure; text = line })
   -- nothing was written yet
   pub sink : s.after ≡ s.before
+  -- no count of failed reads changed; with a read fault they may have risen
   pub counts : CountsReads d (Err failure)
+  -- no file and no count of failed writes changed
   pub only_reads : OnlyReads d
 
--- how a command came out before the line of its failure is written; that of a chain which is too deep was written
-abbrev pub ComesOutAs : Option Command → Disk → SinkMoments → Outcome → Type 0
-ComesOutAs c d s (Ok done) = (text : List ℕ) × SaysWholeText c d s (record { outcome = Ok done; text = text })
-ComesOutAs c d s (Err WriteFault) = IsWriteFault c d s
-ComesOutAs c d s (Err NoMemory) = IsNoMemory c d s
-ComesOutAs c d s (Err TooDeep) =
+-- how a command came out before the line of its failure is written: with a result, or a chain that
+-- is too deep, its whole text was said; a failed write or want of memory cut it short; with any
+-- other failure nothing was written yet
+abbrev pub ComesBeforeLine : Option Command → Disk → SinkMoments → CallOutcome → Type 0
+ComesBeforeLine c d s (Ok done) = (text : List ℕ) × SaysWholeText c d s (record { outcome = Ok done; text = text })
+ComesBeforeLine c d s (Err WriteFault) = IsWriteFault c d s
+ComesBeforeLine c d s (Err NoMemory) = IsNoMemory c d s
+ComesBeforeLine c d s (Err TooDeep) =
     (text : List ℕ) × SaysWholeText c d s (record { outcome = Err TooDeep; text = text })
-ComesOutAs c d s (Err failure) = FailsWith c d s failure
+ComesBeforeLine c d s (Err failure) = FailsWith c d s failure
 
--- how a command comes out behind the reading of its input files, which held these contents
-abbrev pub ComesOf : Command → (contents : List (List ℕ)) → Disk → SinkMoments → Outcome → Type 0
-ComesOf c contents d s came =
+-- how a command comes out that has read its input files, which held these contents: `d` and `s`
+-- begin behind the reading, and seen from the moment at which the reading began it came out so,
+-- before the line of its failure is written
+abbrev pub CommandComesTo : Command → (contents : List (List ℕ)) → Disk → SinkMoments → CallOutcome → Type 0
+CommandComesTo c contents d s came =
     (start : FilesAt) → HasRead start d.before (inputs_of c) contents
-    → ComesOutAs (Some c) (disk_moments start d.after) s came
+    → ComesBeforeLine (Some c) (disk_moments start d.after) s came
 
 -- a command whose input files hold this writes these bytes to this file, its only one, and `OK`
 pub record IsOutput (c : Command) (contents : List (List ℕ)) (name bytes : List ℕ) : Type 0 where
   -- the file is the only one that the command writes
   pub outputs : outputs_of c ≡ name ∷ []
+  -- these bytes are what the command writes to the file
   pub writes : WritesOutputFile c contents name bytes
+  -- its answer is `OK`
   pub says : CommandSays c contents (done_answer ok_line)
 
 -- a file and what is written to it
@@ -132,8 +147,11 @@ pub record AreOutputs (c : Command) (contents : List (List ℕ)) (first second :
   pub outputs : outputs_of c ≡ first.name ∷ second.name ∷ []
   -- the two files have different names
   pub apart : first.name ≢ second.name
+  -- what the command writes to the first file
   pub writes_first : WritesOutputFile c contents first.name first.bytes
+  -- what the command writes to the second file
   pub writes_second : WritesOutputFile c contents second.name second.bytes
+  -- its answer is `OK`
   pub says : CommandSays c contents (done_answer ok_line)
 
 -- the writing of a failure's line, if it has one; `ended` is the failure with which the call

@@ -10,7 +10,7 @@ use Rattle.sem_kept.specs.Agreement.{ImageKeepsSourceIn}
 use Rattle.sem_kept.specs.Meaning.{MeansCodeIn}
 use Rattle.stl_symbols.specs.declared.languages.Language.{Language}
 use Rattle.s7_cli.specs.run_text.RunText.{run_text}
-use Rattle.s7_cli.specs.Answer.{Answer}
+use Rattle.s7_cli.specs.Answer.{CallAnswer}
 use Rattle.s7_cli.specs.Loads.{LoadsAs}
 use Rattle.s7_cli.specs.Says.{SourceSays, RunSays}
 
@@ -30,6 +30,6 @@ abbrev pub KeptImagesAnswerAlike : Type 0
 KeptImagesAnswerAlike =
     (language : Language) (image source symbols : List ℕ)
     → ((i : ℕ) → get_or image i 0 < 256) → (kept : ImageKeepsSourceIn language image source symbols)
-    → (history : List ℕ) (answer : Answer)
+    → (history : List ℕ) (answer : CallAnswer)
     → (RunSays image history answer → SourceSays language (profile_of kept.stamp) source symbols history answer)
     × (SourceSays language (profile_of kept.stamp) source symbols history answer → RunSays image history answer)

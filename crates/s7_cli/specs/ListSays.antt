@@ -8,7 +8,7 @@ use Rattle.stl_list.specs.Listing.{listed_source}
 use Rattle.stl_list.specs.Symbols.{listed_names}
 use Rattle.stl_symbols.specs.declared.languages.Language.TheVariants.{English}
 use Rattle.s7_cli.specs.declared.failures.File.TheVariants.{Listing}
-use Rattle.s7_cli.specs.Answer.{Answer, done_answer, no_listing_answer, refused_image_answer, too_long_answer}
+use Rattle.s7_cli.specs.Answer.{CallAnswer, done_answer, no_listing_answer, refused_image_answer, too_long_answer}
 use Rattle.s7_cli.specs.Command.{limit_of}
 use Rattle.s7_cli.specs.Lines.{ok_line}
 use Rattle.s7_cli.specs.Loads.{LoadsAs}
@@ -27,29 +27,32 @@ pub record IsShortListing (p : Program) : Type 0 where
 abbrev pub HasListing : Program → Type 0
 HasListing p = CompilesTo English (listed_source p) (listed_names p.names) p
 
--- what `list` answers for a program: the length of its listing is judged first, and then the
--- listing is compiled
-abbrev pub ListedAnswer : Program → Answer → Type 0
+-- what `list` answers for a program: the length of its listing is checked first, and then
+-- the listing is compiled
+abbrev pub ListedAnswer : Program → CallAnswer → Type 0
 ListedAnswer p answer =
     (IsLongListing p × (answer ≡ too_long_answer Listing))
     ⊎ (IsShortListing p × (HasListing p → ⊥) × (answer ≡ no_listing_answer))
     ⊎ (IsShortListing p × HasListing p × (answer ≡ done_answer ok_line))
 
 -- what `list` answers by how its image loads: the image is refused, or the program is listed
-abbrev pub ListAnswer : Result LoadedProgram LoadFault → Answer → Type 0
+abbrev pub ListAnswer : Result LoadedProgram LoadFault → CallAnswer → Type 0
 ListAnswer (Err fault) answer = answer ≡ refused_image_answer fault
 ListAnswer (Ok l) answer = ListedAnswer l.program answer
 
 -- what `list` answers, over the contents of its file
-abbrev pub ListSays : (image : List ℕ) → Answer → Type 0
+abbrev pub ListSays : (image : List ℕ) → CallAnswer → Type 0
 ListSays image answer =
     (loaded : Result LoadedProgram LoadFault) × LoadsAs image loaded × ListAnswer loaded answer
 
 -- these are the texts of the listing of a program: they aren't longer than they may be and
 -- compile to it
 pub record IsListing (source symbols : List ℕ) (p : Program) : Type 0 where
+  -- the first is the source that is listed of it
   pub source_is : source ≡ listed_source p
+  -- the second is the symbols file that is listed of its names
   pub symbols_are : symbols ≡ listed_names p.names
+  -- both are no longer than they may be
   pub short : IsShortListing p
   -- the source compiles to the program, with these names
   pub compiles : HasListing p

@@ -10,7 +10,7 @@ use Rattle.event_text.specs.HistoryText.{history_text}
 use Rattle.event_text.specs.Texts.{history_of_text, script_of, stimuli_of}
 use Rattle.s7_cli.specs.declared.failures.File.TheVariants.{Stimuli, Script}
 use Rattle.s7_cli.specs.run_text.RunText.{run_text}
-use Rattle.s7_cli.specs.Answer.{Answer, done_answer, refused_file_answer, refused_image_answer}
+use Rattle.s7_cli.specs.Answer.{CallAnswer, done_answer, refused_file_answer, refused_image_answer}
 use Rattle.s7_cli.specs.Living.{IsLive}
 use Rattle.s7_cli.specs.Loads.{LoadsAs}
 
@@ -36,28 +36,31 @@ abbrev pub live_text : LoadedProgram → List Entry → List ℕ
 live_text loaded history =
     history_text history ++ (codes "---\n" ++ run_text loaded.profile (code_of loaded.program) history)
 
--- the workers made some live history of these lists, of which the text is told
-pub record RanLive (loaded : LoadedProgram) (steps : ℕ) (stimuli : List Entry) (scripts : List (List Entry)) (answer : Answer) : Type 0 where
+-- the workers made some live history of these lists, and its text is the answer
+pub record RanLive (loaded : LoadedProgram) (steps : ℕ) (stimuli : List Entry) (scripts : List (List Entry)) (answer : CallAnswer) : Type 0 where
+  -- the history that the workers made
   pub history : List Entry
+  -- it is a live history of these lists
   pub live : IsLive loaded steps stimuli scripts history
   -- where it isn't longer than a history may be, `run` gives the written history the same text
   pub read_back : history_of_text loaded.program.names (history_text history) ≡ Ok history
+  -- the answer is its text, done
   pub says : answer ≡ done_answer (live_text loaded history)
 
 -- what `live` answers for a program: the stimuli are checked first, then the scripts in their
 -- order, and then the workers run
-abbrev pub LiveAnswer : LoadedProgram → (steps : ℕ) → Result (List Entry) Refusal → Result (List (List Entry)) RefusedScript → Answer → Type 0
+abbrev pub LiveAnswer : LoadedProgram → (steps : ℕ) → Result (List Entry) Refusal → Result (List (List Entry)) RefusedScript → CallAnswer → Type 0
 LiveAnswer loaded steps (Err refusal) scripts answer = answer ≡ refused_file_answer Stimuli refusal
 LiveAnswer loaded steps (Ok stimuli) (Err script) answer = answer ≡ refused_file_answer (Script script.number) script.refusal
 LiveAnswer loaded steps (Ok stimuli) (Ok scripts) answer = RanLive loaded steps stimuli scripts answer
 
 -- what `live` answers by how its image loads, which is before stimuli and scripts are checked
-abbrev pub LoadedLive : Result LoadedProgram LoadFault → (steps : ℕ) → (stimuli : List ℕ) (scripts : List (List ℕ)) → Answer → Type 0
+abbrev pub LoadedLive : Result LoadedProgram LoadFault → (steps : ℕ) → (stimuli : List ℕ) (scripts : List (List ℕ)) → CallAnswer → Type 0
 LoadedLive (Err fault) steps stimuli scripts answer = answer ≡ refused_image_answer fault
 LoadedLive (Ok loaded) steps stimuli scripts answer =
     LiveAnswer loaded steps (stimuli_of stimuli) (scripts_from loaded.program.names 1 scripts) answer
 
 -- what `live` answers, over the contents of its files
-abbrev pub LiveSays : (steps : ℕ) (image stimuli : List ℕ) (scripts : List (List ℕ)) → Answer → Type 0
+abbrev pub LiveSays : (steps : ℕ) (image stimuli : List ℕ) (scripts : List (List ℕ)) → CallAnswer → Type 0
 LiveSays steps image stimuli scripts answer =
     (loaded : Result LoadedProgram LoadFault) × LoadsAs image loaded × LoadedLive loaded steps stimuli scripts answer

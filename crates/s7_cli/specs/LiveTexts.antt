@@ -8,7 +8,7 @@ use Rattle.s7_cli.specs.declared.failures.Failure.{Failure}
 use Rattle.s7_cli.specs.declared.failures.Failure.TheVariants.{Refused, NoMemory}
 use Rattle.s7_cli.specs.declared.failures.File.TheVariants.{Script}
 use Rattle.s7_cli.specs.declared.files.LiveText.{LiveText}
-use Rattle.s7_cli.specs.Answer.{Answer}
+use Rattle.s7_cli.specs.Answer.{CallAnswer}
 use Rattle.s7_cli.specs.LiveSays.{LiveSays, RefusedScript, scripts_from}
 use Rattle.s7_cli.specs.Living.{AreRegularBy, total_length}
 use Rattle.s7_cli.specs.Loads.{LoadsAs}
@@ -29,16 +29,19 @@ AreScriptsWithin scripts = AllByRecursion (λ bytes. length bytes ≤ 1048576) s
 pub record IsLiveText (text : LiveText) : Type 0 where
   pub stimuli : length text.stimuli.items ≤ 4194304
   pub scripts : AreScriptsWithin (scripts_of text)
+  -- there is a script
   pub some : 1 ≤ length text.scripts.items
+  -- there are at most four
   pub few : length text.scripts.items ≤ 4
 
 -- what `live` answers for these files
-abbrev pub LiveTextSays : (steps : ℕ) → LiveText → Answer → Type 0
+abbrev pub LiveTextSays : (steps : ℕ) → LiveText → CallAnswer → Type 0
 LiveTextSays steps text answer = LiveSays steps text.image.items text.stimuli.items (scripts_of text) answer
 
--- the first script that is refused is told, or memory was wanting
-abbrev pub TellsScript : Result (List (List Entry)) RefusedScript → Failure → Type 0
-TellsScript scripts failure =
+-- the first script that is refused is answered, by its number and its refusal, or memory was
+-- wanting
+abbrev pub IsScriptRefusal : Result (List (List Entry)) RefusedScript → Failure → Type 0
+IsScriptRefusal scripts failure =
     (failure ≡ NoMemory)
     ⊎ ((script : RefusedScript) × (scripts ≡ Err script)
     × (failure ≡ Refused (Script script.number) script.refusal))
@@ -46,11 +49,15 @@ TellsScript scripts failure =
 -- what is found in the files of a live run: the program and the lists of the workers; an entry
 -- has four bytes of its text at least
 pub record FindsProgramAndScripts (text : LiveText) (loaded : LoadedProgram) (stimuli : List Entry) (scripts : List (List Entry)) : Type 0 where
+  -- the image loads as this program
   pub loads : LoadsAs text.image.items (Ok loaded)
+  -- the stimuli break no rule and are these entries
   pub are_stimuli : stimuli_of text.stimuli.items ≡ Ok stimuli
+  -- the scripts break no rule and are these lists
   pub are_scripts : scripts_from loaded.program.names 1 (scripts_of text) ≡ Ok scripts
   -- the stimuli are regular entries of worker 2, those of script k of worker k + 2
   pub regular : AreRegularBy 2 (stimuli ∷ scripts)
+  -- stimuli and scripts have no more entries than this together
   pub few : length stimuli + total_length scripts ≤ 2097152
   -- a script was found for each file of scripts
   pub many : length scripts ≡ length text.scripts.items

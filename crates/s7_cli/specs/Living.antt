@@ -35,7 +35,9 @@ opened_on loaded = record { program = loaded.program; profile = loaded.profile; 
 pub record IsLive (loaded : LoadedProgram) (steps : ℕ) (stimuli : List Entry) (scripts : List (List Entry)) (history : List Entry) : Type 0 where
   -- how many steps worker 1 made
   pub count : ℕ
+  -- they are at most as many as it was to make
   pub few : count ≤ steps
+  -- worker 1 made these steps, and nothing else
   pub stepper : entries_of_worker 1 history ≡ replicate count one_step
   -- each step but the last leaves another mode than STOP
   pub runs : RunsBefore 1 (opened_on loaded) 1 history
@@ -43,6 +45,7 @@ pub record IsLive (loaded : LoadedProgram) (steps : ℕ) (stimuli : List Entry) 
   pub ends : (count ≡ steps) ⊎ EndsInStop (opened_on loaded) 1 history
   -- the entries of the others are the stimuli and the scripts, each list whole
   pub others : StandInHistory 2 (stimuli ∷ scripts) history
+  -- there are no workers but the stepper, the feeder and one for each script
   pub workers : All (λ e. (1 ≤ e.who) × (e.who ≤ 2 + length scripts)) history
 
 -- the outcome isn't that the station was full

@@ -26,8 +26,13 @@ question_of words = None
 -- the text of an answer was written with this exit status: whole at 0; a front of it at 6, where
 -- the sink's count of faults rose, and at 7, for want of memory
 pub record AnswerWritten (text : List ℕ) (before after : SinkAt) (code : ℕ) : Type 0 where
+  -- no other status comes
   pub statuses : (code ≡ 0) ⊎ (code ≡ 6) ⊎ (code ≡ 7)
+  -- at 0 the sink took the whole text
   pub whole : code ≡ 0 → TookBytes before after text
+  -- at 6 and 7 it took a front of the text
   pub cut : code ≢ 0 → TookPrefix before after text
+  -- at 6 the count of its faults rose
   pub failed : code ≡ 6 → CountRose before.faults after.faults
+  -- at 0 and 7 no push to it failed
   pub unfailed : code ≢ 6 → after.faults ≡ before.faults

@@ -3,7 +3,7 @@ use Rattle.std.specs.Prelude.{◌≡◌, ◌<◌, ◌≤◌, ◌⊎◌, ℕ, Lis
 use Rattle.plc_io.specs.Contents.{Contents, FileHoldsBytes}
 use Rattle.plc_io.specs.Counts.{CountRose}
 use Rattle.plc_io.specs.Moments.{FilesAt}
-use Rattle.s7_cli.specs.Answer.{Answer, read_fault_answer, too_long_answer}
+use Rattle.s7_cli.specs.Answer.{CallAnswer, read_fault_answer, too_long_answer}
 use Rattle.s7_cli.specs.Command.{Input, limit_of}
 
 -- the files at the start of a call, and now
@@ -17,7 +17,9 @@ disk_moments before after = record { before = before; after = after }
 
 -- the file holds these bytes, no more than it may
 pub record HoldsBytes (c : Contents) (i : Input) (bytes : List ℕ) : Type 0 where
+  -- where contents are known, the file of this name holds exactly these bytes
   pub agrees : FileHoldsBytes c i.name bytes
+  -- they are no more than the limit of such a file
   pub within : length bytes ≤ limit_of i.file
 
 -- the files hold these bytes, one after the other
@@ -27,34 +29,38 @@ HoldBytesInTurn c (i ∷ is) (bytes ∷ more) = HoldsBytes c i bytes × HoldByte
 HoldBytesInTurn c inputs contents = ⊥
 
 -- the reading ends at a file: a read of it failed, or it holds a byte past its limit
-abbrev pub StopsAt : Disk → Input → Answer → Type 0
+abbrev pub StopsAt : Disk → Input → CallAnswer → Type 0
 StopsAt d i answer =
     (CountRose (d.before.failed_reads i.name) (d.after.failed_reads i.name) × (answer ≡ read_fault_answer))
     ⊎ ((bytes : List ℕ) × FileHoldsBytes d.before.contents i.name bytes × (limit_of i.file < length bytes) × (answer ≡ too_long_answer i.file))
 
 -- the files are read in their order: the reading ends at one, or all hold bytes of which this is said
-abbrev pub ReadsFilesInTurn : Disk → List Input → (List (List ℕ) → Answer → Type 0) → Answer → Type 0
+abbrev pub ReadsFilesInTurn : Disk → List Input → (List (List ℕ) → CallAnswer → Type 0) → CallAnswer → Type 0
 ReadsFilesInTurn d [] says answer = says [] answer
 ReadsFilesInTurn d (i ∷ is) says answer =
     StopsAt d i answer
     ⊎ ((bytes : List ℕ) × HoldsBytes d.before.contents i bytes × ReadsFilesInTurn d is (λ files. says (bytes ∷ files)) answer)
 
--- over files that tell what they hold the reading ends at a file: it is absent, or holds a byte past its limit
-abbrev pub StopsTold : Contents → Input → Answer → Type 0
-StopsTold c i answer =
+-- over files whose contents are known the reading ends at a file: it is absent, or holds a byte
+-- past its limit
+abbrev pub StopsWhereContentsKnown : Contents → Input → CallAnswer → Type 0
+StopsWhereContentsKnown c i answer =
     ((c.at i.name ≡ None) × (answer ≡ read_fault_answer))
     ⊎ ((bytes : List ℕ) × (c.at i.name ≡ Some bytes) × (limit_of i.file < length bytes) × (answer ≡ too_long_answer i.file))
 
 -- the file is there, within its limit
 pub record IsFileThere (c : Contents) (i : Input) (bytes : List ℕ) : Type 0 where
+  -- the file of this name holds these bytes
   pub there : c.at i.name ≡ Some bytes
+  -- they are no more than the limit of such a file
   pub within : length bytes ≤ limit_of i.file
 
--- what told files allow where no read fails: the first that is absent or too long ends the reading, else this is said of all contents
-abbrev pub AllowsAnswer : Contents → List Input → (List (List ℕ) → Answer → Type 0) → Answer → Type 0
+-- what files whose contents are known allow where no read fails: the first that is absent or too
+-- long ends the reading, else this is said of all contents
+abbrev pub AllowsAnswer : Contents → List Input → (List (List ℕ) → CallAnswer → Type 0) → CallAnswer → Type 0
 AllowsAnswer c [] says answer = says [] answer
 AllowsAnswer c (i ∷ is) says answer =
-    StopsTold c i answer
+    StopsWhereContentsKnown c i answer
     ⊎ ((bytes : List ℕ) × IsFileThere c i bytes × AllowsAnswer c is (λ files. says (bytes ∷ files)) answer)
 
 -- a read of a file failed that the reading comes to: the first, or one behind files that are there, within their limits

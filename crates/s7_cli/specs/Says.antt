@@ -15,11 +15,11 @@ use Rattle.generator.specs.Source.{source_text}
 use Rattle.de_mnemonics.specs.Translation.{IsTranslation}
 use Rattle.stl_symbols.specs.declared.languages.Language.{Language}
 use Rattle.sem_kept.specs.Agreement.{names_read_in}
-use Rattle.sem_kept.specs.Meaning.{IsChecked, IsCheckedIn, IsRefusedSourceIn, RefusedFile, InSymbols, InSource}
+use Rattle.sem_kept.specs.Meaning.{HasOutcomeOfSource, HasOutcomeOfSourceIn, IsRefusedSourceIn, RefusedFile, InSymbols, InSource}
 use Rattle.event_text.specs.Texts.{history_of_text}
 use Rattle.s7_cli.specs.run_text.RunText.{run_text}
 use Rattle.s7_cli.specs.declared.failures.File.TheVariants.{Source, Symbols, History}
-use Rattle.s7_cli.specs.Answer.{Answer, done_answer, refused_file_answer, refused_image_answer}
+use Rattle.s7_cli.specs.Answer.{CallAnswer, done_answer, refused_file_answer, refused_image_answer}
 use Rattle.s7_cli.specs.BoundSays.{BoundSays, IsCertificate, RecheckSays}
 use Rattle.s7_cli.specs.Command.{Command, Go, Check, Compile, Translate, Run, Gen, Live, Watch, Upgrade, ListImage, Bound, Recheck}
 use Rattle.s7_cli.specs.GenText.{summary_text}
@@ -27,64 +27,64 @@ use Rattle.s7_cli.specs.Lines.{ok_line}
 use Rattle.s7_cli.specs.ListSays.{IsListed, ListSays}
 use Rattle.s7_cli.specs.LiveSays.{LiveSays}
 use Rattle.s7_cli.specs.Loads.{LoadsAs}
-use Rattle.s7_cli.specs.Translating.{InEnglish, IsSourceImage, SaysTranslated, language_of}
+use Rattle.s7_cli.specs.Translating.{SaysInEnglish, IsSourceImage, SaysTranslated, language_of}
 use Rattle.s7_cli.specs.WatchSays.{WatchSays}
 
 -- a source is refused by what its symbols break, or by what it breaks itself
-abbrev pub refused_program : RefusedFile → Answer
-refused_program (InSymbols refusal) = refused_file_answer Symbols refusal
-refused_program (InSource refusal) = refused_file_answer Source refusal
+abbrev pub refused_source_answer : RefusedFile → CallAnswer
+refused_source_answer (InSymbols refusal) = refused_file_answer Symbols refusal
+refused_source_answer (InSource refusal) = refused_file_answer Source refusal
 
 -- `go`: the source with its symbols is checked first, then the history; else the text of the run is
 -- told, at a profile
-abbrev pub go_answer : Profile → Result Code RefusedFile → Result (List Entry) Refusal → Answer
-go_answer profile (Err why) history = refused_program why
+abbrev pub go_answer : Profile → Result Code RefusedFile → Result (List Entry) Refusal → CallAnswer
+go_answer profile (Err why) history = refused_source_answer why
 go_answer profile (Ok code) (Err refusal) = refused_file_answer History refusal
 go_answer profile (Ok code) (Ok entries) = done_answer (run_text profile code entries)
 
 -- `check` and `compile`: the source with its symbols is checked
-abbrev pub check_answer : Result Code RefusedFile → Answer
-check_answer (Err why) = refused_program why
+abbrev pub check_answer : Result Code RefusedFile → CallAnswer
+check_answer (Err why) = refused_source_answer why
 check_answer (Ok code) = done_answer ok_line
 
 -- the answer of running a source along a history, over the contents of its files, with symbols
 -- in a language, at a profile; the history may name the variables of the symbols
-abbrev pub SourceSays : Language → Profile → (source symbols history : List ℕ) → Answer → Type 0
+abbrev pub SourceSays : Language → Profile → (source symbols history : List ℕ) → CallAnswer → Type 0
 SourceSays language profile source symbols history answer =
-    (outcome : Result Code RefusedFile) × IsCheckedIn language source symbols outcome
+    (outcome : Result Code RefusedFile) × HasOutcomeOfSourceIn language source symbols outcome
     × (answer ≡ go_answer profile outcome (history_of_text (names_read_in language symbols) history))
 
 -- what `go` answers, of the English text of the source: it has the sizes of the large profile
-abbrev pub GoSays : (german : Bool) → (source symbols history : List ℕ) → Answer → Type 0
+abbrev pub GoSays : (german : Bool) → (source symbols history : List ℕ) → CallAnswer → Type 0
 GoSays german source symbols history answer =
-    InEnglish german source symbols
+    SaysInEnglish german source symbols
     (λ text. SourceSays (language_of german) Large text symbols history) answer
 
 -- `run` with an image that loads: the history is checked, or the text of the run is told, at the
 -- image's profile
-abbrev pub run_outcome : LoadedProgram → Result (List Entry) Refusal → Answer
-run_outcome loaded (Err refusal) = refused_file_answer History refusal
-run_outcome loaded (Ok entries) = done_answer (run_text loaded.profile (code_of loaded.program) entries)
+abbrev pub run_loaded_answer : LoadedProgram → Result (List Entry) Refusal → CallAnswer
+run_loaded_answer loaded (Err refusal) = refused_file_answer History refusal
+run_loaded_answer loaded (Ok entries) = done_answer (run_text loaded.profile (code_of loaded.program) entries)
 
 -- `run`, by how its image loads: it is refused, or runs along the history, which may name the
 -- variables whose names stand in the image
-abbrev pub run_answer : Result LoadedProgram LoadFault → (history : List ℕ) → Answer
+abbrev pub run_answer : Result LoadedProgram LoadFault → (history : List ℕ) → CallAnswer
 run_answer (Err fault) history = refused_image_answer fault
-run_answer (Ok loaded) history = run_outcome loaded (history_of_text loaded.program.names history)
+run_answer (Ok loaded) history = run_loaded_answer loaded (history_of_text loaded.program.names history)
 
 -- what `run` answers, over the contents of its files
-abbrev pub RunSays : (image history : List ℕ) → Answer → Type 0
+abbrev pub RunSays : (image history : List ℕ) → CallAnswer → Type 0
 RunSays image history answer =
     (loaded : Result LoadedProgram LoadFault) × LoadsAs image loaded
     × (answer ≡ run_answer loaded history)
 
 -- `upgrade`: the image is loaded
-abbrev pub upgrade_answer : Result LoadedProgram LoadFault → Answer
+abbrev pub upgrade_answer : Result LoadedProgram LoadFault → CallAnswer
 upgrade_answer (Err fault) = refused_image_answer fault
 upgrade_answer (Ok loaded) = done_answer ok_line
 
 -- what `upgrade` answers, over the contents of its file
-abbrev pub UpgradeSays : (image : List ℕ) → Answer → Type 0
+abbrev pub UpgradeSays : (image : List ℕ) → CallAnswer → Type 0
 UpgradeSays image answer =
     (loaded : Result LoadedProgram LoadFault) × LoadsAs image loaded × (answer ≡ upgrade_answer loaded)
 
@@ -94,45 +94,45 @@ IsUpgraded bytes image =
     (loaded : LoadedProgram) × LoadsAs image (Ok loaded) × (bytes ≡ image_of (Two loaded.profile) loaded.program)
 
 -- `gen`: the source of the number is checked; its run along the history of the number is summed up
-abbrev pub gen_answer : (number : ℕ) → Result Code RefusedFile → Answer
-gen_answer number (Err why) = refused_program why
+abbrev pub gen_answer : (number : ℕ) → Result Code RefusedFile → CallAnswer
+gen_answer number (Err why) = refused_source_answer why
 gen_answer number (Ok code) = done_answer (summary_text number Large code (generated_history number))
 
 -- what `gen` answers; it reads no file
-abbrev pub GenSays : (number : ℕ) → Answer → Type 0
+abbrev pub GenSays : (number : ℕ) → CallAnswer → Type 0
 GenSays number answer =
-    (outcome : Result Code RefusedFile) × IsChecked (source_text number) [] outcome
+    (outcome : Result Code RefusedFile) × HasOutcomeOfSource (source_text number) [] outcome
     × (answer ≡ gen_answer number outcome)
 
 -- what `check` and `compile` answer for an English text with symbols in a language
-abbrev pub ChecksAs : Language → (symbols text : List ℕ) → Answer → Type 0
+abbrev pub ChecksAs : Language → (symbols text : List ℕ) → CallAnswer → Type 0
 ChecksAs language symbols text answer =
-    (outcome : Result Code RefusedFile) × IsCheckedIn language text symbols outcome
+    (outcome : Result Code RefusedFile) × HasOutcomeOfSourceIn language text symbols outcome
     × (answer ≡ check_answer outcome)
 
 -- what `check` and `compile` answer, over the contents of their files
-abbrev pub CheckSays : (german : Bool) → (source symbols : List ℕ) → Answer → Type 0
+abbrev pub CheckSays : (german : Bool) → (source symbols : List ℕ) → CallAnswer → Type 0
 CheckSays german source symbols answer =
-    InEnglish german source symbols (ChecksAs (language_of german) symbols) answer
+    SaysInEnglish german source symbols (ChecksAs (language_of german) symbols) answer
 
 -- an English text with symbols in a language is refused with this answer
-abbrev pub RefusedText : Language → (symbols text : List ℕ) → Answer → Type 0
+abbrev pub RefusedText : Language → (symbols text : List ℕ) → CallAnswer → Type 0
 RefusedText language symbols text answer =
-    (why : RefusedFile) × IsRefusedSourceIn language text symbols why × (answer ≡ refused_program why)
+    (why : RefusedFile) × IsRefusedSourceIn language text symbols why × (answer ≡ refused_source_answer why)
 
 -- a source with its symbols is refused with this answer, or its translation is too long
-abbrev pub RefusedProgram : (german : Bool) → (source symbols : List ℕ) → Answer → Type 0
+abbrev pub RefusedProgram : (german : Bool) → (source symbols : List ℕ) → CallAnswer → Type 0
 RefusedProgram german source symbols answer =
-    InEnglish german source symbols (RefusedText (language_of german) symbols) answer
+    SaysInEnglish german source symbols (RefusedText (language_of german) symbols) answer
 
 -- what `english` and `german` answer, over the contents of their file
-abbrev pub TranslateSays : Language → (source : List ℕ) → Answer → Type 0
+abbrev pub TranslateSays : Language → (source : List ℕ) → CallAnswer → Type 0
 TranslateSays language source answer =
     SaysTranslated language source (λ text a. a ≡ done_answer ok_line) answer
 
 -- what a command answers, over the contents of its input files, in the order of reading; without
 -- a symbols file the symbols are no bytes
-abbrev pub CommandSays : Command → List (List ℕ) → Answer → Type 0
+abbrev pub CommandSays : Command → List (List ℕ) → CallAnswer → Type 0
 CommandSays (Go _ None german _) (source ∷ history ∷ []) answer = GoSays german source [] history answer
 CommandSays (Go _ (Some _) german _) (source ∷ symbols ∷ history ∷ []) answer =
     GoSays german source symbols history answer

@@ -11,7 +11,7 @@ use Rattle.sem_kept.specs.Compiles.{CompilesTo}
 use Rattle.stl_symbols.specs.Symbol.{Symbol}
 use Rattle.stl_symbols.specs.Symbols.{symbols_in}
 use Rattle.s7_cli.specs.declared.failures.File.TheVariants.{Source, Translation, Symbols}
-use Rattle.s7_cli.specs.Answer.{Answer, refused_file_answer, too_long_answer}
+use Rattle.s7_cli.specs.Answer.{CallAnswer, refused_file_answer, too_long_answer}
 use Rattle.s7_cli.specs.Command.{limit_of}
 use Rattle.s7_cli.specs.Compiling.{HasProgramIn, IsCompiledIn}
 
@@ -27,40 +27,40 @@ TranslatesSource language source (Err refusal) =
     IsTranslationViolation language source refusal.line refusal.rule
 
 -- an answer by whether a text fits: what is said of it, or else that the translation is too long
-abbrev pub IfFits : Bool → Type 0 → Answer → Type 0
+abbrev pub IfFits : Bool → Type 0 → CallAnswer → Type 0
 IfFits true said answer = said
 IfFits false said answer = answer ≡ too_long_answer Translation
 
 -- an answer by the translation of a source: its refusal, or what `says` has of the text where
 -- that is as long as it may be
-abbrev pub OfTranslation :
-    (says : List ℕ → Answer → Type 0) → Result (List ℕ) Refusal → Answer → Type 0
-OfTranslation says (Err refusal) answer = answer ≡ refused_file_answer Source refusal
-OfTranslation says (Ok text) answer =
+abbrev pub SaysByTranslation :
+    (says : List ℕ → CallAnswer → Type 0) → Result (List ℕ) Refusal → CallAnswer → Type 0
+SaysByTranslation says (Err refusal) answer = answer ≡ refused_file_answer Source refusal
+SaysByTranslation says (Ok text) answer =
     IfFits (nat_le (length text) (limit_of Translation)) (says text answer) answer
 
 -- what `says` has of the translation of a source into a language: its tokens and its words are
--- judged first, and then how long the translation is
+-- checked first, and then how long the translation is
 abbrev pub SaysTranslated :
-    Language → (source : List ℕ) → (says : List ℕ → Answer → Type 0) → Answer → Type 0
+    Language → (source : List ℕ) → (says : List ℕ → CallAnswer → Type 0) → CallAnswer → Type 0
 SaysTranslated language source says answer =
     (translation : Result (List ℕ) Refusal) × TranslatesSource language source translation
-    × OfTranslation says translation answer
+    × SaysByTranslation says translation answer
 
--- what `says` has of the English translation of a source with these symbols, which are judged
+-- what `says` has of the English translation of a source with these symbols, which are checked
 -- before
-abbrev pub OfSymbols : Result (List Symbol) Refusal → (source : List ℕ)
-    → (says : List ℕ → Answer → Type 0) → Answer → Type 0
-OfSymbols (Err refusal) source says answer = answer ≡ refused_file_answer Symbols refusal
-OfSymbols (Ok list) source says answer = SaysTranslated English source says answer
+abbrev pub SaysWithSymbols : Result (List Symbol) Refusal → (source : List ℕ)
+    → (says : List ℕ → CallAnswer → Type 0) → CallAnswer → Type 0
+SaysWithSymbols (Err refusal) source says answer = answer ≡ refused_file_answer Symbols refusal
+SaysWithSymbols (Ok list) source says answer = SaysTranslated English source says answer
 
 -- what `says` has of the English text of a source: an English one itself, or the translation of
--- a German one, whose symbols are judged before
-abbrev pub InEnglish : (german : Bool) → (source symbols : List ℕ)
-    → (says : List ℕ → Answer → Type 0) → Answer → Type 0
-InEnglish false source symbols says answer = says source answer
-InEnglish true source symbols says answer =
-    OfSymbols (symbols_in German symbols) source says answer
+-- a German one, whose symbols are checked before
+abbrev pub SaysInEnglish : (german : Bool) → (source symbols : List ℕ)
+    → (says : List ℕ → CallAnswer → Type 0) → CallAnswer → Type 0
+SaysInEnglish false source symbols says answer = says source answer
+SaysInEnglish true source symbols says answer =
+    SaysWithSymbols (symbols_in German symbols) source says answer
 
 -- a text is the English text of a source: an English one itself, or the translation of a German
 -- one, as long as it may be
@@ -70,13 +70,13 @@ IsEnglish true source text =
     IsTranslation English source text × (length text ≤ limit_of Translation)
 
 -- the answer where a source has no translation into a language, or one that is too long
-abbrev pub NotTranslated : Language → (source : List ℕ) → Answer → Type 0
+abbrev pub NotTranslated : Language → (source : List ℕ) → CallAnswer → Type 0
 NotTranslated language source answer = SaysTranslated language source (λ text a. ⊥) answer
 
 -- the answer where a German source has no English text that is as long as it may be, or its
 -- symbols are refused
-abbrev pub NotInEnglish : (source symbols : List ℕ) → Answer → Type 0
-NotInEnglish source symbols answer = InEnglish true source symbols (λ text a. ⊥) answer
+abbrev pub NotInEnglish : (source symbols : List ℕ) → CallAnswer → Type 0
+NotInEnglish source symbols answer = SaysInEnglish true source symbols (λ text a. ⊥) answer
 
 -- the English text of a source has a program with its symbols
 abbrev pub HasProgramOf : (german : Bool) → (source symbols : List ℕ) → Type 0

@@ -4,7 +4,7 @@ use Rattle.image_file.specs.Loaded.{LoadedProgram}
 use Rattle.image_file.specs.declared.faults.LoadFault.{LoadFault}
 use Rattle.sem_kept.specs.Agreement.{ImageKeepsSourceIn}
 use Rattle.stl_symbols.specs.declared.languages.Language.{Language}
-use Rattle.s7_cli.specs.Answer.{Answer}
+use Rattle.s7_cli.specs.Answer.{CallAnswer}
 use Rattle.s7_cli.specs.LiveSays.{LiveSays}
 use Rattle.s7_cli.specs.Loads.{LoadsAs}
 use Rattle.s7_cli.specs.Says.{IsUpgraded, RunSays}
@@ -21,7 +21,7 @@ UpgradesLoadAlike =
 abbrev pub UpgradesRunAlike : Type 0
 UpgradesRunAlike =
     (upgraded image : List ℕ) → ((i : ℕ) → get_or upgraded i 0 < 256) → IsUpgraded upgraded image
-    → (history : List ℕ) (answer : Answer)
+    → (history : List ℕ) (answer : CallAnswer)
     → (RunSays upgraded history answer → RunSays image history answer)
     × (RunSays image history answer → RunSays upgraded history answer)
 
@@ -29,7 +29,7 @@ UpgradesRunAlike =
 abbrev pub UpgradesLiveAlike : Type 0
 UpgradesLiveAlike =
     (upgraded image : List ℕ) → ((i : ℕ) → get_or upgraded i 0 < 256) → IsUpgraded upgraded image
-    → (steps : ℕ) (stimuli : List ℕ) (scripts : List (List ℕ)) (answer : Answer)
+    → (steps : ℕ) (stimuli : List ℕ) (scripts : List (List ℕ)) (answer : CallAnswer)
     → (LiveSays steps upgraded stimuli scripts answer → LiveSays steps image stimuli scripts answer)
     × (LiveSays steps image stimuli scripts answer → LiveSays steps upgraded stimuli scripts answer)
 

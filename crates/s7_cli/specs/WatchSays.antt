@@ -14,7 +14,7 @@ use Rattle.event_text.specs.Texts.{history_of_text, stimuli_of}
 use Rattle.event_text.specs.WatchedVars.{watched_vars_of}
 use Rattle.watch_board.specs.declared.shown.Shown.{Shown}
 use Rattle.s7_cli.specs.declared.failures.File.TheVariants.{Stimuli, Script, Vars}
-use Rattle.s7_cli.specs.Answer.{Answer, done_answer, refused_file_answer, refused_image_answer}
+use Rattle.s7_cli.specs.Answer.{CallAnswer, done_answer, refused_file_answer, refused_image_answer}
 use Rattle.s7_cli.specs.LiveSays.{RefusedScript, live_text, scripts_from}
 use Rattle.s7_cli.specs.Living.{IsLive, opened_on}
 use Rattle.s7_cli.specs.Loads.{LoadsAs}
@@ -43,18 +43,23 @@ watch_text loaded history vars seen = live_text loaded history ++ (codes "---\n"
 
 -- the workers made some live history of these lists, in which operator 4 read the variables again and again. Each line of a view but that
 -- of the opening item has the number and the reply of one of operator 4's entries, and the numbers never fall
-pub record RanWatch (loaded : LoadedProgram) (steps : ℕ) (stimuli : List Entry) (vars : List Var) (scripts : List (List Entry)) (answer : Answer) : Type 0 where
+pub record RanWatch (loaded : LoadedProgram) (steps : ℕ) (stimuli : List Entry) (vars : List Var) (scripts : List (List Entry)) (answer : CallAnswer) : Type 0 where
+  -- the history that the workers made
   pub history : List Entry
+  -- it is a live history of these lists, and of the reads of operator 4
   pub live : IsLive loaded steps stimuli (watch_lists watch_count scripts vars) history
   -- where it isn't longer than a history may be, `run` gives the written history the same text
   pub read_back : history_of_text loaded.program.names (history_text history) ≡ Ok history
+  -- the items that were viewed
   pub seen : List Shown
+  -- each is the opening item or a reply to one of these reads, and their numbers never fall
   pub views : AreViews (read_entry_of 6 vars) (opened_on loaded) history watch_count seen
+  -- the answer is the text of the history and of the views, done
   pub says : answer ≡ done_answer (watch_text loaded history vars seen)
 
 -- what `watch` answers for a program: the stimuli are checked first, then the variables, then
 -- the scripts in their order, and then the workers run
-abbrev pub WatchAnswer : LoadedProgram → (steps : ℕ) → Result (List Entry) Refusal → Result (List Var) Refusal → Result (List (List Entry)) RefusedScript → Answer → Type 0
+abbrev pub WatchAnswer : LoadedProgram → (steps : ℕ) → Result (List Entry) Refusal → Result (List Var) Refusal → Result (List (List Entry)) RefusedScript → CallAnswer → Type 0
 WatchAnswer loaded steps (Err refusal) vars scripts answer = answer ≡ refused_file_answer Stimuli refusal
 WatchAnswer loaded steps (Ok stimuli) (Err refusal) scripts answer = answer ≡ refused_file_answer Vars refusal
 WatchAnswer loaded steps (Ok stimuli) (Ok vars) (Err script) answer = answer ≡ refused_file_answer (Script script.number) script.refusal
@@ -62,12 +67,12 @@ WatchAnswer loaded steps (Ok stimuli) (Ok vars) (Ok scripts) answer = RanWatch l
 
 -- what `watch` answers by how its image loads, which is before stimuli, variables and scripts
 -- are checked
-abbrev pub LoadedWatch : Result LoadedProgram LoadFault → (steps : ℕ) → (stimuli vars : List ℕ) (scripts : List (List ℕ)) → Answer → Type 0
+abbrev pub LoadedWatch : Result LoadedProgram LoadFault → (steps : ℕ) → (stimuli vars : List ℕ) (scripts : List (List ℕ)) → CallAnswer → Type 0
 LoadedWatch (Err fault) steps stimuli vars scripts answer = answer ≡ refused_image_answer fault
 LoadedWatch (Ok loaded) steps stimuli vars scripts answer =
     WatchAnswer loaded steps (stimuli_of stimuli) (watched_vars_of loaded.program.names vars) (scripts_from loaded.program.names 1 scripts) answer
 
 -- what `watch` answers, over the contents of its files
-abbrev pub WatchSays : (steps : ℕ) (image stimuli vars : List ℕ) (scripts : List (List ℕ)) → Answer → Type 0
+abbrev pub WatchSays : (steps : ℕ) (image stimuli vars : List ℕ) (scripts : List (List ℕ)) → CallAnswer → Type 0
 WatchSays steps image stimuli vars scripts answer =
     (loaded : Result LoadedProgram LoadFault) × LoadsAs image loaded × LoadedWatch loaded steps stimuli vars scripts answer

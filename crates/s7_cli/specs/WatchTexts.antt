@@ -11,7 +11,7 @@ use Rattle.s7_cli.specs.declared.failures.Failure.{Failure}
 use Rattle.s7_cli.specs.declared.failures.Failure.TheVariants.{Refused}
 use Rattle.s7_cli.specs.declared.failures.File.TheVariants.{Vars}
 use Rattle.s7_cli.specs.declared.watch_files.WatchText.{WatchText}
-use Rattle.s7_cli.specs.Answer.{Answer}
+use Rattle.s7_cli.specs.Answer.{CallAnswer}
 use Rattle.s7_cli.specs.LiveSays.{scripts_from}
 use Rattle.s7_cli.specs.LiveTexts.{AreScriptsWithin}
 use Rattle.s7_cli.specs.Living.{AreRegularBy, total_length}
@@ -32,28 +32,35 @@ pub record IsWatchText (text : WatchText) : Type 0 where
   pub stimuli : length text.stimuli.items ≤ 4194304
   pub vars : length text.vars.items ≤ 1048576
   pub scripts : AreScriptsWithin (watch_scripts text)
+  -- there is a script
   pub some : 1 ≤ length text.scripts.items
+  -- there are at most three
   pub few : length text.scripts.items ≤ 3
 
 -- what `watch` answers for these files
-abbrev pub WatchTextSays : (steps : ℕ) → WatchText → Answer → Type 0
+abbrev pub WatchTextSays : (steps : ℕ) → WatchText → CallAnswer → Type 0
 WatchTextSays steps text answer = WatchSays steps text.image.items text.stimuli.items text.vars.items (watch_scripts text) answer
 
--- why the variables are refused is told
-abbrev pub TellsVars : Result (List Var) Refusal → Failure → Type 0
-TellsVars vars failure = (refusal : Refusal) × (vars ≡ Err refusal) × (failure ≡ Refused Vars refusal)
+-- the variables are refused, and their refusal is answered
+abbrev pub AreVarsRefused : Result (List Var) Refusal → Failure → Type 0
+AreVarsRefused vars failure = (refusal : Refusal) × (vars ≡ Err refusal) × (failure ≡ Refused Vars refusal)
 
 -- what is found in the files of a watch: the program, the lists of the workers and the
 -- variables; an entry has four bytes of its text at least
 pub record FindsWatch (text : WatchText) (loaded : LoadedProgram) (stimuli : List Entry) (vars : List Var) (scripts : List (List Entry)) : Type 0 where
+  -- the image loads as this program
   pub loads : LoadsAs text.image.items (Ok loaded)
+  -- the stimuli break no rule and are these entries
   pub are_stimuli : stimuli_of text.stimuli.items ≡ Ok stimuli
+  -- the variables break no rule and are these
   pub are_vars : watched_vars_of loaded.program.names text.vars.items ≡ Ok vars
+  -- the scripts break no rule and are these lists
   pub are_scripts : scripts_from loaded.program.names 1 (watch_scripts text) ≡ Ok scripts
   -- the stimuli are regular entries of worker 2, those of script k of worker k + 2
   pub regular : AreRegularBy 2 (stimuli ∷ scripts)
   -- the entry that reads the variables is a regular one of worker 6
   pub reads : IsRegularOf 6 (read_entry_of 6 vars)
+  -- stimuli and scripts have no more entries than this together
   pub few : length stimuli + total_length scripts ≤ 2097152
   -- a script was found for each file of scripts
   pub many : length scripts ≡ length text.scripts.items

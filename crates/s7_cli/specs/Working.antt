@@ -33,17 +33,22 @@ pub record IsFresh (s : LockView Opening) (p : PassView Opening Entry) : Type 0 
   pub lock : p.lock ≡ s
   -- no value is out with it
   pub out : p.out ≡ false
+  -- under its number it has made nothing, and it has no other number
   pub made : p.made ≡ record { number = p.number; entries = [] } ∷ []
   -- it has seen no entry of its number
   pub agrees : IsMadeOf (λ e. e.who) p.seen p.made
 
 -- of these entries the pass has made the first ones, and nothing else
 pub record HasBegun (s : LockView Opening) (number : ℕ) (entries : List Entry) (p : PassView Opening Entry) : Type 0 where
+  -- the pass is one of this station
   pub lock : p.lock ≡ s
+  -- no value is out with it
   pub out : p.out ≡ false
   -- the entries that it made
   pub done : List Entry
+  -- they are the first ones of the list, in its order
   pub begins : IsPrefix done entries
+  -- under its number it made these, and it has no other number
   pub made : p.made ≡ record { number = number; entries = done } ∷ []
 
 -- a fresh pass for each list, whose entries are of the pass's number
@@ -89,42 +94,59 @@ RunsBefore last o who story =
 
 -- the worker's last entry leaves STOP at its place in the story
 pub record EndsInStop (o : Opening) (who : ℕ) (story : List Entry) : Type 0 where
+  -- the story before the entry
   pub before : List Entry
+  -- the worker's last entry
   pub last : Entry
+  -- the story behind it
   pub after : List Entry
+  -- the story is made of these three
   pub is : story ≡ before ++ last ∷ after
   -- the entry is the worker's
   pub own : last.who ≡ who
   -- the worker has no later entry
   pub none : entries_of_worker who after ≡ []
+  -- the mode behind the entry is STOP
   pub stops : is_stop (mode_at o before last) ≡ true
 
--- a pass has made steps alone, at most so many, each but the last of which leaves another mode than STOP; a stepper that wasn't refused
--- made fewer only where the last one leaves STOP
+-- what a stepper leaves of its pass: it made steps alone, at most `steps`, each but the last of
+-- which leaves another mode than STOP; `whole` says that it wasn't refused, and then it made fewer
+-- only where the last one leaves STOP
 pub record HasStepped (s : LockView Opening) (number steps : ℕ) (p : PassView Opening Entry) (whole : Bool) : Type 0 where
+  -- the pass is one of this station
   pub lock : p.lock ≡ s
+  -- no value is out with it
   pub out : p.out ≡ false
+  -- the entries of its number in the story that it has seen are those that it made
   pub agrees : IsMadeOf (λ e. e.who) p.seen p.made
   -- how many steps it made
   pub count : ℕ
+  -- they are at most as many as it was to make
   pub few : count ≤ steps
+  -- it made these steps, and nothing else
   pub made : p.made ≡ record { number = number; entries = replicate count (step_entry_by number) } ∷ []
-  -- each of its entries but the last leaves another mode than STOP
+  -- each of its steps but the last leaves another mode than STOP
   pub runs : RunsBefore 1 (the_opening s.origin) number p.seen
   -- where it wasn't refused, it made all steps, or its last one leaves STOP
   pub ends : whole ≡ true → (count ≡ steps) ⊎ EndsInStop (the_opening s.origin) number p.seen
 
--- what the workers made together under the numbers of these passes, the stepper's first: it made steps alone, at most so many, each but
--- the last of which leaves another mode than STOP, and the others the first entries of their lists. Where no worker was refused the lists
--- were made whole, and there are fewer steps only where the last one leaves STOP
+-- what the workers made together: the stepper, whose pass was `p`, made steps alone, at most
+-- `steps`, each but the last of which leaves another mode than STOP, and those of the passes `ps`
+-- the first entries of their `lists`; `r` is the pass that joined all of theirs, and `whole` says
+-- that no worker was refused: then the lists were made whole, and there are fewer steps only where
+-- the last one leaves STOP
 pub record WorkedBy (s : LockView Opening) (p : PassView Opening Entry) (ps : List (PassView Opening Entry)) (steps : ℕ) (lists : List (List Entry)) (r : PassView Opening Entry) (whole : Bool) : Type 0 where
   -- how many steps the stepper made
   pub count : ℕ
+  -- they are at most as many as it was to make
   pub few : count ≤ steps
-  -- what the other workers made
+  -- what each of the other workers made, under its number
   pub others : List (Made Entry)
+  -- the pass `r` has made the steps, under the stepper's number, and what the others made
   pub made : r.made ≡ record { number = p.number; entries = replicate count (step_entry_by p.number) } ∷ others
+  -- each of the others made the first entries of its list
   pub begun : HaveBegun ps lists others
+  -- each of the stepper's steps but the last leaves another mode than STOP
   pub runs : RunsBefore 1 (the_opening s.origin) p.number r.seen
   -- where no worker was refused, the other lists were made whole
   pub all : whole ≡ true → others ≡ passes_made_whole ps lists

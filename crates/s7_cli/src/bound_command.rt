@@ -1,10 +1,10 @@
 ghost use Rattle.std.specs.Prelude.{ℕ, List, [], ◌∷◌, Some, IfOk};
 ghost use Rattle.plc_io.specs.Moments.{FilesAt};
 ghost use Rattle.s7_cli.specs.BoundSays.{BoundSays};
-ghost use Rattle.s7_cli.specs.BoundTexts.{IsChainLine, IsToldOf, TellsOf};
+ghost use Rattle.s7_cli.specs.BoundTexts.{IsChainLine, IsBoundText, IsBoundTextOfImage};
 ghost use Rattle.s7_cli.specs.Command.{Bound};
 ghost use Rattle.s7_cli.specs.Ends.{EndsWithStatus, sink_moments};
-ghost use Rattle.s7_cli.specs.Inner.{ComesOutAs, ComesOf, SaysRefusal};
+ghost use Rattle.s7_cli.specs.Inner.{ComesBeforeLine, CommandComesTo, SaysRefusal};
 ghost use Rattle.s7_cli.specs.Reading.{disk_moments};
 ghost use Rattle.s7_cli.specs.StatusTable.{StatusTable};
 
@@ -19,7 +19,7 @@ use std::alloc::Global;
 
 /// What is found of a program, as text.
 #[derive(Drop)]
-enum Told {
+enum BoundText {
     /// The certificate.
     Fits { certificate: Vec<u8> },
     /// The line of a chain that is too deep.
@@ -27,38 +27,38 @@ enum Told {
 }
 
 /// The text of what was found.
-fn told_of(alloc: Global, found: &Found) -> Result<Told, NoMemory>
-    ensures { IfOk result (IsToldOf found.now) }
+fn bound_text(alloc: Global, found: &Found) -> Result<BoundText, NoMemory>
+    ensures { IfOk result (IsBoundText found.now) }
 {
     let mut text = Vec::new(alloc);
     match found {
         Found::Fits { list } => {
             write_certificate(list, &mut text)?;
-            Ok(Told::Fits { certificate: text })
+            Ok(BoundText::Fits { certificate: text })
         }
         Found::Deep { chain } => {
             write_chain(chain, &mut text)?;
-            Ok(Told::Deep { line: text })
+            Ok(BoundText::Deep { line: text })
         }
     }
 }
 
 /// Checks an image, and finds the certificate of its program, or a chain that is too deep.
 #[tactic(auto, using(crate::proofs::BoundLemmas::tells))]
-fn check_bound(alloc: Global, image: &[u8]) -> Result<Told, Failure>
-    ensures tells { IfOk result (TellsOf image.now) }
+fn check_bound(alloc: Global, image: &[u8]) -> Result<BoundText, Failure>
+    ensures tells { IfOk result (IsBoundTextOfImage image.now) }
     ensures refused { SaysRefusal (BoundSays image.now) result }
 {
     let loaded = loaded(alloc, image)?;
     let found = find(alloc, &loaded)?;
-    Ok(told_of(alloc, &found)?)
+    Ok(bound_text(alloc, &found)?)
 }
 
 /// Writes the line of a chain that is too deep.
 fn write_deep<K: Sink>(out: &mut K, line: &[u8]) -> Result<(), Failure>
     ensures { let took = sink_moments (K.shown out.old) (K.shown out.new) in
         (img cert image : List ℕ) (at : FilesAt) → IsChainLine line.now image
-        → ComesOf (Bound img cert) (image ∷ []) (disk_moments at at) took result }
+        → CommandComesTo (Bound img cert) (image ∷ []) (disk_moments at at) took result }
 {
     write_text(out, line)?;
     Err(Failure::TooDeep)
@@ -74,11 +74,11 @@ fn bound_image<F: Files, K: Sink>(
 ) -> Result<(), Failure>
     ensures { let went = disk_moments (F.shown files.old) (F.shown files.new) in
         let took = sink_moments (K.shown out.old) (K.shown out.new) in
-        (img : List ℕ) → ComesOf (Bound img cert.now) (image.now ∷ []) went took result }
+        (img : List ℕ) → CommandComesTo (Bound img cert.now) (image.now ∷ []) went took result }
 {
     match check_bound(alloc, image) {
-        Ok(Told::Fits { certificate }) => write_output(files, out, cert, &certificate),
-        Ok(Told::Deep { line }) => write_deep(out, &line),
+        Ok(BoundText::Fits { certificate }) => write_output(files, out, cert, &certificate),
+        Ok(BoundText::Deep { line }) => write_deep(out, &line),
         Err(failure) => Err(failure),
     }
 }
@@ -93,7 +93,7 @@ fn bound<F: Files, K: Sink>(
 ) -> Result<(), Failure>
     ensures { let went = disk_moments (F.shown files.old) (F.shown files.new) in
         let took = sink_moments (K.shown out.old) (K.shown out.new) in
-        ComesOutAs (Some (Bound img.now cert.now)) went took result }
+        ComesBeforeLine (Some (Bound img.now cert.now)) went took result }
 {
     let image = read_file(alloc, files, File::Image, img)?;
     bound_image(alloc, &image, cert, files, out)

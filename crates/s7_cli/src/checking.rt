@@ -3,7 +3,7 @@ ghost use Rattle.std.specs.Option.{option_map};
 ghost use Rattle.plc_io.specs.Moments.{FilesAt};
 ghost use Rattle.s7_cli.specs.Command.{Check};
 ghost use Rattle.s7_cli.specs.Ends.{EndsWithStatus, sink_moments};
-ghost use Rattle.s7_cli.specs.Inner.{ComesOutAs, ComesOf};
+ghost use Rattle.s7_cli.specs.Inner.{ComesBeforeLine, CommandComesTo};
 ghost use Rattle.s7_cli.specs.Reading.{disk_moments};
 ghost use Rattle.s7_cli.specs.StatusTable.{StatusTable};
 ghost use Rattle.s7_cli.specs.Texts.{AreFilesWithinLimits, file_contents_of};
@@ -25,7 +25,7 @@ fn check_text<K: Sink>(
     requires { AreFilesWithinLimits text.now }
     ensures { let took = sink_moments (K.shown out.old) (K.shown out.new) in
         (src : List ℕ) (symbols : Option (List ℕ)) (at : FilesAt)
-        → ComesOf (Check src symbols german) (file_contents_of text.now) (disk_moments at at) took result }
+        → CommandComesTo (Check src symbols german) (file_contents_of text.now) (disk_moments at at) took result }
 {
     check_program(alloc, text, german)?;
     write_text(out, OK_LINE)
@@ -41,7 +41,7 @@ fn check<F: Files, K: Sink>(
     out: &mut K,
 ) -> Result<(), Failure>
     ensures { let files_went = disk_moments (F.shown files.old) (F.shown files.new) in
-        ComesOutAs (Some (Check src.now (option_map (λ s. s.now) symbols.entry) german)) files_went
+        ComesBeforeLine (Some (Check src.now (option_map (λ s. s.now) symbols.entry) german)) files_went
         (sink_moments (K.shown out.old) (K.shown out.new)) result }
 {
     let text = read_program(alloc, files, src, symbols)?;

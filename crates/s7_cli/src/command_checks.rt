@@ -9,7 +9,7 @@ ghost use Rattle.sem_kept.specs.Agreement.{names_read_in};
 ghost use Rattle.event_text.specs.Texts.{history_of_text};
 ghost use Rattle.s7_cli.specs.Inner.{SaysRefusal};
 ghost use Rattle.s7_cli.specs.LiveSays.{scripts_from};
-ghost use Rattle.s7_cli.specs.LiveTexts.{AreScriptsWithin, FindsProgramAndScripts, IsLiveText, TellsScript, LiveTextSays};
+ghost use Rattle.s7_cli.specs.LiveTexts.{AreScriptsWithin, FindsProgramAndScripts, IsLiveText, IsScriptRefusal, LiveTextSays};
 ghost use Rattle.s7_cli.specs.Living.{AreRegularBy, total_length};
 ghost use Rattle.s7_cli.specs.Loads.{LoadsAs};
 ghost use Rattle.s7_cli.specs.Says.{GoSays, IsUpgraded, RefusedProgram, RunSays, UpgradeSays};
@@ -158,7 +158,7 @@ pub(crate) fn check_scripts(
     ensures few { IfOk result (λ v. total_length (map (λ x. x.items) v.items) ≤ 1048576) }
     ensures many { IfOk result (λ v. length v.items ≡ length texts.now) }
     ensures refused { IfErr result
-        (TellsScript (scripts_from names.now 1 (map (λ t. t.items) texts.now))) }
+        (IsScriptRefusal (scripts_from names.now 1 (map (λ t. t.items) texts.now))) }
 {
     let mut scripts = Vec::new(alloc);
     for (place, text) in texts.iter().enumerate() {

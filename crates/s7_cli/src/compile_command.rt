@@ -2,7 +2,7 @@ ghost use Rattle.std.specs.Prelude.{ℕ, List, Option, Some};
 ghost use Rattle.std.specs.Option.{option_map};
 ghost use Rattle.s7_cli.specs.Command.{Compile};
 ghost use Rattle.s7_cli.specs.Ends.{EndsWithStatus, sink_moments};
-ghost use Rattle.s7_cli.specs.Inner.{ComesOutAs, ComesOf};
+ghost use Rattle.s7_cli.specs.Inner.{ComesBeforeLine, CommandComesTo};
 ghost use Rattle.s7_cli.specs.Reading.{disk_moments};
 ghost use Rattle.s7_cli.specs.StatusTable.{StatusTable};
 ghost use Rattle.s7_cli.specs.Texts.{AreFilesWithinLimits, file_contents_of};
@@ -27,7 +27,7 @@ fn compile_text<F: Files, K: Sink>(
     ensures { let went = disk_moments (F.shown files.old) (F.shown files.new) in
         let took = sink_moments (K.shown out.old) (K.shown out.new) in
         (src : List ℕ) (symbols : Option (List ℕ))
-        → ComesOf (Compile src symbols german img.now) (file_contents_of text.now) went took result }
+        → CommandComesTo (Compile src symbols german img.now) (file_contents_of text.now) went took result }
 {
     let image = check_image(alloc, text, german)?;
     write_output(files, out, img, &image)
@@ -45,7 +45,7 @@ fn compile<F: Files, K: Sink>(
 ) -> Result<(), Failure>
     ensures { let went = disk_moments (F.shown files.old) (F.shown files.new) in
         let took = sink_moments (K.shown out.old) (K.shown out.new) in
-        ComesOutAs (Some (Compile src.now (option_map (λ s. s.now) symbols.entry) german img.now)) went
+        ComesBeforeLine (Some (Compile src.now (option_map (λ s. s.now) symbols.entry) german img.now)) went
         took result }
 {
     let text = read_program(alloc, files, src, symbols)?;

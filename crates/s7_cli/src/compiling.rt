@@ -26,10 +26,10 @@ ghost use Rattle.s7_cli.specs.Compiling.{
   KeepsWith,
   LaysOutTree,
   RefusedHaveNone,
-  RefusesBy,
+  RefusesEnglish,
   RefusesLaid,
   RefusesSymbols,
-  RefusesWith,
+  RefusesForSymbols,
 };
 
 use crate::faults::{CompileFault, in_source, in_symbols};
@@ -151,7 +151,7 @@ fn laid_out(alloc: Global, source: &[u8], symbols: Symbols) -> Result<LaidSource
     requires { length source.now ≤ source_limit }
     ensures laid { IfOk result (IsSourceLaidOut source.now) }
     ensures symbols { IfOk result (λ laid. laid.symbols ≡ symbols) }
-    ensures refused { IfErr result (RefusesWith source.now symbols) }
+    ensures refused { IfErr result (RefusesForSymbols source.now symbols) }
 {
     let tree = match tree_of(alloc, source) {
         Ok(tree) => tree,
@@ -218,7 +218,7 @@ pub(crate) fn check_source_with(
 ) -> Result<(), CompileFault>
     requires { length source.now ≤ source_limit }
     ensures ok { IfOk result (λ done. HasProgramWith source.now symbols) }
-    ensures refused { IfErr result (RefusesWith source.now symbols) }
+    ensures refused { IfErr result (RefusesForSymbols source.now symbols) }
 {
     sem_kept::laws::programs_run();
     let laid = laid_out(alloc, source, symbols)?;
@@ -236,7 +236,7 @@ pub(crate) fn program_with(
     requires read { AreRead source.now symbols }
     ensures ok { IfOk result (KeepsWith source.now symbols) }
     ensures compiles { IfOk result (CompilesWith source.now symbols) }
-    ensures refused { IfErr result (RefusesWith source.now symbols) }
+    ensures refused { IfErr result (RefusesForSymbols source.now symbols) }
 {
     sem_kept::laws::programs_run();
     let laid = laid_out(alloc, source, symbols)?;
@@ -257,7 +257,7 @@ pub fn check_source(alloc: Global, source: &[u8], symbols: &[u8]) -> Result<(), 
     ensures ok { IfOk result (λ done.
         HasProgram source.now symbols.now) }
     ensures refused { IfErr result
-        (RefusesBy source.now symbols.now) }
+        (RefusesEnglish source.now symbols.now) }
 {
     law_of_files(source, symbols);
     let list = symbols_in(alloc, Language::English, symbols)?;
@@ -271,7 +271,7 @@ fn program_of(alloc: Global, source: &[u8], symbols: &[u8]) -> Result<Program, C
     ensures ok { IfOk result (KeepsSource Large source.now symbols.now) }
     ensures compiles { IfOk result (CompilesTo English source.now symbols.now) }
     ensures refused { IfErr result
-        (RefusesBy source.now symbols.now) }
+        (RefusesEnglish source.now symbols.now) }
 {
     law_of_files(source, symbols);
     let list = symbols_in(alloc, Language::English, symbols)?;
@@ -297,7 +297,7 @@ pub fn compiled(alloc: Global, source: &[u8], symbols: &[u8]) -> Result<Loaded, 
     ensures image { IfOk result
         (λ l. IsImageOfEnglishSource (image (Two l.profile) l.program) source.now symbols.now) }
     ensures refused { IfErr result
-        (RefusesBy source.now symbols.now) }
+        (RefusesEnglish source.now symbols.now) }
 {
     law_of_files(source, symbols);
     let program = program_of(alloc, source, symbols)?;
@@ -316,7 +316,7 @@ pub fn compiled_image(alloc: Global, source: &[u8], symbols: &[u8]) -> Result<Ve
     requires symbols { length symbols.now ≤ symbols_limit }
     ensures ok { IfOk result (λ v. IsImageOfEnglishSource v.items source.now symbols.now) }
     ensures refused { IfErr result
-        (RefusesBy source.now symbols.now) }
+        (RefusesEnglish source.now symbols.now) }
 {
     law_of_files(source, symbols);
     let program = program_of(alloc, source, symbols)?;

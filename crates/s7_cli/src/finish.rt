@@ -3,7 +3,7 @@ ghost use Rattle.plc_io.specs.Moments.{SinkAt};
 ghost use Rattle.plc_io.specs.Taken.{WroteText};
 ghost use Rattle.s7_cli.specs.Command.{Command};
 ghost use Rattle.s7_cli.specs.Ends.{EndsWithStatus, EndsWithOutcome, sink_moments};
-ghost use Rattle.s7_cli.specs.Inner.{AreOutputs, ComesOutAs, ComesOf, IsOutput, LineWritten, TextWritten, written_file};
+ghost use Rattle.s7_cli.specs.Inner.{AreOutputs, ComesBeforeLine, CommandComesTo, IsOutput, LineWritten, TextWritten, written_file};
 ghost use Rattle.s7_cli.specs.Lines.{line_of_failure};
 ghost use Rattle.s7_cli.specs.Reading.{Disk, disk_moments};
 ghost use Rattle.s7_cli.specs.StatusTable.{StatusTable};
@@ -47,7 +47,7 @@ pub fn write_output<F: Files, K: Sink>(
     ensures { let went = disk_moments (F.shown files.old) (F.shown files.new) in
         let took = sink_moments (K.shown out.old) (K.shown out.new) in
         (c : Command) (contents : List (List ℕ)) → IsOutput c contents name.now bytes.now
-        → ComesOf c contents went took result }
+        → CommandComesTo c contents went took result }
 {
     write_file(files, name, bytes)?;
     write_text(out, OK_LINE)
@@ -71,7 +71,7 @@ pub fn write_outputs<F: Files, K: Sink>(
         let took = sink_moments (K.shown out.old) (K.shown out.new) in
         (c : Command) (contents : List (List ℕ))
         → AreOutputs c contents (written_file first.now) (written_file second.now)
-        → ComesOf c contents went took result }
+        → CommandComesTo c contents went took result }
 {
     write_file(files, first.name, first.bytes)?;
     write_file(files, second.name, second.bytes)?;
@@ -95,7 +95,7 @@ fn say<K: Sink>(out: &mut K, failure: Failure) -> Failure
 /// Writes the line of a command's failure, where it came out with one.
 fn finish<K: Sink>(out: &mut K, came: Result<(), Failure>) -> Result<(), Failure>
     ensures { (c : Option Command) (d : Disk) (start : SinkAt)
-        → ComesOutAs c d (sink_moments start (K.shown out.old)) came
+        → ComesBeforeLine c d (sink_moments start (K.shown out.old)) came
         → EndsWithOutcome c d (sink_moments start (K.shown out.new)) result }
 {
     match came {
@@ -107,10 +107,10 @@ fn finish<K: Sink>(out: &mut K, came: Result<(), Failure>) -> Result<(), Failure
 /// Ends a command, whose failure isn't written yet.
 pub fn end_command<K: Sink>(out: &mut K, came: Result<(), Failure>) -> Status
     ensures ends { (c : Option Command) (d : Disk) (start : SinkAt)
-        → ComesOutAs c d (sink_moments start (K.shown out.old)) came
+        → ComesBeforeLine c d (sink_moments start (K.shown out.old)) came
         → EndsWithStatus c d (sink_moments start (K.shown out.new)) result.code }
     ensures table { (c : Option Command) (d : Disk) (start : SinkAt)
-        → ComesOutAs c d (sink_moments start (K.shown out.old)) came
+        → ComesBeforeLine c d (sink_moments start (K.shown out.old)) came
         → StatusTable c d (sink_moments start (K.shown out.new)) result.code }
 {
     // a source has one meaning or one refusal, and one translation or one violation

@@ -7,7 +7,7 @@ ghost use Rattle.sem_kept.specs.Agreement.{KeepsSource};
 ghost use Rattle.s7_cli.specs.Command.{Gen};
 ghost use Rattle.s7_cli.specs.declared.failures.Failure.TheVariants.{NoMemory};
 ghost use Rattle.s7_cli.specs.Ends.{EndsWithStatus, sink_moments};
-ghost use Rattle.s7_cli.specs.Inner.{ComesOutAs, SaysRefusal};
+ghost use Rattle.s7_cli.specs.Inner.{ComesBeforeLine, SaysRefusal};
 ghost use Rattle.s7_cli.specs.Reading.{disk_moments};
 ghost use Rattle.s7_cli.specs.Says.{GenSays};
 ghost use Rattle.s7_cli.specs.StatusTable.{StatusTable};
@@ -63,7 +63,7 @@ fn controller_behind(
 /// Compiles the program of a number, runs it along the history of the number, and writes the
 /// summary.
 fn generate<K: Sink>(alloc: Global, number: u32, out: &mut K) -> Result<(), Failure>
-    ensures { (files : FilesAt) → ComesOutAs (Some (Gen number)) (disk_moments files files)
+    ensures { (files : FilesAt) → ComesBeforeLine (Some (Gen number)) (disk_moments files files)
         (sink_moments (K.shown out.old) (K.shown out.new)) result }
 {
     let program = program_of(alloc, number)?;

@@ -3,7 +3,7 @@ ghost use Rattle.std.specs.Option.{option_map};
 ghost use Rattle.plc_io.specs.Moments.{FilesAt};
 ghost use Rattle.s7_cli.specs.Command.{Go};
 ghost use Rattle.s7_cli.specs.Ends.{EndsWithStatus, sink_moments};
-ghost use Rattle.s7_cli.specs.Inner.{ComesOutAs, ComesOf};
+ghost use Rattle.s7_cli.specs.Inner.{ComesBeforeLine, CommandComesTo};
 ghost use Rattle.s7_cli.specs.Reading.{disk_moments};
 ghost use Rattle.s7_cli.specs.StatusTable.{StatusTable};
 ghost use Rattle.s7_cli.specs.Texts.{AreFilesWithinLimits, file_contents_of};
@@ -28,7 +28,7 @@ fn go_along<K: Sink>(
     requires history { length history.now ≤ 4194304 }
     ensures { let took = sink_moments (K.shown out.old) (K.shown out.new) in
         (src hist : List ℕ) (symbols : Option (List ℕ)) (at : FilesAt)
-        → ComesOf (Go src symbols german hist) (file_contents_of text.now ++ history.now ∷ [])
+        → CommandComesTo (Go src symbols german hist) (file_contents_of text.now ++ history.now ∷ [])
         (disk_moments at at) took result }
 {
     let (program, entries) = check_with_history(alloc, text, german, history)?;
@@ -49,7 +49,7 @@ fn go<F: Files, K: Sink>(
 ) -> Result<(), Failure>
     ensures { let went = disk_moments (F.shown files.old) (F.shown files.new) in
         let took = sink_moments (K.shown out.old) (K.shown out.new) in
-        ComesOutAs (Some (Go src.now (option_map (λ s. s.now) symbols.entry) german hist.now)) went took
+        ComesBeforeLine (Some (Go src.now (option_map (λ s. s.now) symbols.entry) german hist.now)) went took
         result }
 {
     let text = read_program(alloc, files, src, symbols)?;

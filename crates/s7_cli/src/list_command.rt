@@ -1,7 +1,7 @@
 ghost use Rattle.std.specs.Prelude.{◌≢◌, ℕ, List, [], ◌∷◌, Some};
 ghost use Rattle.s7_cli.specs.Command.{ListImage};
 ghost use Rattle.s7_cli.specs.Ends.{EndsWithStatus, sink_moments};
-ghost use Rattle.s7_cli.specs.Inner.{ComesOutAs, ComesOf};
+ghost use Rattle.s7_cli.specs.Inner.{ComesBeforeLine, CommandComesTo};
 ghost use Rattle.s7_cli.specs.Reading.{disk_moments};
 ghost use Rattle.s7_cli.specs.StatusTable.{StatusTable};
 
@@ -25,7 +25,7 @@ fn list_image<F: Files, K: Sink>(
     ensures { let went = disk_moments (F.shown files.old) (F.shown files.new) in
         let took = sink_moments (K.shown out.old) (K.shown out.new) in
         (img : List ℕ)
-        → ComesOf (ListImage img src.now sym.now) (image.now ∷ []) went took result }
+        → CommandComesTo (ListImage img src.now sym.now) (image.now ∷ []) went took result }
 {
     let listing = check_listing(alloc, image)?;
     let source = Output {
@@ -51,7 +51,7 @@ fn list<F: Files, K: Sink>(
     requires { src.now ≢ sym.now }
     ensures { let went = disk_moments (F.shown files.old) (F.shown files.new) in
         let took = sink_moments (K.shown out.old) (K.shown out.new) in
-        ComesOutAs (Some (ListImage img.now src.now sym.now)) went took result }
+        ComesBeforeLine (Some (ListImage img.now src.now sym.now)) went took result }
 {
     let image = read_file(alloc, files, File::Image, img)?;
     list_image(alloc, &image, src, sym, files, out)

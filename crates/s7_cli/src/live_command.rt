@@ -9,7 +9,7 @@ ghost use Rattle.event_text.specs.HistoryText.{history_text};
 ghost use Rattle.s7_cli.specs.Answer.{done_answer};
 ghost use Rattle.s7_cli.specs.Command.{Live};
 ghost use Rattle.s7_cli.specs.Ends.{EndsWithStatus, sink_moments};
-ghost use Rattle.s7_cli.specs.Inner.{ComesOutAs, ComesOf, SaysRefusal};
+ghost use Rattle.s7_cli.specs.Inner.{ComesBeforeLine, CommandComesTo, SaysRefusal};
 ghost use Rattle.s7_cli.specs.LiveSays.{live_text};
 ghost use Rattle.s7_cli.specs.LiveTexts.{IsLiveText, LiveTextSays, live_contents};
 ghost use Rattle.s7_cli.specs.Reading.{disk_moments};
@@ -123,7 +123,7 @@ fn live_read<R: Threads + Wait + Sync, K: Sink, G: Gate + Sync>(
     requires steps { steps ≤ 1000000 }
     ensures { let took = sink_moments (K.shown out.old) (K.shown out.new) in
         (img stim : List ℕ) (ops : List (List ℕ)) (at : FilesAt)
-        → ComesOf (Live img stim ops steps) (live_contents text.now) (disk_moments at at) took result }
+        → CommandComesTo (Live img stim ops steps) (live_contents text.now) (disk_moments at at) took result }
 {
     let controller = lived(rt, alloc, text, steps, gate)?;
     written(write_live(alloc, controller, out))
@@ -145,7 +145,7 @@ fn live<R: Threads + Wait + Sync, F: Files, K: Sink, G: Gate + Sync>(
     requires steps { steps ≤ 1000000 }
     ensures { let went = disk_moments (F.shown files.old) (F.shown files.new) in
         let took = sink_moments (K.shown out.old) (K.shown out.new) in
-        ComesOutAs (Some (Live img.now stim.now (map (λ w. w.now) ops.now) steps)) went took result }
+        ComesBeforeLine (Some (Live img.now stim.now (map (λ w. w.now) ops.now) steps)) went took result }
 {
     let text = read_live(alloc, files, img, stim, ops)?;
     live_read(rt, alloc, &text, steps, out, gate)

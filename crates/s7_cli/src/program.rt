@@ -1,5 +1,5 @@
 ghost use Rattle.std.specs.Prelude.{◌≡◌, true, map, string_bytes, Some};
-ghost use Rattle.s7_cli.specs.Asking.{compiles, has_workers, takes_image};
+ghost use Rattle.s7_cli.specs.Asking.{compiles_a_source, has_workers, takes_image};
 ghost use Rattle.s7_cli.specs.Words.{KeepsLimits, command_of, command_value};
 ghost use Rattle.s7_cli.specs.Ends.{EndsWithStatus, sink_moments};
 ghost use Rattle.s7_cli.specs.Reading.{disk_moments};
@@ -32,7 +32,7 @@ fn with_source<F: Files, K: Sink>(
     files: &mut F,
     out: &mut K,
 ) -> Status
-    requires { compiles asked ≡ true }
+    requires { compiles_a_source asked ≡ true }
     ensures ends { let went = disk_moments (F.shown files.old) (F.shown files.new) in
         let took = sink_moments (K.shown out.old) (K.shown out.new) in
         EndsWithStatus (Some (command_value asked.entry)) went took result.code }

@@ -4,7 +4,7 @@ ghost use Rattle.s7_cli.specs.BoundSays.{RecheckSays};
 ghost use Rattle.s7_cli.specs.BoundTexts.{IsCertificateOfImage};
 ghost use Rattle.s7_cli.specs.Command.{Recheck};
 ghost use Rattle.s7_cli.specs.Ends.{EndsWithStatus, sink_moments};
-ghost use Rattle.s7_cli.specs.Inner.{ComesOutAs, ComesOf, SaysRefusal};
+ghost use Rattle.s7_cli.specs.Inner.{ComesBeforeLine, CommandComesTo, SaysRefusal};
 ghost use Rattle.s7_cli.specs.Reading.{disk_moments};
 ghost use Rattle.s7_cli.specs.StatusTable.{StatusTable};
 
@@ -40,7 +40,7 @@ fn recheck_image<K: Sink>(
     requires { length certificate.now ≤ 4194304 }
     ensures { let took = sink_moments (K.shown out.old) (K.shown out.new) in
         (img cert : List ℕ) (at : FilesAt)
-        → ComesOf (Recheck img cert) (image.now ∷ certificate.now ∷ []) (disk_moments at at) took result }
+        → CommandComesTo (Recheck img cert) (image.now ∷ certificate.now ∷ []) (disk_moments at at) took result }
 {
     check_recheck(alloc, image, certificate)?;
     write_text(out, OK_LINE)
@@ -56,7 +56,7 @@ fn recheck<F: Files, K: Sink>(
 ) -> Result<(), Failure>
     ensures { let went = disk_moments (F.shown files.old) (F.shown files.new) in
         let took = sink_moments (K.shown out.old) (K.shown out.new) in
-        ComesOutAs (Some (Recheck img.now cert.now)) went took result }
+        ComesBeforeLine (Some (Recheck img.now cert.now)) went took result }
 {
     let image = read_file(alloc, files, File::Image, img)?;
     let certificate = read_file(alloc, files, File::Certificate, cert)?;

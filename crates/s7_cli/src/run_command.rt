@@ -2,7 +2,7 @@ ghost use Rattle.std.specs.Prelude.{ℕ, ◌≤◌, List, [], ◌∷◌, length,
 ghost use Rattle.plc_io.specs.Moments.{FilesAt};
 ghost use Rattle.s7_cli.specs.Command.{Run};
 ghost use Rattle.s7_cli.specs.Ends.{EndsWithStatus, sink_moments};
-ghost use Rattle.s7_cli.specs.Inner.{ComesOutAs, ComesOf};
+ghost use Rattle.s7_cli.specs.Inner.{ComesBeforeLine, CommandComesTo};
 ghost use Rattle.s7_cli.specs.Reading.{disk_moments};
 ghost use Rattle.s7_cli.specs.StatusTable.{StatusTable};
 
@@ -24,7 +24,7 @@ fn run_along<K: Sink>(
     requires { length history.now ≤ 4194304 }
     ensures { let took = sink_moments (K.shown out.old) (K.shown out.new) in
         (img hist : List ℕ) (at : FilesAt)
-        → ComesOf (Run img hist) (image.now ∷ history.now ∷ []) (disk_moments at at) took result }
+        → CommandComesTo (Run img hist) (image.now ∷ history.now ∷ []) (disk_moments at at) took result }
 {
     let (program, entries) = check_run(alloc, image, history)?;
     written(replay_text(alloc, program, &entries, out))
@@ -40,7 +40,7 @@ fn run<F: Files, K: Sink>(
 ) -> Result<(), Failure>
     ensures { let went = disk_moments (F.shown files.old) (F.shown files.new) in
         let took = sink_moments (K.shown out.old) (K.shown out.new) in
-        ComesOutAs (Some (Run img.now hist.now)) went took result }
+        ComesBeforeLine (Some (Run img.now hist.now)) went took result }
 {
     let image = read_file(alloc, files, File::Image, img)?;
     let history = read_file(alloc, files, File::History, hist)?;

@@ -3,7 +3,7 @@ ghost use Rattle.stl_lexer.specs.Limits.{source_limit};
 ghost use Rattle.stl_symbols.specs.declared.languages.Language.TheVariants.{English, German};
 ghost use Rattle.s7_cli.specs.Command.{Translate};
 ghost use Rattle.s7_cli.specs.Ends.{EndsWithStatus, sink_moments};
-ghost use Rattle.s7_cli.specs.Inner.{ComesOutAs, ComesOf};
+ghost use Rattle.s7_cli.specs.Inner.{ComesBeforeLine, CommandComesTo};
 ghost use Rattle.s7_cli.specs.Reading.{disk_moments};
 ghost use Rattle.s7_cli.specs.StatusTable.{StatusTable};
 
@@ -28,7 +28,7 @@ fn translate_text<F: Files, K: Sink>(
     ensures { let went = disk_moments (F.shown files.old) (F.shown files.new) in
         let took = sink_moments (K.shown out.old) (K.shown out.new) in
         (src : List ℕ)
-        → ComesOf (Translate language src translation.now) (source.now ∷ []) went took result }
+        → CommandComesTo (Translate language src translation.now) (source.now ∷ []) went took result }
 {
     let text = translated(alloc, language, source)?;
     write_output(files, out, translation, &text)
@@ -45,7 +45,7 @@ fn translate<F: Files, K: Sink>(
 ) -> Result<(), Failure>
     ensures { let went = disk_moments (F.shown files.old) (F.shown files.new) in
         let took = sink_moments (K.shown out.old) (K.shown out.new) in
-        ComesOutAs (Some (Translate language src.now translation.now)) went took result }
+        ComesBeforeLine (Some (Translate language src.now translation.now)) went took result }
 {
     let source = read_file(alloc, files, File::Source, src)?;
     translate_text(alloc, language, &source, translation, files, out)

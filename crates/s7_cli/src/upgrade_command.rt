@@ -1,7 +1,7 @@
 ghost use Rattle.std.specs.Prelude.{ℕ, List, [], ◌∷◌, Some};
 ghost use Rattle.s7_cli.specs.Command.{Upgrade};
 ghost use Rattle.s7_cli.specs.Ends.{EndsWithStatus, sink_moments};
-ghost use Rattle.s7_cli.specs.Inner.{ComesOutAs, ComesOf};
+ghost use Rattle.s7_cli.specs.Inner.{ComesBeforeLine, CommandComesTo};
 ghost use Rattle.s7_cli.specs.Reading.{disk_moments};
 ghost use Rattle.s7_cli.specs.StatusTable.{StatusTable};
 
@@ -22,7 +22,7 @@ fn upgrade_image<F: Files, K: Sink>(
 ) -> Result<(), Failure>
     ensures { let went = disk_moments (F.shown files.old) (F.shown files.new) in
         let took = sink_moments (K.shown out.old) (K.shown out.new) in
-        (img : List ℕ) → ComesOf (Upgrade img img2.now) (image.now ∷ []) went took result }
+        (img : List ℕ) → CommandComesTo (Upgrade img img2.now) (image.now ∷ []) went took result }
 {
     let upgraded = check_upgrade(alloc, image)?;
     write_output(files, out, img2, &upgraded)
@@ -38,7 +38,7 @@ fn upgrade<F: Files, K: Sink>(
 ) -> Result<(), Failure>
     ensures { let went = disk_moments (F.shown files.old) (F.shown files.new) in
         let took = sink_moments (K.shown out.old) (K.shown out.new) in
-        ComesOutAs (Some (Upgrade img.now img2.now)) went took result }
+        ComesBeforeLine (Some (Upgrade img.now img2.now)) went took result }
 {
     let image = read_file(alloc, files, File::Image, img)?;
     upgrade_image(alloc, &image, img2, files, out)

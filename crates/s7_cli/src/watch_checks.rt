@@ -3,7 +3,7 @@ ghost use Rattle.std.specs.Prelude.{◌≡◌, ℕ, ◌≤◌, length, map, IfEr
 ghost use Rattle.event_text.specs.Regular.{IsRegularOf};
 ghost use Rattle.event_text.specs.WatchedVars.{watched_vars_of};
 ghost use Rattle.s7_cli.specs.Inner.{SaysRefusal};
-ghost use Rattle.s7_cli.specs.WatchTexts.{FindsWatch, IsWatchText, TellsVars, WatchTextSays};
+ghost use Rattle.s7_cli.specs.WatchTexts.{FindsWatch, IsWatchText, AreVarsRefused, WatchTextSays};
 ghost use Rattle.s7_cli.specs.Watching.{read_entry_of};
 
 use crate::command_checks::{check_scripts, loaded};
@@ -29,7 +29,7 @@ fn check_vars(bytes: &[u8], names: &Names) -> Result<Vars, Failure>
     requires { length bytes.now ≤ 1048576 }
     ensures spells { IfOk result (λ vars. watched_vars_of names.now bytes.now ≡ Ok vars) }
     ensures regular { IfOk result (λ vars. IsRegularOf 6 (read_entry_of 6 vars)) }
-    ensures refused { IfErr result (TellsVars (watched_vars_of names.now bytes.now)) }
+    ensures refused { IfErr result (AreVarsRefused (watched_vars_of names.now bytes.now)) }
 {
     match read_vars(bytes, names) {
         Ok(vars) => Ok(vars),

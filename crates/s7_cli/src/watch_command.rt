@@ -7,7 +7,7 @@ ghost use Rattle.var_access.specs.Entry.{IsValid};
 ghost use Rattle.s7_cli.specs.Answer.{done_answer};
 ghost use Rattle.s7_cli.specs.Command.{Watch};
 ghost use Rattle.s7_cli.specs.Ends.{EndsWithStatus, sink_moments};
-ghost use Rattle.s7_cli.specs.Inner.{ComesOutAs, ComesOf, SaysRefusal};
+ghost use Rattle.s7_cli.specs.Inner.{ComesBeforeLine, CommandComesTo, SaysRefusal};
 ghost use Rattle.s7_cli.specs.Reading.{disk_moments};
 ghost use Rattle.s7_cli.specs.StatusTable.{StatusTable};
 ghost use Rattle.s7_cli.specs.WatchSays.{seen_line, seen_reply, seen_text, watch_text};
@@ -159,7 +159,7 @@ fn watch_read<R: Threads + Wait + Sync, K: Sink, G: Gate + Sync>(
     requires steps { steps ≤ 1000000 }
     ensures { let took = sink_moments (K.shown out.old) (K.shown out.new) in
         (img stim vars : List ℕ) (ops : List (List ℕ)) (at : FilesAt)
-        → ComesOf (Watch img stim vars ops steps) (watch_contents text.now) (disk_moments at at) took
+        → CommandComesTo (Watch img stim vars ops steps) (watch_contents text.now) (disk_moments at at) took
         result }
 {
     let watched = run_watch(rt, alloc, text, steps, gate)?;
@@ -185,7 +185,7 @@ fn watch<R: Threads + Wait + Sync, F: Files, K: Sink, G: Gate + Sync>(
     ensures { let went = disk_moments (F.shown files.old) (F.shown files.new) in
         let took = sink_moments (K.shown out.old) (K.shown out.new) in
         let asked = Watch img.now stim.now vars.now (map (λ w. w.now) ops.now) steps in
-        ComesOutAs (Some asked) went took result }
+        ComesBeforeLine (Some asked) went took result }
 {
     let text = read_watch(alloc, files, img, stim, vars, ops)?;
     watch_read(rt, alloc, &text, steps, out, gate)

@@ -15,14 +15,14 @@ use Rattle.sem_kept.specs.Accepted.{IsAccepted, program_in, AcceptedVerifies}
 use Rattle.sem_kept.specs.Verified.{VerifiedIsCompilable}
 use Rattle.sem_kept.specs.Kept.{ProgramsAreKept}
 use Rattle.sem_kept.specs.Agreement.{AreFiles, IsRunnable, ProgramsRun, names_among}
-use Rattle.sem_kept.specs.Meaning.{HasSymbolsIn, HasTokens, HasTreeOrRefusal, refusals_of, sound_by, stated_code_of_tree, IsCheckedIn, MeansCodeIn}
+use Rattle.sem_kept.specs.Meaning.{HasSymbolsIn, HasTokens, HasTreeOrRefusal, refusals_of, sound_by, stated_code_of_tree, HasOutcomeOfSourceIn, MeansCodeIn}
 
 means : (language : Language) (source symbols : List ℕ) (list : List Symbol) (tokens : List Token)
     (tree : Tree)
     → HasSymbolsIn language symbols (Ok list) → HasTokens source (Ok tokens)
     → HasTreeOrRefusal source tokens (Ok tree)
     → least (refusals_of list tree) ≡ None → MeansCodeIn language source symbols (stated_code_of_tree list tree)
-unfolding IsCheckedIn
+unfolding HasOutcomeOfSourceIn
 means language source symbols list tokens tree has_list has_tokens has_tree sound = (
   list,
   has_list,

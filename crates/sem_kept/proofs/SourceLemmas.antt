@@ -10,8 +10,8 @@ use Rattle.plc_base.specs.Least.{least}
 use Rattle.stl_symbols.specs.Symbol.{Symbol}
 use Rattle.stl_symbols.specs.Symbols.{symbols_in, with_lines}
 use Rattle.stl_symbols.specs.declared.languages.Language.{Language}
-use Rattle.sem_kept.specs.Stages.{HaveOutcomeInTurn, TellsRefusalOf, HasOneOutcome, HasOutcome}
-use Rattle.sem_kept.specs.Meaning.{HasSymbolsIn, HasTokens, HasTreeOrRefusal, refusals_of, sound_by, IsSound, stated_code_of_tree, HasCode, IsCheckedWith, RefusedFile, InSymbols, InSource, IsCheckedIn, MeansCodeIn, IsRefusedSourceIn, IsMeaningUnique, ExcludesRefusal, IsRefusalUnique, HasEachSourceOutcome, NoFileHasNone}
+use Rattle.sem_kept.specs.Stages.{HaveOutcomeInTurn, NamesRefusalOf, HasOneOutcome, HasOutcome}
+use Rattle.sem_kept.specs.Meaning.{HasSymbolsIn, HasTokens, HasTreeOrRefusal, refusals_of, sound_by, IsSound, stated_code_of_tree, HasCode, IsCheckedWith, RefusedFile, InSymbols, InSource, HasOutcomeOfSourceIn, MeansCodeIn, IsRefusedSourceIn, IsMeaningUnique, ExcludesRefusal, IsRefusalUnique, HasEachSourceOutcome, NoFileHasNone}
 use Rattle.sem_kept.proofs.StageLemmas.{same_refusal, one_by_parts, in_turn_one, in_turn_some, told_one, told_some}
 
 -- what is known of tokens and of clauses
@@ -72,10 +72,10 @@ symbols_one : (language : Language) → HasOneOutcome (HasSymbolsIn language)
 symbols_one language bytes x y is_x is_y = is_x ∙ sym is_y
 
 judged_one : Laws → (language : Language) (source symbols : List ℕ) (x y : Result Code RefusedFile)
-    → IsCheckedIn language source symbols x → IsCheckedIn language source symbols y → x ≡ y
-unfolding IsCheckedIn
+    → HasOutcomeOfSourceIn language source symbols x → HasOutcomeOfSourceIn language source symbols y → x ≡ y
+unfolding HasOutcomeOfSourceIn
 judged_one laws language source =
-    in_turn_one (TellsRefusalOf InSymbols (HasSymbolsIn language)) (TellsRefusalOf InSource (IsCheckedWith source))
+    in_turn_one (NamesRefusalOf InSymbols (HasSymbolsIn language)) (NamesRefusalOf InSource (IsCheckedWith source))
     (told_one InSymbols (HasSymbolsIn language) (symbols_one language))
     (told_one InSource (IsCheckedWith source) (with_one laws source))
 
@@ -139,10 +139,10 @@ symbols_some : (language : Language) → HasOutcome (HasSymbolsIn language)
 symbols_some language bytes = (symbols_in language bytes, refl)
 
 judged_some : Laws → (language : Language) (source symbols : List ℕ)
-    → (x : Result Code RefusedFile) × IsCheckedIn language source symbols x
-unfolding IsCheckedIn
+    → (x : Result Code RefusedFile) × HasOutcomeOfSourceIn language source symbols x
+unfolding HasOutcomeOfSourceIn
 judged_some laws language source =
-    in_turn_some (TellsRefusalOf InSymbols (HasSymbolsIn language)) (TellsRefusalOf InSource (IsCheckedWith source))
+    in_turn_some (NamesRefusalOf InSymbols (HasSymbolsIn language)) (NamesRefusalOf InSource (IsCheckedWith source))
     (told_some InSymbols (HasSymbolsIn language) (symbols_some language))
     (told_some InSource (IsCheckedWith source) (with_some laws source))
 
@@ -152,7 +152,7 @@ Judged language source symbols =
     ⊎ ((refused : RefusedFile) × IsRefusedSourceIn language source symbols refused)
 
 by_outcome : (language : Language) (source symbols : List ℕ)
-    → (x : Result Code RefusedFile) × IsCheckedIn language source symbols x
+    → (x : Result Code RefusedFile) × HasOutcomeOfSourceIn language source symbols x
     → Judged language source symbols
 by_outcome language source symbols (Ok code, judged) = inl (code, judged)
 by_outcome language source symbols (Err refused, judged) = inr (refused, judged)

@@ -1,7 +1,7 @@
 -- Stages with one outcome at most have one in turn.
 use Rattle.std.proofs.Common.{◌≡◌, ◌∙◌, ap, subst, sym, refl, ℕ, Result, Ok, Err, inl, inr}
 use Rattle.plc_base.specs.declared.refusals.Refusal.{Refusal}
-use Rattle.sem_kept.specs.Stages.{HaveOutcomeInTurn, TellsRefusalOf, HasOneOutcome, HasOutcome}
+use Rattle.sem_kept.specs.Stages.{HaveOutcomeInTurn, NamesRefusalOf, HasOneOutcome, HasOutcome}
 
 -- a refusal is its line and its rule
 pub same_refusal : (r s : Refusal) → (r.line ≡ s.line) × (r.rule ≡ s.rule) → r ≡ s
@@ -76,7 +76,7 @@ in_turn_some first second some_first some_second a = in_turn_at first second a (
 
 -- a stage whose refusals are told with what they are of
 pub told_one : {A B E : Type 0} (of : Refusal → E) (stage : A → Result B Refusal → Type 0)
-    → HasOneOutcome stage → HasOneOutcome (TellsRefusalOf of stage)
+    → HasOneOutcome stage → HasOneOutcome (NamesRefusalOf of stage)
 told_one of stage one a (Ok b) (Ok c) at_b at_c =
     ap Ok (ok_same b c (one a (Ok b) (Ok c) at_b at_c))
 told_one of stage one a (Ok b) (Err f) at_b (s, is_s, at_s) =
@@ -87,10 +87,10 @@ told_one of stage one a (Err e) (Err f) (r, is_r, at_r) (s, is_s, at_s) =
     ap Err (is_r ∙ ap of (err_same r s (one a (Err r) (Err s) at_r at_s)) ∙ sym is_s)
 
 told_at : {A B E : Type 0} (of : Refusal → E) (stage : A → Result B Refusal → Type 0) (a : A)
-    → (x : Result B Refusal) × stage a x → (y : Result B E) × TellsRefusalOf of stage a y
+    → (x : Result B Refusal) × stage a x → (y : Result B E) × NamesRefusalOf of stage a y
 told_at of stage a (Ok b, at_b) = (Ok b, at_b)
 told_at of stage a (Err r, at_r) = (Err (of r), (r, refl, at_r))
 
 pub told_some : {A B E : Type 0} (of : Refusal → E) (stage : A → Result B Refusal → Type 0)
-    → HasOutcome stage → HasOutcome (TellsRefusalOf of stage)
+    → HasOutcome stage → HasOutcome (NamesRefusalOf of stage)
 told_some of stage some a = told_at of stage a (some a)

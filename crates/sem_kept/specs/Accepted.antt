@@ -21,13 +21,18 @@ use Rattle.stl_types.specs.Table.{statement_refusals}
 -- a source of no more than 1 MiB, with a symbols file of no more whose addresses are those of a
 -- language, breaks no rule
 pub record IsAccepted (source file : List ℕ) (symbols : List Symbol) (t : Tree) : Type 0 where
+  -- the source has at most 1 MiB
   pub short : length source ≤ source_limit
+  -- the symbols file has at most 1 MiB
   pub file_short : length file ≤ symbols_limit
+  -- the language of the symbols' addresses
   pub language : Language
   -- the symbols are those of the symbols file
   pub named : symbols_in language file ≡ Ok symbols
   pub tokens : List Token
+  -- the source has these tokens
   pub lexed : AreTokens source tokens
+  -- the source has this tree
   pub parsed : IsTree source tokens t
   -- no rule on layout is broken
   pub laid_out : least (layout_refusals t symbols) ≡ None

@@ -34,6 +34,7 @@ RunsAsIn language profile source symbols running =
 pub record IsRunnable (p : Program) : Type 0 where
   -- the program has an image
   pub is : IsProgram p
+  -- it has none of the faults 4 to 9 of an image
   pub verifies : Verifies p
 
 -- the names of the symbols that were read, and none where they are refused
@@ -49,17 +50,22 @@ names_read_in language symbols = names_among (symbols_in language symbols)
 -- those that the symbols file gives, and it runs as the source means
 pub record KeepsSourceIn (language : Language) (profile : Profile) (source symbols : List ℕ)
     (p : Program) : Type 0 where
+  -- it has an image and verifies
   pub runnable : IsRunnable p
   -- its names are those that the symbols file gives
   pub names : p.names ≡ names_read_in language symbols
+  -- it runs as the source means
   pub runs : RunsAsIn language profile source symbols (code_of p)
 
 -- bytes keep a source with its symbols: they are an image, of whatever version, of a program
 -- that keeps them at the image's profile
 pub record ImageKeepsSourceIn (language : Language) (bytes source symbols : List ℕ) : Type 0 where
+  -- the version of the image, with its profile
   pub stamp : Stamp
   pub program : Program
+  -- the bytes are the image of this program
   pub spelled : bytes ≡ image stamp program
+  -- the program keeps the source with its symbols
   pub keeps : KeepsSourceIn language (profile_of stamp) source symbols program
 
 -- ---- in English
@@ -84,9 +90,13 @@ ImageKeepsSource bytes source symbols = ImageKeepsSourceIn English bytes source 
 
 -- a source and a symbols file as they are read: bytes, and no more than a limit of them
 pub record AreFiles (source symbols : List ℕ) : Type 0 where
+  -- the source has no more bytes than it may
   pub source_short : length source ≤ source_limit
+  -- its elements are bytes
   pub source_bytes : AreBytes source
+  -- the symbols file has no more bytes than it may
   pub symbols_short : length symbols ≤ symbols_limit
+  -- its elements are bytes
   pub symbols_bytes : AreBytes symbols
 
 -- the program of a source that breaks no rule keeps it at each profile, in each language

@@ -27,7 +27,9 @@ OperandHasBytes _ = Unit {0}
 -- the characters of the constants of a statement are bytes: those of its operand and of its
 -- actual parameters
 pub record StatementHasBytes (s : Statement) : Type 0 where
+  -- the characters of its operand are bytes
   pub operand : OperandHasBytes s.operand
+  -- those of each actual parameter are bytes
   pub actuals : AllByRecursion (λ a. OperandHasBytes a.value) s.actuals
 
 -- the characters of all constants in the statements of a source are bytes
@@ -37,7 +39,9 @@ TreeHasBytes t = AllByRecursion (λ b. AllByRecursion StatementHasBytes b.body) 
 -- the code of a block has no fault by its ops: each is an op of the table, a statement has at
 -- most 64, and the last one is BE
 pub record IsBlockCoded (b : CodeBlock) : Type 0 where
+  -- each is an op of the table
   pub ops : are_ops b.code ≡ true
+  -- no statement has a 65th op, and the last op is BE
   pub right : code_fault b.code ≡ None
 
 -- the code of each block of an accepted source, whose elements are bytes, has no fault by its
@@ -48,9 +52,9 @@ AreCoded =
     → IsAccepted source file symbols t → AreBytes source
     → AllByRecursion IsBlockCoded (program_in symbols t).code_blocks
 
--- the code of a block that has no fault by its ops is good as the code field of an image,
--- whether its faults are checked or not
+-- the code of a block that has no fault by its ops is good as the code field of an image;
+-- `checks_code` says whether a statement of more than 64 ops and a wrong last op are faults there
 abbrev pub CodedIsGood : Type 0
 CodedIsGood =
-    (judged : Bool) (b : CodeBlock) → IsBlockCoded b
-    → (code_layout judged (length (code_bytes b.code))).good b.code ≡ true
+    (checks_code : Bool) (b : CodeBlock) → IsBlockCoded b
+    → (code_layout checks_code (length (code_bytes b.code))).good b.code ≡ true

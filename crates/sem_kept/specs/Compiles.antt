@@ -13,14 +13,19 @@ use Rattle.sem_kept.specs.Meaning.{HasSymbolsIn, HasTokens, HasTreeOrRefusal, re
 -- a source with its symbols breaks no rule, and its program, the names of its symbols with it, is this
 -- one
 pub record CompilesTo (language : Language) (source symbols : List ℕ) (p : Program) : Type 0 where
+  -- the symbols of the symbols file
   pub list : List Symbol
   pub tokens : List Token
   pub tree : Tree
+  -- the symbols file breaks no rule and gives this list
   pub named : HasSymbolsIn language symbols (Ok list)
+  -- the source breaks no rule of tokens and has these
   pub lexed : HasTokens source (Ok tokens)
+  -- it breaks no rule of clauses and has this tree
   pub parsed : HasTreeOrRefusal source tokens (Ok tree)
   -- no rule on layout or statements is broken
   pub right : least (refusals_of list tree) ≡ None
+  -- this is the program that the tree compiles to
   pub program : program_in list tree ≡ p
 
 -- a source with its symbols compiles to one program at most

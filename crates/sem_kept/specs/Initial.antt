@@ -23,8 +23,11 @@ use Rattle.sem_kept.specs.Accepted.{IsAccepted}
 -- a write in so many bytes cuts nothing: it ends within them, is a single bit or whole bytes from the start of one on,
 -- and has no fewer bits than its value
 pub record IsWhole (len : ℕ) (w : Write) : Type 0 where
+  -- it ends within the bytes
   pub within : w.offset + w.width ≤ 8 * len
+  -- it is a single bit, or whole bytes from the start of one on
   pub begins : (w.width ≡ 1) ⊎ ((w.offset % 8 ≡ 0) × (w.width % 8 ≡ 0))
+  -- its value has no more bits than it
   pub fits : w.value < 2 ^ w.width
 
 -- an elementary component, or an array of one, has an element for each of its initial values, wherever it begins; no
@@ -37,12 +40,16 @@ HasElements bounds presets _ = presets ≡ []
 
 -- a component breaks no rule, and has room for its initial values
 pub record HasRoom (c : Cell) : Type 0 where
+  -- it breaks no rule
   pub sound : c.sound ≡ true
+  -- it has an element for each of its initial values
   pub elements : HasElements c.bounds c.presets c.of
 
 -- a setting of the data block at a place of the source comes to one write, and to no other
 pub record IsSettingWritten (l : List BlockLayout) (block : ℕ) (s : Setting) : Type 0 where
+  -- the write of the setting
   pub write : Write
+  -- the setting comes to this one alone
   pub alone : setting_write l s.value (path_end_in_data_block l block (folded_path s.path)) ≡ write ∷ []
 
 -- the writes of the data block at a place of the source: its initial values, and behind them its
@@ -56,7 +63,9 @@ writes_of l blocks block =
 -- each of them whole, over as many zeros as it is long. Its structure is known, the components
 -- of this and of each other block have room, and each setting is written
 pub record IsMadeByWrites (l : List BlockLayout) (blocks : List Block) (block len : ℕ) : Type 0 where
+  -- the writes, one after the other over zeros, give its initial bytes
   pub made : initial_bytes l blocks block ≡ fold bytes_with_write (replicate len 0) (writes_of l blocks block)
+  -- each write lies within the bytes and cuts nothing
   pub whole : AllByRecursion (IsWhole len) (writes_of l blocks block)
   -- the block that declares its components is known
   pub known : is_some (structure_of l block) ≡ true

@@ -12,7 +12,7 @@ use Rattle.block_layout.specs.Layouts.{layouts_of}
 use Rattle.stl_codegen.specs.Compiled.{code_in}
 use Rattle.stl_codegen.specs.Generated.{code_blocks_of}
 use Rattle.sem_kept.specs.Accepted.{IsAccepted}
-use Rattle.sem_kept.specs.Operands.{AreFine}
+use Rattle.sem_kept.specs.Operands.{HaveNoOperandFaults}
 
 -- a jump, and nothing else, is checked by the statements of its block
 abbrev pub jump_fault_of : List StatementSpot → PlacedOp → Operand → Option ℕ
@@ -21,13 +21,17 @@ jump_fault_of statements p _ = None
 
 -- an op whose jump, bracket and zone have no fault
 pub record LandsRight (statements : List StatementSpot) (p : PlacedOp) : Type 0 where
+  -- its jump, if it is one, leads to a statement as it may
   pub jump : jump_fault_of statements p p.op.operand ≡ None
+  -- it neither closes a bracket that isn't open nor opens one too many
   pub brackets : bracket_fault p.op.code p.brackets ≡ None
+  -- it neither ends a zone that isn't open nor opens one too many
   pub zones : zone_fault p.op.code p.zones ≡ None
 
 -- no op of a block has a fault by its jump, bracket or zone, and behind the last no bracket and
 -- no zone is open
 pub record AllLandRight (ops : List OpData) : Type 0 where
+  -- no op has a fault by its jump, bracket or zone
   pub each : AllByRecursion (LandsRight (statement_spots ops)) (code_places ops)
   -- no bracket is open behind the last op
   pub closed : open_behind 0 [] ops ≡ []
@@ -43,7 +47,7 @@ JumpsLandRight =
     (code_blocks_of t symbols (layouts_of t symbols))
 
 -- ops that have no fault by their operands, calls and marks have none at all where they land right
-abbrev pub FineIsFaultless : Type 0
-FineIsFaultless =
+abbrev pub NoOperandFaultIsNoFault : Type 0
+NoOperandFaultIsNoFault =
     (a : Environment) (lens : List (ℕ × ℕ)) (start : ℕ) (ops : List OpData) → a.data_lens ≡ Some lens
-    → AreFine a lens (statement_spots ops) (code_places ops) → AllLandRight ops → block_faults a start ops ≡ []
+    → HaveNoOperandFaults a lens (statement_spots ops) (code_places ops) → AllLandRight ops → block_faults a start ops ≡ []

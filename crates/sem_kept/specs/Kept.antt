@@ -17,9 +17,12 @@ pub record BehavesAlike (profile : Profile) (c d : Code) : Type 0 where
   -- memory with timers and counters
   pub world : (history : List What) → (replay profile d history).world ≡ (replay profile c history).world
   pub mode : (history : List What) → (replay profile d history).mode ≡ (replay profile c history).mode
+  -- the scheduler
   pub sched : (history : List What) → (replay profile d history).sched ≡ (replay profile c history).sched
+  -- the records of the diagnostic buffer
   pub diagnostics : (history : List What)
       → (replay profile d history).diagnostics ≡ (replay profile c history).diagnostics
+  -- what an entry answers
   pub reply : (history : List What) (entry : What)
       → (entry_result d (replay profile d history) entry).reply ≡ (entry_result c (replay profile c history) entry).reply
   -- what an entry shows

@@ -17,7 +17,7 @@ use Rattle.block_layout.specs.Table.{layout_refusals}
 use Rattle.stl_types.specs.Table.{statement_refusals}
 use Rattle.stl_codegen.specs.Generated.{code_blocks_of, data_blocks_of}
 use Rattle.sem_kept.specs.Statements.{stated_code}
-use Rattle.sem_kept.specs.Stages.{HaveOutcomeInTurn, TellsRefusalOf}
+use Rattle.sem_kept.specs.Stages.{HaveOutcomeInTurn, NamesRefusalOf}
 
 -- ---- stages
 
@@ -46,7 +46,7 @@ abbrev pub refusals_of : List Symbol → Tree → List Refusal
 refusals_of symbols tree =
     layout_refusals tree symbols ++ statement_refusals tree symbols (layouts_of tree symbols)
 
--- a tree, judged by the least of its refusals: the tree itself where there is none, or else that
+-- a tree, checked by the least of its refusals: the tree itself where there is none, or else that
 -- refusal
 abbrev pub sound_by : Tree → Option Refusal → Result Tree Refusal
 sound_by tree None = Ok tree
@@ -83,27 +83,27 @@ pub data RefusedFile : Type 0 where
 
 -- what a source with a symbols file comes to, whose addresses are those of a language: the
 -- symbols are checked first, and then the source with them; it means a code or is refused
-unfoldable pub IsCheckedIn : Language → (source symbols : List ℕ) → Result Code RefusedFile → Type 0
-IsCheckedIn language source symbols outcome =
-    HaveOutcomeInTurn (TellsRefusalOf InSymbols (HasSymbolsIn language)) (TellsRefusalOf InSource (IsCheckedWith source)) symbols
+unfoldable pub HasOutcomeOfSourceIn : Language → (source symbols : List ℕ) → Result Code RefusedFile → Type 0
+HasOutcomeOfSourceIn language source symbols outcome =
+    HaveOutcomeInTurn (NamesRefusalOf InSymbols (HasSymbolsIn language)) (NamesRefusalOf InSource (IsCheckedWith source)) symbols
     outcome
 
 -- a source with a symbols file, whose addresses are those of a language, breaks no rule and
 -- means this code
 abbrev pub MeansCodeIn : Language → (source symbols : List ℕ) → Code → Type 0
-MeansCodeIn language source symbols code = IsCheckedIn language source symbols (Ok code)
+MeansCodeIn language source symbols code = HasOutcomeOfSourceIn language source symbols (Ok code)
 
 -- a source with a symbols file, whose addresses are those of a language, is refused with this
 -- refusal, of the one or the other
 abbrev pub IsRefusedSourceIn : Language → (source symbols : List ℕ) → RefusedFile → Type 0
 IsRefusedSourceIn language source symbols refused =
-    IsCheckedIn language source symbols (Err refused)
+    HasOutcomeOfSourceIn language source symbols (Err refused)
 
 -- ---- in English
 
 -- what a source with English mnemonics comes to: its code, or its refusal
-abbrev pub IsChecked : (source symbols : List ℕ) → Result Code RefusedFile → Type 0
-IsChecked source symbols outcome = IsCheckedIn English source symbols outcome
+abbrev pub HasOutcomeOfSource : (source symbols : List ℕ) → Result Code RefusedFile → Type 0
+HasOutcomeOfSource source symbols outcome = HasOutcomeOfSourceIn English source symbols outcome
 
 -- a source with English mnemonics means a code
 abbrev pub MeansCode : (source symbols : List ℕ) → Code → Type 0

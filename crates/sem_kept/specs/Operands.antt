@@ -57,7 +57,8 @@ abbrev pub PassesAlone : CallOperation → List Passing → Type 0
 PassesAlone calls.Call ps = Unit {0}
 PassesAlone _ ps = ps ≡ []
 
--- an instruction fits what surrounds its block
+-- an instruction fits the environment of its block (its kind, local bytes and parameters, and the
+-- code blocks of its program) and `lens`, the numbers and lengths in bytes of the data blocks
 abbrev pub InstrFits : Environment → List (ℕ × ℕ) → Instr → Type 0
 InstrFits a lens (Does use_db w o) =
     (prepares_statement (op_code_of w) ≡ false) × IsOperandRightFor a (op_with_end_mark w o) o × IsOpenedFor o use_db
@@ -71,22 +72,25 @@ InstrFits a lens _ = Unit {0}
 -- ---- ops at their places
 
 -- an op has no fault by its operand, but a jump's, by its call or by its end mark
-pub record IsFine (a : Environment) (lens : List (ℕ × ℕ)) (ss : List StatementSpot) (p : PlacedOp) : Type 0 where
+pub record HasNoOperandFault (a : Environment) (lens : List (ℕ × ℕ)) (ss : List StatementSpot) (p : PlacedOp) : Type 0 where
+  -- its operand has no fault, where it is no jump's
   pub operand : IsStill p.op.operand → operand_fault a ss p p.op.operand ≡ None
+  -- its call has no fault
   pub call : call_fault a (Some lens) p ≡ None
+  -- its end mark has no fault
   pub mark : mark_fault p.op ≡ None
 
 -- each of these ops has no fault by its operand, but a jump's, by its call or by its end mark
-abbrev pub AreFine : Environment → List (ℕ × ℕ) → List StatementSpot → List PlacedOp → Type 0
-AreFine a lens ss ps = AllByRecursion (IsFine a lens ss) ps
+abbrev pub HaveNoOperandFaults : Environment → List (ℕ × ℕ) → List StatementSpot → List PlacedOp → Type 0
+HaveNoOperandFaults a lens ss ps = AllByRecursion (HasNoOperandFault a lens ss) ps
 
 -- ---- a program
 
 -- the ops of a block, among the other blocks of its program, have no fault by their operands,
 -- calls and end marks
-abbrev pub BlockIsFine : Program → CodeBlock → Type 0
-BlockIsFine p b =
-    AreFine
+abbrev pub BlockHasNoOperandFault : Program → CodeBlock → Type 0
+BlockHasNoOperandFault p b =
+    HaveNoOperandFaults
     (environment_of_block (Some (lens_of p.data_blocks)) (map record_of_block p.code_blocks) (record_of_block b))
     (lens_of p.data_blocks) (statement_spots b.code) (code_places b.code)
 
@@ -96,4 +100,4 @@ abbrev pub OperandsAreFine : Type 0
 OperandsAreFine =
     (source file : List ℕ) (symbols : List Symbol) (t : Tree)
     → IsAccepted source file symbols t → AreBytes source
-    → AllByRecursion (BlockIsFine (program_in symbols t)) (program_in symbols t).code_blocks
+    → AllByRecursion (BlockHasNoOperandFault (program_in symbols t)) (program_in symbols t).code_blocks

@@ -12,9 +12,13 @@ use Rattle.sem_kept.specs.Accepted.{IsAccepted, program_in}
 
 -- the code of a block has no fault, and its statements and bytes are few enough for their fields
 pub record HasFaultlessCode (b : CodeBlock) : Type 0 where
+  -- each is an op of the table
   pub ops : are_ops b.code ≡ true
+  -- no statement has a 65th op, and the last op is BE
   pub ends : code_fault b.code ≡ None
+  -- the number of its statements fits 16 bits
   pub statements : length b.lines < 65536
+  -- the number of its bytes fits 32 bits
   pub size : length (code_bytes b.code) < 4294967296
 
 -- a symbols file is made of bytes
@@ -26,11 +30,12 @@ abbrev pub HasCounts : Program → Type 0
 HasCounts p =
     good_counts (length p.code_blocks) (length p.data_blocks) (length p.names) ≡ true
 
--- the records of the program of an accepted source have no fault where the code and the counts
--- have none, whether or not code and lines are checked
+-- the records of the program of an accepted source have no fault where the code and the counts have
+-- none; `checks_code` says whether a 65th op of a statement and a wrong last op (fault 5) and a
+-- wrong statement count or line (fault 9) are faults there
 abbrev pub RecordsAreRight : Type 0
 RecordsAreRight =
     (source file : List ℕ) (symbols : List Symbol) (t : Tree)
     → IsAccepted source file symbols t → IsOfBytes file
     → AllByRecursion HasFaultlessCode (program_in symbols t).code_blocks → HasCounts (program_in symbols t)
-    → (judged : Bool) → (body_layout judged).good (program_in symbols t) ≡ true
+    → (checks_code : Bool) → (body_layout checks_code).good (program_in symbols t) ≡ true

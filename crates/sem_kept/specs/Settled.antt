@@ -29,20 +29,27 @@ use Rattle.sem_kept.specs.Accepted.{IsAccepted}
 
 -- a jump: its operand is a label of its body
 pub record HasLabel (body : List Statement) (s : Statement) : Type 0 where
+  -- the label that the operand names
   pub name : List ℕ
+  -- the operand is this label
   pub is : s.operand ≡ operand.Label name
   -- the place of the label among the labels of the body, from 0
   pub place : ℕ
+  -- the label stands at this place
   pub there : name_place name (labels_of body) ≡ Some place
 
 -- a call: its operand names the block that it calls, whose parameters are known; each actual parameter names one of
 -- them, and no two the same one
 pub record HasCalled (c : Context) (s : Statement) : Type 0 where
+  -- the block that the operand names
   pub id : BlockId
   -- the number of the data block that is its instance, where the call names one
   pub instance : Option ℕ
+  -- the operand names this block, with this instance
   pub called : resolved_operand c s ≡ Some (view.Called id instance)
+  -- the block that is called, with its parameters
   pub callee : Callee
+  -- it is the block that is found by the operand
   pub found : callee_of c s.operand ≡ Some callee
   -- the block whose parameters are known is the one that is called
   pub same : callee.id ≡ id
@@ -63,13 +70,15 @@ HasInstruction c body s None = HasOperand c s (call_operation_of s.code)
 HasInstruction c body s (Some how) = HasLabel body s
 
 -- an actual parameter names what is passed
-abbrev pub HasPassed : Context → Actual → Type 0
-HasPassed c a = (p : Passed) × (passed_seen a.value (resolution_of c a.value) ≡ Some p)
+abbrev pub NamesWhatIsPassed : Context → Actual → Type 0
+NamesWhatIsPassed c a = (p : Passed) × (passed_seen a.value (resolution_of c a.value) ≡ Some p)
 
 -- a statement names what its instruction takes, and each of its actual parameters what is passed
-pub record IsSettled (c : Context) (body : List Statement) (s : Statement) : Type 0 where
+pub record IsResolvedStatement (c : Context) (body : List Statement) (s : Statement) : Type 0 where
+  -- it names what its instruction takes
   pub instruction : HasInstruction c body s (jump_operation_of s.code)
-  pub actuals : AllByRecursion (HasPassed c) s.actuals
+  -- each of its actual parameters names what is passed
+  pub actuals : AllByRecursion (NamesWhatIsPassed c) s.actuals
 
 -- what the block at a place is checked and compiled by
 abbrev pub context_of : List Symbol → Tree → ℕ → Context
@@ -86,4 +95,4 @@ abbrev pub StatementsSettle : Type 0
 StatementsSettle =
     (source file : List ℕ) (symbols : List Symbol) (t : Tree) → IsAccepted source file symbols t
     → AreBytes source → (k : ℕ) (b : Block) → slice_get t.blocks k ≡ Some b
-    → AllByRecursion (IsSettled (context_of symbols t k) b.body) b.body
+    → AllByRecursion (IsResolvedStatement (context_of symbols t k) b.body) b.body

@@ -11,13 +11,18 @@ use Rattle.sem_kept.specs.Accepted.{IsAccepted, program_in}
 
 -- a code block's statements and code bytes fit their fields
 pub record IsSmallBlock (b : CodeBlock) : Type 0 where
+  -- the number of its statements, each with its line, fits 16 bits
   pub lines : length b.lines < 65536
+  -- the number of its code bytes fits 32 bits
   pub code : length (code_bytes b.code) < 4294967296
 
 -- a program's counts and code blocks fit their fields, and its image has at most 8,388,608 bytes
 pub record IsSmall (p : Program) : Type 0 where
+  -- it has no more code blocks, data blocks and names than it may
   pub counts : good_counts (length p.code_blocks) (length p.data_blocks) (length p.names) ≡ true
+  -- its image isn't too long
   pub short : image_size p ≤ 8388608
+  -- the statements and code bytes of each code block fit their fields
   pub blocks : AllByRecursion IsSmallBlock p.code_blocks
 
 -- the program of an accepted source is small enough for an image

@@ -1,4 +1,4 @@
--- Stages of judging: each makes something of what it is given, or refuses it.
+-- Stages of checking: each makes something of what it is given, or refuses it.
 use Rattle.std.specs.Prelude.{◌≡◌, ◌⊎◌, Result, Ok, Err}
 use Rattle.plc_base.specs.declared.refusals.Refusal.{Refusal}
 
@@ -11,10 +11,10 @@ HaveOutcomeInTurn {B = B} first second a (Err refused) =
     first a (Err refused) ⊎ ((b : B) × first a (Ok b) × second b (Err refused))
 
 -- a stage whose refusals are told with what they are of
-abbrev pub TellsRefusalOf : {A B E : Type 0} (of : Refusal → E) (stage : A → Result B Refusal → Type 0)
+abbrev pub NamesRefusalOf : {A B E : Type 0} (of : Refusal → E) (stage : A → Result B Refusal → Type 0)
     → A → Result B E → Type 0
-TellsRefusalOf of stage a (Ok b) = stage a (Ok b)
-TellsRefusalOf of stage a (Err refused) =
+NamesRefusalOf of stage a (Ok b) = stage a (Ok b)
+NamesRefusalOf of stage a (Err refused) =
     (refusal : Refusal) × (refused ≡ of refusal) × stage a (Err refusal)
 
 -- a stage has one outcome at most for whatever it is given

@@ -48,7 +48,7 @@ use Rattle.flat_code.specs.declared.operands.Passed.{Passed}
 use Rattle.flat_code.specs.declared.operations.CallOperation.{CallOperation}
 use Rattle.flat_code.specs.declared.operations.CallOperation.TheVariants as how_called
 use Rattle.sem_kept.specs.Accepted.{IsAccepted}
-use Rattle.sem_kept.specs.Settled.{HasCalled, HasInstruction, HasLabel, HasOperand, HasPassed, IsSettled, context_of}
+use Rattle.sem_kept.specs.Settled.{HasCalled, HasInstruction, HasLabel, HasOperand, NamesWhatIsPassed, IsResolvedStatement, context_of}
 use Rattle.sem_kept.proofs.accepted.Accepted.{IsSound, IsSoundActual, IsSoundStatement, all_mapped, right_tree}
 use Rattle.sem_kept.proofs.accepted.OperandsCells.{all_there, cells_are, layout_of_block, measured_symbols}
 use Rattle.sem_kept.proofs.accepted.OperandsPlaces.{IsParameterCell, function_components}
@@ -238,7 +238,7 @@ value_named c (operand.Other name) v p plain inside e h = absurd (passed_word c 
 value_named c o v p plain inside e h = named_there c o v refl (passed_named o v p h) e
 
 actual_named : (c : Context) (a : Actual) → HasElementaryParameters c → stays_inside c a.value ≡ true
-    → HasPassed c a → IsNamedActual c a
+    → NamesWhatIsPassed c a → IsNamedActual c a
 actual_named c a plain inside passed = by (resolution_of c a.value) refl passed.1
   where
     by : (r : Resolution) → resolution_of c a.value ≡ r → passed_seen a.value r ≡ Some passed.0 → IsNamedActual c a
@@ -254,12 +254,12 @@ actual_named c a plain inside passed = by (resolution_of c a.value) refl passed.
 record IsKnown (c : Context) (body : List Statement) (s : Statement) : Type 0 where
   inside : stays_inside c s.operand ≡ true
   word : StatementHas s
-  settled : IsSettled c body s
+  settled : IsResolvedStatement c body s
   passed : AllByRecursion (λ (a : Actual). stays_inside c a.value ≡ true) s.actuals
 
 actuals_named : (c : Context) (actuals : List Actual) → HasElementaryParameters c
     → AllByRecursion (λ (a : Actual). stays_inside c a.value ≡ true) actuals
-    → AllByRecursion (HasPassed c) actuals → AllByRecursion (IsNamedActual c) actuals
+    → AllByRecursion (NamesWhatIsPassed c) actuals → AllByRecursion (IsNamedActual c) actuals
 actuals_named c [] plain inside passed = tt
 actuals_named c (a ∷ actuals) plain inside passed = (
   actual_named c a plain inside.0 passed.0,
@@ -293,7 +293,7 @@ call_is code.Cc e = record { how = how_called.Cc; no_jump = refl; is = refl }
 call_is _ e = absurd (false≢true e)
 
 call_settled : (c : Context) (body : List Statement) (s : Statement) → is_call_instruction s.code ≡ true
-    → IsSettled c body s → HasCalled c s
+    → IsResolvedStatement c body s → HasCalled c s
 call_settled c body s is settled =
     let call = call_is s.code is in
     subst (HasOperand c s) call.is (subst (HasInstruction c body s) call.no_jump settled.instruction)
@@ -479,7 +479,7 @@ module _ (symbols : List Symbol) (t : Tree) (k : ℕ) where
 
   all_known : (body ss : List Statement)
       → AllByRecursion (IsSoundStatement (types_of_source symbols t.blocks) (context_of symbols t k)) ss
-      → AllByRecursion StatementHas ss → AllByRecursion (IsSettled (context_of symbols t k) body) ss
+      → AllByRecursion StatementHas ss → AllByRecursion (IsResolvedStatement (context_of symbols t k) body) ss
       → AllByRecursion (IsKnown (context_of symbols t k) body) ss
   all_known body [] sound words settled = tt
   all_known body (s ∷ ss) sound words settled = (

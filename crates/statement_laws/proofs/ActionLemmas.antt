@@ -48,7 +48,7 @@ use Rattle.machine.specs.Values as values
 use Rattle.machine.specs.declared.places.Access.TheVariants.{Writing}
 use Rattle.machine.specs.declared.places.Location.{Location}
 use Rattle.statement_laws.specs.Effects as own
-use Rattle.statement_laws.specs.Named.{NamedItem, Number, OpenBlock, Spot}
+use Rattle.statement_laws.specs.Named.{NamedItem, ItemNumber, OpenBlock, OperandPlace}
 use Rattle.statement_laws.specs.Named as named
 use Rattle.statement_laws.specs.Reading as reading
 use Rattle.statement_laws.proofs.FlatLemmas.{bcd_same, flat_number, flat_of, flat_spot, is_read, loaded_same, number_same, numbered_same, place_same, tested_same}
@@ -211,7 +211,7 @@ error_same code (Ok x) = refl
 error_same code (Err NoNumber) = refl
 error_same code (Err BadBcd) = refl
 
-timer_same : (f : Timer → Option Timer) (n : Number) (p : ExecState)
+timer_same : (f : Timer → Option Timer) (n : ItemNumber) (p : ExecState)
     → does.on_timers p (then_ok (values.number_named (flat_number 1 n) p.local p.memory)
     (λ which. values.with_timer_error 0x26 (change_at_number f p.timers which)))
     ≡ own.on_timer f n p
@@ -234,7 +234,7 @@ timer_same f n p =
     by (Ok which) = changed (change_at_number f p.timers which)
     by (Err e) = refl
 
-counter_same : (f : Counter → Option Counter) (n : Number) (p : ExecState)
+counter_same : (f : Counter → Option Counter) (n : ItemNumber) (p : ExecState)
     → does.on_counters p (then_ok (values.number_named (flat_number 2 n) p.local p.memory)
     (λ which. values.with_timer_error 0x27 (change_at_number f p.counters which)))
     ≡ own.on_counter f n p
@@ -258,12 +258,12 @@ counter_same f n p =
     by (Err e) = refl
 
 -- by the kind in the operand
-spot_kind : (spot : Spot) → does.kind_of_numbered_operand (flat_spot spot) ≡ None
+spot_kind : (spot : OperandPlace) → does.kind_of_numbered_operand (flat_spot spot) ≡ None
 spot_kind (named.Fixed a w byte bit) = refl
 spot_kind (named.ByMemory a w from byte) = refl
 spot_kind (named.ByRegister a w register count) = refl
 
-number_kind : (kind : ℕ) (n : Number) → does.kind_of_numbered_operand (flat_number kind n) ≡ Some kind
+number_kind : (kind : ℕ) (n : ItemNumber) → does.kind_of_numbered_operand (flat_number kind n) ≡ Some kind
 number_kind kind (named.Written n) = refl
 number_kind kind (named.InWord from byte) = refl
 

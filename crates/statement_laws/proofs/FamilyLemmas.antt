@@ -29,7 +29,7 @@ use Rattle.machine.specs.Numbers as numbers
 use Rattle.machine.specs.Pointers as pointer
 use Rattle.machine.specs.ExecState.{ExecState, exec_state_of, then_ok}
 use Rattle.machine.specs.Statement.{instruction_step, continue_with}
-use Rattle.statement_laws.specs.Effects.{action, effect_of_statement}
+use Rattle.statement_laws.specs.Effects.{effect_of_operation, effect_of_statement}
 use Rattle.statement_laws.specs.Effects as own
 use Rattle.statement_laws.specs.Laws.{Acts, BitLogicActs, ComparisonsAct, DataBlocksAct, IdleActs, LoadsAct, NumbersAct, RelayActs, ShiftsAct, TimingActs, is_bit_logic, is_comparison, is_data_block_instruction, is_idle, is_load_or_transfer, is_number_instruction, is_relay, is_shift, is_timing}
 use Rattle.statement_laws.specs.Named.{NamedItem}
@@ -46,20 +46,20 @@ use Rattle.statement_laws.proofs.VariableLemmas.{view_same}
 -- ---- from operations to statements
 
 db_first : (m : Mnemonic) (op : Operation) (n : ℕ) (x : NamedItem) (p : ExecState)
-    → ((q : ExecState) → does.operation_effect op (flat_of x) q ≡ action m x q)
+    → ((q : ExecState) → does.operation_effect op (flat_of x) q ≡ effect_of_operation m x q)
     → (if data_blocks.is_block_loaded n p.memory then does.operation_effect op (flat_of x) (does.with_db_opened n p) else Err 0x3A)
-    ≡ then_ok (own.opens_block_number false n p) (λ q. action m x q)
+    ≡ then_ok (own.opens_block_number false n p) (λ q. effect_of_operation m x q)
 db_first m op n x p h = by (data_blocks.is_block_loaded n p.memory)
   where
     by : (b : Bool)
         → (if b then does.operation_effect op (flat_of x) (does.with_db_opened n p) else Err 0x3A)
-        ≡ then_ok (if b then Ok (own.with_open false n p) else Err 0x3A) (λ q. action m x q)
+        ≡ then_ok (if b then Ok (own.with_open false n p) else Err 0x3A) (λ q. effect_of_operation m x q)
     by true = h (own.with_open false n p)
     by false = refl
 
 -- a data block that the statement opens first is open then
 first_opened : (m : Mnemonic) (op : Operation) (x : NamedItem) (p : ExecState)
-    → ((q : ExecState) → does.operation_effect op (flat_of (as_open x)) q ≡ action m (as_open x) q)
+    → ((q : ExecState) → does.operation_effect op (flat_of (as_open x)) q ≡ effect_of_operation m (as_open x) q)
     → does.statement_effect (opens_first x) op (flat_of x) p ≡ effect_of_statement m x p
 unfolding does.statement_effect effect_of_statement
 first_opened m op (named.PlaceIn n w byte bit) p h = db_first m op n (named_fixed_place area.Db w byte bit) p h
@@ -70,7 +70,7 @@ pub record Acted (m : Mnemonic) (o : Operand) (v : ResolvedOperand) (x : NamedIt
   pub no_jump : jump_operation_of m ≡ None
   pub no_call : call_operation_of m ≡ None
   pub no_end : end_operation_of m ≡ None
-  pub same : (q : ExecState) → does.operation_effect (operation_for m o v) (flat_of (as_open x)) q ≡ action m (as_open x) q
+  pub same : (q : ExecState) → does.operation_effect (operation_for m o v) (flat_of (as_open x)) q ≡ effect_of_operation m (as_open x) q
 
 -- what is known of it
 pub record Given (m : Mnemonic) (o : Operand) (v : ResolvedOperand) (x : NamedItem) : Type 0 where
@@ -105,13 +105,13 @@ acts c body n s v x e is h program next a w =
 -- an operation that is the same whatever its operand
 acted : (m : Mnemonic) (o : Operand) (v : ResolvedOperand) (x : NamedItem)
     → jump_operation_of m ≡ None → call_operation_of m ≡ None → end_operation_of m ≡ None
-    → ((q : ExecState) → does.operation_effect (operation_for m o v) (flat_of (as_open x)) q ≡ action m (as_open x) q)
+    → ((q : ExecState) → does.operation_effect (operation_for m o v) (flat_of (as_open x)) q ≡ effect_of_operation m (as_open x) q)
     → Acted m o v x
 acted m o v x j c e h = record { no_jump = j; no_call = c; no_end = e; same = h }
 
 bit_logic : (m : Mnemonic) (o : Operand) (v : ResolvedOperand) (x : NamedItem) → is_bit_logic m ≡ true
     → Given m o v x → Acted m o v x
-unfolding operation_for action form_of does.operation_effect
+unfolding operation_for effect_of_operation form_of does.operation_effect
 bit_logic code.A o v x is g =
     acted code.A o v x refl refl refl
     (λ q. action_lemmas.checks_same check.A (as_open x) q
@@ -197,7 +197,7 @@ bit_logic_acts c body n s v x is e names =
 
 load_or_transfer : (m : Mnemonic) (o : Operand) (v : ResolvedOperand) (x : NamedItem) → is_load_or_transfer m ≡ true
     → Given m o v x → Acted m o v x
-unfolding operation_for action form_of does.operation_effect pointer.pointer_effect
+unfolding operation_for effect_of_operation form_of does.operation_effect pointer.pointer_effect
 load_or_transfer code.L o v x is g =
     acted code.L o v x refl refl refl
     (λ q. ap (λ op. does.operation_effect op (flat_of (as_open x)) q) (rules.load_named (about o) v x g.there)
@@ -244,7 +244,7 @@ load_or_transfer_acts c body n s v x is e names =
 
 number_instruction : (m : Mnemonic) (o : Operand) (v : ResolvedOperand) (x : NamedItem) → is_number_instruction m ≡ true
     → Given m o v x → Acted m o v x
-unfolding operation_for action form_of does.operation_effect numbers.number_effect numbers.word_logic_effect
+unfolding operation_for effect_of_operation form_of does.operation_effect numbers.number_effect numbers.word_logic_effect
 number_instruction code.Tak o v x is g =
     acted code.Tak o v x refl refl refl
     (λ q. refl)
@@ -365,7 +365,7 @@ number_instruction_acts c body n s v x is e names =
 
 comparison : (m : Mnemonic) (o : Operand) (v : ResolvedOperand) (x : NamedItem) → is_comparison m ≡ true
     → Given m o v x → Acted m o v x
-unfolding operation_for action form_of does.operation_effect
+unfolding operation_for effect_of_operation form_of does.operation_effect
 comparison code.EqI o v x is g =
     acted code.EqI o v x refl refl refl
     (λ q. refl)
@@ -410,7 +410,7 @@ comparison_acts c body n s v x is e names =
 
 shift : (m : Mnemonic) (o : Operand) (v : ResolvedOperand) (x : NamedItem) → is_shift m ≡ true
     → Given m o v x → Acted m o v x
-unfolding operation_for action form_of does.operation_effect numbers.number_effect numbers.shift_effect
+unfolding operation_for effect_of_operation form_of does.operation_effect numbers.number_effect numbers.shift_effect
 shift code.Ssi o v x is g =
     acted code.Ssi o v x refl refl refl
     (λ q. action_lemmas.shift_same shift_word.Ssi (shifts.shifted_signed 16) (as_open x) q
@@ -465,7 +465,7 @@ shift_acts c body n s v x is e names =
 
 timing : (m : Mnemonic) (o : Operand) (v : ResolvedOperand) (x : NamedItem) → is_timing m ≡ true
     → Given m o v x → Acted m o v x
-unfolding operation_for action form_of
+unfolding operation_for effect_of_operation form_of
 timing code.Sp o v x is g =
     acted code.Sp o v x refl refl refl
     (λ q. action_lemmas.start_same timer.Sp (as_open x) q
@@ -506,7 +506,7 @@ timing_acts c body n s v x is e names =
 
 relay : (m : Mnemonic) (o : Operand) (v : ResolvedOperand) (x : NamedItem) → is_relay m ≡ true
     → Given m o v x → Acted m o v x
-unfolding operation_for action form_of does.operation_effect
+unfolding operation_for effect_of_operation form_of does.operation_effect
 relay code.Mcra o v x is g =
     acted code.Mcra o v x refl refl refl
     (λ q. refl)
@@ -527,7 +527,7 @@ relay_acts c body n s v x is e names =
 
 data_block : (m : Mnemonic) (o : Operand) (v : ResolvedOperand) (x : NamedItem) → is_data_block_instruction m ≡ true
     → Given m o v x → Acted m o v x
-unfolding operation_for action form_of does.operation_effect data_blocks.registers_exchanged
+unfolding operation_for effect_of_operation form_of does.operation_effect data_blocks.registers_exchanged
 data_block code.Opn o v x is g =
     acted code.Opn o v x refl refl refl
     (λ q. action_lemmas.open_same (as_open x) q
@@ -543,7 +543,7 @@ data_block_acts c body n s v x is e names =
 
 idle : (m : Mnemonic) (o : Operand) (v : ResolvedOperand) (x : NamedItem) → is_idle m ≡ true
     → Given m o v x → Acted m o v x
-unfolding operation_for action form_of does.operation_effect
+unfolding operation_for effect_of_operation form_of does.operation_effect
 idle code.Nop o v x is g =
     acted code.Nop o v x refl refl refl
     (λ q. refl)

@@ -21,24 +21,24 @@ use Rattle.machine.specs.Places as places
 use Rattle.machine.specs.Values as values
 use Rattle.machine.specs.declared.places.Access.{Access}
 use Rattle.machine.specs.declared.places.Access.TheVariants.{Reading}
-use Rattle.statement_laws.specs.Named.{NamedItem, Number, OpenBlock, Spot}
+use Rattle.statement_laws.specs.Named.{NamedItem, ItemNumber, OpenBlock, OperandPlace}
 use Rattle.statement_laws.specs.Named as named
 use Rattle.statement_laws.specs.Reading as own
 use Rattle.statement_laws.proofs.PlaceLemmas.{crossing_same, fixed_same, pointed_same, read_same, standing_same, then_same}
 
 -- ---- operands of the code
 
-abbrev pub flat_spot : Spot → Operand
+abbrev pub flat_spot : OperandPlace → Operand
 flat_spot (named.Fixed a w byte bit) = flat.Direct a w byte bit
 flat_spot (named.ByMemory a w from byte) = flat.ByMemory a w from byte
 flat_spot (named.ByRegister a w register count) = flat.ByRegister a w register count
 
 -- timers are of kind 1, counters of kind 2
-abbrev pub flat_number : (kind : ℕ) → Number → Operand
+abbrev pub flat_number : (kind : ℕ) → ItemNumber → Operand
 flat_number kind (named.Written number) = flat.Numbered kind number
 flat_number kind (named.InWord from byte) = flat.NumberedBy kind from byte
 
-abbrev pub flat_block : (di : Bool) → Number → Operand
+abbrev pub flat_block : (di : Bool) → ItemNumber → Operand
 flat_block di (named.Written number) = flat.OpenBlock (if di then 2 else 1) number
 flat_block di (named.InWord from byte) = flat.OpenBy (if di then 2 else 1) from byte
 
@@ -64,7 +64,7 @@ flat_of _ = flat.Nothing
 
 -- ---- places
 
-found_same : (access : Access) (spot : Spot) (p : ExecState)
+found_same : (access : Access) (spot : OperandPlace) (p : ExecState)
     → places.operand_location access (flat_spot spot) p.local p.memory ≡ own.place_of_spot access spot p
 unfolding places.operand_location own.place_of_spot
 found_same access (named.Fixed a w byte bit) p = fixed_same access a w byte bit p
@@ -123,7 +123,7 @@ is_read (named.PlaceIn block w byte bit) = false
 is_read (named.Opened what) = false
 is_read _ = true
 
-spot_read : (spot : Spot) (p : ExecState)
+spot_read : (spot : OperandPlace) (p : ExecState)
     → then_ok (places.operand_location Reading (flat_spot spot) p.local p.memory)
     (λ b. places.number_read_at b p.local p.memory)
     ≡ then_ok (own.place_of_spot Reading spot p) (λ b. own.number_or_error Reading b p)
@@ -132,7 +132,7 @@ spot_read spot p =
     (λ b. places.number_read_at b p.local p.memory) (λ b. own.number_or_error Reading b p)
     (found_same Reading spot p) (λ b. read_same b p)
 
-spot_number : (spot : Spot) (p : ExecState)
+spot_number : (spot : OperandPlace) (p : ExecState)
     → values.operand_number (flat_spot spot) p.local p.memory
     ≡ then_ok (places.operand_location Reading (flat_spot spot) p.local p.memory)
     (λ b. places.number_read_at b p.local p.memory)
@@ -159,7 +159,7 @@ number_same _ p e = refl
 
 -- ---- timers and counters
 
-pub numbered_same : (kind : ℕ) (n : Number) (p : ExecState)
+pub numbered_same : (kind : ℕ) (n : ItemNumber) (p : ExecState)
     → values.number_named (flat_number kind n) p.local p.memory ≡ own.number_of_item n p
 unfolding values.number_named own.number_of_item
 numbered_same kind (named.Written n) p = refl
@@ -205,7 +205,7 @@ in_word code read all from byte p =
     (λ n. ok_or (option_map read (slice_get all n)) code)
     (standing_same from byte widths.Word p) (λ n. faulty_same code read all n)
 
-spot_tested : (spot : Spot) (p : ExecState)
+spot_tested : (spot : OperandPlace) (p : ExecState)
     → values.checked_bit (flat_spot spot) p.local p.memory p.timers p.counters
     ≡ values.bit_of_number (values.operand_number (flat_spot spot) p.local p.memory)
 unfolding values.checked_bit
@@ -237,7 +237,7 @@ tested_same (named.DataBlock di (named.InWord from byte)) p e =
     ∙ one_same (own.number_of_operand (named.DataBlock di (named.InWord from byte)) p)
 tested_same x p e = ap values.bit_of_number (number_same x p e) ∙ one_same (own.number_of_operand x p)
 
-spot_loaded : (spot : Spot) (p : ExecState)
+spot_loaded : (spot : OperandPlace) (p : ExecState)
     → values.load_value (flat_spot spot) p.local p.memory p.timers p.counters
     ≡ values.operand_number (flat_spot spot) p.local p.memory
 unfolding values.load_value

@@ -45,7 +45,7 @@ use Rattle.stl_types.specs.declared.views.Side.TheVariants as side
 use Rattle.stl_types.specs.declared.views.ResolvedOperand.{ResolvedOperand}
 use Rattle.stl_types.specs.declared.views.ResolvedOperand.TheVariants as view
 use Rattle.stl_codegen.specs.Operands as codegen
-use Rattle.statement_laws.specs.Named.{NamedItem, Number, OpenBlock, Spot}
+use Rattle.statement_laws.specs.Named.{NamedItem, ItemNumber, OpenBlock, OperandPlace}
 use Rattle.statement_laws.specs.Named as named
 use Rattle.statement_laws.specs.Operands.{block_number, named_fixed_place, named_by, numbered_item, named_place, place_by, place_in_db, pointer_constant_bits, register_named, symbol_target, target_named}
 use Rattle.statement_laws.specs.Operands as own

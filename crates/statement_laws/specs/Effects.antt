@@ -43,7 +43,7 @@ use Rattle.stl_ast.specs.declared.mnemonics.Mnemonic.TheVariants as code
 use Rattle.machine.specs.ExecState.{ExecState, then_ok}
 use Rattle.machine.specs.declared.places.Access.TheVariants.{Writing}
 use Rattle.machine.specs.declared.places.Location.{Location}
-use Rattle.statement_laws.specs.Named.{NamedItem, Number, OpenBlock}
+use Rattle.statement_laws.specs.Named.{NamedItem, ItemNumber, OpenBlock}
 use Rattle.statement_laws.specs.Named as named
 use Rattle.statement_laws.specs.Reading.{bcd_to_load, bit_of_operand, bits_of_literal, number_of_item, number_of_operand, number_or_error, number_to_load, place_of_operand, with_number_at}
 
@@ -53,7 +53,7 @@ use Rattle.statement_laws.specs.Reading.{bcd_to_load, bit_of_operand, bits_of_li
 abbrev pub registers_of : ExecState → Regs
 registers_of p = p.local.regs
 
--- other registers; all else stays
+-- the state with these registers; all else stays
 abbrev pub with_regs : Regs → ExecState → ExecState
 with_regs r p = record p { local = record p.local { regs = r } }
 
@@ -61,8 +61,8 @@ with_regs r p = record p { local = record p.local { regs = r } }
 abbrev pub on_regs : (Regs → Regs) → ExecState → Result ExecState ℕ
 on_regs f p = Ok (with_regs (f (registers_of p)) p)
 
--- other data of the innermost frame: data block registers, brackets or master control relay; all
--- else stays
+-- the state with these data of the innermost frame, such as data block registers, brackets and
+-- master control relay; all else stays
 abbrev pub with_inner : FrameData → ExecState → ExecState
 with_inner i p = record p { local = record p.local { inner = i } }
 
@@ -93,7 +93,8 @@ abbrev pub checks_or : NamedItem → ExecState → Result ExecState ℕ
 checks_or named.Nothing p = on_regs or_bare p
 checks_or x p = checks_bit check.O x p
 
--- another list of open brackets; all else stays
+-- the state with these open brackets in the innermost frame, the innermost one first; all else
+-- stays
 abbrev pub with_bracket_list : List Bracket → ExecState → ExecState
 with_bracket_list brackets p = with_inner (record p.local.inner { brackets = brackets }) p
 
@@ -151,7 +152,7 @@ tells_edge rising x p =
 
 -- ---- the master control relay
 
--- another state of the master control relay; all else stays
+-- the state with this master control relay in the innermost frame; all else stays
 abbrev pub with_relay : Relay → ExecState → ExecState
 with_relay r p = with_inner (record p.local.inner { relay = r }) p
 
@@ -220,11 +221,11 @@ transfers_accumulator x p = puts_number (if is_relay_closed p then 0 else (regis
 
 -- ---- address registers
 
--- another address in address register 1
+-- the state with this address in address register 1; all else stays
 abbrev pub with_ar1 : ℕ → ExecState → ExecState
 with_ar1 n p = with_regs (record (registers_of p) { ar1 = n }) p
 
--- another address in address register 2
+-- the state with this address in address register 2; all else stays
 abbrev pub with_ar2 : ℕ → ExecState → ExecState
 with_ar2 n p = with_regs (record (registers_of p) { ar2 = n }) p
 
@@ -309,7 +310,7 @@ or_error code (Err BadBcd) = Err 0x21
 
 -- an instruction on the timer of a number; error 26 where there is none, 21 where it finds a
 -- digit above 9
-abbrev pub on_timer : (timers.Timer → Option timers.Timer) → Number → ExecState → Result ExecState ℕ
+abbrev pub on_timer : (timers.Timer → Option timers.Timer) → ItemNumber → ExecState → Result ExecState ℕ
 on_timer f n p =
     then_ok (number_of_item n p) (λ which.
     then_ok (or_error 0x26 (change_at_number f p.timers which)) (λ all.
@@ -317,7 +318,7 @@ on_timer f n p =
 
 -- an instruction on the counter of a number; error 27 where there is none, 21 where it finds a
 -- digit above 9
-abbrev pub on_counter : (counters.Counter → Option counters.Counter) → Number → ExecState → Result ExecState ℕ
+abbrev pub on_counter : (counters.Counter → Option counters.Counter) → ItemNumber → ExecState → Result ExecState ℕ
 on_counter f n p =
     then_ok (number_of_item n p) (λ which.
     then_ok (or_error 0x27 (change_at_number f p.counters which)) (λ all.
@@ -357,7 +358,8 @@ frees_operand x p = Err 0
 abbrev pub is_data_block_loaded : ℕ → ExecState → Bool
 is_data_block_loaded n p = is_some (map.get p.memory.data_blocks n)
 
--- the data block of this number is open in the DI register (true) or in the DB register (false)
+-- the state with the data block of this number open in the DI register (true) or in the DB register
+-- (false); all else stays
 abbrev pub with_open : (di : Bool) → ℕ → ExecState → ExecState
 with_open true n p = with_inner (record p.local.inner { di = Some n }) p
 with_open false n p = with_inner (record p.local.inner { db = Some n }) p
@@ -381,110 +383,110 @@ exchanges_blocks p =
 
 -- what an instruction does with what its operand names; the empty statement, jumps, calls and the ends
 -- of a block aren't here
-unfoldable pub action : Mnemonic → NamedItem → ExecState → Result ExecState ℕ
-action code.Nop x p = Ok p
-action code.Bld x p = Ok p
-action code.A x p = checks_bit check.A x p
-action code.An x p = checks_bit check.An x p
-action code.O x p = checks_or x p
-action code.On x p = checks_bit check.On x p
-action code.X x p = checks_bit check.X x p
-action code.Xn x p = checks_bit check.Xn x p
-action code.AOpen x p = opens_bracket check.A p
-action code.AnOpen x p = opens_bracket check.An p
-action code.OOpen x p = opens_bracket check.O p
-action code.OnOpen x p = opens_bracket check.On p
-action code.XOpen x p = opens_bracket check.X p
-action code.XnOpen x p = opens_bracket check.Xn p
-action code.Close x p = closes_bracket p
-action code.Mcra x p = activates_relay true p
-action code.Mcrd x p = activates_relay false p
-action code.McrOpen x p = opens_relay_zone p
-action code.McrClose x p = ends_relay_zone p
-action code.L x p = loads_operand x p
-action code.T x p = transfers_accumulator x p
-action code.Assign x p = assigns_power_flow x p
-action code.S x p = sets_operand x p
-action code.R x p = resets_operand x p
-action code.Fp x p = tells_edge true x p
-action code.Fn x p = tells_edge false x p
-action code.Set x p = on_regs rlo_set_to_1 p
-action code.Clr x p = on_regs clr p
-action code.Not x p = on_regs rlo_negated p
-action code.Save x p = on_regs rlo_saved_in_br p
-action code.Lc x p = loads_bcd x p
-action code.Lar1 x p = loads_ar1 x p
-action code.Lar2 x p = loads_ar2 x p
-action code.Tar1 x p = stores_ar1 x p
-action code.Tar2 x p = puts_address (registers_of p).ar2 x p
-action code.Car x p = exchanges_addresses p
-action code.AddAr1 x p = Ok (with_ar1 (address_after (registers_of p).ar1 (added_bits x p)) p)
-action code.AddAr2 x p = Ok (with_ar2 (address_after (registers_of p).ar2 (added_bits x p)) p)
-action code.Tak x p = on_regs accumulators.accumulators_toggled p
-action code.Push x p = on_regs accumulators.accumulator_pushed p
-action code.Pop x p = on_regs accumulators.accumulator_popped p
-action code.Caw x p = on_regs accumulators.with_word_reversed p
-action code.Cad x p = on_regs accumulators.with_bytes_reversed p
-action code.Inc x p = on_regs (accumulators.accumulator_increased 8 (constant_bits_or_zero 8 x)) p
-action code.Dec x p = on_regs (accumulators.accumulator_decreased 8 (constant_bits_or_zero 8 x)) p
-action code.Add x p = on_regs (adds_by x) p
-action code.AddI x p = on_regs (sums.accumulators_added 16) p
-action code.SubI x p = on_regs (sums.accumulators_subtracted 16) p
-action code.MulI x p = on_regs (products.accumulators_multiplied 16) p
-action code.DivI x p = on_regs division.divided_i p
-action code.AddD x p = on_regs (sums.accumulators_added 32) p
-action code.SubD x p = on_regs (sums.accumulators_subtracted 32) p
-action code.MulD x p = on_regs (products.accumulators_multiplied 32) p
-action code.DivD x p = on_regs division.divided_d p
-action code.Mod x p = on_regs division.remainder_d p
-action code.EqI x p = on_regs (comparison.accumulators_compared 16 compare.Eq) p
-action code.NeI x p = on_regs (comparison.accumulators_compared 16 compare.Ne) p
-action code.GtI x p = on_regs (comparison.accumulators_compared 16 compare.Gt) p
-action code.LtI x p = on_regs (comparison.accumulators_compared 16 compare.Lt) p
-action code.GeI x p = on_regs (comparison.accumulators_compared 16 compare.Ge) p
-action code.LeI x p = on_regs (comparison.accumulators_compared 16 compare.Le) p
-action code.EqD x p = on_regs (comparison.accumulators_compared 32 compare.Eq) p
-action code.NeD x p = on_regs (comparison.accumulators_compared 32 compare.Ne) p
-action code.GtD x p = on_regs (comparison.accumulators_compared 32 compare.Gt) p
-action code.LtD x p = on_regs (comparison.accumulators_compared 32 compare.Lt) p
-action code.GeD x p = on_regs (comparison.accumulators_compared 32 compare.Ge) p
-action code.LeD x p = on_regs (comparison.accumulators_compared 32 compare.Le) p
-action code.Bti x p = on_bcd conversions.from_bcd_word p
-action code.Itb x p = on_regs conversions.to_bcd_word p
-action code.Btd x p = on_bcd conversions.from_bcd_dword p
-action code.Dtb x p = on_regs conversions.to_bcd_dword p
-action code.Itd x p = on_regs conversions.accumulator_widened p
-action code.Invi x p = on_regs (conversions.accumulator_inverted 16) p
-action code.Invd x p = on_regs (conversions.accumulator_inverted 32) p
-action code.Negi x p = on_regs (sums.accu_negated 16) p
-action code.Negd x p = on_regs (sums.accu_negated 32) p
-action code.Aw x p = on_regs (word_logic.accumulator_anded 16 (constant_of_width 16 x)) p
-action code.Ow x p = on_regs (word_logic.accumulator_ored 16 (constant_of_width 16 x)) p
-action code.Xow x p = on_regs (word_logic.accumulator_xored 16 (constant_of_width 16 x)) p
-action code.Ad x p = on_regs (word_logic.accumulator_anded 32 (constant_of_width 32 x)) p
-action code.Od x p = on_regs (word_logic.accumulator_ored 32 (constant_of_width 32 x)) p
-action code.Xod x p = on_regs (word_logic.accumulator_xored 32 (constant_of_width 32 x)) p
-action code.Ssi x p = on_regs (shifts.shifted_signed 16 (shift_count x p)) p
-action code.Ssd x p = on_regs (shifts.shifted_signed 32 (shift_count x p)) p
-action code.Slw x p = on_regs (shifts.shifted_left 16 (shift_count x p)) p
-action code.Srw x p = on_regs (shifts.shifted_right 16 (shift_count x p)) p
-action code.Sld x p = on_regs (shifts.shifted_left 32 (shift_count x p)) p
-action code.Srd x p = on_regs (shifts.shifted_right 32 (shift_count x p)) p
-action code.Rld x p = on_regs (rotations.rotated_left (shift_count x p)) p
-action code.Rrd x p = on_regs (rotations.rotated_right (shift_count x p)) p
-action code.Rlda x p = on_regs rotations.rotated_left_through p
-action code.Rrda x p = on_regs rotations.rotated_right_through p
-action code.Sp x p = starts_timer timer.Sp x p
-action code.Se x p = starts_timer timer.Se x p
-action code.Sd x p = starts_timer timer.Sd x p
-action code.Ss x p = starts_timer timer.Ss x p
-action code.Sf x p = starts_timer timer.Sf x p
-action code.Fr x p = frees_operand x p
-action code.Cu x p = counts_counter counters.count_up x p
-action code.Cd x p = counts_counter counters.count_down x p
-action code.Opn x p = opens_data_block x p
-action code.Cdb x p = exchanges_blocks p
-action _ x p = Err 0
+unfoldable pub effect_of_operation : Mnemonic → NamedItem → ExecState → Result ExecState ℕ
+effect_of_operation code.Nop x p = Ok p
+effect_of_operation code.Bld x p = Ok p
+effect_of_operation code.A x p = checks_bit check.A x p
+effect_of_operation code.An x p = checks_bit check.An x p
+effect_of_operation code.O x p = checks_or x p
+effect_of_operation code.On x p = checks_bit check.On x p
+effect_of_operation code.X x p = checks_bit check.X x p
+effect_of_operation code.Xn x p = checks_bit check.Xn x p
+effect_of_operation code.AOpen x p = opens_bracket check.A p
+effect_of_operation code.AnOpen x p = opens_bracket check.An p
+effect_of_operation code.OOpen x p = opens_bracket check.O p
+effect_of_operation code.OnOpen x p = opens_bracket check.On p
+effect_of_operation code.XOpen x p = opens_bracket check.X p
+effect_of_operation code.XnOpen x p = opens_bracket check.Xn p
+effect_of_operation code.Close x p = closes_bracket p
+effect_of_operation code.Mcra x p = activates_relay true p
+effect_of_operation code.Mcrd x p = activates_relay false p
+effect_of_operation code.McrOpen x p = opens_relay_zone p
+effect_of_operation code.McrClose x p = ends_relay_zone p
+effect_of_operation code.L x p = loads_operand x p
+effect_of_operation code.T x p = transfers_accumulator x p
+effect_of_operation code.Assign x p = assigns_power_flow x p
+effect_of_operation code.S x p = sets_operand x p
+effect_of_operation code.R x p = resets_operand x p
+effect_of_operation code.Fp x p = tells_edge true x p
+effect_of_operation code.Fn x p = tells_edge false x p
+effect_of_operation code.Set x p = on_regs rlo_set_to_1 p
+effect_of_operation code.Clr x p = on_regs clr p
+effect_of_operation code.Not x p = on_regs rlo_negated p
+effect_of_operation code.Save x p = on_regs rlo_saved_in_br p
+effect_of_operation code.Lc x p = loads_bcd x p
+effect_of_operation code.Lar1 x p = loads_ar1 x p
+effect_of_operation code.Lar2 x p = loads_ar2 x p
+effect_of_operation code.Tar1 x p = stores_ar1 x p
+effect_of_operation code.Tar2 x p = puts_address (registers_of p).ar2 x p
+effect_of_operation code.Car x p = exchanges_addresses p
+effect_of_operation code.AddAr1 x p = Ok (with_ar1 (address_after (registers_of p).ar1 (added_bits x p)) p)
+effect_of_operation code.AddAr2 x p = Ok (with_ar2 (address_after (registers_of p).ar2 (added_bits x p)) p)
+effect_of_operation code.Tak x p = on_regs accumulators.accumulators_toggled p
+effect_of_operation code.Push x p = on_regs accumulators.accumulator_pushed p
+effect_of_operation code.Pop x p = on_regs accumulators.accumulator_popped p
+effect_of_operation code.Caw x p = on_regs accumulators.with_word_reversed p
+effect_of_operation code.Cad x p = on_regs accumulators.with_bytes_reversed p
+effect_of_operation code.Inc x p = on_regs (accumulators.accumulator_increased 8 (constant_bits_or_zero 8 x)) p
+effect_of_operation code.Dec x p = on_regs (accumulators.accumulator_decreased 8 (constant_bits_or_zero 8 x)) p
+effect_of_operation code.Add x p = on_regs (adds_by x) p
+effect_of_operation code.AddI x p = on_regs (sums.accumulators_added 16) p
+effect_of_operation code.SubI x p = on_regs (sums.accumulators_subtracted 16) p
+effect_of_operation code.MulI x p = on_regs (products.accumulators_multiplied 16) p
+effect_of_operation code.DivI x p = on_regs division.divided_i p
+effect_of_operation code.AddD x p = on_regs (sums.accumulators_added 32) p
+effect_of_operation code.SubD x p = on_regs (sums.accumulators_subtracted 32) p
+effect_of_operation code.MulD x p = on_regs (products.accumulators_multiplied 32) p
+effect_of_operation code.DivD x p = on_regs division.divided_d p
+effect_of_operation code.Mod x p = on_regs division.remainder_d p
+effect_of_operation code.EqI x p = on_regs (comparison.accumulators_compared 16 compare.Eq) p
+effect_of_operation code.NeI x p = on_regs (comparison.accumulators_compared 16 compare.Ne) p
+effect_of_operation code.GtI x p = on_regs (comparison.accumulators_compared 16 compare.Gt) p
+effect_of_operation code.LtI x p = on_regs (comparison.accumulators_compared 16 compare.Lt) p
+effect_of_operation code.GeI x p = on_regs (comparison.accumulators_compared 16 compare.Ge) p
+effect_of_operation code.LeI x p = on_regs (comparison.accumulators_compared 16 compare.Le) p
+effect_of_operation code.EqD x p = on_regs (comparison.accumulators_compared 32 compare.Eq) p
+effect_of_operation code.NeD x p = on_regs (comparison.accumulators_compared 32 compare.Ne) p
+effect_of_operation code.GtD x p = on_regs (comparison.accumulators_compared 32 compare.Gt) p
+effect_of_operation code.LtD x p = on_regs (comparison.accumulators_compared 32 compare.Lt) p
+effect_of_operation code.GeD x p = on_regs (comparison.accumulators_compared 32 compare.Ge) p
+effect_of_operation code.LeD x p = on_regs (comparison.accumulators_compared 32 compare.Le) p
+effect_of_operation code.Bti x p = on_bcd conversions.from_bcd_word p
+effect_of_operation code.Itb x p = on_regs conversions.to_bcd_word p
+effect_of_operation code.Btd x p = on_bcd conversions.from_bcd_dword p
+effect_of_operation code.Dtb x p = on_regs conversions.to_bcd_dword p
+effect_of_operation code.Itd x p = on_regs conversions.accumulator_widened p
+effect_of_operation code.Invi x p = on_regs (conversions.accumulator_inverted 16) p
+effect_of_operation code.Invd x p = on_regs (conversions.accumulator_inverted 32) p
+effect_of_operation code.Negi x p = on_regs (sums.accu_negated 16) p
+effect_of_operation code.Negd x p = on_regs (sums.accu_negated 32) p
+effect_of_operation code.Aw x p = on_regs (word_logic.accumulator_anded 16 (constant_of_width 16 x)) p
+effect_of_operation code.Ow x p = on_regs (word_logic.accumulator_ored 16 (constant_of_width 16 x)) p
+effect_of_operation code.Xow x p = on_regs (word_logic.accumulator_xored 16 (constant_of_width 16 x)) p
+effect_of_operation code.Ad x p = on_regs (word_logic.accumulator_anded 32 (constant_of_width 32 x)) p
+effect_of_operation code.Od x p = on_regs (word_logic.accumulator_ored 32 (constant_of_width 32 x)) p
+effect_of_operation code.Xod x p = on_regs (word_logic.accumulator_xored 32 (constant_of_width 32 x)) p
+effect_of_operation code.Ssi x p = on_regs (shifts.shifted_signed 16 (shift_count x p)) p
+effect_of_operation code.Ssd x p = on_regs (shifts.shifted_signed 32 (shift_count x p)) p
+effect_of_operation code.Slw x p = on_regs (shifts.shifted_left 16 (shift_count x p)) p
+effect_of_operation code.Srw x p = on_regs (shifts.shifted_right 16 (shift_count x p)) p
+effect_of_operation code.Sld x p = on_regs (shifts.shifted_left 32 (shift_count x p)) p
+effect_of_operation code.Srd x p = on_regs (shifts.shifted_right 32 (shift_count x p)) p
+effect_of_operation code.Rld x p = on_regs (rotations.rotated_left (shift_count x p)) p
+effect_of_operation code.Rrd x p = on_regs (rotations.rotated_right (shift_count x p)) p
+effect_of_operation code.Rlda x p = on_regs rotations.rotated_left_through p
+effect_of_operation code.Rrda x p = on_regs rotations.rotated_right_through p
+effect_of_operation code.Sp x p = starts_timer timer.Sp x p
+effect_of_operation code.Se x p = starts_timer timer.Se x p
+effect_of_operation code.Sd x p = starts_timer timer.Sd x p
+effect_of_operation code.Ss x p = starts_timer timer.Ss x p
+effect_of_operation code.Sf x p = starts_timer timer.Sf x p
+effect_of_operation code.Fr x p = frees_operand x p
+effect_of_operation code.Cu x p = counts_counter counters.count_up x p
+effect_of_operation code.Cd x p = counts_counter counters.count_down x p
+effect_of_operation code.Opn x p = opens_data_block x p
+effect_of_operation code.Cdb x p = exchanges_blocks p
+effect_of_operation _ x p = Err 0
 
 -- what a statement does by its mnemonic and what its operand names: for a place in a data block
 -- that is named, that block is opened first, error 3A where it isn't loaded, and the place is
@@ -492,5 +494,5 @@ action _ x p = Err 0
 unfoldable pub effect_of_statement : Mnemonic → NamedItem → ExecState → Result ExecState ℕ
 effect_of_statement m (named.PlaceIn block width byte bit) p =
     then_ok (opens_block_number false block p) (λ q.
-    action m (named.Place (named.Fixed area.Db width byte bit)) q)
-effect_of_statement m x p = action m x p
+    effect_of_operation m (named.Place (named.Fixed area.Db width byte bit)) q)
+effect_of_statement m x p = effect_of_operation m x p

@@ -7,21 +7,21 @@ use Rattle.plc_base.specs.declared.places.Width.{Width}
 use Rattle.stl_ast.specs.declared.literals.Literal.{Literal}
 
 -- where a bit, byte, word or double word lies
-pub data Spot : Type 0 where
+pub data OperandPlace : Type 0 where
   -- at a byte, of a bit operand at a bit of it, as MW 2 and M 2.3
-  Fixed : (area : Area) (width : Width) (byte bit : ℕ) → Spot
+  Fixed : (area : Area) (width : Width) (byte bit : ℕ) → OperandPlace
   -- where the pointer in a double word leads, as MW [MD 4]
-  ByMemory : (area : Area) (width : Width) (from : Area) (byte : ℕ) → Spot
+  ByMemory : (area : Area) (width : Width) (from : Area) (byte : ℕ) → OperandPlace
   -- so many bits behind the address in AR1 or AR2, as MW [AR1, P#2.0]; without an area it is that of
   -- the address
-  ByRegister : (area : Option Area) (width : Width) (register bits : ℕ) → Spot
+  ByRegister : (area : Option Area) (width : Width) (register bits : ℕ) → OperandPlace
 
 -- the number of a timer, a counter or a data block
-pub data Number : Type 0 where
+pub data ItemNumber : Type 0 where
   -- as in T 5
-  Written : (number : ℕ) → Number
+  Written : (number : ℕ) → ItemNumber
   -- that in a word, as in T [MW 4]
-  InWord : (from : Area) (byte : ℕ) → Number
+  InWord : (from : Area) (byte : ℕ) → ItemNumber
 
 -- what L can tell of the data block in the DB or DI register
 pub data OpenBlock : Type 0 where
@@ -35,7 +35,7 @@ pub data NamedItem : Type 0 where
   -- no operand stands there
   Nothing : NamedItem
   -- a place in memory, in the data block of the DB or DI register, or in the local bytes
-  Place : (spot : Spot) → NamedItem
+  Place : (spot : OperandPlace) → NamedItem
   -- a place in a data block that the statement opens first, as DB10.DBW 2
   PlaceIn : (block : ℕ) (width : Width) (byte bit : ℕ) → NamedItem
   -- what the parameter of this index stands for, in a function, and the width of its type
@@ -46,10 +46,10 @@ pub data NamedItem : Type 0 where
   Pointer : (bits : ℕ) → NamedItem
   -- a condition of the status word, as OV and ==0
   Condition : (flag : Flag) → NamedItem
-  Timer : (number : Number) → NamedItem
-  Counter : (number : Number) → NamedItem
+  Timer : (number : ItemNumber) → NamedItem
+  Counter : (number : ItemNumber) → NamedItem
   -- a data block to be opened, in the DI register or in the DB register
-  DataBlock : (di : Bool) (number : Number) → NamedItem
+  DataBlock : (di : Bool) (number : ItemNumber) → NamedItem
   -- STW
   StatusWord : NamedItem
   -- DBLG, DBNO, DILG, DINO

@@ -31,7 +31,7 @@ use Rattle.block_layout.specs.declared.blocks.Section.TheVariants as section
 use Rattle.block_layout.specs.declared.cells.Cell.{Cell}
 use Rattle.block_layout.specs.declared.members.Member.{Member}
 use Rattle.stl_types.specs.Context.{Context}
-use Rattle.statement_laws.specs.Named.{NamedItem, Number, OpenBlock}
+use Rattle.statement_laws.specs.Named.{NamedItem, ItemNumber, OpenBlock}
 use Rattle.statement_laws.specs.Named as named
 
 -- ---- addresses
@@ -174,7 +174,7 @@ register_named name =
     else None
 
 -- a timer, a counter or a data block whose number stands in a word
-abbrev pub numbered_item : Numbered → Number → NamedItem
+abbrev pub numbered_item : Numbered → ItemNumber → NamedItem
 numbered_item numbered.Timer n = named.Timer n
 numbered_item numbered.Counter n = named.Counter n
 numbered_item numbered.Db n = named.DataBlock false n

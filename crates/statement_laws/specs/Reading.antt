@@ -25,7 +25,7 @@ use Rattle.machine.specs.ExecState.{ExecState, then_ok}
 use Rattle.machine.specs.declared.places.Access.{Access}
 use Rattle.machine.specs.declared.places.Access.TheVariants.{Reading, Writing}
 use Rattle.machine.specs.declared.places.Location.{Location}
-use Rattle.statement_laws.specs.Named.{NamedItem, Number, Spot}
+use Rattle.statement_laws.specs.Named.{NamedItem, ItemNumber, OperandPlace}
 use Rattle.statement_laws.specs.Named as named
 
 -- ---- constants
@@ -176,7 +176,7 @@ address_moved address count = (address % 2 ^ 19 + count % 2 ^ 19) % 2 ^ 19
 -- ---- the place of an operand
 
 -- the place of an operand, direct or indirect
-unfoldable pub place_of_spot : Access → Spot → ExecState → Result Location ℕ
+unfoldable pub place_of_spot : Access → OperandPlace → ExecState → Result Location ℕ
 place_of_spot access (named.Fixed a width byte bit) p = fixed_place access a width byte bit p
 place_of_spot access (named.ByMemory a width from byte) p =
     then_ok (stored_number from byte widths.Dword p) (λ pointer. place_of_pointer access a width pointer p)
@@ -208,17 +208,17 @@ number_of_parameter (Some (binding.Constant value)) p = Ok value
 number_of_parameter _ p = Err 0
 
 -- the number of a timer, counter or data block
-unfoldable pub number_of_item : Number → ExecState → Result ℕ ℕ
+unfoldable pub number_of_item : ItemNumber → ExecState → Result ℕ ℕ
 number_of_item (named.Written number) p = Ok number
 number_of_item (named.InWord from byte) p = stored_number from byte widths.Word p
 
 -- what is read of the timer of a number; error 26 where there is none
-abbrev pub of_timer : {A : Type 0} → (Timer → A) → Number → ExecState → Result A ℕ
+abbrev pub of_timer : {A : Type 0} → (Timer → A) → ItemNumber → ExecState → Result A ℕ
 of_timer read n p =
     then_ok (number_of_item n p) (λ number. ok_or (option_map read (slice_get p.timers number)) 0x26)
 
 -- what is read of the counter of a number; error 27 where there is none
-abbrev pub of_counter : {A : Type 0} → (Counter → A) → Number → ExecState → Result A ℕ
+abbrev pub of_counter : {A : Type 0} → (Counter → A) → ItemNumber → ExecState → Result A ℕ
 of_counter read n p =
     then_ok (number_of_item n p) (λ number. ok_or (option_map read (slice_get p.counters number)) 0x27)
 
@@ -254,15 +254,16 @@ bit_of_operand x p = then_ok (number_of_operand x p) (λ n. Ok (n == 1))
 
 -- ---- writing
 
--- other local bytes; all else stays
+-- the state with these local bytes; all else stays
 abbrev pub with_other_locals : LocalData → ExecState → ExecState
 with_other_locals l p = record p { local = record p.local { locals = l } }
 
--- another memory; all else stays
+-- the state with this memory; all else stays
 abbrev pub with_other_memory : Areas → ExecState → ExecState
 with_other_memory m p = record p { memory = m }
 
--- a number at a place, in local bytes or in memory; none where there is no such place
+-- the state with this number written at this place, in local bytes or in memory; none where there
+-- is no such place
 abbrev pub with_number_written : Area → Location → ℕ → ExecState → Option ExecState
 with_number_written area.L b n p =
     option_map (λ l. with_other_locals l p)
@@ -270,6 +271,7 @@ with_number_written area.L b n p =
 with_number_written _ b n p =
     option_map (λ m. with_other_memory m p) (memory.number_written p.memory b.place b.width n)
 
--- another number at a place; the error where there is no such place
+-- the state with this number written at this place, in local bytes or in memory; the error of a
+-- write where there is no such place, 43 in the peripheral area, else 23
 unfoldable pub with_number_at : Location → ℕ → ExecState → Result ExecState ℕ
 with_number_at b n p = ok_or (with_number_written b.place.area b n p) (missing_place_error Writing b.place.area)

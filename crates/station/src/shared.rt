@@ -62,7 +62,7 @@ impl Shared {
     ghost use Rattle.std.specs.Prelude.{◌≡◌, ◌<◌, ◌∷◌, ◌++◌, [], length, IfOk, IfErr, OnOk};
     ghost use Rattle.var_access.specs.Entry.{IsRequest, IsValid};
     ghost use Rattle.var_access.specs.declared.entries.What.TheVariants.{Ask};
-    ghost use Rattle.controller.specs.Replayed.{next_happens, final_state};
+    ghost use Rattle.controller.specs.Replayed.{next_result, final_state};
     ghost use Rattle.station.specs.Turns.{AddsEntry, MayFail};
     ghost use Rattle.station.specs.declared.shared.TheConstants.{FULL};
 
@@ -117,7 +117,7 @@ impl Shared {
         ensures ok { IfOk result (λ reply. (self.new.opened ≡ self.old.opened)
             × AddsEntry self.old.controller.value self.new.controller.value
             (record { who = who; what = Ask request })
-            × (reply ≡ (next_happens self.old.controller.value
+            × (reply ≡ (next_result self.old.controller.value
             (record { who = who; what = Ask request })).reply)) }
         ensures err { IfErr result (λ f. (self.new ≡ self.old)
             × MayFail f (length self.old.controller.value.history)) }

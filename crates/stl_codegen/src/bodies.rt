@@ -22,7 +22,7 @@ use std::alloc::{AllocError, Global};
 use std::marker::Model;
 use stl_ast::{Block, Mnemonic, Name, Operand, Statement};
 use stl_symbols::Names;
-use stl_types::Scope;
+use stl_types::Context;
 
 pub(crate) fn is_empty(code: Mnemonic) -> bool
     ensures { result ≡ is_empty_statement code }
@@ -163,7 +163,7 @@ impl<'a> Body<'a> {
         &self,
         alloc: Global,
         ops: &mut Vec<Op>,
-        scope: &Scope,
+        scope: &Context,
         statement: &Statement,
     ) -> Result<Option<()>, AllocError>
         ensures { IfOk result (λ done. AreOpsAppended ops.old.items ops.new.items
@@ -186,7 +186,7 @@ impl<'a> Body<'a> {
         &self,
         alloc: Global,
         ops: &mut Vec<Op>,
-        scope: &Scope,
+        scope: &Context,
     ) -> Result<Option<()>, AllocError>
         ensures { IfOk result (λ done. AreOpsAppended ops.old.items ops.new.items
             (flat_map (λ s. ops_here scope.now self.now s) self.now) done) }

@@ -18,7 +18,7 @@ use flat_code::CodeBlock;
 use plc_base::BlockId;
 use std::alloc::{AllocError, Global};
 use stl_ast::Block;
-use stl_types::Scope;
+use stl_types::Context;
 
 /// A length in bytes, where it fits its field.
 fn field(bytes: u64) -> Option<u16>
@@ -46,7 +46,7 @@ fn instance_len(block: &Block, layout: &BlockLayout) -> u64
 /// table.
 fn code_block(
     alloc: Global,
-    scope: &Scope,
+    scope: &Context,
     block: &Block,
     layout: &BlockLayout,
     id: BlockId,
@@ -82,7 +82,7 @@ fn code_block(
 fn add_known(
     alloc: Global,
     made: &mut Vec<CodeBlock>,
-    scope: &Scope,
+    scope: &Context,
     block: &Block,
     layout: &BlockLayout,
     id: BlockId,
@@ -103,7 +103,7 @@ fn add_known(
 fn add_code_block(
     alloc: Global,
     made: &mut Vec<CodeBlock>,
-    scope: &Scope,
+    scope: &Context,
     block: &Block,
     layout: &BlockLayout,
 ) -> Result<Option<()>, AllocError>
@@ -119,7 +119,7 @@ fn add_code_block(
 /// The code blocks of a source, in its order. `None` where one of them doesn't fit.
 pub(crate) fn code_blocks(
     alloc: Global,
-    scope: &Scope,
+    scope: &Context,
     blocks: &[Block],
     layouts: &[BlockLayout],
 ) -> Result<Option<Vec<CodeBlock>>, AllocError>

@@ -11,7 +11,7 @@ use crate::places::place_targets;
 use flat_code::{EndOperation, Op};
 use std::alloc::{AllocError, Global};
 use stl_ast::Block;
-use stl_types::Scope;
+use stl_types::Context;
 
 /// The code of a block, with the line of each statement.
 #[derive(Drop)]
@@ -23,7 +23,7 @@ pub(crate) struct Code {
 /// The ops of a body, whose targets are numbers of statements. `None` where one of them is no op of
 /// the table.
 #[tactic(auto, using(crate::proofs::AppendLemmas::front_has_none, crate::proofs::AppendLemmas::appended_then))]
-fn ops_of(alloc: Global, scope: &Scope, block: &Block) -> Result<Option<Vec<Op>>, AllocError>
+fn ops_of(alloc: Global, scope: &Context, block: &Block) -> Result<Option<Vec<Op>>, AllocError>
     requires { count_of_statements block.now.body < 65536 }
     ensures value { IfOk result (λ made. IfSome made (λ ops. ops.items
         ≡ body_ops scope.now block.now)) }
@@ -44,7 +44,7 @@ fn ops_of(alloc: Global, scope: &Scope, block: &Block) -> Result<Option<Vec<Op>>
 #[tactic(auto, using(crate::proofs::BlockLemmas::body_ops_are, crate::proofs::BlockLemmas::body_lines_are, crate::proofs::BlockLemmas::count_lines, crate::proofs::BlockLemmas::no_op_misfits))]
 pub(crate) fn code_of(
     alloc: Global,
-    scope: &Scope,
+    scope: &Context,
     block: &Block,
 ) -> Result<Option<Code>, AllocError>
     ensures ops { IfOk result (λ made. IfSome made (λ code. code.ops.items

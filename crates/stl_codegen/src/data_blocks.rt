@@ -13,7 +13,7 @@ use flat_code::DataBlock;
 use plc_base::BlockId;
 use std::alloc::{AllocError, Global};
 use stl_ast::Block;
-use stl_types::Scope;
+use stl_types::Context;
 
 /// The number of a function block.
 fn function_block_number(id: Option<BlockId>) -> Option<u16>
@@ -54,7 +54,7 @@ fn instance_of(layouts: &[BlockLayout], shape: Shape) -> Option<u16>
 /// A data block with its initial bytes.
 fn data_block(
     alloc: Global,
-    scope: &Scope,
+    scope: &Context,
     layout: &BlockLayout,
     id: BlockId,
 ) -> Result<DataBlock, AllocError>
@@ -72,7 +72,7 @@ fn data_block(
 fn add_known(
     alloc: Global,
     made: &mut Vec<DataBlock>,
-    scope: &Scope,
+    scope: &Context,
     layout: &BlockLayout,
     id: BlockId,
 ) -> Result<(), AllocError>
@@ -88,7 +88,7 @@ fn add_known(
 fn add_data_block(
     alloc: Global,
     made: &mut Vec<DataBlock>,
-    scope: &Scope,
+    scope: &Context,
     layout: &BlockLayout,
 ) -> Result<(), AllocError>
     ensures { IfOk result (λ _. made.new.items
@@ -103,7 +103,7 @@ fn add_data_block(
 /// The data blocks of a source, in its order.
 pub(crate) fn data_blocks(
     alloc: Global,
-    scope: &Scope,
+    scope: &Context,
     blocks: &[Block],
     layouts: &[BlockLayout],
 ) -> Result<Vec<DataBlock>, AllocError>

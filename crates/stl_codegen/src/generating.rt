@@ -14,7 +14,7 @@ use plc_base::NoMemory;
 use std::alloc::Global;
 use stl_ast::Tree;
 use stl_symbols::Symbols;
-use stl_types::{Checked, Scope};
+use stl_types::{Checked, Context};
 
 /// The code blocks of a source in the order of an image.
 fn ordered_code_blocks(
@@ -28,7 +28,7 @@ fn ordered_code_blocks(
     ensures none { IfOk result (λ made. IfNone made
         (IsProgram (program_of tree.now symbols.now layouts.now) → ⊥)) }
 {
-    let scope = Scope::new(symbols, tree, layouts);
+    let scope = Context::new(symbols, tree, layouts);
     let blocks = tree.blocks.as_slice();
     let Some(mut list) = code_blocks(alloc, &scope, blocks, layouts.list())? else {
         return Ok(None);
@@ -47,7 +47,7 @@ fn ordered_data_blocks(
     ensures { IfOk result (λ list. list.items
         ≡ data_blocks_of tree.now symbols.now layouts.now) }
 {
-    let scope = Scope::new(symbols, tree, layouts);
+    let scope = Context::new(symbols, tree, layouts);
     let mut list = data_blocks(alloc, &scope, tree.blocks.as_slice(), layouts.list())?;
     sort_data_blocks(&mut list)?;
     Ok(list)

@@ -28,7 +28,7 @@ use flat_code::{CallOperation, JumpOperation, Op, Operand, Operation};
 use plc_base::BlockId;
 use std::alloc::{AllocError, Global};
 use stl_ast::{Block, Simple, Statement};
-use stl_types::{Callee, ResolvedOperand, Scope};
+use stl_types::{Callee, Context, ResolvedOperand};
 
 /// Appends a jump, also one by list: its list are the jumps behind it.
 #[tactic(auto, using(crate::proofs::OpLemmas::jump_ops))]
@@ -104,7 +104,7 @@ fn return_last<T>(kind: Option<Simple>, params: Vec<T>) -> Vec<T>
 }
 
 /// The block of the source at a place.
-fn block_at<'a>(scope: &Scope<'a>, place: Option<usize>) -> Option<&'a Block>
+fn block_at<'a>(scope: &Context<'a>, place: Option<usize>) -> Option<&'a Block>
     ensures { option_copied result ≡ source_block_at scope.now.blocks place }
 {
     let blocks = scope.tree().blocks.as_slice();
@@ -120,7 +120,7 @@ fn block_at<'a>(scope: &Scope<'a>, place: Option<usize>) -> Option<&'a Block>
 fn append_arguments(
     alloc: Global,
     ops: &mut Vec<Op>,
-    scope: &Scope,
+    scope: &Context,
     statement: &Statement,
     callee: Option<Callee>,
 ) -> Result<Option<()>, AllocError>
@@ -147,7 +147,7 @@ fn append_arguments(
 fn append_called(
     alloc: Global,
     ops: &mut Vec<Op>,
-    scope: &Scope,
+    scope: &Context,
     statement: &Statement,
     how: CallOperation,
     block: BlockId,
@@ -167,7 +167,7 @@ fn append_called(
 fn append_call_by(
     alloc: Global,
     ops: &mut Vec<Op>,
-    scope: &Scope,
+    scope: &Context,
     statement: &Statement,
     how: CallOperation,
     view: ResolvedOperand,
@@ -202,7 +202,7 @@ fn append_plain(
 fn append_by_view(
     alloc: Global,
     ops: &mut Vec<Op>,
-    scope: &Scope,
+    scope: &Context,
     statement: &Statement,
     view: ResolvedOperand,
 ) -> Result<Option<()>, AllocError>
@@ -219,7 +219,7 @@ fn append_by_view(
 pub(crate) fn append_resolved(
     alloc: Global,
     ops: &mut Vec<Op>,
-    scope: &Scope,
+    scope: &Context,
     statement: &Statement,
     view: Option<ResolvedOperand>,
 ) -> Result<Option<()>, AllocError>

@@ -22,7 +22,7 @@ use flat_code::{Op, Passed, order_of};
 use plc_base::{Place, Width};
 use std::alloc::{AllocError, Global};
 use stl_ast::{Actual, Operand};
-use stl_types::{Formal, Resolution, ResolvedOperand, Scope};
+use stl_types::{Context, Formal, Resolution, ResolvedOperand};
 
 fn passed_place(place: Place, width: Width) -> Passed
     ensures { result ≡ passed_place place width }
@@ -114,7 +114,7 @@ fn supplied<'s>(actuals: &'s [Actual], formal: &Formal) -> Option<&'s Actual>
 fn append_actual(
     alloc: Global,
     ops: &mut Vec<Op>,
-    scope: &Scope,
+    scope: &Context,
     index: usize,
     actual: Option<&Actual>,
 ) -> Result<Option<()>, AllocError>
@@ -134,7 +134,7 @@ fn append_actual(
 pub(crate) fn append_passings(
     alloc: Global,
     ops: &mut Vec<Op>,
-    scope: &Scope,
+    scope: &Context,
     actuals: &[Actual],
     formals: &[Formal],
 ) -> Result<Option<()>, AllocError>

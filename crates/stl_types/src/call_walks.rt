@@ -6,10 +6,10 @@ ghost use Rattle.stl_types.specs.Joined.{broken_call, broken_statement, rules_of
 ghost use Rattle.stl_types.specs.Calls.{by_callee};
 
 use crate::calls::{lacks_actual, least_supplied_twice, least_unnamed};
+use crate::contexts::Context;
 use crate::instances::{calls_unknown, has_wrong_instance, is_bare_call};
 use crate::misfits::{least_date, least_misfit};
 use crate::parameters::Callee;
-use crate::scopes::Scope;
 use block_layout::Layouts;
 use plc_base::{Refusal, broken_if, lesser, try_least_of};
 use std::alloc::{AllocError, Global};
@@ -18,7 +18,7 @@ use stl_symbols::Symbols;
 
 /// The least refusal of a call, by the block that is called.
 fn least_in_call(
-    scope: &Scope,
+    scope: &Context,
     alloc: Global,
     callee: &Callee,
     statement: &Statement,
@@ -42,7 +42,7 @@ fn least_in_call(
 
 /// The least refusal of a statement by the block that it calls, if it calls one.
 fn least_by_callee(
-    scope: &Scope,
+    scope: &Context,
     alloc: Global,
     statement: &Statement,
     callee: &Option<Callee>,
@@ -57,7 +57,7 @@ fn least_by_callee(
 }
 
 fn least_in_statement(
-    scope: &Scope,
+    scope: &Context,
     alloc: Global,
     statement: &Statement,
 ) -> Result<Option<Refusal>, AllocError>
@@ -71,7 +71,7 @@ fn least_in_statement(
 }
 
 fn least_in_body(
-    scope: &Scope,
+    scope: &Context,
     alloc: Global,
     body: &[Statement],
 ) -> Result<Option<Refusal>, AllocError>
@@ -92,7 +92,7 @@ pub(crate) fn least_wrong_call(
     ensures { IfOk result (λ found. found ≡ least (rules_of_calls
         (first_context symbols.now layouts.now tree.now.blocks) tree.now.blocks)) }
 {
-    let first = Scope::new(symbols, tree, layouts);
+    let first = Context::new(symbols, tree, layouts);
     let blocks = tree.blocks.as_slice();
     let mut found = None;
     for block in 0..blocks.len() {

@@ -13,8 +13,8 @@ ghost use Rattle.stl_types.specs.Parameters.{
   system_callee,
 };
 
+use crate::contexts::Context;
 use crate::parameters::{Callee, Formal};
-use crate::scopes::Scope;
 use crate::system_functions::system_formals;
 use block_layout::{Cell, Element, is_parameter, named_block};
 use plc_base::{BlockId, BlockKind};
@@ -86,7 +86,7 @@ fn system_callee(alloc: Global, id: BlockId) -> Result<Option<Callee>, AllocErro
     }
 }
 
-impl<'a> Scope<'a> {
+impl<'a> Context<'a> {
     /// A block of the source at its place. Only its first components are gone through, which have
     /// all parameters among them.
     #[tactic(auto, using(crate::proofs::CalleeLemmas::of_first))]

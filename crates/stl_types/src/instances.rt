@@ -14,8 +14,8 @@ ghost use Rattle.stl_types.specs.Calls.{
   is_unknown_function,
 };
 
+use crate::contexts::Context;
 use crate::parameters::{Callee, Formal};
-use crate::scopes::Scope;
 use crate::system_functions::is_known;
 use block_layout::{BlockLayout, Shape, named_block};
 use plc_base::BlockId;
@@ -47,7 +47,7 @@ fn is_instance(place: Option<usize>, layouts: &[BlockLayout], block: usize) -> b
 }
 
 /// Whether the data block at `found` isn't an instance of the block at `place`.
-fn is_no_instance(scope: &Scope, place: Option<usize>, found: Option<usize>) -> bool
+fn is_no_instance(scope: &Context, place: Option<usize>, found: Option<usize>) -> bool
     ensures { result ≡ is_no_instance scope.now place found }
 {
     match found {
@@ -57,7 +57,7 @@ fn is_no_instance(scope: &Scope, place: Option<usize>, found: Option<usize>) -> 
 }
 
 /// Whether a call names a data block that isn't an instance of the function block.
-pub(crate) fn has_wrong_instance(scope: &Scope, callee: &Callee, operand: &Operand) -> bool
+pub(crate) fn has_wrong_instance(scope: &Context, callee: &Callee, operand: &Operand) -> bool
     ensures { result ≡ has_wrong_instance scope.now callee.now operand.now }
 {
     match operand {
@@ -103,7 +103,7 @@ fn is_unknown_function(id: Option<BlockId>) -> bool
 }
 
 /// Whether a statement calls a system function that isn't one of the nine.
-pub(crate) fn calls_unknown(scope: &Scope, operand: &Operand) -> bool
+pub(crate) fn calls_unknown(scope: &Context, operand: &Operand) -> bool
     ensures { result ≡ calls_unknown scope.now operand.now }
 {
     match operand {

@@ -9,9 +9,9 @@ ghost use Rattle.stl_types.specs.Resolution.{resolution_of};
 
 use crate::actuals::{fits_view, is_input_section};
 use crate::calls::is_named;
+use crate::contexts::Context;
 use crate::kinds::is_date;
 use crate::parameters::Formal;
-use crate::scopes::Scope;
 use crate::views::Resolution;
 use block_layout::fits;
 use plc_base::{Refusal, broken_if, try_least_of};
@@ -38,7 +38,7 @@ fn fits_seen(formal: &Formal, seen: Resolution) -> bool
 /// Whether the value of an actual fits a parameter.
 #[tactic(auto, unfolding(crate::specs::Actuals::fits_operand))]
 fn fits_operand(
-    scope: &Scope,
+    scope: &Context,
     alloc: Global,
     formal: &Formal,
     operand: &Operand,
@@ -54,7 +54,7 @@ fn fits_operand(
 }
 
 fn misfits(
-    scope: &Scope,
+    scope: &Context,
     alloc: Global,
     formals: &[Formal],
     actual: &Actual,
@@ -70,7 +70,7 @@ fn misfits(
 }
 
 fn misfit_here(
-    scope: &Scope,
+    scope: &Context,
     alloc: Global,
     formals: &[Formal],
     actual: &Actual,
@@ -86,7 +86,7 @@ fn misfit_here(
 
 /// The least refusal of a call by rule 37, of its actuals.
 pub(crate) fn least_misfit(
-    scope: &Scope,
+    scope: &Context,
     alloc: Global,
     formals: &[Formal],
     actuals: &[Actual],
@@ -107,7 +107,7 @@ fn sees_date(seen: Resolution) -> bool
     }
 }
 
-fn date_here(scope: &Scope, alloc: Global, actual: &Actual) -> Result<Option<Refusal>, AllocError>
+fn date_here(scope: &Context, alloc: Global, actual: &Actual) -> Result<Option<Refusal>, AllocError>
     ensures { IfOk result (λ found. found
         ≡ least (broken_if (sees_date (resolution_of scope.now actual.now.value)) actual.now.line 24)) }
 {
@@ -117,7 +117,7 @@ fn date_here(scope: &Scope, alloc: Global, actual: &Actual) -> Result<Option<Ref
 
 /// The least refusal of a statement by rule 24, of its actuals.
 pub(crate) fn least_date(
-    scope: &Scope,
+    scope: &Context,
     alloc: Global,
     actuals: &[Actual],
 ) -> Result<Option<Refusal>, AllocError>

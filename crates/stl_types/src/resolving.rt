@@ -14,9 +14,9 @@ ghost use Rattle.stl_types.specs.Resolved.{resolved_operand, seen_view};
 ghost use Rattle.stl_types.specs.Resolution.{resolution_of};
 
 use crate::constants::takes_constant;
+use crate::contexts::Context;
 use crate::forms::{OperandRule, form_of};
 use crate::operands::rule_of;
-use crate::scopes::Scope;
 use crate::views::{Resolution, ResolvedOperand};
 use block_layout::Layouts;
 use plc_base::{Refusal, lesser, try_least_of};
@@ -71,7 +71,7 @@ fn at_line(line: u32, rule: Option<u16>) -> Option<Refusal>
     }
 }
 
-impl<'a> Scope<'a> {
+impl<'a> Context<'a> {
     /// What the operand of a statement names; none where its instruction doesn't take it, or where it
     /// can't be resolved.
     ///
@@ -98,7 +98,7 @@ impl<'a> Scope<'a> {
 
 /// The rule that a statement breaks by its operand.
 fn statement_rule(
-    scope: &Scope,
+    scope: &Context,
     alloc: Global,
     statement: &Statement,
 ) -> Result<Option<u16>, AllocError>
@@ -109,7 +109,7 @@ fn statement_rule(
 }
 
 fn wrong_operand(
-    scope: &Scope,
+    scope: &Context,
     alloc: Global,
     statement: &Statement,
 ) -> Result<Option<Refusal>, AllocError>
@@ -121,7 +121,7 @@ fn wrong_operand(
 }
 
 fn wrong_in_body(
-    scope: &Scope,
+    scope: &Context,
     alloc: Global,
     body: &[Statement],
 ) -> Result<Option<Refusal>, AllocError>
@@ -131,7 +131,7 @@ fn wrong_in_body(
 }
 
 fn wrong_in_blocks(
-    scope: &Scope,
+    scope: &Context,
     alloc: Global,
     blocks: &[Block],
 ) -> Result<Option<Refusal>, AllocError>
@@ -158,6 +158,6 @@ pub(crate) fn least_wrong_operand(
     ensures { IfOk result (λ found. found ≡ least (rules_24_25_39
         (first_context symbols.now layouts.now tree.now.blocks) tree.now.blocks)) }
 {
-    let first = Scope::new(symbols, tree, layouts);
+    let first = Context::new(symbols, tree, layouts);
     wrong_in_blocks(&first, alloc, tree.blocks.as_slice())
 }

@@ -20,7 +20,7 @@ ghost use Rattle.stl_types.specs.Resolution.{
 ghost use Rattle.stl_types.specs.declared.views.Resolution.TheVariants.{Resolved};
 ghost use Rattle.stl_types.specs.declared.views.ResolvedOperand.TheVariants as view;
 
-use crate::scopes::Scope;
+use crate::contexts::Context;
 use crate::views::{Register, Resolution, ResolvedOperand, Side};
 use block_layout::{Path, named_block};
 use plc_base::{Area, BlockId, Place, Width};
@@ -162,7 +162,7 @@ fn opened_seen(di: bool, number: Option<u16>) -> Resolution
     }
 }
 
-impl<'a> Scope<'a> {
+impl<'a> Context<'a> {
     /// A quoted name that is the whole operand.
     fn symbol_seen(&self, name: &Name) -> Resolution
         ensures { result ≡ symbol_seen (symbol_named name.now self.now.symbols) }

@@ -12,7 +12,7 @@ ghost use Rattle.stl_types.specs.Unknown.{
   sets_unknown,
 };
 
-use crate::scopes::Scope;
+use crate::contexts::Context;
 use crate::views::Resolution;
 use block_layout::{Layouts, Path, PathEnd};
 use plc_base::{Refusal, broken_if, lesser, try_least_of};
@@ -79,7 +79,7 @@ fn least_unknown_target(
 }
 
 fn unknown_operand(
-    scope: &Scope,
+    scope: &Context,
     alloc: Global,
     operand: &Operand,
     line: u32,
@@ -92,7 +92,7 @@ fn unknown_operand(
 }
 
 fn unknown_actuals(
-    scope: &Scope,
+    scope: &Context,
     alloc: Global,
     actuals: &[Actual],
 ) -> Result<Option<Refusal>, AllocError>
@@ -107,7 +107,7 @@ fn unknown_actuals(
 }
 
 fn unknown_in_statement(
-    scope: &Scope,
+    scope: &Context,
     alloc: Global,
     statement: &Statement,
 ) -> Result<Option<Refusal>, AllocError>
@@ -120,7 +120,7 @@ fn unknown_in_statement(
 }
 
 fn unknown_in_body(
-    scope: &Scope,
+    scope: &Context,
     alloc: Global,
     body: &[Statement],
 ) -> Result<Option<Refusal>, AllocError>
@@ -130,7 +130,7 @@ fn unknown_in_body(
 }
 
 fn unknown_in_blocks(
-    scope: &Scope,
+    scope: &Context,
     alloc: Global,
     blocks: &[Block],
 ) -> Result<Option<Refusal>, AllocError>
@@ -159,7 +159,7 @@ pub(crate) fn least_unknown(
         (first_context symbols.now layouts.now tree.now.blocks) tree.now.blocks)) }
 {
     let blocks = tree.blocks.as_slice();
-    let first = Scope::new(symbols, tree, layouts);
+    let first = Context::new(symbols, tree, layouts);
     let set = least_unknown_target(layouts, alloc, blocks)?;
     let used = unknown_in_blocks(&first, alloc, blocks)?;
     Ok(lesser(set, used))

@@ -18,7 +18,7 @@ ghost use Rattle.stl_types.specs.Variables.{
   parameter_index,
 };
 
-use crate::scopes::Scope;
+use crate::contexts::Context;
 use crate::views::{Resolution, ResolvedOperand, Side};
 use block_layout::{ComponentAt, Element, Path, PathEnd, placed};
 use plc_base::{Area, Place, Width};
@@ -68,7 +68,7 @@ fn behind_others(count: usize, place: usize, returned: Option<Simple>) -> usize
     }
 }
 
-impl<'a> Scope<'a> {
+impl<'a> Context<'a> {
     /// The structure, the array or the DATE_AND_TIME at a spot.
     fn composite(&self, spot: ComponentAt) -> ResolvedOperand
         ensures { result ≡ composite_operand

@@ -9,7 +9,7 @@ use std::process::Abort;
 use std::test::Fail;
 use stl_ast::{PartKind, Simple, Tree};
 use stl_symbols::Symbols;
-use stl_types::{Callee, Register, Resolution, ResolvedOperand, Scope, Side, check};
+use stl_types::{Callee, Context, Register, Resolution, ResolvedOperand, Side, check};
 
 /// What a statement comes to.
 #[derive(Drop)]
@@ -20,7 +20,7 @@ struct Found {
 }
 
 /// What the last statement of the scope's block comes to.
-fn last_in(alloc: Global, scope: &Scope<'_>) -> Result<Found, Fail> {
+fn last_in(alloc: Global, scope: &Context<'_>) -> Result<Found, Fail> {
     let blocks = scope.tree().blocks.as_slice();
     let block = blocks.get(scope.block()).ok_or("no such block")?;
     let statement = block.body.as_slice().last().ok_or("no statement")?;
@@ -36,7 +36,7 @@ fn last_in(alloc: Global, scope: &Scope<'_>) -> Result<Found, Fail> {
 
 fn last_of(alloc: Global, tree: &Tree, symbols: &Symbols) -> Result<Found, Fail> {
     let layouts = lay_out_sound(alloc, tree, symbols)?;
-    last_in(alloc, &Scope::new(symbols, tree, &layouts).at(10))
+    last_in(alloc, &Context::new(symbols, tree, &layouts).at(10))
 }
 
 /// What the last statement of a body comes to.
@@ -265,7 +265,7 @@ fn no_called_block(rt: HostRuntime) -> Result<(), Fail> {
 }
 
 /// A scope and a check give back what they are made of: eleven blocks, nine symbols.
-fn parts_are_given_back(rt: &impl Abort, scope: &Scope<'_>, tree: &Tree) {
+fn parts_are_given_back(rt: &impl Abort, scope: &Context<'_>, tree: &Tree) {
     let places = (scope.block(), scope.at(10).block());
     same(rt, "places", places, (0, 10));
     same(rt, "symbols", scope.symbols().list().len(), 9);
@@ -282,7 +282,7 @@ fn parts_of_a_scope(rt: HostRuntime) -> Result<(), Fail> {
     let symbols = symbols_of(alloc, SYMBOLS)?;
     let layouts = lay_out_sound(alloc, &tree, &symbols)?;
     let checked = check(alloc, &tree, &symbols, &layouts)?;
-    let scope = Scope::new(&symbols, &tree, &layouts);
+    let scope = Context::new(&symbols, &tree, &layouts);
     parts_are_given_back(&rt, &scope, checked.tree());
     Ok(())
 }

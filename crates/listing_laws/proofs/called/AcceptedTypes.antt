@@ -59,7 +59,7 @@ use Rattle.sem_kept.proofs.accepted.Shared.{callable_by}
 use Rattle.listing_laws.specs.AcceptedTypes.{AreAcceptedTypesKept, AreAcceptedTypesOwed, declared_kinds, kinds_at}
 use Rattle.listing_laws.specs.HandedOn.{IsFoundAmong, SeesOwn, called_kinds, formals_by_index}
 use Rattle.listing_laws.specs.Owned.{IsParameterCell, own_kinds}
-use Rattle.listing_laws.specs.SourceTypes.{OweBodies, OwesBody, OwesStatement}
+use Rattle.listing_laws.specs.SourceTypes.{BodiesOweTypes, BodyOwesTypes, StatementOwesTypes}
 use Rattle.listing_laws.proofs.IdLemmas.{id_itself}
 use Rattle.listing_laws.proofs.called.Owned.{own_seen}
 use Rattle.listing_laws.proofs.called.Sources.{source_types_kept}
@@ -390,7 +390,7 @@ module _ (symbols : List Symbol) (t : Tree) (tree : IsSoundTree symbols t) where
         sym (ap (λ (z : Option BlockId). option_and_then (λ id. callee_by c id id.kind) z) n.named)
         ∙ sym (ap (callee_of c) n.is) ∙ e
 
-    pub owed : (s : Statement) → IsSoundStatement (types_of_source symbols t.blocks) c s → OwesStatement types all c s
+    pub owed : (s : Statement) → IsSoundStatement (types_of_source symbols t.blocks) c s → StatementOwesTypes types all c s
     owed s h id instance e = (
       (callable, either (is_system_function id.kind) refl),
       λ callee is.
@@ -423,11 +423,11 @@ module _ (symbols : List Symbol) (t : Tree) (tree : IsSoundTree symbols t) where
         either false other = let p = named.whole other in in_program id p.0 p.1 (source_code id.kind callable other)
 
     all_owed : (ss : List Statement) → AllByRecursion (IsSoundStatement (types_of_source symbols t.blocks) c) ss
-        → AllByRecursion (OwesStatement types all c) ss
+        → AllByRecursion (StatementOwesTypes types all c) ss
     all_owed [] h = tt
     all_owed (s ∷ ss) h = (owed s h.0, all_owed ss h.1)
 
-    pub body_owed : (id : BlockId) → l.id ≡ Some id → is_code id.kind ≡ true → OwesBody types all c b l id
+    pub body_owed : (id : BlockId) → l.id ≡ Some id → is_code id.kind ≡ true → BodyOwesTypes types all c b l id
     body_owed id e code =
         let own : own_kinds c ≡ types id
         = sym (ap (λ (o : Option ℕ). kinds_at (context_at symbols t 0) o) (known_at k b l id sound e code)) in
@@ -438,7 +438,7 @@ module _ (symbols : List Symbol) (t : Tree) (tree : IsSoundTree symbols t) where
         }
 
   bodies_owed : (k : ℕ) (bs : List Block) (ls : List BlockLayout) → AllLaid (IsSound symbols t) k bs ls
-      → OweBodies (declared_kinds t symbols) (map compiled_block (code_blocks_of t symbols (layouts_of t symbols))) (context_at symbols t k) bs ls
+      → BodiesOweTypes (declared_kinds t symbols) (map compiled_block (code_blocks_of t symbols (layouts_of t symbols))) (context_at symbols t k) bs ls
   bodies_owed k [] ls h = tt
   bodies_owed k (b ∷ bs) [] h = tt
   bodies_owed k (b ∷ bs) (l ∷ ls) h = (body_owed k b l h.0, bodies_owed (suc k) bs ls h.1)

@@ -26,7 +26,7 @@ use Rattle.stl_list.specs.declared.links.Link.TheVariants.{Joins, Has}
 use Rattle.stl_list.specs.Joined.{block_links, call_links, called_id, first_of, joined_link, joined_links, links, links_from, links_of_runs, total_parameter_count, passed_own, run_links, system_link, system_links, system_parameters, typed_link}
 use Rattle.stl_list.specs.Runs.{Run}
 use Rattle.listing_laws.specs.Chains.{IsLinkBelow, IsKeptBy}
-use Rattle.listing_laws.specs.HandedOn.{AreLinksHandedOn, AreTypesListed, HandOn, HandsOn, IsCallable, IsHandedOn, called_kinds, declared_type_in, kinds_in}
+use Rattle.listing_laws.specs.HandedOn.{AreLinksHandedOn, AreTypesListed, BlocksHandTypesOn, HandsTypesOn, IsCallable, IsHandedOn, called_kinds, declared_type_in, kinds_in}
 use Rattle.listing_laws.specs.Statements.{statement_offset, run_of}
 use Rattle.listing_laws.proofs.RunLemmas.{runs_found}
 use Rattle.listing_laws.proofs.called.Chains.{types_kept}
@@ -200,7 +200,7 @@ module _ (types : BlockId → List Simple) where
         by false = tt
     no_links first use_db _ = tt
 
-    instr_fine : (own : List Simple) (first : ℕ) (f : ℕ → ℕ) → IsFirst own first → (i : Instr) → HandsOn types all own i
+    instr_fine : (own : List Simple) (first : ℕ) (f : ℕ → ℕ) → IsFirst own first → (i : Instr) → HandsTypesOn types all own i
         → AllByRecursion IsFine (run_links all first (run_of f i).before (run_of f i).op.operand)
     instr_fine own first f at (Does use_db w o) h = no_links first use_db (operand_with_target f o)
     instr_fine own first f at (Jumps how target) h = tt
@@ -211,7 +211,7 @@ module _ (types : BlockId → List Simple) where
         (call_fine own first id at h.0 ps h.1)
 
     runs_fine : (own : List Simple) (first : ℕ) (f : ℕ → ℕ) → IsFirst own first → (ss : List SourceInstruction)
-        → AllByRecursion (λ (s : SourceInstruction). HandsOn types all own s.instr) ss
+        → AllByRecursion (λ (s : SourceInstruction). HandsTypesOn types all own s.instr) ss
         → AllByRecursion IsFine (links_of_runs all first (map (λ (s : SourceInstruction). run_of f s.instr) ss))
     runs_fine own first f at [] h = tt
     runs_fine own first f at (s ∷ ss) h =
@@ -220,7 +220,7 @@ module _ (types : BlockId → List Simple) where
         (instr_fine own first f at s.instr h.0) (runs_fine own first f at ss h.1)
 
     block_fine : (first : ℕ) (b : StatedBlock) → IsFirst (types b.id) first
-        → AllByRecursion (λ (s : SourceInstruction). HandsOn types all (types b.id) s.instr) b.statements
+        → AllByRecursion (λ (s : SourceInstruction). HandsTypesOn types all (types b.id) s.instr) b.statements
         → AllByRecursion IsFine (block_links all first (code_in b.statements))
     block_fine first b at h =
         subst (λ (rs : List Run). AllByRecursion IsFine (links_of_runs all first rs)) (sym (runs_found b.statements))
@@ -228,7 +228,7 @@ module _ (types : BlockId → List Simple) where
 
     blocks_fine : (front : List Simple) (first : ℕ) (bs : List StatedBlock) → length front ≡ first
         → kinds_in types all ≡ front ++ kinds_in types (map compiled_block bs) → AreLong (map compiled_block bs)
-        → AllByRecursion (λ (b : StatedBlock). AllByRecursion (λ (s : SourceInstruction). HandsOn types all (types b.id) s.instr) b.statements) bs
+        → AllByRecursion (λ (b : StatedBlock). AllByRecursion (λ (s : SourceInstruction). HandsTypesOn types all (types b.id) s.instr) b.statements) bs
         → AllByRecursion IsFine (links_from all first (map compiled_block bs))
     blocks_fine front first [] n e l h = tt
     blocks_fine front first (b ∷ bs) n e l h =
@@ -249,7 +249,7 @@ module _ (types : BlockId → List Simple) where
   long_compiled [] h = tt
   long_compiled (b ∷ bs) h = (h.0, long_compiled bs h.1)
 
-  all_fine : (bs : List StatedBlock) → (h : HandOn types bs)
+  all_fine : (bs : List StatedBlock) → (h : BlocksHandTypesOn types bs)
       → AllByRecursion (λ (l : Link). IsLinkBelow (total_parameter_count (map compiled_block bs)) l × IsKeptBy (declared_type_in types (map compiled_block bs)) l) (links (map compiled_block bs))
   unfolding links
   all_fine bs h =

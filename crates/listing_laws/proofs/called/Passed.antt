@@ -36,7 +36,7 @@ use Rattle.stl_types.specs.declared.views.ResolvedOperand.{ResolvedOperand}
 use Rattle.stl_types.specs.declared.views.ResolvedOperand.TheVariants as view
 use Rattle.stl_codegen.specs.Operands.{is_in_named_block}
 use Rattle.stl_codegen.specs.Passed.{passed_actual, passed_seen, passed_view, passings_from, actual_of_formal, with_index}
-use Rattle.listing_laws.specs.HandedOn.{ArePassedOn, AreStatementsHandedOn, HandsOn, OwesCall, IsFoundAmong, IsHandedOn, SeesOwn, formals_by_index}
+use Rattle.listing_laws.specs.HandedOn.{ArePassedOn, AreStatementsHandedOn, HandsTypesOn, CallOwesTypes, IsFoundAmong, IsHandedOn, SeesOwn, formals_by_index}
 
 same_types : (a b : Simple) → is_same_type a b ≡ true → a ≡ b
 same_types a b e = by a b (eqb-true (type_number a) (type_number b) e)
@@ -151,8 +151,8 @@ passed_on c own callee s own_seen found fits =
 -- ---- statements
 
 module _ (types : BlockId → List Simple) (blocks : List CodeBlock) (c : Context) (own : List Simple) (own_seen : SeesOwn c own) where
-  callee_handed : (s : Statement) (how : CallOperation) (id : BlockId) (instance : Option ℕ) → OwesCall types blocks c s id
-      → (o : Option Callee) → callee_of c s.operand ≡ o → HandsOn types blocks own (Calls how id instance (passings_to c s o))
+  callee_handed : (s : Statement) (how : CallOperation) (id : BlockId) (instance : Option ℕ) → CallOwesTypes types blocks c s id
+      → (o : Option Callee) → callee_of c s.operand ≡ o → HandsTypesOn types blocks own (Calls how id instance (passings_to c s o))
   callee_handed s how id instance owes None e = (owes.0, tt)
   callee_handed s how id instance owes (Some callee) e =
       let k = owes.1 callee e in (
@@ -162,31 +162,31 @@ module _ (types : BlockId → List Simple) (blocks : List CodeBlock) (c : Contex
       )
 
   view_handed_on : (s : Statement) (v : ResolvedOperand) (how : Option CallOperation)
-      → ((id : BlockId) (instance : Option ℕ) → v ≡ view.Called id instance → OwesCall types blocks c s id)
-      → HandsOn types blocks own (view_instr c s v how)
+      → ((id : BlockId) (instance : Option ℕ) → v ≡ view.Called id instance → CallOwesTypes types blocks c s id)
+      → HandsTypesOn types blocks own (view_instr c s v how)
   view_handed_on s v None owes = ended (end_operation_of s.code)
     where
-      ended : (e : Option EndOperation) → HandsOn types blocks own (end_instr s v e)
+      ended : (e : Option EndOperation) → HandsTypesOn types blocks own (end_instr s v e)
       ended None = tt
       ended (Some how) = tt
   view_handed_on s (view.Called id instance) (Some how) owes = callee_handed s how id instance (owes id instance refl) (callee_of c s.operand) refl
   view_handed_on s _ (Some how) owes = tt
 
-  jump_handed : (how : JumpOperation) (n target : ℕ) → HandsOn types blocks own (jump_instr how n target)
+  jump_handed : (how : JumpOperation) (n target : ℕ) → HandsTypesOn types blocks own (jump_instr how n target)
   jump_handed jump.Jl n target = tt
   jump_handed _ n target = tt
 
   statement_handed : (body : List Statement) (n : ℕ) (s : Statement)
-      → ((id : BlockId) (instance : Option ℕ) → resolved_operand c s ≡ Some (view.Called id instance) → OwesCall types blocks c s id)
-      → HandsOn types blocks own (instruction c body n s)
+      → ((id : BlockId) (instance : Option ℕ) → resolved_operand c s ≡ Some (view.Called id instance) → CallOwesTypes types blocks c s id)
+      → HandsTypesOn types blocks own (instruction c body n s)
   unfolding instruction
   statement_handed body n s owes = by (jump_operation_of s.code)
     where
-      at : (o : Option ResolvedOperand) → resolved_operand c s ≡ o → HandsOn types blocks own (resolved_instr c s o)
+      at : (o : Option ResolvedOperand) → resolved_operand c s ≡ o → HandsTypesOn types blocks own (resolved_instr c s o)
       at None e = tt
       at (Some v) e = view_handed_on s v (call_operation_of s.code) (λ id instance same. owes id instance (e ∙ ap Some same))
 
-      by : (o : Option JumpOperation) → HandsOn types blocks own (instr_by c body n s o)
+      by : (o : Option JumpOperation) → HandsTypesOn types blocks own (instr_by c body n s o)
       by None = at (resolved_operand c s) refl
       by (Some how) = jump_handed how n (target_of body s.operand)
 

@@ -18,8 +18,8 @@ use Rattle.stl_codegen.specs.Compiled.{SourceInstruction, StatedBlock, compiled_
 use Rattle.stl_codegen.specs.Generated.{code_block, code_block_of, code_blocks_of, each_block, statements_of, stated_from}
 use Rattle.stl_codegen.specs.Instruction.{instruction}
 use Rattle.stl_codegen.specs.Order.{is_code_before}
-use Rattle.listing_laws.specs.HandedOn.{HandsOn, SeesOwn}
-use Rattle.listing_laws.specs.SourceTypes.{AreSourceTypesKept, AreSourcesHandedOn, OweBodies, OwesBody, OwesSource, OwesStatement}
+use Rattle.listing_laws.specs.HandedOn.{HandsTypesOn, SeesOwn}
+use Rattle.listing_laws.specs.SourceTypes.{AreSourceTypesKept, AreSourcesHandedOn, BodiesOweTypes, BodyOwesTypes, SourceOwesTypes, StatementOwesTypes}
 use Rattle.listing_laws.proofs.NameLemmas.{either_way}
 use Rattle.listing_laws.proofs.called.HandedOn.{types_listed}
 use Rattle.listing_laws.proofs.called.Passed.{statements_handed_on}
@@ -27,16 +27,16 @@ use Rattle.listing_laws.proofs.BlockLemmas.{all_sorted}
 
 module _ (types : BlockId → List Simple) (all : List CodeBlock) where
   abbrev IsHandedStated : (own : List Simple) → SourceInstruction → Type 0
-  IsHandedStated own s = HandsOn types all own s.instr
+  IsHandedStated own s = HandsTypesOn types all own s.instr
 
   stated_handed : (c : Context) (own : List Simple) (body : List Statement) (n : ℕ) (ss : List Statement) → SeesOwn c own
-      → AllByRecursion (OwesStatement types all c) ss → AllByRecursion (IsHandedStated own) (stated_from c body n ss)
+      → AllByRecursion (StatementOwesTypes types all c) ss → AllByRecursion (IsHandedStated own) (stated_from c body n ss)
   stated_handed c own body n [] sees h = tt
   stated_handed c own body n (s ∷ ss) sees (one, more) =
       either_way (λ l. AllByRecursion (IsHandedStated own) l) (is_empty_statement s.code) (stated_from c body n ss) (record { instr = instruction c body n s; line = s.line } ∷ stated_from c body (suc n) ss)
       (stated_handed c own body n ss sees more) (statements_handed_on types all c own body n s sees one, stated_handed c own body (suc n) ss sees more)
 
-  statements_handed : (c : Context) (b : Block) (l : BlockLayout) (id : BlockId) → OwesBody types all c b l id
+  statements_handed : (c : Context) (b : Block) (l : BlockLayout) (id : BlockId) → BodyOwesTypes types all c b l id
       → AllByRecursion (IsHandedStated (types id)) (statements_of c b)
   unfolding statements_of
   statements_handed c b l id h =
@@ -47,7 +47,7 @@ module _ (types : BlockId → List Simple) (all : List CodeBlock) where
   IsHandedBlock b = (length (types b.id) ≡ length b.params) × AllByRecursion (IsHandedStated (types b.id)) b.statements
 
   block_handed : (c : Context) (b : Block) (l : BlockLayout) (o : Option BlockId)
-      → ((id : BlockId) → o ≡ Some id → is_code id.kind ≡ true → OwesBody types all c b l id)
+      → ((id : BlockId) → o ≡ Some id → is_code id.kind ≡ true → BodyOwesTypes types all c b l id)
       → AllByRecursion IsHandedBlock (code_block_of c b l o)
   block_handed c b l None h = tt
   block_handed c b l (Some id) h = by (is_code id.kind) refl
@@ -56,7 +56,7 @@ module _ (types : BlockId → List Simple) (all : List CodeBlock) where
       by true e = let owes = h id refl e in ((owes.size, statements_handed c b l id owes), tt)
       by false e = tt
 
-  blocks_handed : (c : Context) (bs : List Block) (ls : List BlockLayout) → OweBodies types all c bs ls
+  blocks_handed : (c : Context) (bs : List Block) (ls : List BlockLayout) → BodiesOweTypes types all c bs ls
       → AllByRecursion IsHandedBlock (each_block (λ c b l. code_block_of c b l l.id) c bs ls)
   blocks_handed c [] ls h = tt
   blocks_handed c (b ∷ bs) [] h = tt
@@ -65,11 +65,11 @@ module _ (types : BlockId → List Simple) (all : List CodeBlock) where
 
   parted : (bs : List StatedBlock) → AllByRecursion IsHandedBlock bs
       → AllByRecursion (λ (b : StatedBlock). length (types b.id) ≡ length b.params) bs
-      × AllByRecursion (λ (b : StatedBlock). AllByRecursion (λ s. HandsOn types all (types b.id) s.instr) b.statements) bs
+      × AllByRecursion (λ (b : StatedBlock). AllByRecursion (λ s. HandsTypesOn types all (types b.id) s.instr) b.statements) bs
   parted [] h = (tt, tt)
   parted (b ∷ bs) h = let rest = parted bs h.1 in ((h.0.0, rest.0), (h.0.1, rest.1))
 
-sorted_handed : (types : BlockId → List Simple) (t : Tree) (symbols : List Symbol) (layouts : List BlockLayout) → OwesSource types t symbols layouts
+sorted_handed : (types : BlockId → List Simple) (t : Tree) (symbols : List Symbol) (layouts : List BlockLayout) → SourceOwesTypes types t symbols layouts
     → AllByRecursion (IsHandedBlock types (map compiled_block (code_blocks_of t symbols layouts))) (code_blocks_of t symbols layouts)
 unfolding code_blocks_of
 sorted_handed types t symbols layouts h =

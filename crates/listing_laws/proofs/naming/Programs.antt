@@ -17,22 +17,22 @@ use Rattle.listing_laws.proofs.naming.Coded.{ActsOnNoBit, PassedIsNoBit, Prepare
 use Rattle.listing_laws.proofs.naming.Symbols.{symbols_no_bits}
 use Rattle.listing_laws.proofs.naming.Trees.{tree_plain}
 use Rattle.listing_laws.specs.Named.{AreAcceptedRead, AreSourcesNamed}
-use Rattle.listing_laws.specs.Sources.{ActsOn, AreSourcesRead, IsRunNamed, PassesPlaceOn, PreparesOn}
+use Rattle.listing_laws.specs.Sources.{ActsOnNamed, AreSourcesRead, IsRunNamed, PassesPlaceOn, PreparesOnNamed}
 
 passes_on : (p : Passed) → PassedIsNoBit p → PassedBit p → PassesPlaceOn p
 passes_on (passed.Direct a w byte bit) h k = (h, k)
 passes_on (passed.InBlock number a w byte bit) h k = (h, k)
 passes_on _ h k = tt
 
-prepares_on : (o : FlatOperand) → PreparesNoBit o → OperandBit o → PreparesOn o
+prepares_on : (o : FlatOperand) → PreparesNoBit o → OperandBit o → PreparesOnNamed o
 prepares_on (flat.Pass index p) h k = passes_on p h k
 prepares_on _ h k = tt
 
-all_prepare : (ops : List OpData) → AllByRecursion (λ op. PreparesNoBit op.operand) ops → AllByRecursion (λ op. OperandBit op.operand) ops → AllByRecursion (λ op. PreparesOn op.operand) ops
+all_prepare : (ops : List OpData) → AllByRecursion (λ op. PreparesNoBit op.operand) ops → AllByRecursion (λ op. OperandBit op.operand) ops → AllByRecursion (λ op. PreparesOnNamed op.operand) ops
 all_prepare [] h k = tt
 all_prepare (op ∷ ops) (one, more) (bit, bits) = (prepares_on op.operand one bit, all_prepare ops more bits)
 
-acts_on : (before : List OpData) (code : ℕ) (o : FlatOperand) → ActsOnNoBit before code o → OperandBit o → ActsOn before code o
+acts_on : (before : List OpData) (code : ℕ) (o : FlatOperand) → ActsOnNoBit before code o → OperandBit o → ActsOnNamed before code o
 acts_on before code (flat.Direct a w byte bit) h k = (h, k)
 acts_on before code (flat.Called kind number instance) h k = h
 acts_on before code _ h k = tt

@@ -43,7 +43,7 @@ use Rattle.stl_list.specs.Runs.{number_at}
 use Rattle.stl_list.specs.Signatures.{Signature, called_formals, formals_of_block}
 use Rattle.stl_list.specs.Statements.{Surroundings, listed_statement}
 use Rattle.sem_kept.specs.Accepted.{IsAccepted, program_in}
-use Rattle.sem_kept.specs.Settled.{HasCalled, HasInstruction, HasOperand, IsSettled}
+use Rattle.sem_kept.specs.Settled.{HasCalled, HasInstruction, HasOperand, IsResolvedStatement}
 use Rattle.sem_kept.proofs.accepted.Accepted.{IsSound, IsSoundStatement, IsSoundTree, right_tree}
 use Rattle.sem_kept.proofs.accepted.OperandsCells.{all_there}
 use Rattle.sem_kept.proofs.accepted.Settled.{statements_settle}
@@ -160,8 +160,8 @@ module _ (source file : List ℕ) (symbols : List Symbol) (t : Tree) (accepted :
     abbrev IsKeptHere : ℕ → ℕ → Instr → Type 0
     IsKeptHere n k i = IsInstructionKept listed body n s.code i (listed_statement sur k (run_of f i))
 
-    settled : IsSettled c b.body s
-    settled = split_holds (IsSettled c b.body) b.body front s rest (statements_settle source file symbols t accepted bytes place b made.source.block) split
+    settled : IsResolvedStatement c b.body s
+    settled = split_holds (IsResolvedStatement c b.body) b.body front s rest (statements_settle source file symbols t accepted bytes place b made.source.block) split
 
     right : IsRightStatement symbols s
     right = split_holds (IsRightStatement symbols) b.body front s rest

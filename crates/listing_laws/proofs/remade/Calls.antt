@@ -60,7 +60,7 @@ use Rattle.stl_list.specs.Signatures.{Signature, called_formals, formals_of_bloc
 use Rattle.sem_kept.specs.Accepted.{IsAccepted, program_in}
 use Rattle.sem_kept.specs.Coded.{StatementHasBytes}
 use Rattle.sem_kept.specs.Operands.{ArePassed, InstrFits}
-use Rattle.sem_kept.specs.Settled.{HasCalled, HasOperand, HasInstruction, IsSettled}
+use Rattle.sem_kept.specs.Settled.{HasCalled, HasOperand, HasInstruction, IsResolvedStatement}
 use Rattle.sem_kept.proofs.accepted.Accepted.{IsSound, IsSoundStatement, IsSoundTree, right_tree}
 use Rattle.sem_kept.proofs.accepted.CodedBytes.{tree_has}
 use Rattle.sem_kept.proofs.accepted.CodedOps.{IsGoodStatement, statement_good}
@@ -78,7 +78,7 @@ use Rattle.listing_laws.specs.Calling.{AreCalledAgain}
 use Rattle.listing_laws.specs.CallsAgain.{AreCallsAgain, IsCalledAgain, IsFoundAgain, IsRightStatement}
 use Rattle.listing_laws.specs.Declared.{signatures_in}
 use Rattle.listing_laws.specs.Fitting.{IsBacked, IsListedAs}
-use Rattle.listing_laws.specs.HandedOn.{OwesCall, formals_by_index}
+use Rattle.listing_laws.specs.HandedOn.{CallOwesTypes, formals_by_index}
 use Rattle.listing_laws.specs.Instructions.{HasAgain}
 use Rattle.listing_laws.specs.Passings.{IsPassable, in_upper_case}
 use Rattle.listing_laws.specs.Steps.{PassesParameterOn}
@@ -256,7 +256,7 @@ module _ (source file : List ℕ) (symbols : List Symbol) (t : Tree) (accepted :
   rights : AllByRecursion (IsRightStatement symbols) b.body
   rights = all_there (λ (z : Block). AllByRecursion (IsRightStatement symbols) z.body) t.blocks place b (operands_right source file symbols t accepted bytes) made.source.block
 
-  settled : AllByRecursion (IsSettled c b.body) b.body
+  settled : AllByRecursion (IsResolvedStatement c b.body) b.body
   settled = statements_settle source file symbols t accepted bytes place b made.source.block
 
   -- ---- a parameter of the block itself
@@ -309,7 +309,7 @@ module _ (source file : List ℕ) (symbols : List Symbol) (t : Tree) (accepted :
     is_called : is_called_operand s.operand ≡ true
     is_called = sound_here.well_formed.called ∙ is_word
 
-    owes : OwesCall (declared_kinds t symbols) (map compiled_block (code_blocks_of t symbols (layouts_of t symbols))) c s cid
+    owes : CallOwesTypes (declared_kinds t symbols) (map compiled_block (code_blocks_of t symbols (layouts_of t symbols))) c s cid
     owes = owed symbols t tree place b l sound s sound_here cid instance res
 
     pub callable_here : is_callable cid.kind ≡ true
@@ -318,7 +318,7 @@ module _ (source file : List ℕ) (symbols : List Symbol) (t : Tree) (accepted :
     has_called : HasCalled c s
     has_called =
         subst (HasOperand c s) how.1
-        (subst (HasInstruction c b.body s) (no_jump s.code how.0 how.1) (split_holds (IsSettled c b.body) b.body front s rest settled split).instruction)
+        (subst (HasInstruction c b.body s) (no_jump s.code how.0 how.1) (split_holds (IsResolvedStatement c b.body) b.body front s rest settled split).instruction)
 
     same_callee : callee.id ≡ cid
     same_callee =

@@ -36,7 +36,7 @@ use Rattle.stl_codegen.specs.Generated.{code_block, statements_of}
 use Rattle.stl_list.specs.Signatures.{Signature, formals_of_block}
 use Rattle.stl_list.specs.Statements.{Surroundings, body_of, surroundings}
 use Rattle.sem_kept.specs.Accepted.{IsAccepted, program_in}
-use Rattle.sem_kept.specs.Settled.{IsSettled}
+use Rattle.sem_kept.specs.Settled.{IsResolvedStatement}
 use Rattle.sem_kept.proofs.accepted.Accepted.{IsSoundActual, IsSoundBody, IsSoundCall, IsSoundStatement, IsSoundTree, right_tree}
 use Rattle.listing_laws.specs.Again.{IsMadeOf, again_at, context_at}
 use Rattle.listing_laws.specs.Declared.{signatures_in}
@@ -210,7 +210,7 @@ pub record IsBodyReady (c listed : Context) (signatures : List Signature) (own :
 
 numbered_right : (y y' : Types) (c listed : Context) (sur : Surroundings) (f : ℕ → ℕ) (body : List Statement) (k : ℕ) (ss : List Statement)
     → AreTypesOf y listed → HasAgain c listed sur.formals → AllByRecursion (λ s. IsRightOperand c.symbols s.operand) ss → AllByRecursion (IsCalledAgain c listed sur.signatures sur.formals) ss → AllByRecursion (IsInstanceKept c listed) ss
-    → AllByRecursion (IsSettled c body) ss → AllByRecursion (IsSoundStatement y' c) ss
+    → AllByRecursion (IsResolvedStatement c body) ss → AllByRecursion (IsSoundStatement y' c) ss
     → AreRight y listed (numbered_from (listed_as sur f c body) k ss)
 numbered_right y y' c listed sur f body k [] types has operands calls instances settled sound = tt
 numbered_right y y' c listed sur f body k (s ∷ ss) types has operands calls instances settled sound =
@@ -226,7 +226,7 @@ numbered_right y y' c listed sur f body k (s ∷ ss) types has operands calls in
 body_right : (signatures : List Signature) (stated : StatedBlock) (y y' : Types) (c listed : Context) (b : Block)
     → IsBodyOf c b signatures stated (body_of signatures (lines_in stated.statements) (compiled_block stated))
     → stated.statements ≡ statements_of c b → length stated.statements ≤ 93312
-    → AllByRecursion (IsSettled c b.body) b.body → AllByRecursion (IsSoundStatement y' c) b.body → IsSoundBody b.body
+    → AllByRecursion (IsResolvedStatement c b.body) b.body → AllByRecursion (IsSoundStatement y' c) b.body → IsSoundBody b.body
     → AreTypesOf y listed → IsBodyReady c listed signatures (formals_of_block signatures stated.id) b.body → AllByRecursion (IsInstanceKept c listed) b.body
     → IsRightBody y listed (body_of signatures (lines_in stated.statements) (compiled_block stated))
 body_right signatures stated y y' c listed b is e few settled sound source types ready instances = record {

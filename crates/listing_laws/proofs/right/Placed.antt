@@ -39,7 +39,7 @@ use Rattle.stl_list.specs.Runs.{Run}
 use Rattle.stl_list.specs.Signatures.{Signature}
 use Rattle.stl_list.specs.Statements.{Surroundings, body_of, label_at, label_of_end, listed_statement, statement_at, statements_from, surroundings}
 use Rattle.sem_kept.specs.Accepted.{IsAccepted, program_in}
-use Rattle.sem_kept.specs.Settled.{HasInstruction, HasLabel, HasOperand, IsSettled}
+use Rattle.sem_kept.specs.Settled.{HasInstruction, HasLabel, HasOperand, IsResolvedStatement}
 use Rattle.sem_kept.proofs.accepted.Accepted.{IsSound, IsSoundStatement, right_tree, sound_at}
 use Rattle.sem_kept.proofs.accepted.OperandsInstr.{resolved_is}
 use Rattle.sem_kept.proofs.accepted.Settled.{statements_settle}
@@ -62,7 +62,7 @@ pub labels_seen : (c : Context) (name : List ℕ) → resolution_of c (operand.L
 unfolding resolution_of
 labels_seen c name = refl
 
-some_view : (c : Context) (body : List Statement) (s : Statement) → IsSettled c body s → resolved_operand c s ≡ seen_view (resolution_of c s.operand) → (v : ResolvedOperand) × (resolved_operand c s ≡ Some v)
+some_view : (c : Context) (body : List Statement) (s : Statement) → IsResolvedStatement c body s → resolved_operand c s ≡ seen_view (resolution_of c s.operand) → (v : ResolvedOperand) × (resolved_operand c s ≡ Some v)
 some_view c body s h e = by (jump_operation_of s.code) h.instruction
   where
     by_call : (how : Option CallOperation) → HasOperand c s how → (v : ResolvedOperand) × (resolved_operand c s ≡ Some v)
@@ -76,12 +76,12 @@ some_view c body s h e = by (jump_operation_of s.code) h.instruction
 not_none : {A : Type 0} (x : A) → None ≡ Some x → ⊥
 not_none x e = absurd cc
 
-pub readable : (y : Types) (c : Context) (body : List Statement) (s : Statement) → IsSettled c body s → IsSoundStatement y c s → IsReadable c s
+pub readable : (y : Types) (c : Context) (body : List Statement) (s : Statement) → IsResolvedStatement c body s → IsSoundStatement y c s → IsReadable c s
 readable y c body s h sound =
     let found = some_view c body s h (resolved_is c s sound.allowed) in
     record { statement = sound.well_formed; resolves = λ some e. not_none found.0 (sym e ∙ found.1) }
 
-pub all_readable : (y : Types) (c : Context) (body ss : List Statement) → AllByRecursion (IsSettled c body) ss → AllByRecursion (IsSoundStatement y c) ss → AllByRecursion (IsReadable c) ss
+pub all_readable : (y : Types) (c : Context) (body ss : List Statement) → AllByRecursion (IsResolvedStatement c body) ss → AllByRecursion (IsSoundStatement y c) ss → AllByRecursion (IsReadable c) ss
 all_readable y c body [] h k = tt
 all_readable y c body (s ∷ ss) h k = (readable y c body s h.0 k.0, all_readable y c body ss h.1 k.1)
 
@@ -160,11 +160,11 @@ other_again sur f c body k s h =
     no_unknown [] sur.formals sur.starts _ _ (run_of f (instruction c body k s)).op.operand
     (one [] sur.starts f (instruction c body k s) (λ t e. absurd (never (sym (other_stays c body k s h t) ∙ e))))
 
-settled_label : (c : Context) (body : List Statement) (s : Statement) (how : JumpOperation) → IsSettled c body s → jump_operation_of s.code ≡ Some how → HasLabel body s
+settled_label : (c : Context) (body : List Statement) (s : Statement) (how : JumpOperation) → IsResolvedStatement c body s → jump_operation_of s.code ≡ Some how → HasLabel body s
 settled_label c body s how h e = subst (HasInstruction c body s) e h.instruction
 
 again_here : (signatures : List Signature) (b : StatedBlock) (y : Types) (c : Context) (body : List Statement) (k : ℕ) (s : Statement)
-    → IsCounted body b.statements → IsSettled c body s → IsSoundStatement y c s → is_empty_statement s.code ≡ false → line_of_statement (lines_in b.statements) k ≡ s.line
+    → IsCounted body b.statements → IsResolvedStatement c body s → IsSoundStatement y c s → is_empty_statement s.code ≡ false → line_of_statement (lines_in b.statements) k ≡ s.line
     → ((t : ℕ) → jumps_to t (instruction c body k s) ≡ true → any_to t b.statements ≡ true)
     → IsAgain body (surroundings signatures (lines_in b.statements) (compiled_block b)).targets k s
     (listed_as (surroundings signatures (lines_in b.statements) (compiled_block b)) (statement_offset b.statements) c body k s)
@@ -185,7 +185,7 @@ one_more : (k j : ℕ) → suc k + j ≡ k + suc j
 one_more k j = omega arith
 
 placed_from : (signatures : List Signature) (b : StatedBlock) (y : Types) (c : Context) (body : List Statement) (k : ℕ) (ss : List Statement) (last : SourceInstruction)
-    → IsCounted body b.statements → AllByRecursion (IsSettled c body) ss → AllByRecursion (IsSoundStatement y c) ss
+    → IsCounted body b.statements → AllByRecursion (IsResolvedStatement c body) ss → AllByRecursion (IsSoundStatement y c) ss
     → AreLinesAt (lines_in b.statements) k (stated_from c body k ss ++ last ∷ [])
     → ((t : ℕ) → any_to t (stated_from c body k ss) ≡ true → any_to t b.statements ≡ true)
     → ArePlaced body (surroundings signatures (lines_in b.statements) (compiled_block b)).targets
@@ -274,7 +274,7 @@ any_front t (x ∷ xs) last h = by (jumps_to t x.instr) h (any_front t xs last)
 
 body_by : (signatures : List Signature) (stated : StatedBlock) (y : Types) (c : Context) (b : Block)
     → stated.statements ≡ stated_from c b.body 0 b.body ++ return_statement b ∷ []
-    → AllByRecursion (IsSettled c b.body) b.body → AllByRecursion (IsSoundStatement y c) b.body
+    → AllByRecursion (IsResolvedStatement c b.body) b.body → AllByRecursion (IsSoundStatement y c) b.body
     → ((n : ℕ) → suc n ≡ length stated.statements → any_to n stated.statements ≡ false) → has_too_many_statements b ≡ false
     → IsBodyOf c b signatures stated (body_of signatures (lines_in stated.statements) (compiled_block stated))
 unfolding body_of
@@ -329,7 +329,7 @@ pub source_block : (source file : List ℕ) (symbols : List Symbol) (t : Tree) �
 source_block source file symbols t accepted again place b l id made = sound_at symbols t (right_tree source file symbols t accepted) place b l made.source.block made.source.layout
 
 pub source_settled : (source file : List ℕ) (symbols : List Symbol) (t : Tree) → IsAccepted source file symbols t → AreBytes source → (again place : ℕ) (b : Block) (l : BlockLayout) (id : BlockId) → IsMadeOf symbols t again place b l id
-    → AllByRecursion (IsSettled (context_at symbols t place) b.body) b.body
+    → AllByRecursion (IsResolvedStatement (context_at symbols t place) b.body) b.body
 source_settled source file symbols t accepted bytes again place b l id made = statements_settle source file symbols t accepted bytes place b made.source.block
 
 -- the body of the listed block

@@ -59,7 +59,7 @@ use Rattle.stl_list.specs.Operands.{name_of_data_block, implied_operand, operand
 use Rattle.stl_list.specs.Runs.{number_at}
 use Rattle.stl_list.specs.Signatures.{called_formals}
 use Rattle.stl_list.specs.Statements.{Surroundings, listed_statement}
-use Rattle.sem_kept.specs.Settled.{HasCalled, HasInstruction, HasOperand, IsSettled}
+use Rattle.sem_kept.specs.Settled.{HasCalled, HasInstruction, HasOperand, IsResolvedStatement}
 use Rattle.sem_kept.proofs.accepted.Accepted.{IsSoundActual, IsSoundCall, IsSoundStatement}
 use Rattle.sem_kept.proofs.accepted.Shared.{callable_by}
 use Rattle.listing_laws.specs.Calls.{IsInstanceAt}
@@ -493,7 +493,7 @@ call_right y y' c listed sur f body k s how types has h called sound kept instan
 
 pub statement_right : (y y' : Types) (c listed : Context) (sur : Surroundings) (f : ℕ → ℕ) (body : List Statement) (k : ℕ) (s : Statement)
     → AreTypesOf y listed → HasAgain c listed sur.formals → IsRightOperand c.symbols s.operand → IsCalledAgain c listed sur.signatures sur.formals s → IsInstanceKept c listed s
-    → IsSettled c body s → IsSoundStatement y' c s → is_empty_statement s.code ≡ false
+    → IsResolvedStatement c body s → IsSoundStatement y' c s → is_empty_statement s.code ≡ false
     → IsRightAgain y listed (listed_as sur f c body k s)
 statement_right y y' c listed sur f body k s types has right kept instances settled sound some = by (jump_operation_of s.code) refl settled.instruction
   where

@@ -20,13 +20,13 @@ use Rattle.var_access.specs.declared.What.{What}
 use Rattle.var_access.specs.declared.What.TheVariants.{Ask, Step}
 use Rattle.controller.specs.Asking.{request_reply}
 use Rattle.controller.specs.declared.Observed.{Observed}
-use Rattle.controller.specs.Quiet.{ShowNothing}
+use Rattle.controller.specs.SilentSteps.{ShowNothing}
 use Rattle.controller.specs.Replay.{ContinuesByMore, entry_result, replay, reply_to, state_after_entries}
 use Rattle.event_text.specs.Replies.{reply_text}
 use Rattle.controller.specs.Shown.{nothing_shown}
 use Rattle.controller.specs.State.{State}
 use Rattle.controller.specs.Recording.{Recording}
-use Rattle.controller.specs.Replayed.{entry_events, next_happens, final_state}
+use Rattle.controller.specs.Replayed.{entry_events, next_result, final_state}
 use Rattle.s7_cli.specs.run_text.Behind.{closing_of, lines_behind, with_entries}
 use Rattle.s7_cli.specs.run_text.RunText.{closing_text, entry_text, entry_lines_from, replied_text, run_text, shown_text}
 use Rattle.s7_cli.proofs.run.WritingLemmas.{GoesOn, goes-cut, goes-end, goes-first, goes-next}
@@ -97,17 +97,17 @@ lines-behind continues r front back =
 
 -- what a request shows, and then its reply, which is that of the state before it
 pub request-lines : (r : Recording) (e : Entry) (request : Request) (n m : ℕ) (shown : Observed) (answer : Reply) (before middle : List ℕ)
-    → e.what ≡ Ask request → n ≡ m → shown ≡ (next_happens r e).seen
+    → e.what ≡ Ask request → n ≡ m → shown ≡ (next_result r e).seen
     → answer ≡ request_reply (code_of r.program) request (final_state r) → middle ≡ before ++ shown_text n shown
-    → middle ++ reply_text n e.who request answer ≡ before ++ entry_text m e (next_happens r e)
+    → middle ++ reply_text n e.who request answer ≡ before ++ entry_text m e (next_result r e)
 unfolding entry_result
 request-lines r e request n m shown answer before middle asks count is replies appended =
     ap (λ (t : List ℕ). t ++ reply_text n e.who request answer) appended
     ∙ append_assoc before (shown_text n shown) (reply_text n e.who request answer)
     ∙ ap (λ (k : ℕ). before ++ (shown_text k shown ++ reply_text k e.who request answer)) count
     ∙ ap (λ (o : Observed). before ++ (shown_text m o ++ reply_text m e.who request answer)) is
-    ∙ ap (λ (a : Reply). before ++ (shown_text m (next_happens r e).seen ++ reply_text m e.who request a)) replies
-    ∙ ap (λ (w : What). before ++ (shown_text m (next_happens r e).seen ++ replied_text m e.who w (reply_to (code_of r.program) (final_state r) w)))
+    ∙ ap (λ (a : Reply). before ++ (shown_text m (next_result r e).seen ++ reply_text m e.who request a)) replies
+    ∙ ap (λ (w : What). before ++ (shown_text m (next_result r e).seen ++ replied_text m e.who w (reply_to (code_of r.program) (final_state r) w)))
     (sym asks)
 
 -- entries that show nothing have no line

@@ -5,7 +5,7 @@ ghost use Rattle.monitor.specs.LineText.{output_text};
 ghost use Rattle.var_access.specs.Entry.{IsValid};
 ghost use Rattle.var_access.specs.Runs.{IsHistoryRun, AreRuns, entries_of_runs};
 ghost use Rattle.var_access.specs.declared.What.TheVariants.{Ask, Step};
-ghost use Rattle.controller.specs.Replayed.{next_happens};
+ghost use Rattle.controller.specs.Replayed.{next_result};
 ghost use Rattle.controller.specs.Shown.{nothing_shown};
 ghost use Rattle.s7_cli.specs.run_text.Behind.{lines_behind, with_entries};
 ghost use Rattle.s7_cli.specs.run_text.RunText.{changed_mode_text, entry_text, monitored_text, shown_text};
@@ -92,7 +92,7 @@ fn add_request(
     ensures applied { controller.new ≡ with_entries controller.old (entry.now ∷ []) }
     ensures lines { OnOk result (text.new.items ≡ text.old.items
         ++ entry_text (length controller.new.history) entry.now
-        (next_happens controller.old entry.now)) }
+        (next_result controller.old entry.now)) }
 {
     let reply = controller.answer(request);
     controller.enter(entry);
@@ -108,7 +108,7 @@ fn add_event(controller: &mut Controller, entry: &Entry, text: &mut Vec<u8>) -> 
     ensures applied { controller.new ≡ with_entries controller.old (entry.now ∷ []) }
     ensures lines { OnOk result (text.new.items ≡ text.old.items
         ++ shown_text (length controller.new.history)
-        (next_happens controller.old entry.now).seen) }
+        (next_result controller.old entry.now).seen) }
 {
     controller.enter(entry);
     add_shown(controller.history_len(), controller.observed(), text)

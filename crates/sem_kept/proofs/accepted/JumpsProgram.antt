@@ -17,8 +17,8 @@ use Rattle.flat_code.specs.Blocks.{Environment, block_faults, call_fault, faults
 use Rattle.flat_code.specs.Placed.{PlacedOp, StatementSpot, code_places, statement_spots}
 use Rattle.flat_code.specs.declared.operands.Operand.{Operand as FlatOperand}
 use Rattle.flat_code.specs.declared.operands.Operand.TheVariants as flat
-use Rattle.sem_kept.specs.Jumps.{AllLandRight, FineIsFaultless, JumpsLandRight, LandsRight, jump_fault_of}
-use Rattle.sem_kept.specs.Operands.{AreFine, IsFine}
+use Rattle.sem_kept.specs.Jumps.{AllLandRight, NoOperandFaultIsNoFault, JumpsLandRight, LandsRight, jump_fault_of}
+use Rattle.sem_kept.specs.Operands.{HaveNoOperandFaults, HasNoOperandFault}
 use Rattle.sem_kept.proofs.accepted.Accepted.{IsSound, IsSoundStatement, context_at, right_tree, sound_code_blocks}
 use Rattle.sem_kept.proofs.accepted.Jumps.{IsRightBody, lands_right}
 use Rattle.sem_kept.proofs.accepted.JumpsOperands.{Settles, takes_right}
@@ -65,7 +65,7 @@ all_operands a ss p (flat.Jump kind target) still jump = jump
 all_operands a ss p _ still jump = still tt
 
 op_faultless : (a : Environment) (lens : List (ℕ × ℕ)) (ss : List StatementSpot) (start : ℕ) (p : PlacedOp)
-    → a.data_lens ≡ Some lens → IsFine a lens ss p → LandsRight ss p → op_faults a ss start p ≡ []
+    → a.data_lens ≡ Some lens → HasNoOperandFault a lens ss p → LandsRight ss p → op_faults a ss start p ≡ []
 unfolding op_faults
 op_faultless a lens ss start p e fine lands =
     let calls : call_fault a a.data_lens p ≡ None =
@@ -74,7 +74,7 @@ op_faultless a lens ss start p e fine lands =
     (rw calls (rw fine.mark (rw lands.brackets (rw lands.zones refl))))
 
 all_faultless : (a : Environment) (lens : List (ℕ × ℕ)) (ss : List StatementSpot) (start : ℕ) (ps : List PlacedOp)
-    → a.data_lens ≡ Some lens → AreFine a lens ss ps → AllByRecursion (LandsRight ss) ps
+    → a.data_lens ≡ Some lens → HaveNoOperandFaults a lens ss ps → AllByRecursion (LandsRight ss) ps
     → faults_over a ss start ps ≡ []
 all_faultless a lens ss start [] e fine lands = refl
 all_faultless a lens ss start (p ∷ ps) e fine lands =
@@ -82,7 +82,7 @@ all_faultless a lens ss start (p ∷ ps) e fine lands =
     (op_faultless a lens ss start p e fine.0 lands.0)
     ∙ all_faultless a lens ss start ps e fine.1 lands.1
 
-pub fine_is_faultless : FineIsFaultless
+pub fine_is_faultless : NoOperandFaultIsNoFault
 unfolding block_faults
 fine_is_faultless a lens start ops e fine lands =
     rw (all_faultless a lens (statement_spots ops) start (code_places ops) e fine lands.each)

@@ -79,7 +79,7 @@ use Rattle.stl_codegen.specs.Passed.{passed_actual, passed_place, passed_seen, p
 use Rattle.stl_codegen.specs.Operations.{call_operation_of}
 use Rattle.sem_kept.specs.Coded.{OperandHasBytes, StatementHasBytes}
 use Rattle.sem_kept.specs.Operands.{ArePassed, InstrFits, PassesAlone}
-use Rattle.sem_kept.specs.Settled.{HasPassed}
+use Rattle.sem_kept.specs.Settled.{NamesWhatIsPassed}
 use Rattle.sem_kept.proofs.accepted.Accepted.{IsSound, IsSoundActual, IsSoundCall, IsSoundStatement, IsSoundTree, context_at}
 use Rattle.sem_kept.proofs.accepted.OperandsCells.{are_right, block_unbroken, cells_are, known_there, layout_of_block, measured_symbols}
 use Rattle.sem_kept.proofs.accepted.OperandsFormals.{Distinct, IsFoundIn, IsSystem, Matched, block_formals, found_each, fresh_distinct, return_all, source_matched, system_matched}
@@ -854,7 +854,7 @@ operand_passed c f (operand.OpenBlock d n) v is e = other_passed c f (operand.Op
 operand_passed c f (operand.Called n i) v is e = other_passed c f (operand.Called n i) v is e
 
 good_passed : (a : Environment) (c : Context) (formals : List Formal) (x : Actual)
-    → IsGoodActual a c formals x → names_no_formal formals x ≡ false → HasPassed c x
+    → IsGoodActual a c formals x → names_no_formal formals x ≡ false → NamesWhatIsPassed c x
 good_passed a c formals x good named =
     let f = formal_there formals (upper_case_name x.name)
     (not-false (list_any (λ (f : Formal). bytes_eq (upper_case_name x.name) f.name) formals) named) in
@@ -864,7 +864,7 @@ good_passed a c formals x good named =
 all_passed_on : (a : Environment) (c : Context) (formals : List Formal) (xs : List Actual)
     → AllByRecursion (IsGoodActual a c formals) xs
     → AllByRecursion (λ (x : Actual). names_no_formal formals x ≡ false) xs
-    → AllByRecursion (HasPassed c) xs
+    → AllByRecursion (NamesWhatIsPassed c) xs
 all_passed_on a c formals [] good named = tt
 all_passed_on a c formals (x ∷ xs) good named =
     (good_passed a c formals x good.0 named.0, all_passed_on a c formals xs good.1 named.1)
@@ -1164,7 +1164,7 @@ module _ (symbols : List Symbol) (t : Tree) (tree : IsSoundTree symbols t)
 
   -- and each of its actual parameters what is passed
   pub actuals_pass : (how : CallOperation) → call_operation_of s.code ≡ Some how
-      → AllByRecursion (HasPassed (context_at symbols t k)) s.actuals
+      → AllByRecursion (NamesWhatIsPassed (context_at symbols t k)) s.actuals
   actuals_pass how word =
       let m = called_made how word in
       all_passed_on a (context_at symbols t k) m.cal.of_source.formals s.actuals

@@ -23,7 +23,7 @@ use Rattle.stl_codegen.specs.Generated.{code_block, code_blocks_of, return_state
 use Rattle.stl_codegen.specs.Instruction.{instruction}
 use Rattle.sem_kept.specs.Accepted.{program_in}
 use Rattle.sem_kept.specs.Coded.{StatementHasBytes}
-use Rattle.sem_kept.specs.Operands.{BlockIsFine, InstrFits, OperandsAreFine}
+use Rattle.sem_kept.specs.Operands.{BlockHasNoOperandFault, InstrFits, OperandsAreFine}
 use Rattle.sem_kept.proofs.accepted.Accepted.{IsSound, IsSoundStatement, IsSoundTree, context_at, right_tree, sound_code_blocks}
 use Rattle.sem_kept.proofs.accepted.CodedBytes.{tree_has}
 use Rattle.sem_kept.proofs.accepted.OperandsCalls.{call_fits}
@@ -102,7 +102,7 @@ module _ (symbols : List Symbol) (t : Tree) (tree : IsSoundTree symbols t)
       by true same next = same
       by false same next = (statement_fits n s sound.0 end.0 has.0, next)
 
-  block_fine : BlockIsFine (program_in symbols t) (compiled_block (code_block (context_at symbols t k) b l id))
+  block_fine : BlockHasNoOperandFault (program_in symbols t) (compiled_block (code_block (context_at symbols t k) b l id))
   unfolding statements_of
   block_fine =
       code_fine here (lens_of (program_in symbols t).data_blocks)
@@ -114,15 +114,15 @@ module _ (symbols : List Symbol) (t : Tree) (tree : IsSoundTree symbols t)
 
 -- ---- the program
 
-mapped_fine : (p : Program) (bs : List StatedBlock) → AllByRecursion (λ b. BlockIsFine p (compiled_block b)) bs
-    → AllByRecursion (BlockIsFine p) (map compiled_block bs)
+mapped_fine : (p : Program) (bs : List StatedBlock) → AllByRecursion (λ b. BlockHasNoOperandFault p (compiled_block b)) bs
+    → AllByRecursion (BlockHasNoOperandFault p) (map compiled_block bs)
 mapped_fine p [] h = tt
 mapped_fine p (b ∷ bs) h = (h.0, mapped_fine p bs h.1)
 
 pub operands_are_fine : OperandsAreFine
 operands_are_fine source file symbols t accepted bytes =
     mapped_fine (program_in symbols t) (code_blocks_of t symbols (layouts_of t symbols))
-    (sound_code_blocks symbols t (λ b. BlockIsFine (program_in symbols t) (compiled_block b)) tree
+    (sound_code_blocks symbols t (λ b. BlockHasNoOperandFault (program_in symbols t) (compiled_block b)) tree
     (λ k b l id sound named code.
     block_fine symbols t tree (symbols_fit accepted.language file symbols accepted.named) k b l id sound named code
     (all_there (λ (b : Block). AllByRecursion StatementHasBytes b.body) t.blocks k b has sound.block_there)))

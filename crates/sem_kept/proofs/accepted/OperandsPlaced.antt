@@ -25,7 +25,7 @@ use Rattle.flat_code.specs.declared.operations.Operation.{Operation}
 use Rattle.flat_code.specs.declared.operations.Operation.TheVariants as operation
 use Rattle.stl_codegen.specs.Compiled.{SourceInstruction, operand_with_target, op_with_target, ops_in, placed_ops}
 use Rattle.stl_codegen.specs.Emitted.{call_op, end_op, op_with_end_mark, instance_number_or_zero, ops_of, pass_ops, preparing_op}
-use Rattle.sem_kept.specs.Operands.{ArePassed, AreFine, InstrFits, IsFine, IsOperandRightFor}
+use Rattle.sem_kept.specs.Operands.{ArePassed, HaveNoOperandFaults, InstrFits, HasNoOperandFault, IsOperandRightFor}
 
 seven_none : (b : Bool) → b ≡ false → seven_if b ≡ None
 seven_none b e = ap seven_if e
@@ -102,17 +102,17 @@ right_call a lens p (operand.OpenBy register from byte) h = refl
 -- the ops behind a statement are fine wherever they stand
 abbrev FineBehind : Environment → List (ℕ × ℕ) → List StatementSpot → List OpData → Type 0
 FineBehind a lens ss rest = (at : ℕ) (brackets : List OpenBracket) (zones : List ℕ)
-    → AreFine a lens ss (ops_placed at brackets zones [] rest)
+    → HaveNoOperandFaults a lens ss (ops_placed at brackets zones [] rest)
 
 -- an op that ends a statement, and those behind it
 last_fine : (a : Environment) (lens : List (ℕ × ℕ)) (ss : List StatementSpot) (at : ℕ)
     (brackets : List OpenBracket) (zones : List ℕ) (before : List OpData) (op : OpData) (rest : List OpData)
     → op.last ≡ true
-    → IsFine a lens ss (record { at = at; brackets = brackets; zones = zones; before = before; op = op; rest = rest })
-    → FineBehind a lens ss rest → AreFine a lens ss (ops_placed at brackets zones before (op ∷ rest))
+    → HasNoOperandFault a lens ss (record { at = at; brackets = brackets; zones = zones; before = before; op = op; rest = rest })
+    → FineBehind a lens ss rest → HaveNoOperandFaults a lens ss (ops_placed at brackets zones before (op ∷ rest))
 last_fine a lens ss at brackets zones before op rest last fine behind = (
   fine,
-  subst (λ (z : List OpData). AreFine a lens ss (ops_placed (at + size_of_op op) (brackets_after at op.code brackets) (zones_behind_op at op.code zones) z rest))
+  subst (λ (z : List OpData). HaveNoOperandFaults a lens ss (ops_placed (at + size_of_op op) (brackets_after at op.code brackets) (zones_behind_op at op.code zones) z rest))
       (sym next) (behind (at + size_of_op op) (brackets_after at op.code brackets) (zones_behind_op at op.code zones)),
 )
   where
@@ -122,7 +122,7 @@ last_fine a lens ss at brackets zones before op rest last fine behind = (
 does_fine : (a : Environment) (lens : List (ℕ × ℕ)) (ss : List StatementSpot) (at : ℕ)
     (brackets : List OpenBracket) (zones : List ℕ) (before : List OpData) (w : Operation) (o : Operand) (rest : List OpData)
     → prepares_statement (op_code_of w) ≡ false → IsOperandRightFor a (op_with_end_mark w o) o → FineBehind a lens ss rest
-    → AreFine a lens ss (ops_placed at brackets zones before (op_with_end_mark w o ∷ rest))
+    → HaveNoOperandFaults a lens ss (ops_placed at brackets zones before (op_with_end_mark w o ∷ rest))
 does_fine a lens ss at brackets zones before w o rest own right behind =
     last_fine a lens ss at brackets zones before (op_with_end_mark w o) rest refl
     (record {
@@ -137,7 +137,7 @@ does_fine a lens ss at brackets zones before w o rest own right behind =
 use_db_fine : (a : Environment) (lens : List (ℕ × ℕ)) (ss : List StatementSpot) (at number : ℕ)
     (brackets : List OpenBracket) (zones : List ℕ) (w : Operation) (o : Operand) (rest : List OpData)
     → is_in_db o ≡ true
-    → IsFine a lens ss (record {
+    → HasNoOperandFault a lens ss (record {
       at = at;
       brackets = brackets;
       zones = zones;
@@ -192,7 +192,7 @@ pass_fine : (a : Environment) (lens : List (ℕ × ℕ)) (ss : List StatementSpo
     (block : BlockId) (instance : Option ℕ) (rest : List OpData)
     → is_above p.index (pass_before None before) ≡ true → is_bad_actual a p.actual ≡ false
     → misfits_callee a (callee_among a.blocks (kind_number block.kind) block.number) p.index p.actual ≡ false
-    → IsFine a lens ss (record {
+    → HasNoOperandFault a lens ss (record {
       at = at;
       brackets = brackets;
       zones = zones;
@@ -236,7 +236,7 @@ call_fine : (a : Environment) (lens : List (ℕ × ℕ)) (ss : List StatementSpo
     → is_bad_call lens (callee_among a.blocks (kind_number block.kind) block.number)
     (instance_number_or_zero instance) before ≡ false
     → FineBehind a lens ss rest
-    → AreFine a lens ss (ops_placed at brackets zones before (call_op how block instance ∷ rest))
+    → HaveNoOperandFaults a lens ss (ops_placed at brackets zones before (call_op how block instance ∷ rest))
 call_fine a lens ss at brackets zones before how block instance rest bad behind =
     last_fine a lens ss at brackets zones before (call_op how block instance) rest refl
     (record { operand = λ still. refl; call = seven_none _ bad; mark = by how }) behind
@@ -253,7 +253,7 @@ calls_fine : (a : Environment) (lens : List (ℕ × ℕ)) (ss : List StatementSp
     → is_bad_call lens (callee_among a.blocks (kind_number block.kind) block.number)
     (instance_number_or_zero instance) (done ++ pass_ops left) ≡ false
     → FineBehind a lens ss rest
-    → AreFine a lens ss (ops_placed at brackets zones done (pass_ops left ++ call_op calls.Call block instance ∷ rest))
+    → HaveNoOperandFaults a lens ss (ops_placed at brackets zones done (pass_ops left ++ call_op calls.Call block instance ∷ rest))
 calls_fine a lens ss at brackets zones done block instance [] rest passed bad behind =
     call_fine a lens ss at brackets zones done calls.Call block instance rest
     (subst (λ (z : List OpData). is_bad_call lens (callee_among a.blocks (kind_number block.kind) block.number)
@@ -280,14 +280,14 @@ calls_fine a lens ss at brackets zones done block instance (p ∷ ps) rest passe
 jump_fine : (a : Environment) (lens : List (ℕ × ℕ)) (ss : List StatementSpot) (at kind target : ℕ)
     (brackets : List OpenBracket) (zones : List ℕ) (rest : List OpData)
     → FineBehind a lens ss rest
-    → AreFine a lens ss (ops_placed at brackets zones [] (op_with_end_mark operation.Jump (operand.Jump kind target) ∷ rest))
+    → HaveNoOperandFaults a lens ss (ops_placed at brackets zones [] (op_with_end_mark operation.Jump (operand.Jump kind target) ∷ rest))
 jump_fine a lens ss at kind target brackets zones rest behind =
     last_fine a lens ss at brackets zones [] (op_with_end_mark operation.Jump (operand.Jump kind target)) rest refl
     (record { operand = λ still. absurd still; call = refl; mark = refl }) behind
 
 end_fine : (a : Environment) (lens : List (ℕ × ℕ)) (ss : List StatementSpot) (at : ℕ)
     (brackets : List OpenBracket) (zones : List ℕ) (how : EndOperation) (rest : List OpData) → FineBehind a lens ss rest
-    → AreFine a lens ss (ops_placed at brackets zones [] (end_op how ∷ rest))
+    → HaveNoOperandFaults a lens ss (ops_placed at brackets zones [] (end_op how ∷ rest))
 end_fine a lens ss at brackets zones how rest behind =
     last_fine a lens ss at brackets zones [] (end_op how) rest refl
     (record { operand = λ still. refl; call = refl; mark = by how }) behind
@@ -300,14 +300,14 @@ end_fine a lens ss at brackets zones how rest behind =
 instr_fine : (a : Environment) (lens : List (ℕ × ℕ)) (ss : List StatementSpot) (f : ℕ → ℕ) (at : ℕ)
     (brackets : List OpenBracket) (zones : List ℕ) (i : Instr) (rest : List OpData) → InstrFits a lens i
     → FineBehind a lens ss rest
-    → AreFine a lens ss (ops_placed at brackets zones [] (map (op_with_target f) (ops_of i) ++ rest))
+    → HaveNoOperandFaults a lens ss (ops_placed at brackets zones [] (map (op_with_target f) (ops_of i) ++ rest))
 unfolding ops_of
 instr_fine a lens ss f at brackets zones (Does None w o) rest h behind =
-    subst (λ (x : Operand). AreFine a lens ss (ops_placed at brackets zones [] (op_with_end_mark w x ∷ rest)))
+    subst (λ (x : Operand). HaveNoOperandFaults a lens ss (ops_placed at brackets zones [] (op_with_end_mark w x ∷ rest)))
     (sym (aimed_still f a (op_with_end_mark w o) o h.1))
     (does_fine a lens ss at brackets zones [] w o rest h.0 h.1 behind)
 instr_fine a lens ss f at brackets zones (Does (Some number) w o) rest h behind =
-    subst (λ (x : Operand). AreFine a lens ss (ops_placed at brackets zones []
+    subst (λ (x : Operand). HaveNoOperandFaults a lens ss (ops_placed at brackets zones []
     (preparing_op operation.UseDb (operand.UseDb number) ∷ op_with_end_mark w x ∷ rest)))
     (sym (aimed_still f a (op_with_end_mark w o) o h.1)) (
       use_db_fine a lens ss at number brackets zones w o rest h.2,
@@ -321,7 +321,7 @@ instr_fine a lens ss f at brackets zones (JumpsByList targets otherwise) rest h 
 instr_fine a lens ss f at brackets zones (Returns how) rest h behind =
     end_fine a lens ss at brackets zones how rest behind
 instr_fine a lens ss f at brackets zones (Calls calls.Call block instance ps) rest h behind =
-    subst (λ (z : List OpData). AreFine a lens ss (ops_placed at brackets zones [] z)) (sym same)
+    subst (λ (z : List OpData). HaveNoOperandFaults a lens ss (ops_placed at brackets zones [] z)) (sym same)
     (calls_fine a lens ss at brackets zones [] block instance ps rest h.1 h.2 behind)
   where
     call : OpData
@@ -348,13 +348,13 @@ statements_fine : (a : Environment) (lens : List (ℕ × ℕ)) (ss : List Statem
     → FineBehind a lens ss (map (op_with_target f) (ops_in statements))
 statements_fine a lens ss f [] h at brackets zones = tt
 statements_fine a lens ss f (s ∷ more) h at brackets zones =
-    subst (λ (z : List OpData). AreFine a lens ss (ops_placed at brackets zones [] z))
+    subst (λ (z : List OpData). HaveNoOperandFaults a lens ss (ops_placed at brackets zones [] z))
     (sym (map-append (op_with_target f) (ops_of s.instr) (ops_in more)))
     (instr_fine a lens ss f at brackets zones s.instr (map (op_with_target f) (ops_in more)) h.0
     (statements_fine a lens ss f more h.1))
 
 pub code_fine : (a : Environment) (lens : List (ℕ × ℕ)) (ss : List StatementSpot) (statements : List SourceInstruction)
     → AllByRecursion (λ s. InstrFits a lens s.instr) statements
-    → AreFine a lens ss (ops_placed 0 [] [] [] (placed_ops (ops_in statements)))
+    → HaveNoOperandFaults a lens ss (ops_placed 0 [] [] [] (placed_ops (ops_in statements)))
 unfolding placed_ops
 code_fine a lens ss statements h = statements_fine a lens ss _ statements h 0 [] []

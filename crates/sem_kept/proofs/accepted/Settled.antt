@@ -27,7 +27,7 @@ use Rattle.stl_codegen.specs.Compiled.{compiled_block}
 use Rattle.stl_codegen.specs.Generated.{code_blocks_of, params_of}
 use Rattle.stl_codegen.specs.Operations.{call_operation_of, jump_operation_of}
 use Rattle.sem_kept.specs.Coded.{StatementHasBytes}
-use Rattle.sem_kept.specs.Settled.{HasInstruction, HasLabel, HasOperand, HasPassed, IsSettled, StatementsSettle}
+use Rattle.sem_kept.specs.Settled.{HasInstruction, HasLabel, HasOperand, NamesWhatIsPassed, IsResolvedStatement, StatementsSettle}
 use Rattle.sem_kept.proofs.accepted.Accepted.{IsSound, IsSoundStatement, IsSoundTree, context_at, each_passes, right_tree}
 use Rattle.sem_kept.proofs.accepted.CodedBytes.{tree_has}
 use Rattle.sem_kept.proofs.accepted.JumpsOperands.{takes_right}
@@ -69,7 +69,7 @@ module _ (symbols : List Symbol) (t : Tree) (tree : IsSoundTree symbols t)
       → IsSoundStatement (types_of_source symbols t.blocks) (context_at symbols t k) s
       → EndsBy l.local_len s → StatementHasBytes s
       → is_unknown_label (labels_of b.body) s.operand ≡ false → Settle symbols t k s
-      → IsSettled (context_at symbols t k) b.body s
+      → IsResolvedStatement (context_at symbols t k) b.body s
   statement_settles s sound ends has known settle = record {
     instruction = by (jump_operation_of s.code) refl;
     actuals = passed (call_operation_of s.code) refl;
@@ -120,9 +120,9 @@ module _ (symbols : List Symbol) (t : Tree) (tree : IsSoundTree symbols t)
       by (Some how) is = labelled (takes.jumps how is)
 
       passed : (o : Option CallOperation) → call_operation_of s.code ≡ o
-          → AllByRecursion (HasPassed (context_at symbols t k)) s.actuals
+          → AllByRecursion (NamesWhatIsPassed (context_at symbols t k)) s.actuals
       passed None is =
-          subst (AllByRecursion (HasPassed (context_at symbols t k)))
+          subst (AllByRecursion (NamesWhatIsPassed (context_at symbols t k)))
           (sym (sound.well_formed.no_actuals (none_owed s.code is))) tt
       passed (Some how) is =
           actuals_pass symbols t tree fit k b l block code here surrounded refl s sound ends has how is
@@ -132,7 +132,7 @@ module _ (symbols : List Symbol) (t : Tree) (tree : IsSoundTree symbols t)
       → AllByRecursion (EndsBy l.local_len) ss → AllByRecursion StatementHasBytes ss
       → AllByRecursion (λ (s : Statement). is_unknown_label (labels_of b.body) s.operand ≡ false) ss
       → AllByRecursion (Settle symbols t k) ss
-      → AllByRecursion (IsSettled (context_at symbols t k) b.body) ss
+      → AllByRecursion (IsResolvedStatement (context_at symbols t k) b.body) ss
   all_settle [] sound ends has known settle = tt
   all_settle (s ∷ ss) sound ends has known settle = (
     statement_settles s sound.0 ends.0 has.0 known.0 settle.0,
@@ -143,11 +143,11 @@ block_settles : (symbols : List Symbol) (t : Tree) → IsSoundTree symbols t
     → AllByRecursion SymbolFits symbols → (k : ℕ) (b : Block) (l : BlockLayout)
     → IsSound symbols t k b l → AllByRecursion StatementHasBytes b.body
     → AllByRecursion (Settle symbols t k) b.body
-    → AllByRecursion (IsSettled (context_at symbols t k) b.body) b.body
+    → AllByRecursion (IsResolvedStatement (context_at symbols t k) b.body) b.body
 block_settles symbols t tree fit k b l block has settle = by (is_code b.kind) refl
   where
     by : (code : Bool) → is_code b.kind ≡ code
-        → AllByRecursion (IsSettled (context_at symbols t k) b.body) b.body
+        → AllByRecursion (IsResolvedStatement (context_at symbols t k) b.body) b.body
     by true is =
         all_settle symbols t tree fit k b l block is b.body block.statements
         (ends_by l.local_len b.body
@@ -158,7 +158,7 @@ block_settles symbols t tree fit k b l block has settle = by (is_code b.kind) re
         (λ (s : Statement). s.line) 26 b.body block.body.by_26)
         settle
     by false is =
-        subst (AllByRecursion (IsSettled (context_at symbols t k) b.body))
+        subst (AllByRecursion (IsResolvedStatement (context_at symbols t k) b.body))
         (sym (block.well_formed.runs.1 is)) tt
 
 pub statements_settle : StatementsSettle

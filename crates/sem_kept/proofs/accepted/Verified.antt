@@ -16,7 +16,7 @@ use Rattle.block_layout.specs.Layouts.{layouts_of}
 use Rattle.sem_kept.specs.Accepted.{AcceptedVerifies, program_in}
 use Rattle.sem_kept.specs.Coded.{IsBlockCoded}
 use Rattle.sem_kept.specs.Jumps.{AllLandRight}
-use Rattle.sem_kept.specs.Operands.{AreFine}
+use Rattle.sem_kept.specs.Operands.{HaveNoOperandFaults}
 use Rattle.sem_kept.specs.Records.{HasFaultlessCode}
 use Rattle.sem_kept.specs.Sizes.{IsSmallBlock}
 use Rattle.sem_kept.proofs.accepted.Accepted.{right_tree}
@@ -37,7 +37,7 @@ BlockLands b = AllLandRight (code_in b.statements)
 
 blocks_clean : (lens : List (ℕ × ℕ)) (all : List BlockRecord) (bs : List StatedBlock)
     → AllByRecursion
-    (λ b. AreFine (environment_of_block (Some lens) all (record_of_block b)) lens (statement_spots b.code) (code_places b.code))
+    (λ b. HaveNoOperandFaults (environment_of_block (Some lens) all (record_of_block b)) lens (statement_spots b.code) (code_places b.code))
     (map compiled_block bs)
     → AllByRecursion BlockLands bs → AreVerified lens all (map record_of_block (map compiled_block bs))
 blocks_clean lens all [] fine lands = tt

@@ -1,6 +1,6 @@
 use Rattle.std.proofs.Common.{refl, sym, subst, List, [], ◌∷◌, ℕ, Ok, inl}
-use Rattle.s7_cli.specs.declared.bound_command.Told.{Told}
-use Rattle.s7_cli.specs.Answer.{Answer}
+use Rattle.s7_cli.specs.declared.bound_command.BoundText.{BoundText}
+use Rattle.s7_cli.specs.Answer.{CallAnswer}
 use Rattle.s7_cli.specs.BoundSays.{BoundSays, IsCertificate}
 use Rattle.s7_cli.specs.BoundTexts.{IsChainLine}
 use Rattle.s7_cli.specs.Command.{Bound}
@@ -25,5 +25,5 @@ returns-in-Ok-Deep g c img start read =
 
 pub returns-in-Err : goal.returns-in-Err
 returns-in-Err g c img start read =
-    comes-refused Told (Bound img c.args.cert.now) start _ _ (c.args.image.now ∷ []) (BoundSays c.args.image.now) _ _
-    refl read (λ (a : Answer) said. said) c.in-Err.ensures.refused
+    comes-refused BoundText (Bound img c.args.cert.now) start _ _ (c.args.image.now ∷ []) (BoundSays c.args.image.now) _ _
+    refl read (λ (a : CallAnswer) said. said) c.in-Err.ensures.refused

@@ -1,6 +1,6 @@
 use Rattle.std.proofs.Common.{ap, refl, ◌∙◌, Err}
 use Rattle.std.proofs.lemmas.Result.{err_from_is_err_and}
-use Rattle.s7_cli.specs.Answer.{Answer}
+use Rattle.s7_cli.specs.Answer.{CallAnswer}
 use Rattle.s7_cli.specs.Command.{Check}
 use Rattle.s7_cli.specs.Lines.{ok_line}
 use Rattle.s7_cli.specs.Says.{RefusedProgram}
@@ -15,7 +15,7 @@ returns-in_err-check_program g c src symbols at start read =
     let text = c.args.text.now in
     comes-refused Unit (Check src symbols c.args.german) start at _ (file_contents_of text)
     (RefusedProgram c.args.german text.source.items (symbols_text_of text)) _ _ (fault.1 ∙ ap Err fault.2) read
-    (λ (a : Answer) told. check-said start.contents src symbols c.args.german text.source.items (symbols_file text) a read.hold.1
+    (λ (a : CallAnswer) told. check-said start.contents src symbols c.args.german text.source.items (symbols_file text) a read.hold.1
     (refused-checks c.args.german text.source.items (symbols_text_of text) a told))
     c.in_err-check_program.ensures.refused
 

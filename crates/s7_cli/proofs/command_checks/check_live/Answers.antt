@@ -7,7 +7,7 @@ use Rattle.event_text.specs.TextFault.{IsTextFault}
 use Rattle.event_text.specs.Texts.{stimuli_of}
 use Rattle.s7_cli.specs.declared.command_checks.LiveWork.{LiveWork}
 use Rattle.s7_cli.specs.LiveSays.{scripts_from}
-use Rattle.s7_cli.specs.LiveTexts.{TellsScript, scripts_of}
+use Rattle.s7_cli.specs.LiveTexts.{IsScriptRefusal, scripts_of}
 use Rattle.s7_cli.specs.Loads.{LoadsAs}
 use Rattle.s7_cli.proofs.LiveLemmas.{live-image-refused, scripts-refused, stimuli-refused}
 use Rattle.s7_cli.proofs.PassLemmas.{length_items}
@@ -36,8 +36,8 @@ returns-in_err-scripts-clause-refused c =
     scripts-refused _ c.args.text.now p c.in-Ok.entries.items _ _ (fault.1 ∙ ap Err fault.2)
     (subst (λ (bytes : List ℕ). LoadsAs bytes (Ok p)) c.deref.ensures.value c.in_ok-program.ensures.loads)
     (ap stimuli_of (sym c.deref-2.ensures.value) ∙ c.in-Ok.ensures.spelled)
-    (subst (λ (names : List NameEntry). TellsScript (scripts_from names 1 (scripts_of c.args.text.now)) c.in_err-scripts.field-0.0) c.names.ensures
-    (subst (λ (texts : List (Vec ℕ Global)). TellsScript (scripts_from c.names.result.now 1 (all_bytes texts)) c.in_err-scripts.field-0.0) c.deref-3.ensures.value
+    (subst (λ (names : List NameEntry). IsScriptRefusal (scripts_from names 1 (scripts_of c.args.text.now)) c.in_err-scripts.field-0.0) c.names.ensures
+    (subst (λ (texts : List (Vec ℕ Global)). IsScriptRefusal (scripts_from c.names.result.now 1 (all_bytes texts)) c.in_err-scripts.field-0.0) c.deref-3.ensures.value
     c.in_err-scripts.ensures.refused))
 
 pub returns-clause-finds : goal.returns-clause-finds

@@ -5,7 +5,7 @@ use Rattle.image_file.specs.Loaded.{LoadedProgram}
 use Rattle.var_access.specs.History.{History}
 use Rattle.event_text.specs.TextFault.{IsTextFault}
 use Rattle.event_text.specs.Texts.{history_of_text}
-use Rattle.s7_cli.specs.Answer.{Answer}
+use Rattle.s7_cli.specs.Answer.{CallAnswer}
 use Rattle.s7_cli.specs.Says.{GoSays, RefusedProgram}
 use Rattle.s7_cli.specs.Texts.{symbols_text_of}
 use Rattle.s7_cli.proofs.RefusedLemmas.{refused-more}
@@ -18,7 +18,7 @@ returns-in_err-program-clause-refused c =
     let source = c.args.text.now.source.items in
     let symbols = symbols_text_of c.args.text.now in
     refused-more LoadedProgram (LoadedProgram × History) (RefusedProgram c.args.german source symbols) (GoSays c.args.german source symbols c.args.history.now) _ _
-    (fault.1 ∙ ap Err fault.2) (λ (a : Answer) told. refused-goes c.args.german source symbols c.args.history.now a told)
+    (fault.1 ∙ ap Err fault.2) (λ (a : CallAnswer) told. refused-goes c.args.german source symbols c.args.history.now a told)
     c.in_err-program.ensures.refused
 
 pub returns-in_err-entries-clause-refused : goal.returns-in_err-entries-clause-refused

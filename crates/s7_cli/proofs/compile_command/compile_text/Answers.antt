@@ -1,6 +1,6 @@
 use Rattle.std.proofs.Common.{ap, refl, sym, subst, ◌∙◌, List, ℕ, Vec, Global, Err}
 use Rattle.std.proofs.lemmas.Result.{err_from_is_err_and}
-use Rattle.s7_cli.specs.Answer.{Answer}
+use Rattle.s7_cli.specs.Answer.{CallAnswer}
 use Rattle.s7_cli.specs.Command.{Compile}
 use Rattle.s7_cli.specs.Says.{RefusedProgram, WritesOutputFile}
 use Rattle.s7_cli.specs.Texts.{file_contents_of, symbols_file, symbols_text_of}
@@ -14,7 +14,7 @@ returns-in_err-image g c src symbols start read =
     let text = c.args.text.now in
     comes-refused (Vec ℕ Global) (Compile src symbols c.args.german c.args.img.now) start _ _ (file_contents_of text)
     (RefusedProgram c.args.german text.source.items (symbols_text_of text)) _ _ (fault.1 ∙ ap Err fault.2) read
-    (λ (a : Answer) told.
+    (λ (a : CallAnswer) told.
     compile-said start.contents src symbols c.args.german c.args.img.now text.source.items (symbols_file text) a read.hold.1
     (refused-checks c.args.german text.source.items (symbols_text_of text) a told))
     c.in_err-image.ensures.refused

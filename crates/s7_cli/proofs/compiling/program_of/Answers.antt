@@ -2,7 +2,7 @@ use Rattle.std.proofs.Common.{ℕ, List, Result, Err, IfErr, sym, ap, ◌∙◌,
 use Rattle.std.proofs.lemmas.Result.{IfErr-weaker, IfOk-weaker, err_from_is_err_and}
 use Rattle.flat_code.specs.Programs.{Program}
 use Rattle.stl_symbols.specs.declared.languages.Language.TheVariants.{English}
-use Rattle.s7_cli.specs.Compiling.{RefusesBy}
+use Rattle.s7_cli.specs.Compiling.{RefusesEnglish}
 use Rattle.s7_cli.specs.declared.faults.CompileFault.{CompileFault}
 use Rattle.s7_cli.proofs.CompileLemmas.{by_symbols}
 use Rattle.s7_cli.proofs.compiling.program_of.Goals as goal
@@ -11,7 +11,7 @@ pub returns-in_err-list-clause-refused : goal.returns-in_err-list-clause-refused
 returns-in_err-list-clause-refused c =
     let given : List ℕ = c.args.symbols.now in
     let fault = err_from_is_err_and c.from_residual.result c.from_residual.ensures.1 in
-    subst (λ (r : Result Program CompileFault). IfErr r (RefusesBy c.args.source.now given)) (sym (fault.1 ∙ ap Err fault.2))
+    subst (λ (r : Result Program CompileFault). IfErr r (RefusesEnglish c.args.source.now given)) (sym (fault.1 ∙ ap Err fault.2))
     (by_symbols English c.args.source.now given _ c.in_err-list.ensures.refused)
 
 pub returns-clause-ok : goal.returns-clause-ok

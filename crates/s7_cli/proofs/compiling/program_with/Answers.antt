@@ -1,7 +1,7 @@
 use Rattle.std.proofs.Common.{Result, Err, IfErr, sym, ap, ◌∙◌, subst}
 use Rattle.std.proofs.lemmas.Result.{err_from_is_err_and}
 use Rattle.flat_code.specs.Programs.{Program}
-use Rattle.s7_cli.specs.Compiling.{CompilesWith, KeepsWith, RefusesWith}
+use Rattle.s7_cli.specs.Compiling.{CompilesWith, KeepsWith, RefusesForSymbols}
 use Rattle.s7_cli.specs.declared.faults.CompileFault.{CompileFault}
 use Rattle.s7_cli.proofs.CompileLemmas.{generated_compiles, generated_runs, refused_laid}
 use Rattle.s7_cli.proofs.compiling.program_with.Goals as goal
@@ -10,7 +10,7 @@ pub returns-in_err-checked-clause-refused : goal.returns-in_err-checked-clause-r
 returns-in_err-checked-clause-refused c =
     let fault = err_from_is_err_and c.from_residual-in_err-checked.result
     c.from_residual-in_err-checked.ensures.1 in
-    subst (λ (r : Result Program CompileFault). IfErr r (RefusesWith c.args.source.now c.args.symbols))
+    subst (λ (r : Result Program CompileFault). IfErr r (RefusesForSymbols c.args.source.now c.args.symbols))
     (sym (fault.1 ∙ ap Err fault.2))
     (refused_laid c.args.source.now c.in_ok-laid.laid c.args.symbols _ c.in_ok-laid.ensures.symbols
     c.in_ok-laid.ensures.laid c.in_err-checked.ensures.refused)

@@ -9,7 +9,7 @@ use Rattle.var_access.specs.declared.Entry.{Entry}
 use Rattle.controller.specs.Recording.{Recording}
 use Rattle.controller.specs.Replay.{replay}
 use Rattle.controller.specs.Replayed.{entry_events, final_state}
-use Rattle.s7_cli.specs.Answer.{Answer}
+use Rattle.s7_cli.specs.Answer.{CallAnswer}
 use Rattle.s7_cli.specs.Command.{Gen}
 use Rattle.s7_cli.specs.Ends.{sink_moments}
 use Rattle.s7_cli.specs.GenText.{summary_of, summary_text}
@@ -24,7 +24,7 @@ returns-in_err-program g c = λ files.
     let fault = err_from_is_err_and c.from_residual.result c.from_residual.ensures.1 in
     comes-refused LoadedProgram (Gen c.args.number) files files _ [] (GenSays c.args.number) _ _ (fault.1 ∙ ap Err fault.2)
     (record { same = unchanged files; hold = tt })
-    (λ (a : Answer) said. said)
+    (λ (a : CallAnswer) said. said)
     c.in_err-program.ensures.refused
 
 pub returns : goal.returns

@@ -11,7 +11,7 @@ use Rattle.stl_symbols.specs.declared.languages.Language.{Language}
 use Rattle.event_text.specs.Texts.{history_of_text}
 use Rattle.s7_cli.specs.run_text.RunText.{run_text}
 use Rattle.s7_cli.specs.declared.failures.File.TheVariants.{History}
-use Rattle.s7_cli.specs.Answer.{Answer, done_answer}
+use Rattle.s7_cli.specs.Answer.{CallAnswer, done_answer}
 use Rattle.s7_cli.specs.Command.{Go, Input}
 use Rattle.s7_cli.specs.Ends.{sink_moments}
 use Rattle.s7_cli.specs.Inner.{TextWritten}
@@ -35,7 +35,7 @@ returns-in_err-program g c src hist symbols at start read =
     let history : List ℕ = c.args.history.now in
     comes-refused (LoadedProgram × EntryHistory) (Go src symbols c.args.german hist) start at _ (file_contents_of text ++ history ∷ [])
     (GoSays c.args.german text.source.items (symbols_text_of text) history) _ _ (fault.1 ∙ ap Err fault.2) read
-    (λ (a : Answer) said. go-said start.contents src symbols c.args.german hist text.source.items (symbols_file text) history a (symbols-held start.contents symbols (symbols_file text) (history_input hist) history read.hold.1) said)
+    (λ (a : CallAnswer) said. go-said start.contents src symbols c.args.german hist text.source.items (symbols_file text) history a (symbols-held start.contents symbols (symbols_file text) (history_input hist) history read.hold.1) said)
     c.in_err-program.ensures.refused
 
 pub returns : goal.returns

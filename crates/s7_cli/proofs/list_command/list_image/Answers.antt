@@ -1,7 +1,7 @@
 use Rattle.std.proofs.Common.{ap, inl, inr, refl, sym, ◌∙◌, List, [], ◌∷◌, ℕ, Ok, Err}
 use Rattle.std.proofs.lemmas.Result.{err_from_is_err_and}
 use Rattle.stl_list.specs.declared.listing.Listing.{Listing}
-use Rattle.s7_cli.specs.Answer.{Answer}
+use Rattle.s7_cli.specs.Answer.{CallAnswer}
 use Rattle.s7_cli.specs.Command.{ListImage}
 use Rattle.s7_cli.specs.ListSays.{ListSays}
 use Rattle.s7_cli.proofs.ComesLemmas.{comes-refused}
@@ -11,7 +11,7 @@ pub returns-in_err-listing : goal.returns-in_err-listing
 returns-in_err-listing g c img start read =
     let fault = err_from_is_err_and c.from_residual.result c.from_residual.ensures.1 in
     comes-refused Listing (ListImage img c.args.src.now c.args.sym.now) start _ _ (c.args.image.now ∷ []) (ListSays c.args.image.now) _ _
-    (fault.1 ∙ ap Err fault.2) read (λ (a : Answer) said. said) c.in_err-listing.ensures.refused
+    (fault.1 ∙ ap Err fault.2) read (λ (a : CallAnswer) said. said) c.in_err-listing.ensures.refused
 
 pub returns : goal.returns
 returns g c img start read =

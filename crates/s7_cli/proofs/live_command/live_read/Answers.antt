@@ -1,7 +1,7 @@
 use Rattle.std.proofs.Common.{◌∙◌, ap, refl, Err}
 use Rattle.std.proofs.lemmas.Result.{err_from_is_err_and}
 use Rattle.controller.specs.Recording.{Recording}
-use Rattle.s7_cli.specs.Answer.{Answer}
+use Rattle.s7_cli.specs.Answer.{CallAnswer}
 use Rattle.s7_cli.specs.Command.{Live}
 use Rattle.s7_cli.specs.LiveSays.{live_text}
 use Rattle.s7_cli.specs.LiveTexts.{LiveTextSays, live_contents}
@@ -13,7 +13,7 @@ pub returns-in_err-controller : goal.returns-in_err-controller
 returns-in_err-controller g c img stim ops at start read =
     let fault = err_from_is_err_and c.from_residual.result c.from_residual.ensures.1 in
     comes-refused Recording (Live img stim ops c.args.steps) start at _ (live_contents c.args.text.now) (LiveTextSays c.args.steps c.args.text.now) _ _
-    (fault.1 ∙ ap Err fault.2) read (λ (a : Answer) said. said) c.in_err-controller.ensures.refused
+    (fault.1 ∙ ap Err fault.2) read (λ (a : CallAnswer) said. said) c.in_err-controller.ensures.refused
 
 pub returns : goal.returns
 returns g c img stim ops at start read =

@@ -6,7 +6,7 @@ use Rattle.s7_cli.specs.declared.failures.Failure.TheVariants.{WordsRefused, NoM
 use Rattle.s7_cli.specs.Answer.{words_refused_answer}
 use Rattle.s7_cli.specs.Command.{Command}
 use Rattle.s7_cli.specs.Ends.{EndsWithStatus, sink_moments}
-use Rattle.s7_cli.specs.Inner.{ComesOutAs}
+use Rattle.s7_cli.specs.Inner.{ComesBeforeLine}
 use Rattle.s7_cli.specs.Reading.{disk_moments}
 use Rattle.s7_cli.specs.StatusTable.{StatusTable}
 use Rattle.s7_cli.specs.Words.{command_of, command_value}
@@ -15,9 +15,9 @@ use Rattle.s7_cli.proofs.LimitLemmas.{read-limits}
 use Rattle.s7_cli.proofs.program.s7_main.Goals as goal
 
 words-refused : (command : Option Command) (files : FilesAt) (out : SinkAt) → None ≡ command
-    → ComesOutAs command (disk_moments files files) (sink_moments out out) (Err WordsRefused)
+    → ComesBeforeLine command (disk_moments files files) (sink_moments out out) (Err WordsRefused)
 words-refused command files out is =
-    subst (λ (c : Option Command). ComesOutAs c (disk_moments files files) (sink_moments out out) (Err WordsRefused)) is (record {
+    subst (λ (c : Option Command). ComesBeforeLine c (disk_moments files files) (sink_moments out out) (Err WordsRefused)) is (record {
       line = words_refused_answer.text;
       has_line = refl;
       answers = refl;
@@ -27,7 +27,7 @@ words-refused command files out is =
     })
 
 -- memory was wanting while the words were read
-words-unread : (command : Option Command) (files : FilesAt) (out : SinkAt) → ComesOutAs command (disk_moments files files) (sink_moments out out) (Err NoMemory)
+words-unread : (command : Option Command) (files : FilesAt) (out : SinkAt) → ComesBeforeLine command (disk_moments files files) (sink_moments out out) (Err NoMemory)
 words-unread command files out = wanting command (disk_moments files files) out (only-reads files files (unchanged files))
 
 pub returns-in-Ok-None-clause-ends : goal.returns-in-Ok-None-clause-ends

@@ -1,7 +1,7 @@
 use Rattle.std.proofs.Common.{◌≡◌, ap, refl, sym, subst, ◌∙◌, List, [], ◌∷◌, ℕ, Vec, Global, Err}
 use Rattle.std.proofs.lemmas.Result.{err_from_is_err_and}
 use Rattle.de_mnemonics.specs.Translation.{IsTranslation}
-use Rattle.s7_cli.specs.Answer.{Answer, done_answer}
+use Rattle.s7_cli.specs.Answer.{CallAnswer, done_answer}
 use Rattle.s7_cli.specs.Command.{Translate}
 use Rattle.s7_cli.specs.Lines.{ok_line}
 use Rattle.s7_cli.specs.Translating.{NotTranslated}
@@ -15,7 +15,7 @@ returns-in_err-text g c src start read =
     let source : List ℕ = c.args.source.now in
     comes-refused (Vec ℕ Global) (Translate c.args.language src c.args.translation.now) start _ _ (source ∷ [])
     (NotTranslated c.args.language source) _ _ (fault.1 ∙ ap Err fault.2) read
-    (λ (a : Answer) told.
+    (λ (a : CallAnswer) told.
     translated-weaker c.args.language source (λ text b. ⊥) (λ text b. b ≡ done_answer ok_line) (λ text b none. absurd none) a told)
     c.in_err-text.ensures.refused
 

@@ -8,7 +8,7 @@ use Rattle.event_text.specs.Texts.{stimuli_of}
 use Rattle.event_text.specs.WatchedVars.{watched_vars_of}
 use Rattle.s7_cli.specs.declared.watch_checks.WatchWork.{WatchWork}
 use Rattle.s7_cli.specs.LiveSays.{scripts_from}
-use Rattle.s7_cli.specs.LiveTexts.{TellsScript}
+use Rattle.s7_cli.specs.LiveTexts.{IsScriptRefusal}
 use Rattle.s7_cli.specs.Loads.{LoadsAs}
 use Rattle.s7_cli.specs.WatchTexts.{watch_scripts}
 use Rattle.s7_cli.proofs.PassLemmas.{length_items}
@@ -49,8 +49,8 @@ returns-in_err-scripts-clause-refused c =
     (subst (λ (bytes : List ℕ). LoadsAs bytes (Ok p)) c.deref.ensures.value c.in_ok-program.ensures.loads)
     (ap stimuli_of (sym c.deref-2.ensures.value) ∙ c.in-Ok.ensures.spelled)
     (ap₂ watched_vars_of (sym c.names.ensures) (sym c.deref-3.ensures.value) ∙ c.in_ok-vars.ensures.spells)
-    (subst (λ (names : List NameEntry). TellsScript (scripts_from names 1 (watch_scripts c.args.text.now)) c.in_err-scripts.field-0.0) c.names-2.ensures
-    (subst (λ (texts : List (Vec ℕ Global)). TellsScript (scripts_from c.names-2.result.now 1 (all_bytes texts)) c.in_err-scripts.field-0.0) c.deref-4.ensures.value
+    (subst (λ (names : List NameEntry). IsScriptRefusal (scripts_from names 1 (watch_scripts c.args.text.now)) c.in_err-scripts.field-0.0) c.names-2.ensures
+    (subst (λ (texts : List (Vec ℕ Global)). IsScriptRefusal (scripts_from c.names-2.result.now 1 (all_bytes texts)) c.in_err-scripts.field-0.0) c.deref-4.ensures.value
     c.in_err-scripts.ensures.refused))
 
 pub returns-clause-finds : goal.returns-clause-finds

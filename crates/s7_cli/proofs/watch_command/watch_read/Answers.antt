@@ -1,7 +1,7 @@
 use Rattle.std.proofs.Common.{◌∙◌, ap, refl, Err}
 use Rattle.std.proofs.lemmas.Result.{err_from_is_err_and}
 use Rattle.s7_cli.specs.declared.watch_command.Watched.{Watched}
-use Rattle.s7_cli.specs.Answer.{Answer}
+use Rattle.s7_cli.specs.Answer.{CallAnswer}
 use Rattle.s7_cli.specs.Command.{Watch}
 use Rattle.s7_cli.specs.WatchSays.{watch_text}
 use Rattle.s7_cli.specs.WatchTexts.{WatchTextSays, watch_contents}
@@ -13,7 +13,7 @@ pub returns-in_err-watched : goal.returns-in_err-watched
 returns-in_err-watched g c img stim vars ops at start read =
     let fault = err_from_is_err_and c.from_residual.result c.from_residual.ensures.1 in
     comes-refused Watched (Watch img stim vars ops c.args.steps) start at _ (watch_contents c.args.text.now) (WatchTextSays c.args.steps c.args.text.now) _ _
-    (fault.1 ∙ ap Err fault.2) read (λ (a : Answer) said. said) c.in_err-watched.ensures.refused
+    (fault.1 ∙ ap Err fault.2) read (λ (a : CallAnswer) said. said) c.in_err-watched.ensures.refused
 
 pub returns : goal.returns
 returns g c img stim vars ops at start read =

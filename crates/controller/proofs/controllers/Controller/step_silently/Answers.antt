@@ -6,7 +6,7 @@ use Rattle.machine.specs.Flat.{code_of}
 use Rattle.var_access.specs.History.{History}
 use Rattle.var_access.specs.declared.Entry.{Entry}
 use Rattle.var_access.specs.declared.What.TheVariants.{Step}
-use Rattle.controller.specs.Quiet.{ShowNothing, steps_quietly}
+use Rattle.controller.specs.SilentSteps.{ShowNothing, steps_silently}
 use Rattle.controller.specs.Replay.{last_observed, replay, state_after_entries}
 use Rattle.controller.specs.Shown.{watched_state}
 use Rattle.controller.specs.State.{State}
@@ -14,7 +14,7 @@ use Rattle.controller.specs.Views.{cpu_state}
 use Rattle.controller.specs.declared.observing.Observed.{Observed}
 use Rattle.controller.specs.Recording.{Recording}
 use Rattle.controller.specs.Replayed.{entry_events, final_state}
-use Rattle.controller.proofs.history.QuietLemmas.{fits-behind, observer-behind, quiet-behind, replay-more, seen-behind, state-behind, steps-are}
+use Rattle.controller.proofs.history.SilentLemmas.{fits-behind, observer-behind, silent-behind, replay-more, seen-behind, state-behind, steps-are}
 use Rattle.controller.proofs.controllers.Controller.step_silently.Goals as goal
 
 pub invariant_of-self-2 : goal.invariant_of-self-2
@@ -51,7 +51,7 @@ pub returns-clause-nothing : goal.returns-clause-nothing
 returns-clause-nothing c =
     subst (λ (r : Recording). ShowNothing (code_of r.program) (final_state r) (replicate c.step_silently-made.result Step))
     c.self.view_is
-    (quiet-behind c.self.inside.program.profile (code_of c.self.inside.program.program) c.self.inside.history.entries
+    (silent-behind c.self.inside.program.profile (code_of c.self.inside.program.program) c.self.inside.history.entries
     (cpu_state c.self.inside.cpu) c.step_silently-made.result c.self.invariant.state c.step_silently-made.ensures.nothing)
 
 pub returns-clause-state : goal.returns-clause-state
@@ -77,6 +77,6 @@ returns-clause-stops c = λ less.
     state-behind c.continues_replay.ensures.more profile code history more (cpu_state c.self.inside.cpu) (cpu_state c.step_silently-made.new.self) made c.self.invariant.state
     (steps-are c.args.step.now made c.requires.step) c.step_silently-made.ensures.state
     ∙ ap (λ (kept : History). replay profile code (entry_events kept.entries)) (sym c.push.ensures) in
-    subst (λ (r : Recording). steps_quietly (code_of r.program) (replay profile code (entry_events c.push.new.self.entries)) ≡ false)
+    subst (λ (r : Recording). steps_silently (code_of r.program) (replay profile code (entry_events c.push.new.self.entries)) ≡ false)
     c.self.view_is
-    (subst (λ (s : State). steps_quietly code s ≡ false) is (c.step_silently-made.ensures.stops less))
+    (subst (λ (s : State). steps_silently code s ≡ false) is (c.step_silently-made.ensures.stops less))

@@ -1,4 +1,4 @@
--- Quiet statements one after another, as entries.
+-- Silent statements one after another, as entries.
 use Rattle.std.proofs.Common.{◌≡◌, ℕ, zero, suc, ◌+◌, ◌&&◌, Bool, true, false, List, [], ◌∷◌, Option, Some, None, refl, sym, ap, ◌∙◌, subst, arith}
 use Rattle.std.specs.Prelude.{is_some, replicate}
 use Rattle.plc_base.specs.declared.Mode.{Mode}
@@ -17,7 +17,7 @@ use Rattle.var_access.specs.declared.What.TheVariants as what
 use Rattle.controller.specs.Event.{state_after}
 use Rattle.controller.specs.Fitting.{AllFit, IsFit}
 use Rattle.controller.specs.Monitoring.{monitoring_record}
-use Rattle.controller.specs.Quiet.{GoesOnQuietly, GoesOnReady, ShowNothing}
+use Rattle.controller.specs.SilentSteps.{GoesOnSilently, GoesOnReady, ShowNothing}
 use Rattle.controller.specs.Replay.{entry_result, state_after_entries}
 use Rattle.controller.specs.Settling.{after_settling}
 use Rattle.controller.specs.Shown.{changed_mode, changed_outputs, is_same_mode, nothing_shown, entry_shown}
@@ -46,9 +46,9 @@ still_fits : LastsLaw → (p : Program) → Verifies p → (count : ℕ) (a b : 
 still_fits lasts p verifies zero a b w after fit runs =
     subst (λ (v : GlobalStore). FitsProgram p v.memory b) (sym runs.1)
     (subst (λ (c : Activation). FitsProgram p w.memory c) (sym runs.0) fit)
-still_fits lasts p verifies (suc count) a b w after fit (next, then, quiet, rest) =
+still_fits lasts p verifies (suc count) a b w after fit (next, then, silent, rest) =
     still_fits lasts p verifies count next b then after
-    (went_fits p w then (statement_step (code_of p) a w) next quiet.goes (lasts p a w verifies fit)) rest
+    (went_fits p w then (statement_step (code_of p) a w) next silent.goes (lasts p a w verifies fit)) rest
 
 stays_ready : GoesLaw → LastsLaw → (p : Program) → Verifies p → (a : Activation) (w : GlobalStore)
     → FitsProgram p w.memory a → StaysReady p a w
@@ -65,7 +65,7 @@ pub fit_goes_on : GoesLaw → LastsLaw → (p : Program) (s : State) → Verifie
 fit_goes_on goes lasts p s verifies fit =
     all_ready goes lasts p verifies s.activations s.world fit.activations
 
--- ---- one quiet statement
+-- ---- one silent statement
 
 same_mode : (m : Mode) → is_same_mode m m ≡ true
 same_mode Run = refl
@@ -84,7 +84,7 @@ gone_on s w activations count =
     record s { world = w; activations = activations; entries = s.entries + count }
 
 -- outside STOP, where no block is monitored and no request waits
-pub record IsQuiet (s : State) : Type 0 where
+pub record IsSilent (s : State) : Type 0 where
   pub running : is_stop s.mode ≡ false
   pub unwatched : s.monitored ≡ None
   pub none : best_of s.mode s.sched.pending ≡ None
@@ -94,17 +94,17 @@ none_there None h = refl
 none_there (Some x) h = absurd cc
 
 step_after : (code : Code) (s : State) (a next : Activation) (below : List Activation) (then : GlobalStore)
-    → IsQuiet s → s.activations ≡ a ∷ below → statement_step code a s.world ≡ Went next then
+    → IsSilent s → s.activations ≡ a ∷ below → statement_step code a s.world ≡ Went next then
     → state_after code what.Step s ≡ gone_on s then (next ∷ below) 1
 unfolding state_after after_step after_settling
-step_after code s a next below then quiet were goes =
-    rw (quiet.running, were, goes, quiet.running, quiet.none) refl
+step_after code s a next below then silent were goes =
+    rw (silent.running, were, goes, silent.running, silent.none) refl
 
 -- where no block is monitored a step has no record
-no_record : (code : Code) (s : State) (a : Activation) (below : List Activation) → IsQuiet s
+no_record : (code : Code) (s : State) (a : Activation) (below : List Activation) → IsSilent s
     → s.activations ≡ a ∷ below → monitoring_record code s what.Step ≡ None
 unfolding monitoring_record
-no_record code s a below quiet were = rw (quiet.running, were, quiet.unwatched) refl
+no_record code s a below silent were = rw (silent.running, were, silent.unwatched) refl
 
 shown_nothing : (code : Code) (s after : State)
     → monitoring_record code s what.Step ≡ None
@@ -116,22 +116,22 @@ shown_nothing code s after unwatched outputs mode =
 
 -- the entry of a step
 step_state : (code : Code) (s : State) (a next : Activation) (below : List Activation) (then : GlobalStore)
-    → IsQuiet s → s.activations ≡ a ∷ below → GoesSilently (statement_step code a s.world) s.world next then
+    → IsSilent s → s.activations ≡ a ∷ below → GoesSilently (statement_step code a s.world) s.world next then
     → (entry_result code s what.Step).state ≡ gone_on s then (next ∷ below) 1
 unfolding entry_result
-step_state code s a next below then quiet were goes =
-    step_after code s a next below then quiet were goes.goes
+step_state code s a next below then silent were goes =
+    step_after code s a next below then silent were goes.goes
 
 step_seen : (code : Code) (s : State) (a next : Activation) (below : List Activation) (then : GlobalStore)
-    → IsQuiet s → s.activations ≡ a ∷ below → GoesSilently (statement_step code a s.world) s.world next then
+    → IsSilent s → s.activations ≡ a ∷ below → GoesSilently (statement_step code a s.world) s.world next then
     → (entry_result code s what.Step).seen ≡ nothing_shown
 unfolding entry_result
-step_seen code s a next below then quiet were goes =
-    ap (entry_shown code s what.Step) (step_after code s a next below then quiet were goes.goes)
-    ∙ shown_nothing code s (gone_on s then (next ∷ below) 1) (no_record code s a below quiet were)
+step_seen code s a next below then silent were goes =
+    ap (entry_shown code s what.Step) (step_after code s a next below then silent were goes.goes)
+    ∙ shown_nothing code s (gone_on s then (next ∷ below) 1) (no_record code s a below silent were)
     goes.outputs refl
 
--- ---- quiet statements one after another
+-- ---- silent statements one after another
 
 -- what so many steps come to
 pub record StepSilently (code : Code) (s : State) (w : GlobalStore) (activations : List Activation)
@@ -155,17 +155,17 @@ nothing_done code s w activations are is =
     }
 
 one_more_step : (code : Code) (s : State) (a next : Activation) (below activations : List Activation)
-    (then w : GlobalStore) (count : ℕ) → IsQuiet s → s.activations ≡ a ∷ below
+    (then w : GlobalStore) (count : ℕ) → IsSilent s → s.activations ≡ a ∷ below
     → GoesSilently (statement_step code a s.world) s.world next then
     → StepSilently code (gone_on s then (next ∷ below) 1) w activations count
     → StepSilently code s w activations (suc count)
-one_more_step code s a next below activations then w count quiet were goes rest =
+one_more_step code s a next below activations then w count silent were goes rest =
     let on : (entry_result code s what.Step).state ≡ gone_on s then (next ∷ below) 1 =
-    step_state code s a next below then quiet were goes in
+    step_state code s a next below then silent were goes in
     let all : s.entries + 1 + count ≡ s.entries + suc count = omega arith in
     record {
       nothing = (
-        step_seen code s a next below then quiet were goes,
+        step_seen code s a next below then silent were goes,
         subst (λ (t : State). ShowNothing code t (replicate count what.Step)) (sym on) rest.nothing,
       );
       state =
@@ -177,36 +177,36 @@ one_more_step code s a next below activations then w count quiet were goes rest 
     }
 
 runs_on : (code : Code) (count : ℕ) (s : State) (a b : Activation) (below activations : List Activation)
-    (w : GlobalStore) → IsQuiet s → s.activations ≡ a ∷ below → activations ≡ b ∷ below
+    (w : GlobalStore) → IsSilent s → s.activations ≡ a ∷ below → activations ≡ b ∷ below
     → RunsSilently code count a b s.world w → StepSilently code s w activations count
-runs_on code zero s a b below activations w quiet were are runs =
+runs_on code zero s a b below activations w silent were are runs =
     nothing_done code s w activations
     (are ∙ ap (λ (c : Activation). c ∷ below) runs.0 ∙ sym were) runs.1
-runs_on code (suc count) s a b below activations w quiet were are (next, then, goes, rest) =
-    one_more_step code s a next below activations then w count quiet were goes
+runs_on code (suc count) s a b below activations w silent were are (next, then, goes, rest) =
+    one_more_step code s a next below activations then w count silent were goes
     (runs_on code count (gone_on s then (next ∷ below) 1) next b below activations w
-    (record { running = quiet.running; unwatched = quiet.unwatched; none = quiet.none }) refl are rest)
+    (record { running = silent.running; unwatched = silent.unwatched; none = silent.none }) refl are rest)
 
-goes_on : (code : Code) (count : ℕ) (s : State) (old new : List Activation) (w : GlobalStore) → IsQuiet s
-    → s.activations ≡ old → GoesOnQuietly code count old new s.world w
+goes_on : (code : Code) (count : ℕ) (s : State) (old new : List Activation) (w : GlobalStore) → IsSilent s
+    → s.activations ≡ old → GoesOnSilently code count old new s.world w
     → StepSilently code s w new count
-goes_on code count s [] new w quiet were runs =
+goes_on code count s [] new w silent were runs =
     subst (λ (n : ℕ). StepSilently code s w new n) (sym runs.0)
     (nothing_done code s w new (runs.1 ∙ sym were) runs.2)
-goes_on code count s (a ∷ below) new w quiet were (b, are, runs) =
-    runs_on code count s a b below new w quiet were are runs
+goes_on code count s (a ∷ below) new w silent were (b, are, runs) =
+    runs_on code count s a b below new w silent were are runs
 
-pub steps_quietly : (code : Code) (count : ℕ) (s : State) (new : List Activation) (w : GlobalStore)
-    → IsQuiet s → GoesOnQuietly code count s.activations new s.world w
+pub steps_silently : (code : Code) (count : ℕ) (s : State) (new : List Activation) (w : GlobalStore)
+    → IsSilent s → GoesOnSilently code count s.activations new s.world w
     → StepSilently code s w new count
-steps_quietly code count s new w quiet runs =
-    goes_on code count s s.activations new w quiet refl runs
+steps_silently code count s new w silent runs =
+    goes_on code count s s.activations new w silent refl runs
 
 -- ---- where it stops
 
-pub no_quiet_step : (unwatched running none quiet : Bool) → quiet ≡ false
-    → (unwatched && running && none && quiet) ≡ false
-no_quiet_step true true true quiet h = h
-no_quiet_step true true false quiet h = refl
-no_quiet_step true false none quiet h = refl
-no_quiet_step false running none quiet h = refl
+pub no_silent_step : (unwatched running none silent : Bool) → silent ≡ false
+    → (unwatched && running && none && silent) ≡ false
+no_silent_step true true true silent h = h
+no_silent_step true true false silent h = refl
+no_silent_step true false none silent h = refl
+no_silent_step false running none silent h = refl

@@ -10,7 +10,7 @@ use Rattle.var_access.specs.declared.Entry.{Entry}
 use Rattle.var_access.specs.declared.What.{What}
 use Rattle.var_access.specs.declared.What.TheVariants.{Step}
 use Rattle.controller.specs.Fitting.{EntriesKeepFit, IsFit}
-use Rattle.controller.specs.Quiet.{ShowNothing}
+use Rattle.controller.specs.SilentSteps.{ShowNothing}
 use Rattle.controller.specs.Replay.{ContinuesByMore, SeenByMore, entry_result, last_observed, replay, state_after_entries, last_observed_from}
 use Rattle.controller.specs.Shown.{WatchedState, nothing_shown, watched_state}
 use Rattle.controller.specs.State.{State}
@@ -30,18 +30,18 @@ replay-more continues profile code history more =
 -- nothing, if nothing was seen before
 none-still : (code : Code) (s : State) (whats : List What) → ShowNothing code s whats
     → last_observed_from code s nothing_shown whats ≡ nothing_shown
-none-still code s [] quiet = refl
-none-still code s (what ∷ rest) quiet =
-    ap (λ (o : Observed). last_observed_from code (entry_result code s what).state o rest) quiet.0
-    ∙ none-still code (entry_result code s what).state rest quiet.1
+none-still code s [] silent = refl
+none-still code s (what ∷ rest) silent =
+    ap (λ (o : Observed). last_observed_from code (entry_result code s what).state o rest) silent.0
+    ∙ none-still code (entry_result code s what).state rest silent.1
 
 -- nothing, if they are some
 none-now : (code : Code) (s : State) (seen : Observed) (n : ℕ) → ShowNothing code s (replicate n Step) → 1 ≤ n
     → last_observed_from code s seen (replicate n Step) ≡ nothing_shown
-none-now code s seen zero quiet some = absurd (omega arith)
-none-now code s seen (suc n) quiet some =
-    ap (λ (o : Observed). last_observed_from code (entry_result code s Step).state o (replicate n Step)) quiet.0
-    ∙ none-still code (entry_result code s Step).state (replicate n Step) quiet.1
+none-now code s seen zero silent some = absurd (omega arith)
+none-now code s seen (suc n) silent some =
+    ap (λ (o : Observed). last_observed_from code (entry_result code s Step).state o (replicate n Step)) silent.0
+    ∙ none-still code (entry_result code s Step).state (replicate n Step) silent.1
 
 -- ---- steps
 
@@ -63,11 +63,11 @@ pub fits-behind : (p : Program) (s t : State) (n : ℕ) → EntriesKeepFit → V
     → t ≡ state_after_entries (code_of p) s (replicate n Step) → IsFit p t
 fits-behind p s t n keeps h fit after = subst (IsFit p) (sym after) (fits-steps p s n keeps h fit)
 
-pub quiet-behind : (profile : Profile) (code : Code) (history : List Entry) (s : State) (n : ℕ) → s ≡ replay profile code (entry_events history)
+pub silent-behind : (profile : Profile) (code : Code) (history : List Entry) (s : State) (n : ℕ) → s ≡ replay profile code (entry_events history)
     → ShowNothing code s (replicate n Step)
     → ShowNothing code (replay profile code (entry_events history)) (replicate n Step)
-quiet-behind profile code history s n before quiet =
-    subst (λ (u : State). ShowNothing code u (replicate n Step)) before quiet
+silent-behind profile code history s n before silent =
+    subst (λ (u : State). ShowNothing code u (replicate n Step)) before silent
 
 pub state-behind : ContinuesByMore → (profile : Profile) (code : Code) (history more : List Entry) (s t : State) (n : ℕ) → s ≡ replay profile code (entry_events history)
     → entry_events more ≡ replicate n Step → t ≡ state_after_entries code s (replicate n Step)
@@ -81,12 +81,12 @@ state-behind continues profile code history more s t n before steps after =
 pub seen-behind : SeenByMore → (profile : Profile) (code : Code) (history more : List Entry) (s : State) (n : ℕ) → s ≡ replay profile code (entry_events history)
     → entry_events more ≡ replicate n Step → ShowNothing code s (replicate n Step) → 1 ≤ n
     → nothing_shown ≡ last_observed profile code (entry_events (history ++ more))
-seen-behind continues profile code history more s n before steps quiet some = sym (
+seen-behind continues profile code history more s n before steps silent some = sym (
     ap (λ (es : List What). last_observed profile code es) (map-append (λ (e : Entry). e.what) history more)
     ∙ continues profile code (entry_events history) (entry_events more)
     ∙ ap (λ (u : State). last_observed_from code u (last_observed profile code (entry_events history)) (entry_events more)) (sym before)
     ∙ ap (λ (whats : List What). last_observed_from code s (last_observed profile code (entry_events history)) whats) steps
-    ∙ none-now code s (last_observed profile code (entry_events history)) n quiet some)
+    ∙ none-now code s (last_observed profile code (entry_events history)) n silent some)
 
 -- outputs and mode are as before
 pub observer-behind : (s t : State) (w w' : WatchedState) (seen : Observed) → w ≡ watched_state s seen

@@ -3,7 +3,7 @@ ghost use Rattle.std.specs.Prelude.{◌≡◌, ◌+◌, ◌<◌, ◌≤◌, ◌^
 ghost use Rattle.machine.specs.Flat.{code_of};
 ghost use Rattle.var_access.specs.declared.entries.What.TheVariants.{Step};
 ghost use Rattle.controller.specs.Fitting.{IsFit};
-ghost use Rattle.controller.specs.Quiet.{ShowNothing, steps_quietly};
+ghost use Rattle.controller.specs.SilentSteps.{ShowNothing, steps_silently};
 ghost use Rattle.controller.specs.Replay.{state_after_entries};
 ghost use Rattle.controller.specs.Views.{cpu_state};
 
@@ -28,7 +28,7 @@ impl Cpu {
             ≡ (cpu_state self.old).world.memory.peripheral_outputs }
         ensures mode { self.new.mode ≡ self.old.mode }
         ensures stops { result < most
-            → steps_quietly (code_of program.now.program) (cpu_state self.new) ≡ false }
+            → steps_silently (code_of program.now.program) (cpu_state self.new) ≡ false }
     {
         if self.monitored.is_some() || is_stop(self.mode) || self.sched.best(self.mode).is_some() {
             return 0;

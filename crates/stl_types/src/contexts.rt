@@ -18,14 +18,14 @@ use stl_symbols::Symbols;
 /// What the operands of a body are resolved by: the symbols, the source with its layouts, and the
 /// place of the block that has the body.
 #[derive(Drop)]
-pub struct Scope<'a> {
+pub struct Context<'a> {
     symbols: &'a Symbols,
     tree: &'a Tree,
     layouts: &'a Layouts,
     block: usize,
 }
 
-impl<'a> Model for Scope<'a> {
+impl<'a> Model for Context<'a> {
     ghost use Rattle.stl_types.specs.Context.{Context};
 
     ghost Value = { Context };
@@ -47,12 +47,12 @@ fn number_of(id: Option<BlockId>) -> Option<u16>
     }
 }
 
-impl<'a> Scope<'a> {
+impl<'a> Context<'a> {
     /// The scope of the body of the first block.
-    pub fn new(symbols: &'a Symbols, tree: &'a Tree, layouts: &'a Layouts) -> Scope<'a>
+    pub fn new(symbols: &'a Symbols, tree: &'a Tree, layouts: &'a Layouts) -> Context<'a>
         ensures { result ≡ first_context symbols.now layouts.now tree.now.blocks }
     {
-        Scope {
+        Context {
             symbols,
             tree,
             layouts,
@@ -61,10 +61,10 @@ impl<'a> Scope<'a> {
     }
 
     /// The scope of the body of the block at this place.
-    pub fn at(&self, block: usize) -> Scope<'a>
+    pub fn at(&self, block: usize) -> Context<'a>
         ensures { result ≡ record self.now { block = block } }
     {
-        Scope {
+        Context {
             symbols: self.symbols,
             tree: self.tree,
             layouts: self.layouts,

@@ -25,23 +25,23 @@ GoesOnReady p (a ∷ below) w = StaysReady p a w
 
 -- the running activation has executed so many silent statements, above the others; where none runs
 -- nothing was done
-abbrev pub GoesOnQuietly :
+abbrev pub GoesOnSilently :
     Code → (count : ℕ) → (old new : List Activation) (w w' : GlobalStore) → Type 0
-GoesOnQuietly code count [] new w w' = (count ≡ 0) × (new ≡ []) × (w' ≡ w)
-GoesOnQuietly code count (a ∷ below) new w w' =
+GoesOnSilently code count [] new w w' = (count ≡ 0) × (new ≡ []) × (w' ≡ w)
+GoesOnSilently code count (a ∷ below) new w w' =
     (b : Activation) × (new ≡ b ∷ below) × RunsSilently code count a b w w'
 
 -- ---- before which steps it stops
 
 -- the running activation goes on with a statement of the silent kind
-abbrev pub goes_on_quietly : Code → List Activation → GlobalStore → Bool
-goes_on_quietly code [] w = false
-goes_on_quietly code (a ∷ below) w = goes_on_by_kind is_silent code a w
+abbrev pub goes_on_silently : Code → List Activation → GlobalStore → Bool
+goes_on_silently code [] w = false
+goes_on_silently code (a ∷ below) w = goes_on_by_kind is_silent code a w
 
 -- the next step is a silent statement of the running activation, outside STOP, where no block is
 -- monitored and no request waits
-abbrev pub steps_quietly : Code → State → Bool
-steps_quietly code s =
+abbrev pub steps_silently : Code → State → Bool
+steps_silently code s =
     not (is_some s.monitored) && not (is_stop s.mode)
     && not (is_some (best_of s.mode s.sched.pending))
-    && goes_on_quietly code s.activations s.world
+    && goes_on_silently code s.activations s.world
