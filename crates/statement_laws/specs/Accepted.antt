@@ -68,7 +68,7 @@ AcceptedOperandsAreNamed =
 -- ---- what is done
 
 -- the mnemonics whose statement goes on to the next one or is an error: all but those of jumps, of
--- ends of a block and of calls
+-- ends of a block and of calls, and of the empty statement
 abbrev pub is_going_on : Mnemonic → Bool
 is_going_on m =
     is_bit_logic m || is_load_or_transfer m || is_number_instruction m || is_comparison m || is_shift m
@@ -120,7 +120,7 @@ pub record DoesAsWritten (c : Context) (body : List Statement) (n : ℕ) (s : St
   pub calls : is_call_instruction s.code ≡ true → CallsNamed c body n s
 
 -- each statement but the empty ones of each block of an accepted source, whose elements are bytes,
--- does as it is written
+-- does as it is written, whatever number it is given
 abbrev pub AcceptedStatementsAct : Type 0
 AcceptedStatementsAct =
     (source file : List ℕ) (symbols : List Symbol) (t : Tree) → IsAccepted source file symbols t
