@@ -4,7 +4,7 @@
 use crate::building::bytes_of;
 use crate::compare::same;
 use flat_code::{
-    AddConstant, CallOperation, EndOperation, Logic, Number, Op, Operand, Operation, Passed,
+    AccuOperation, AddConstant, CallOperation, EndOperation, Logic, Op, Operand, Operation, Passed,
     PointerOperation, RelayOperation, Shift, encode_op,
 };
 use plc_base::{Area, Check, TimerKind, Width};
