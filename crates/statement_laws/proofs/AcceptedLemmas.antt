@@ -54,7 +54,7 @@ use Rattle.sem_kept.proofs.accepted.OperandsCells.{all_there, cells_are, layout_
 use Rattle.sem_kept.proofs.accepted.OperandsPlaces.{IsParameterCell, function_components}
 use Rattle.sem_kept.proofs.accepted.OperandsViews.{ids_same}
 use Rattle.sem_kept.proofs.accepted.Settled.{statements_settle}
-use Rattle.statement_laws.specs.Accepted.{AcceptedOperandsAreNamed, AcceptedStatementsAct, ActsOnNamed, CallsNamed, DoesAsWritten, IsNamed, IsNamedStatement, JumpsByList, JumpsToLabel, NamesCalled, is_going_on}
+use Rattle.statement_laws.specs.Accepted.{AcceptedOperandsAreNamed, AcceptedStatementsAct, ActsOnItsOperand, CallsNamed, DoesAsWritten, IsNamed, IsNamedStatement, JumpsByList, JumpsToLabel, NamesCalled, is_no_branch}
 use Rattle.statement_laws.specs.Effects.{effect_of_statement}
 use Rattle.statement_laws.specs.Laws.{Acts, HasElementaryParameters, IsNamedActual, has_fixed_name, is_bit_logic, is_call_instruction, is_comparison, is_data_block_instruction, is_elementary_component, is_end, is_idle, is_jump_list, is_load_or_transfer, is_number_instruction, is_plain_jump, is_relay, is_shift, is_timing, is_variable, stays_inside}
 use Rattle.statement_laws.specs.Named.{NamedItem}
@@ -337,7 +337,7 @@ in_either : {X : Type 0} (a b : Bool) → (a || b) ≡ true → (a ≡ true → 
 in_either true b e f g = f refl
 in_either false b e f g = g e
 
-no_jump : (m : Mnemonic) → is_going_on m ≡ true → jump_operation_of m ≡ None
+no_jump : (m : Mnemonic) → is_no_branch m ≡ true → jump_operation_of m ≡ None
 no_jump code.Ju e = absurd (false≢true e)
 no_jump code.Jc e = absurd (false≢true e)
 no_jump code.Jcn e = absurd (false≢true e)
@@ -389,7 +389,7 @@ jump_list_is code.Jl e = refl
 jump_list_is _ e = absurd (false≢true e)
 
 family_acts : (c : Context) (body : List Statement) (n : ℕ) (s : Statement) (v : ResolvedOperand) (x : NamedItem)
-    → resolved_operand c s ≡ Some v → named_by c s.operand ≡ Some x → is_going_on s.code ≡ true
+    → resolved_operand c s ≡ Some v → named_by c s.operand ≡ Some x → is_no_branch s.code ≡ true
     → Acts (instruction c body n s) (effect_of_statement s.code x)
 family_acts c body n s v x e names is =
     in_either _ (is_idle s.code) is
@@ -418,7 +418,7 @@ resolves c body s h none =
     (subst (HasInstruction c body s) none h.settled.instruction)
 
 going_on : (c : Context) (body : List Statement) (n : ℕ) (s : Statement) → HasElementaryParameters c
-    → IsKnown c body s → is_going_on s.code ≡ true → ActsOnNamed c body n s
+    → IsKnown c body s → is_no_branch s.code ≡ true → ActsOnItsOperand c body n s
 going_on c body n s plain h is =
     let found = resolves c body s h (no_jump s.code is) in
     let there = operand_named c s found.0 plain h.inside h.word found.1 in

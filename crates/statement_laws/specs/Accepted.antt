@@ -69,8 +69,8 @@ AcceptedOperandsAreNamed =
 
 -- the mnemonics whose statement goes on to the next one or is an error: all but those of jumps, of
 -- ends of a block and of calls, and of the empty statement
-abbrev pub is_going_on : Mnemonic → Bool
-is_going_on m =
+abbrev pub is_no_branch : Mnemonic → Bool
+is_no_branch m =
     is_bit_logic m || is_load_or_transfer m || is_number_instruction m || is_comparison m || is_shift m
     || is_timing m || is_relay m || is_data_block_instruction m || is_idle m
 
@@ -80,7 +80,7 @@ Steps i f =
     (program : Code) (next : ℕ) (a : Activation) (w : GlobalStore) → instruction_step program i next a w ≡ f program next a w
 
 -- a statement that goes on does what its mnemonic says with what its operand names
-pub record ActsOnNamed (c : Context) (body : List Statement) (n : ℕ) (s : Statement) : Type 0 where
+pub record ActsOnItsOperand (c : Context) (body : List Statement) (n : ℕ) (s : Statement) : Type 0 where
   -- what its operand names
   pub item : NamedItem
   pub names : named_by c s.operand ≡ Some item
@@ -113,7 +113,7 @@ pub record CallsNamed (c : Context) (body : List Statement) (n : ℕ) (s : State
 -- is the number of the statement
 pub record DoesAsWritten (c : Context) (body : List Statement) (n : ℕ) (s : Statement) : Type 0 where
   pub family : is_in_family s.code ≡ true
-  pub goes_on : is_going_on s.code ≡ true → ActsOnNamed c body n s
+  pub goes_on : is_no_branch s.code ≡ true → ActsOnItsOperand c body n s
   pub jumps : is_plain_jump s.code ≡ true → JumpsToLabel c body n s
   pub jumps_by_list : is_jump_list s.code ≡ true → JumpsByList c body n s
   pub ends : is_end s.code ≡ true → Steps (instruction c body n s) (ends_block s.code)
