@@ -5,7 +5,9 @@
 mod altered_fields;
 #[cfg(test)]
 mod building;
+#[cfg(test)]
 mod checked_calls;
+#[cfg(test)]
 mod checked_ops;
 #[cfg(test)]
 mod code_in_place;
@@ -13,8 +15,6 @@ mod code_in_place;
 mod compare;
 #[cfg(test)]
 mod images;
-#[cfg(test)]
-#[cfg(test)]
 #[cfg(test)]
 mod large_images;
 #[cfg(test)]
