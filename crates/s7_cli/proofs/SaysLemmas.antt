@@ -221,13 +221,13 @@ go-verdict german source symbols history a said =
     english-verdict german source symbols (λ text. SourceSays (language_of german) Large text symbols history)
     (λ text b says. told-verdict b says.0 (history_of_text (names_read_in (language_of german) symbols) history) says.2) a said
 
-check-verdict : (a : CallAnswer) (v : Result Code RefusedFile) → a ≡ check_answer v → IsVerdict a
-check-verdict a (Err why) gives = refused-verdict a why gives
-check-verdict a (Ok code) gives = inl (ok_line, gives)
+source-verdict : (a : CallAnswer) (v : Result Code RefusedFile) → a ≡ check_answer v → IsVerdict a
+source-verdict a (Err why) gives = refused-verdict a why gives
+source-verdict a (Ok code) gives = inl (ok_line, gives)
 
 check-verdict : (german : Bool) (source symbols : List ℕ) (a : CallAnswer) → CheckSays german source symbols a → IsVerdict a
 check-verdict german source symbols a said =
-    english-verdict german source symbols (ChecksAs (language_of german) symbols) (λ text b says. check-verdict b says.0 says.2) a said
+    english-verdict german source symbols (ChecksAs (language_of german) symbols) (λ text b says. source-verdict b says.0 says.2) a said
 
 translate-verdict : (language : Language) (source : List ℕ) (a : CallAnswer) → TranslateSays language source a → IsVerdict a
 translate-verdict language source a said =
