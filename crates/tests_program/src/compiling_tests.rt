@@ -5,7 +5,7 @@ use event_text::read_history;
 use monitor::Line;
 use plc_base::Refusal;
 use plc_io::MemSink;
-use s7_cli::{CompileFault, compiled, check_source, replay_text};
+use s7_cli::{CompileFault, check_source, compiled, replay_text};
 use std::alloc::Global;
 use std::process::Abort;
 use std::test::Fail;
@@ -79,7 +79,12 @@ fn is_judged(
     fault: Option<CompileFault>,
 ) {
     assert!(rt; source.len() <= LIMIT && symbols.len() <= LIMIT);
-    same(rt, "check_source", check_source(alloc, source, symbols).err(), fault);
+    same(
+        rt,
+        "check_source",
+        check_source(alloc, source, symbols).err(),
+        fault,
+    );
     let refused = compiled(alloc, source, symbols).err();
     same(rt, "compiled", refused, fault);
 }
