@@ -7,13 +7,13 @@ use Rattle.plc_base.specs.declared.refusals.Refusal.{Refusal}
 abbrev pub is_refusal_before : Refusal → Refusal → Bool
 is_refusal_before a b = nat_lt a.line b.line || (nat_eq a.line b.line && nat_lt a.rule b.rule)
 
--- the lesser of two refusals
+-- of two refusals, each of which may be absent, the one that comes first
 unfoldable pub lesser : Option Refusal → Option Refusal → Option Refusal
 lesser None other = other
 lesser (Some a) None = Some a
 lesser (Some a) (Some b) = if is_refusal_before b a then Some b else Some a
 
--- the least refusal of a list
+-- the refusal of a list that comes first, by line and then by rule; none of an empty list
 abbrev pub least : List Refusal → Option Refusal
 least [] = None
 least (r ∷ rs) = lesser (Some r) (least rs)
