@@ -9,7 +9,7 @@ ghost use Rattle.s7_cli.specs.StatusTable.{StatusTable};
 ghost use Rattle.s7_cli.specs.Texts.{AreFilesWithinLimits, file_contents_of};
 
 use crate::command_checks::check_program;
-use crate::failures::{Failure, Status};
+use crate::failures::{ExitStatus, Failure};
 use crate::files::{ProgramText, read_program};
 use crate::finish::{OK_LINE, end_command, write_text};
 use plc_io::{Files, Sink};
@@ -57,7 +57,7 @@ pub fn cmd_check<F: Files, K: Sink>(
     german: bool,
     files: &mut F,
     out: &mut K,
-) -> Status
+) -> ExitStatus
     ensures ends { let went = disk_moments (F.shown files.old) (F.shown files.new) in
         EndsWithStatus (Some (Check src.now (option_map (λ s. s.now) symbols.entry) german)) went
         (sink_moments (K.shown out.old) (K.shown out.new)) result.code }

@@ -8,7 +8,7 @@ ghost use Rattle.s7_cli.specs.StatusTable.{StatusTable};
 ghost use Rattle.s7_cli.specs.Texts.{AreFilesWithinLimits, file_contents_of};
 
 use crate::command_checks::check_image;
-use crate::failures::{Failure, Status};
+use crate::failures::{ExitStatus, Failure};
 use crate::files::{ProgramText, read_program};
 use crate::finish::{end_command, write_output};
 use plc_io::{Files, Sink};
@@ -64,7 +64,7 @@ pub fn cmd_compile<F: Files, K: Sink>(
     german: bool,
     files: &mut F,
     out: &mut K,
-) -> Status
+) -> ExitStatus
     ensures ends { let went = disk_moments (F.shown files.old) (F.shown files.new) in
         let took = sink_moments (K.shown out.old) (K.shown out.new) in
         EndsWithStatus (Some (Compile src.now (option_map (λ s. s.now) symbols.entry) german img.now)) went

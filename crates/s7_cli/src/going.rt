@@ -9,7 +9,7 @@ ghost use Rattle.s7_cli.specs.StatusTable.{StatusTable};
 ghost use Rattle.s7_cli.specs.Texts.{AreFilesWithinLimits, file_contents_of};
 
 use crate::command_checks::check_with_history;
-use crate::failures::{Failure, File, Status};
+use crate::failures::{ExitStatus, Failure, File};
 use crate::files::{ProgramText, read_file, read_program};
 use crate::finish::{end_command, written};
 use crate::run_text::replay_text;
@@ -67,7 +67,7 @@ pub fn cmd_go<F: Files, K: Sink>(
     german: bool,
     files: &mut F,
     out: &mut K,
-) -> Status
+) -> ExitStatus
     ensures ends { let went = disk_moments (F.shown files.old) (F.shown files.new) in
         let took = sink_moments (K.shown out.old) (K.shown out.new) in
         EndsWithStatus (Some (Go src.now (option_map (λ s. s.now) symbols.entry) german hist.now)) went took

@@ -5,7 +5,7 @@ ghost use Rattle.s7_cli.specs.Inner.{ComesBeforeLine, CommandComesTo};
 ghost use Rattle.s7_cli.specs.Reading.{disk_moments};
 ghost use Rattle.s7_cli.specs.StatusTable.{StatusTable};
 
-use crate::failures::{Failure, File, Status};
+use crate::failures::{ExitStatus, Failure, File};
 use crate::files::read_file;
 use crate::finish::{Output, end_command, write_outputs};
 use crate::listing::check_listing;
@@ -68,7 +68,7 @@ pub fn cmd_list<F: Files, K: Sink>(
     sym: &str,
     files: &mut F,
     out: &mut K,
-) -> Status
+) -> ExitStatus
     requires { src.now ≢ sym.now }
     ensures ends { let went = disk_moments (F.shown files.old) (F.shown files.new) in
         EndsWithStatus (Some (ListImage img.now src.now sym.now)) went

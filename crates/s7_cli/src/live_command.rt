@@ -18,7 +18,7 @@ ghost use Rattle.s7_cli.specs.run_text.Behind.{program_of_recording};
 ghost use Rattle.s7_cli.specs.run_text.RunText.{run_text};
 
 use crate::command_checks::{LiveWork, check_live};
-use crate::failures::{Failure, Status};
+use crate::failures::{ExitStatus, Failure};
 use crate::files::{LiveText, read_live};
 use crate::finish::{end_command, written};
 use crate::living::live_run;
@@ -166,7 +166,7 @@ pub fn cmd_live<R: Threads + Wait + Sync, F: Files, K: Sink, G: Gate + Sync>(
     files: &mut F,
     out: &mut K,
     gate: &G,
-) -> Status
+) -> ExitStatus
     requires ops { (1 ≤ length ops.now) × (length ops.now ≤ 4) }
     requires steps { (1 ≤ steps) × (steps ≤ 1000000) }
     ensures ends { let went = disk_moments (F.shown files.old) (F.shown files.new) in

@@ -9,7 +9,7 @@ ghost use Rattle.s7_cli.specs.Reading.{disk_moments};
 ghost use Rattle.s7_cli.specs.StatusTable.{StatusTable};
 
 use crate::command_checks::loaded;
-use crate::failures::{Failure, File, Status};
+use crate::failures::{ExitStatus, Failure, File};
 use crate::files::read_file;
 use crate::finish::{OK_LINE, end_command, write_text};
 use plc_io::{Files, Sink};
@@ -72,7 +72,7 @@ pub fn cmd_recheck<F: Files, K: Sink>(
     cert: &str,
     files: &mut F,
     out: &mut K,
-) -> Status
+) -> ExitStatus
     ensures ends { let went = disk_moments (F.shown files.old) (F.shown files.new) in
         EndsWithStatus (Some (Recheck img.now cert.now)) went (sink_moments (K.shown out.old) (K.shown out.new))
         result.code }

@@ -7,7 +7,7 @@ ghost use Rattle.s7_cli.specs.Reading.{disk_moments};
 ghost use Rattle.s7_cli.specs.StatusTable.{StatusTable};
 
 use crate::command_checks::check_run;
-use crate::failures::{Failure, File, Status};
+use crate::failures::{ExitStatus, Failure, File};
 use crate::files::read_file;
 use crate::finish::{end_command, written};
 use crate::run_text::replay_text;
@@ -56,7 +56,7 @@ pub fn cmd_run<F: Files, K: Sink>(
     hist: &str,
     files: &mut F,
     out: &mut K,
-) -> Status
+) -> ExitStatus
     ensures ends { let went = disk_moments (F.shown files.old) (F.shown files.new) in
         EndsWithStatus (Some (Run img.now hist.now)) went (sink_moments (K.shown out.old) (K.shown out.new))
         result.code }

@@ -7,7 +7,7 @@ ghost use Rattle.s7_cli.specs.Inner.{ComesBeforeLine, CommandComesTo};
 ghost use Rattle.s7_cli.specs.Reading.{disk_moments};
 ghost use Rattle.s7_cli.specs.StatusTable.{StatusTable};
 
-use crate::failures::{Failure, File, Status};
+use crate::failures::{ExitStatus, Failure, File};
 use crate::files::read_file;
 use crate::finish::{end_command, write_output};
 use crate::translating::translated;
@@ -60,7 +60,7 @@ pub fn cmd_translate<F: Files, K: Sink>(
     translation: &str,
     files: &mut F,
     out: &mut K,
-) -> Status
+) -> ExitStatus
     ensures ends { let went = disk_moments (F.shown files.old) (F.shown files.new) in
         EndsWithStatus (Some (Translate language src.now translation.now)) went
         (sink_moments (K.shown out.old) (K.shown out.new)) result.code }
@@ -81,7 +81,7 @@ pub fn cmd_english<F: Files, K: Sink>(
     translation: &str,
     files: &mut F,
     out: &mut K,
-) -> Status
+) -> ExitStatus
     ensures ends { let went = disk_moments (F.shown files.old) (F.shown files.new) in
         EndsWithStatus (Some (Translate English src.now translation.now)) went
         (sink_moments (K.shown out.old) (K.shown out.new)) result.code }
@@ -99,7 +99,7 @@ pub fn cmd_german<F: Files, K: Sink>(
     translation: &str,
     files: &mut F,
     out: &mut K,
-) -> Status
+) -> ExitStatus
     ensures ends { let went = disk_moments (F.shown files.old) (F.shown files.new) in
         EndsWithStatus (Some (Translate German src.now translation.now)) went
         (sink_moments (K.shown out.old) (K.shown out.new)) result.code }

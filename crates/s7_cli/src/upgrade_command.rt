@@ -6,7 +6,7 @@ ghost use Rattle.s7_cli.specs.Reading.{disk_moments};
 ghost use Rattle.s7_cli.specs.StatusTable.{StatusTable};
 
 use crate::command_checks::check_upgrade;
-use crate::failures::{Failure, File, Status};
+use crate::failures::{ExitStatus, Failure, File};
 use crate::files::read_file;
 use crate::finish::{end_command, write_output};
 use plc_io::{Files, Sink};
@@ -53,7 +53,7 @@ pub fn cmd_upgrade<F: Files, K: Sink>(
     img2: &str,
     files: &mut F,
     out: &mut K,
-) -> Status
+) -> ExitStatus
     ensures ends { let went = disk_moments (F.shown files.old) (F.shown files.new) in
         EndsWithStatus (Some (Upgrade img.now img2.now)) went (sink_moments (K.shown out.old) (K.shown out.new))
         result.code }

@@ -14,7 +14,7 @@ ghost use Rattle.s7_cli.specs.WatchSays.{seen_line, seen_reply, seen_text, watch
 ghost use Rattle.s7_cli.specs.WatchTexts.{IsWatchText, WatchTextSays, watch_contents};
 ghost use Rattle.s7_cli.specs.run_text.Behind.{program_of_recording};
 
-use crate::failures::{Failure, Status};
+use crate::failures::{ExitStatus, Failure};
 use crate::finish::{end_command, written};
 use crate::live_command::write_live;
 use crate::watch_checks::{WatchWork, check_watch};
@@ -207,7 +207,7 @@ pub fn cmd_watch<R: Threads + Wait + Sync, F: Files, K: Sink, G: Gate + Sync>(
     files: &mut F,
     out: &mut K,
     gate: &G,
-) -> Status
+) -> ExitStatus
     requires ops { (1 ≤ length ops.now) × (length ops.now ≤ 3) }
     requires steps { (1 ≤ steps) × (steps ≤ 1000000) }
     ensures ends { let went = disk_moments (F.shown files.old) (F.shown files.new) in
