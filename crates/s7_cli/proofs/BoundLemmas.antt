@@ -40,7 +40,7 @@ use Rattle.s7_cli.specs.Says.{CommandSays}
 use Rattle.s7_cli.proofs.ComesLemmas.{never-fell, same-files}
 use Rattle.s7_cli.proofs.LoadLemmas.{loads-one}
 use Rattle.s7_cli.proofs.ReadingLemmas.{reads-all}
-use Rattle.s7_cli.proofs.Verdicts.{IsVerdict}
+use Rattle.s7_cli.proofs.CommandAnswers.{IsCommandAnswer}
 
 -- ---- one outcome, and one answer of `recheck`
 
@@ -86,19 +86,19 @@ bound-outcome image a b p q =
 
 -- ---- which answers there are
 
-pub bound-verdict : (v : Result LoadedProgram LoadFault) (a : CallAnswer) → BoundAnswer v a → IsVerdict a
-bound-verdict (Err fault) a said = inr (inr (inl (fault, said)))
-bound-verdict (Ok l) a (inl fits) = inl (ok_line, fits.1)
-bound-verdict (Ok l) a (inr deep) = inr (inr (inr (inr (inl (deep.0, deep.2)))))
+pub bound-is-answer : (v : Result LoadedProgram LoadFault) (a : CallAnswer) → BoundAnswer v a → IsCommandAnswer a
+bound-is-answer (Err fault) a said = inr (inr (inl (fault, said)))
+bound-is-answer (Ok l) a (inl fits) = inl (ok_line, fits.1)
+bound-is-answer (Ok l) a (inr deep) = inr (inr (inr (inr (inl (deep.0, deep.2)))))
 
-checked-verdict : (l : LoadedProgram) (read : Result (List BoundOf) Refusal) (a : CallAnswer) → CheckedAnswer l read a → IsVerdict a
-checked-verdict l (Err refusal) a said = inr (inl (Certificate, refusal, said))
-checked-verdict l (Ok list) a (inl held) = inl (ok_line, held.1)
-checked-verdict l (Ok list) a (inr fails) = inr (inr (inr (inl fails.1)))
+certificate-is-answer : (l : LoadedProgram) (read : Result (List BoundOf) Refusal) (a : CallAnswer) → CheckedAnswer l read a → IsCommandAnswer a
+certificate-is-answer l (Err refusal) a said = inr (inl (Certificate, refusal, said))
+certificate-is-answer l (Ok list) a (inl held) = inl (ok_line, held.1)
+certificate-is-answer l (Ok list) a (inr fails) = inr (inr (inr (inl fails.1)))
 
-pub recheck-verdict : (v : Result LoadedProgram LoadFault) (certificate : List ℕ) (a : CallAnswer) → RecheckAnswer v certificate a → IsVerdict a
-recheck-verdict (Err fault) certificate a said = inr (inr (inl (fault, said)))
-recheck-verdict (Ok l) certificate a said = checked-verdict l (certificate_of l.program certificate) a said
+pub recheck-is-answer : (v : Result LoadedProgram LoadFault) (certificate : List ℕ) (a : CallAnswer) → RecheckAnswer v certificate a → IsCommandAnswer a
+recheck-is-answer (Err fault) certificate a said = inr (inr (inl (fault, said)))
+recheck-is-answer (Ok l) certificate a said = certificate-is-answer l (certificate_of l.program certificate) a said
 
 -- ---- where the answer is that it is done, no history stops for want of stack
 

@@ -34,7 +34,7 @@ use Rattle.s7_cli.specs.Says.{CommandSays}
 use Rattle.s7_cli.specs.Translating.{IsSourceImage, language_of}
 use Rattle.s7_cli.proofs.LoadLemmas.{loads-one}
 use Rattle.s7_cli.proofs.RefusedLemmas.{refused-more}
-use Rattle.s7_cli.proofs.Verdicts.{IsVerdict}
+use Rattle.s7_cli.proofs.CommandAnswers.{IsCommandAnswer}
 
 -- ---- one answer
 
@@ -62,14 +62,14 @@ list-one image a b p q =
     answer-one p.0 a b p.2
     (subst (λ (v : Result LoadedProgram LoadFault). ListAnswer v b) (loads-one image q.0 p.0 q.1 p.1) q.2)
 
-listed-verdict : (p : Program) (a : CallAnswer) → ListedAnswer p a → IsVerdict a
-listed-verdict p a (inl (long, gives)) = inr (inr (inr (inr (inr (inl (Listing, gives))))))
-listed-verdict p a (inr (inl (short, none, gives))) = inr (inr (inr (inr (inr (inr gives)))))
-listed-verdict p a (inr (inr (short, has, gives))) = inl (ok_line, gives)
+listed-is-answer : (p : Program) (a : CallAnswer) → ListedAnswer p a → IsCommandAnswer a
+listed-is-answer p a (inl (long, gives)) = inr (inr (inr (inr (inr (inl (Listing, gives))))))
+listed-is-answer p a (inr (inl (short, none, gives))) = inr (inr (inr (inr (inr (inr gives)))))
+listed-is-answer p a (inr (inr (short, has, gives))) = inl (ok_line, gives)
 
-pub list-verdict : (v : Result LoadedProgram LoadFault) (a : CallAnswer) → ListAnswer v a → IsVerdict a
-list-verdict (Err fault) a said = inr (inr (inl (fault, said)))
-list-verdict (Ok l) a said = listed-verdict l.program a said
+pub list-is-answer : (v : Result LoadedProgram LoadFault) (a : CallAnswer) → ListAnswer v a → IsCommandAnswer a
+list-is-answer (Err fault) a said = inr (inr (inl (fault, said)))
+list-is-answer (Ok l) a said = listed-is-answer l.program a said
 
 -- ---- an image that isn't loaded, or has no listing
 

@@ -22,8 +22,8 @@ use Rattle.s7_cli.proofs.BoundLemmas.{stacks-suffice}
 use Rattle.s7_cli.proofs.ComesLemmas.{same-files}
 use Rattle.s7_cli.proofs.ListLemmas.{never-compiled}
 use Rattle.s7_cli.proofs.ReadingLemmas.{reads-told, reads-kinds, allows-alike, fails-rose}
-use Rattle.s7_cli.proofs.SaysLemmas.{Alike, OneEach, same-alike, says-alike, says-verdict}
-use Rattle.s7_cli.proofs.Verdicts.{IsVerdict}
+use Rattle.s7_cli.proofs.SaysLemmas.{Alike, OneEach, same-alike, says-alike, says-is-answer}
+use Rattle.s7_cli.proofs.CommandAnswers.{IsCommandAnswer}
 
 -- ---- the rows that go by the answer alone
 
@@ -137,31 +137,31 @@ file-status Vars refusal = refused-status 4 (omega arith) (omega arith)
 file-status (Script number) refusal = refused-status 4 (omega arith) (omega arith)
 file-status Certificate refusal = refused-status 4 (omega arith) (omega arith)
 
-rows-verdict : (c : Option Command) (d : Disk) (s : SinkMoments) (k : Command) (a : CallAnswer) → c ≡ Some k → IsVerdict a
+rows-answer : (c : Option Command) (d : Disk) (s : SinkMoments) (k : Command) (a : CallAnswer) → c ≡ Some k → IsCommandAnswer a
     → TookBytes s.before s.after a.text → Rows c d s (exit_status a.outcome)
-rows-verdict c d s k a is (inl (text, gives)) took =
+rows-answer c d s k a is (inl (text, gives)) took =
     subst (λ (b : CallAnswer). Rows c d s (exit_status b.outcome)) (sym gives) (rows-done c d s k is)
-rows-verdict c d s k a is (inr (inl (file, refusal, gives))) took =
+rows-answer c d s k a is (inr (inl (file, refusal, gives))) took =
     subst (λ (b : CallAnswer). Rows c d s (exit_status b.outcome)) (sym gives)
     (rows-file c d s k (Refused file refusal) (refused_file_answer file refusal).text (exit_status (refused_file_answer file refusal).outcome) is refl refl
     (subst (λ (b : CallAnswer). TookBytes s.before s.after b.text) gives took) (file-status file refusal))
-rows-verdict c d s k a is (inr (inr (inl (fault, gives)))) took =
+rows-answer c d s k a is (inr (inr (inl (fault, gives)))) took =
     subst (λ (b : CallAnswer). Rows c d s (exit_status b.outcome)) (sym gives)
     (rows-file c d s k (ImageRefused fault) (refused_image_answer fault).text 3 is refl refl
     (subst (λ (b : CallAnswer). TookBytes s.before s.after b.text) gives took) (refused-status 3 (omega arith) (omega arith)))
-rows-verdict c d s k a is (inr (inr (inr (inl gives)))) took =
+rows-answer c d s k a is (inr (inr (inr (inl gives)))) took =
     subst (λ (b : CallAnswer). Rows c d s (exit_status b.outcome)) (sym gives)
     (rows-file c d s k SaysNo says_no_answer.text 10 is refl refl
     (subst (λ (b : CallAnswer). TookBytes s.before s.after b.text) gives took) certificate-status)
-rows-verdict c d s k a is (inr (inr (inr (inr (inl (chain, gives)))))) took =
+rows-answer c d s k a is (inr (inr (inr (inr (inl (chain, gives)))))) took =
     subst (λ (b : CallAnswer). Rows c d s (exit_status b.outcome)) (sym gives)
     (rows-file c d s k TooDeep (too_deep_answer chain).text 10 is refl (chain, refl)
     (subst (λ (b : CallAnswer). TookBytes s.before s.after b.text) gives took) certificate-status)
-rows-verdict c d s k a is (inr (inr (inr (inr (inr (inl (file, gives))))))) took =
+rows-answer c d s k a is (inr (inr (inr (inr (inr (inl (file, gives))))))) took =
     subst (λ (b : CallAnswer). Rows c d s (exit_status b.outcome)) (sym gives)
     (rows-file c d s k (TooLong file) (too_long_answer file).text 8 is refl refl
     (subst (λ (b : CallAnswer). TookBytes s.before s.after b.text) gives took) too-long-status)
-rows-verdict c d s k a is (inr (inr (inr (inr (inr (inr gives)))))) took =
+rows-answer c d s k a is (inr (inr (inr (inr (inr (inr gives)))))) took =
     subst (λ (b : CallAnswer). Rows c d s (exit_status b.outcome)) (sym gives)
     (rows-file c d s k NoListing no_listing_answer.text 9 is refl refl
     (subst (λ (b : CallAnswer). TookBytes s.before s.after b.text) gives took) no-listing-status)
@@ -177,7 +177,7 @@ rows-command k d s a reads took =
           subst (λ (b : CallAnswer). Rows (Some k) d s (exit_status b.outcome)) (sym gives)
           (rows-file (Some k) d s k (TooLong i.file) (too_long_answer i.file).text 8 refl refl refl
           (subst (λ (b : CallAnswer). TookBytes s.before s.after b.text) gives took) too-long-status)
-      | inr (inr (contents, says)) ↦ rows-verdict (Some k) d s k a refl (says-verdict k contents a says) took
+      | inr (inr (contents, says)) ↦ rows-answer (Some k) d s k a refl (says-is-answer k contents a says) took
     ]
 
 rows : (c : Option Command) (d : Disk) (s : SinkMoments) (a : CallAnswer) → IsAnswerOfCall c d a → TookBytes s.before s.after a.text

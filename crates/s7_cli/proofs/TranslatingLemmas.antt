@@ -11,7 +11,7 @@ use Rattle.stl_symbols.specs.declared.languages.Language.TheVariants.{English, G
 use Rattle.s7_cli.specs.declared.failures.File.TheVariants.{Source, Translation, Symbols}
 use Rattle.s7_cli.specs.Answer.{CallAnswer, too_long_answer}
 use Rattle.s7_cli.specs.Translating.{IfFits, SaysInEnglish, IsEnglish, NotTranslated, SaysWithSymbols, SaysByTranslation, SaysTranslated, TranslatesSource, language_of}
-use Rattle.s7_cli.proofs.Verdicts.{IsVerdict}
+use Rattle.s7_cli.proofs.CommandAnswers.{IsCommandAnswer}
 
 -- what is said of a text
 abbrev pub Says : Type 1
@@ -66,30 +66,30 @@ english-one each true source symbols says one a b p q = symbols-one each (symbol
 
 -- ---- which answers there are
 
-abbrev pub SaysVerdict : Says → Type 0
-SaysVerdict says = (text : List ℕ) (a : CallAnswer) → says text a → IsVerdict a
+abbrev pub SaysCommandAnswer : Says → Type 0
+SaysCommandAnswer says = (text : List ℕ) (a : CallAnswer) → says text a → IsCommandAnswer a
 
-fits-verdict : (fits : Bool) (says : Says) → SaysVerdict says → (text : List ℕ) (a : CallAnswer) → IfFits fits (says text a) a → IsVerdict a
-fits-verdict true says each text a said = each text a said
-fits-verdict false says each text a said = inr (inr (inr (inr (inr (inl (Translation, said))))))
+fits-is-answer : (fits : Bool) (says : Says) → SaysCommandAnswer says → (text : List ℕ) (a : CallAnswer) → IfFits fits (says text a) a → IsCommandAnswer a
+fits-is-answer true says each text a said = each text a said
+fits-is-answer false says each text a said = inr (inr (inr (inr (inr (inl (Translation, said))))))
 
-translation-verdict : (says : Says) → SaysVerdict says → (v : Result (List ℕ) Refusal) (a : CallAnswer) → SaysByTranslation says v a → IsVerdict a
-translation-verdict says each (Err refusal) a said = inr (inl (Source, refusal, said))
-translation-verdict says each (Ok text) a said = fits-verdict (nat_le (length text) 1048576) says each text a said
+translation-is-answer : (says : Says) → SaysCommandAnswer says → (v : Result (List ℕ) Refusal) (a : CallAnswer) → SaysByTranslation says v a → IsCommandAnswer a
+translation-is-answer says each (Err refusal) a said = inr (inl (Source, refusal, said))
+translation-is-answer says each (Ok text) a said = fits-is-answer (nat_le (length text) 1048576) says each text a said
 
-pub translated-verdict : (language : Language) (source : List ℕ) (says : Says) → SaysVerdict says → (a : CallAnswer)
-    → SaysTranslated language source says a → IsVerdict a
-translated-verdict language source says each a said = translation-verdict says each said.0 a said.2
+pub translated-is-answer : (language : Language) (source : List ℕ) (says : Says) → SaysCommandAnswer says → (a : CallAnswer)
+    → SaysTranslated language source says a → IsCommandAnswer a
+translated-is-answer language source says each a said = translation-is-answer says each said.0 a said.2
 
-symbols-verdict : (read : Result (List Symbol) Refusal) (source : List ℕ) (says : Says) → SaysVerdict says → (a : CallAnswer)
-    → SaysWithSymbols read source says a → IsVerdict a
-symbols-verdict (Err refusal) source says each a said = inr (inl (Symbols, refusal, said))
-symbols-verdict (Ok list) source says each a said = translated-verdict English source says each a said
+symbols-is-answer : (read : Result (List Symbol) Refusal) (source : List ℕ) (says : Says) → SaysCommandAnswer says → (a : CallAnswer)
+    → SaysWithSymbols read source says a → IsCommandAnswer a
+symbols-is-answer (Err refusal) source says each a said = inr (inl (Symbols, refusal, said))
+symbols-is-answer (Ok list) source says each a said = translated-is-answer English source says each a said
 
-pub english-verdict : (german : Bool) (source symbols : List ℕ) (says : Says) → SaysVerdict says → (a : CallAnswer)
-    → SaysInEnglish german source symbols says a → IsVerdict a
-english-verdict false source symbols says each a said = each source a said
-english-verdict true source symbols says each a said = symbols-verdict (symbols_in German symbols) source says each a said
+pub english-is-answer : (german : Bool) (source symbols : List ℕ) (says : Says) → SaysCommandAnswer says → (a : CallAnswer)
+    → SaysInEnglish german source symbols says a → IsCommandAnswer a
+english-is-answer false source symbols says each a said = each source a said
+english-is-answer true source symbols says each a said = symbols-is-answer (symbols_in German symbols) source says each a said
 
 -- ---- more is said
 
