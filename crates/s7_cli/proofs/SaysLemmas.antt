@@ -195,7 +195,7 @@ says-outcome one (Watch i s v o n) (x ∷ []) a b p q = absurd p
 says-outcome one (Watch i s v o n) (x ∷ y ∷ []) a b p q = absurd p
 says-outcome one (Watch i s v o n) (image ∷ stimuli ∷ vars ∷ scripts) a b p q = watch-one n image stimuli vars scripts a b p q
 
--- two answers of a command that told files allow
+-- two answers of a command that files allow whose contents are known
 abbrev pub Alike : Command → CallAnswer → CallAnswer → Type 0
 Alike k a b = (a.outcome ≡ b.outcome) × (HasOneText k → a ≡ b)
 
@@ -375,15 +375,15 @@ compile-writes c src (Some name) german img source (Some bytes) image hold keeps
 
 -- what refuses it is what `check` and `go` say
 pub refused-checks : (german : Bool) (source symbols : List ℕ) (a : CallAnswer) → RefusedProgram german source symbols a → CheckSays german source symbols a
-refused-checks german source symbols a told =
+refused-checks german source symbols a holds =
     english-weaker german source symbols (RefusedText (language_of german) symbols) (ChecksAs (language_of german) symbols)
-    (λ text b refused. (Err refused.0, refused.1, refused.2)) a told
+    (λ text b refused. (Err refused.0, refused.1, refused.2)) a holds
 
 pub refused-goes : (german : Bool) (source symbols history : List ℕ) (a : CallAnswer) → RefusedProgram german source symbols a
     → GoSays german source symbols history a
-refused-goes german source symbols history a told =
+refused-goes german source symbols history a holds =
     english-weaker german source symbols (RefusedText (language_of german) symbols)
-    (λ text. SourceSays (language_of german) Large text symbols history) (λ text b refused. (Err refused.0, refused.1, refused.2)) a told
+    (λ text. SourceSays (language_of german) Large text symbols history) (λ text b refused. (Err refused.0, refused.1, refused.2)) a holds
 
 pub text-refuses : (V : Type 0) (language : Language) (symbols text : List ℕ) (fault : CompileFault) → RefusesInLanguage language text symbols fault
     → SaysRefusal {V = V} (RefusedText language symbols text) (Err (failure_of_compiling fault))
@@ -417,25 +417,25 @@ symbols-refused V source symbols compiling.NoMemory r fails has =
 pub translation-refused : (V W : Type 0) (source source' symbols : List ℕ) (list : List Symbol) (failure : Failure) (r : Result V Failure)
     → r ≡ Err failure → source' ≡ source → HasSymbolsIn German symbols (Ok list)
     → SaysRefusal {V = W} (NotTranslated English source') (Err failure) → SaysRefusal (NotInEnglish source symbols) r
-translation-refused V W source source' symbols list failure r fails is has told =
+translation-refused V W source source' symbols list failure r fails is has refused =
     refused-more W V (NotTranslated English source') (NotInEnglish source symbols) failure r fails
     (λ (a : CallAnswer) no. german-so (symbols_in German symbols) list source (λ text b. ⊥) a has
     (subst (λ (s : List ℕ). NotTranslated English s a) is no))
-    told
+    refused
 
 pub english-refused : (V W : Type 0) (source symbols : List ℕ) (failure : Failure) (r : Result V Failure) → r ≡ Err failure
     → SaysRefusal {V = W} (NotInEnglish source symbols) (Err failure) → SaysRefusal (RefusedProgram true source symbols) r
-english-refused V W source symbols failure r fails told =
+english-refused V W source symbols failure r fails refused =
     refused-more W V (NotInEnglish source symbols) (RefusedProgram true source symbols) failure r fails
     (λ (a : CallAnswer) no. english-weaker true source symbols (λ text b. ⊥) (RefusedText German symbols) (λ text b none. absurd none) a no)
-    told
+    refused
 
 pub text-refused : (V : Type 0) (source symbols text : List ℕ) (list : List Symbol) (fault : CompileFault) (r : Result V Failure)
     → r ≡ Err (failure_of_compiling fault) → HasSymbolsIn German symbols (Ok list) → IsEnglish true source text
     → RefusesForSymbols text list fault → SaysRefusal (RefusedProgram true source symbols) r
 text-refused V source symbols text list fault r fails has is refuses =
     refused-more V V (RefusedText German symbols text) (RefusedProgram true source symbols) (failure_of_compiling fault) r fails
-    (λ (a : CallAnswer) told. in-english true source symbols text list (RefusedText German symbols) a has is told)
+    (λ (a : CallAnswer) holds. in-english true source symbols text list (RefusedText German symbols) a has is holds)
     (text-refuses V German symbols text fault (refuses German symbols has))
 
 -- ---- what a source with a program says

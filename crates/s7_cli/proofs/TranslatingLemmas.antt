@@ -94,33 +94,33 @@ english-is-answer true source symbols says each a said = symbols-is-answer (symb
 -- ---- more is said
 
 fits-weaker : (fits : Bool) (said says : Type 0) (a : CallAnswer) → (said → says) → IfFits fits said a → IfFits fits says a
-fits-weaker true said says a each told = each told
-fits-weaker false said says a each told = told
+fits-weaker true said says a each holds = each holds
+fits-weaker false said says a each holds = holds
 
 translation-weaker : (said says : Says) → ((text : List ℕ) (a : CallAnswer) → said text a → says text a) → (v : Result (List ℕ) Refusal)
     (a : CallAnswer) → SaysByTranslation said v a → SaysByTranslation says v a
-translation-weaker said says each (Err refusal) a told = told
-translation-weaker said says each (Ok text) a told = fits-weaker (nat_le (length text) 1048576) (said text a) (says text a) a (each text a) told
+translation-weaker said says each (Err refusal) a holds = holds
+translation-weaker said says each (Ok text) a holds = fits-weaker (nat_le (length text) 1048576) (said text a) (says text a) a (each text a) holds
 
 pub translated-weaker : (language : Language) (source : List ℕ) (said says : Says) → ((text : List ℕ) (a : CallAnswer) → said text a → says text a)
     → (a : CallAnswer) → SaysTranslated language source said a → SaysTranslated language source says a
-translated-weaker language source said says each a told = (told.0, told.1, translation-weaker said says each told.0 a told.2)
+translated-weaker language source said says each a holds = (holds.0, holds.1, translation-weaker said says each holds.0 a holds.2)
 
 symbols-weaker : (read : Result (List Symbol) Refusal) (source : List ℕ) (said says : Says)
     → ((text : List ℕ) (a : CallAnswer) → said text a → says text a) → (a : CallAnswer) → SaysWithSymbols read source said a → SaysWithSymbols read source says a
-symbols-weaker (Err refusal) source said says each a told = told
-symbols-weaker (Ok list) source said says each a told = translated-weaker English source said says each a told
+symbols-weaker (Err refusal) source said says each a holds = holds
+symbols-weaker (Ok list) source said says each a holds = translated-weaker English source said says each a holds
 
 pub english-weaker : (german : Bool) (source symbols : List ℕ) (said says : Says) → ((text : List ℕ) (a : CallAnswer) → said text a → says text a)
     → (a : CallAnswer) → SaysInEnglish german source symbols said a → SaysInEnglish german source symbols says a
-english-weaker false source symbols said says each a told = each source a told
-english-weaker true source symbols said says each a told = symbols-weaker (symbols_in German symbols) source said says each a told
+english-weaker false source symbols said says each a holds = each source a holds
+english-weaker true source symbols said says each a holds = symbols-weaker (symbols_in German symbols) source said says each a holds
 
 -- ---- the English text is known
 
 fitting : (fits : Bool) (said : Type 0) (a : CallAnswer) → fits ≡ true → said → IfFits fits said a
-fitting true said a is told = told
-fitting false said a is told = absurd (true≢false (sym is))
+fitting true said a is holds = holds
+fitting false said a is holds = absurd (true≢false (sym is))
 
 too-long : (fits : Bool) (said : Type 0) (a : CallAnswer) → fits ≡ false → a ≡ too_long_answer Translation → IfFits fits said a
 too-long true said a is gives = absurd (true≢false is)

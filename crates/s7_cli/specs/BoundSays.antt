@@ -22,8 +22,8 @@ use Rattle.s7_cli.specs.Reading.{Disk}
 abbrev pub HasLeastCertificate : LoadedProgram → Type 0
 HasLeastCertificate l = (list : List Bound) × IsLeastCertificate l.profile l.program list
 
--- what `bound` answers by how its image loads: it is refused, the certificate is written, or a
--- chain of calls is told that is too deep
+-- what `bound` answers by how its image loads: the image is refused, the least certificate is
+-- written, or the line of a chain of calls that is too deep
 abbrev pub BoundAnswer : Result LoadedProgram LoadFault → CallAnswer → Type 0
 BoundAnswer (Err fault) answer = answer ≡ refused_image_answer fault
 BoundAnswer (Ok l) answer =

@@ -74,7 +74,7 @@ HoldsWhole c d name =
 -- no file changed but output files
 pub record ChangesOutputs (c : Option Command) (d : Disk) : Type 0 where
   -- whether the contents of files are known stays as it was
-  pub told : d.after.contents.told ≡ d.before.contents.told
+  pub known : d.after.contents.told ≡ d.before.contents.told
   -- a file that is no output file holds what it held
   pub elsewhere : (name : List ℕ) → (Contains (output_names c) name → ⊥) → d.after.contents.at name ≡ d.before.contents.at name
   -- an output file holds what it held, or a front of what is written to it

@@ -35,14 +35,14 @@ abbrev pub refused_source_answer : RefusedFile → CallAnswer
 refused_source_answer (InSymbols refusal) = refused_file_answer Symbols refusal
 refused_source_answer (InSource refusal) = refused_file_answer Source refusal
 
--- `go`: the source with its symbols is checked first, then the history; else the text of the run is
--- told, at a profile
+-- the answer of `go`, at a profile: the refusal of the source with its symbols, which is checked
+-- first; else that of the history; else the text of the run
 abbrev pub go_answer : Profile → Result Code RefusedFile → Result (List Entry) Refusal → CallAnswer
 go_answer profile (Err why) history = refused_source_answer why
 go_answer profile (Ok code) (Err refusal) = refused_file_answer History refusal
 go_answer profile (Ok code) (Ok entries) = done_answer (run_text profile code entries)
 
--- `check` and `compile`: the source with its symbols is checked
+-- the answer of `check` and `compile`: the refusal of the source with its symbols, or `OK`
 abbrev pub check_answer : Result Code RefusedFile → CallAnswer
 check_answer (Err why) = refused_source_answer why
 check_answer (Ok code) = done_answer ok_line
@@ -60,14 +60,14 @@ GoSays german source symbols history answer =
     SaysInEnglish german source symbols
     (λ text. SourceSays (language_of german) Large text symbols history) answer
 
--- `run` with an image that loads: the history is checked, or the text of the run is told, at the
--- image's profile
+-- the answer of `run` with an image that loads: the refusal of the history, or the text of the run,
+-- at the image's profile
 abbrev pub run_loaded_answer : LoadedProgram → Result (List Entry) Refusal → CallAnswer
 run_loaded_answer loaded (Err refusal) = refused_file_answer History refusal
 run_loaded_answer loaded (Ok entries) = done_answer (run_text loaded.profile (code_of loaded.program) entries)
 
--- `run`, by how its image loads: it is refused, or runs along the history, which may name the
--- variables whose names stand in the image
+-- the answer of `run`, by how its image loads: the image is refused, or runs along the history, which
+-- may name the variables whose names stand in the image
 abbrev pub run_answer : Result LoadedProgram LoadFault → (history : List ℕ) → CallAnswer
 run_answer (Err fault) history = refused_image_answer fault
 run_answer (Ok loaded) history = run_loaded_answer loaded (history_of_text loaded.program.names history)

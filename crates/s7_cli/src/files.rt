@@ -79,7 +79,7 @@ pub(crate) fn limit_of(file: File) -> usize
     }
 }
 
-/// Reads an input file whole. A failed read is told before a length.
+/// Reads an input file whole. A failed read goes before a length past the limit.
 pub fn read_file<F: Files>(
     alloc: Global,
     files: &mut F,
