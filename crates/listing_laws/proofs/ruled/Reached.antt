@@ -117,7 +117,7 @@ timer_no : (b : Bool) (number : ℕ) → IsNoLabel (if b then operand.Timer numb
 timer_no true number labels = refl
 timer_no false number labels = refl
 
--- what a jump is told by
+-- an operand that is a jump goes to one of these labels
 abbrev pub JumpsIn : (List (List ℕ)) → (starts : List ℕ) → FlatOperand → Type 0
 JumpsIn labels starts (flat.Jump kind target) = is_some (name_place (label_of_number (number_at starts target)) labels) ≡ true
 JumpsIn labels starts _ = Unit {0}
