@@ -111,8 +111,8 @@ pub fn cmd_bound<F: Files, K: Sink>(
     out: &mut K,
 ) -> ExitStatus
     ensures ends { let went = disk_moments (F.shown files.old) (F.shown files.new) in
-        EndsWithStatus (Some (Bound img.now cert.now)) went (sink_moments (K.shown out.old) (K.shown out.new))
-        result.code }
+        EndsWithStatus (Some (Bound img.now cert.now)) went
+        (sink_moments (K.shown out.old) (K.shown out.new)) result.code }
     ensures table { let went = disk_moments (F.shown files.old) (F.shown files.new) in
         StatusTable (Some (Bound img.now cert.now)) went
         (sink_moments (K.shown out.old) (K.shown out.new)) result.code }

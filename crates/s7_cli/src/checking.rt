@@ -25,7 +25,8 @@ fn check_text<K: Sink>(
     requires { AreFilesWithinLimits text.now }
     ensures { let took = sink_moments (K.shown out.old) (K.shown out.new) in
         (src : List ℕ) (symbols : Option (List ℕ)) (at : FilesAt)
-        → CommandComesTo (Check src symbols german) (file_contents_of text.now) (disk_moments at at) took result }
+        → CommandComesTo (Check src symbols german) (file_contents_of text.now)
+        (disk_moments at at) took result }
 {
     check_program(alloc, text, german)?;
     write_text(out, OK_LINE)
@@ -41,8 +42,8 @@ fn check<F: Files, K: Sink>(
     out: &mut K,
 ) -> Result<(), Failure>
     ensures { let files_went = disk_moments (F.shown files.old) (F.shown files.new) in
-        ComesBeforeLine (Some (Check src.now (option_map (λ s. s.now) symbols.entry) german)) files_went
-        (sink_moments (K.shown out.old) (K.shown out.new)) result }
+        ComesBeforeLine (Some (Check src.now (option_map (λ s. s.now) symbols.entry) german))
+        files_went (sink_moments (K.shown out.old) (K.shown out.new)) result }
 {
     let text = read_program(alloc, files, src, symbols)?;
     check_text(alloc, &text, german, out)

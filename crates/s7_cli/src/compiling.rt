@@ -88,7 +88,8 @@ pub(crate) fn symbols_in(
 /// The tree of a source.
 fn tree_of(alloc: Global, source: &[u8]) -> Result<Tree, SourceFault>
     requires { length source.now ≤ source_limit }
-    ensures { MakesOrRefuses (HaveOutcomeInTurn HasTokens (HasTreeOrRefusal source.now) source.now) result }
+    ensures { MakesOrRefuses (HaveOutcomeInTurn HasTokens (HasTreeOrRefusal source.now) source.now)
+        result }
 {
     let tokens = lex(alloc, source)?;
     let tree = parse(alloc, &tokens)?;

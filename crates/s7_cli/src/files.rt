@@ -87,7 +87,8 @@ pub fn read_file<F: Files>(
     name: &str,
 ) -> Result<Vec<u8>, Failure>
     ensures { let input : Input = record { file = file; name = name.now } in
-        FileRead (λ v. v.items) (disk_moments (F.shown files.old) (F.shown files.new)) input result }
+        FileRead (λ v. v.items) (disk_moments (F.shown files.old) (F.shown files.new)) input
+        result }
 {
     let limit = limit_of(file);
     match read_to_limit(alloc, files, name, limit) {

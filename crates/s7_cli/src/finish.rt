@@ -21,7 +21,8 @@ pub const OK_LINE: &[u8] = b"OK\n";
 /// How a command came out whose text was written so.
 pub fn written(outcome: Result<(), IoFault>) -> Result<(), Failure>
     ensures { (before after : SinkAt) (text : List ℕ)
-        → WroteText before after text outcome → TextWritten text (sink_moments before after) result }
+        → WroteText before after text outcome
+        → TextWritten text (sink_moments before after) result }
 {
     match outcome {
         Ok(()) => Ok(()),

@@ -249,7 +249,8 @@ impl Question {
 /// Writes the answer to a question. The status is 0, or 6 where the sink failed, or 7 where memory
 /// was wanting.
 pub fn write_answer<K: Sink>(out: &mut K, question: Question) -> ExitStatus
-    ensures { AnswerWritten (question_text question) (K.shown out.old) (K.shown out.new) result.code }
+    ensures { AnswerWritten (question_text question) (K.shown out.old) (K.shown out.new)
+        result.code }
 {
     let outcome = match push_all(out, question.text().as_bytes()) {
         Ok(()) => Ok(()),

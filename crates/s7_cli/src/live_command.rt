@@ -43,7 +43,8 @@ fn lived<R: Threads + Wait + Sync, G: Gate + Sync>(
     requires text { IsLiveText text.now }
     requires steps { steps ≤ 1000000 }
     ensures says { IfOk result
-        (λ c. LiveTextSays steps text.now (done_answer (live_text (program_of_recording c) c.history))) }
+        (λ c. LiveTextSays steps text.now
+        (done_answer (live_text (program_of_recording c) c.history))) }
     ensures valid { IfOk result (λ c. All IsValid c.history) }
     ensures refused { SaysRefusal (LiveTextSays steps text.now) result }
 {
@@ -123,7 +124,8 @@ fn live_read<R: Threads + Wait + Sync, K: Sink, G: Gate + Sync>(
     requires steps { steps ≤ 1000000 }
     ensures { let took = sink_moments (K.shown out.old) (K.shown out.new) in
         (img stim : List ℕ) (ops : List (List ℕ)) (at : FilesAt)
-        → CommandComesTo (Live img stim ops steps) (live_contents text.now) (disk_moments at at) took result }
+        → CommandComesTo (Live img stim ops steps) (live_contents text.now)
+        (disk_moments at at) took result }
 {
     let controller = lived(rt, alloc, text, steps, gate)?;
     written(write_live(alloc, controller, out))
@@ -145,7 +147,8 @@ fn live<R: Threads + Wait + Sync, F: Files, K: Sink, G: Gate + Sync>(
     requires steps { steps ≤ 1000000 }
     ensures { let went = disk_moments (F.shown files.old) (F.shown files.new) in
         let took = sink_moments (K.shown out.old) (K.shown out.new) in
-        ComesBeforeLine (Some (Live img.now stim.now (map (λ w. w.now) ops.now) steps)) went took result }
+        ComesBeforeLine (Some (Live img.now stim.now (map (λ w. w.now) ops.now) steps)) went
+        took result }
 {
     let text = read_live(alloc, files, img, stim, ops)?;
     live_read(rt, alloc, &text, steps, out, gate)

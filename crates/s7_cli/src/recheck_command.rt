@@ -40,7 +40,8 @@ fn recheck_image<K: Sink>(
     requires { length certificate.now ≤ 4194304 }
     ensures { let took = sink_moments (K.shown out.old) (K.shown out.new) in
         (img cert : List ℕ) (at : FilesAt)
-        → CommandComesTo (Recheck img cert) (image.now ∷ certificate.now ∷ []) (disk_moments at at) took result }
+        → CommandComesTo (Recheck img cert) (image.now ∷ certificate.now ∷ [])
+        (disk_moments at at) took result }
 {
     check_recheck(alloc, image, certificate)?;
     write_text(out, OK_LINE)
@@ -74,8 +75,8 @@ pub fn cmd_recheck<F: Files, K: Sink>(
     out: &mut K,
 ) -> ExitStatus
     ensures ends { let went = disk_moments (F.shown files.old) (F.shown files.new) in
-        EndsWithStatus (Some (Recheck img.now cert.now)) went (sink_moments (K.shown out.old) (K.shown out.new))
-        result.code }
+        EndsWithStatus (Some (Recheck img.now cert.now)) went
+        (sink_moments (K.shown out.old) (K.shown out.new)) result.code }
     ensures table { let went = disk_moments (F.shown files.old) (F.shown files.new) in
         StatusTable (Some (Recheck img.now cert.now)) went
         (sink_moments (K.shown out.old) (K.shown out.new)) result.code }

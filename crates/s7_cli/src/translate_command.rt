@@ -28,7 +28,8 @@ fn translate_text<F: Files, K: Sink>(
     ensures { let went = disk_moments (F.shown files.old) (F.shown files.new) in
         let took = sink_moments (K.shown out.old) (K.shown out.new) in
         (src : List ℕ)
-        → CommandComesTo (Translate language src translation.now) (source.now ∷ []) went took result }
+        → CommandComesTo (Translate language src translation.now) (source.now ∷ []) went took
+        result }
 {
     let text = translated(alloc, language, source)?;
     write_output(files, out, translation, &text)

@@ -55,8 +55,8 @@ pub fn cmd_upgrade<F: Files, K: Sink>(
     out: &mut K,
 ) -> ExitStatus
     ensures ends { let went = disk_moments (F.shown files.old) (F.shown files.new) in
-        EndsWithStatus (Some (Upgrade img.now img2.now)) went (sink_moments (K.shown out.old) (K.shown out.new))
-        result.code }
+        EndsWithStatus (Some (Upgrade img.now img2.now)) went
+        (sink_moments (K.shown out.old) (K.shown out.new)) result.code }
     ensures table { let went = disk_moments (F.shown files.old) (F.shown files.new) in
         StatusTable (Some (Upgrade img.now img2.now)) went
         (sink_moments (K.shown out.old) (K.shown out.new)) result.code }
