@@ -25,7 +25,8 @@ done_answer text = record { outcome = Ok tt; text = text }
 
 -- a file breaks a rule
 abbrev pub refused_file_answer : File → Refusal → CallAnswer
-refused_file_answer file refusal = record { outcome = Err (Refused file refusal); text = refusal_text file refusal }
+refused_file_answer file refusal =
+    record { outcome = Err (Refused file refusal); text = refusal_text file refusal }
 
 -- an image isn't that of a program that verifies
 abbrev pub refused_image_answer : LoadFault → CallAnswer

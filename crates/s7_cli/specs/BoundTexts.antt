@@ -16,7 +16,8 @@ use Rattle.s7_cli.specs.Loads.{LoadsAs}
 
 -- the text of what was found: a certificate, or the line of a chain that is too deep
 abbrev pub IsBoundText : Found → BoundText → Type 0
-IsBoundText (found.Fits list) (bound_text.Fits certificate) = certificate.items ≡ certificate_text list.items
+IsBoundText (found.Fits list) (bound_text.Fits certificate) =
+    certificate.items ≡ certificate_text list.items
 IsBoundText (found.Deep chain) (bound_text.Deep line) = line.items ≡ chain_text chain.items
 IsBoundText _ _ = ⊥
 

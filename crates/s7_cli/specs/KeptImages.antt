@@ -31,5 +31,7 @@ KeptImagesAnswerAlike =
     (language : Language) (image source symbols : List ℕ)
     → ((i : ℕ) → get_or image i 0 < 256) → (kept : ImageKeepsSourceIn language image source symbols)
     → (history : List ℕ) (answer : CallAnswer)
-    → (RunSays image history answer → SourceSays language (profile_of kept.stamp) source symbols history answer)
-    × (SourceSays language (profile_of kept.stamp) source symbols history answer → RunSays image history answer)
+    → (RunSays image history answer
+    → SourceSays language (profile_of kept.stamp) source symbols history answer)
+    × (SourceSays language (profile_of kept.stamp) source symbols history answer
+    → RunSays image history answer)

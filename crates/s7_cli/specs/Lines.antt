@@ -37,12 +37,14 @@ too_long_text file = codes "too long: " ++ file_text file ++ codes "\n"
 -- a refused file: the line and the rule that it breaks
 unfoldable pub refusal_text : File → Refusal → List ℕ
 refusal_text file refusal =
-    file_text file ++ codes " refused: line " ++ decimal refusal.line ++ codes " rule " ++ decimal refusal.rule ++ codes "\n"
+    file_text file ++ codes " refused: line " ++ decimal refusal.line ++ codes " rule "
+    ++ decimal refusal.rule ++ codes "\n"
 
 -- a refused image: the offset of its least fault, and the fault's code
 unfoldable pub image_refused_text : LoadFault → List ℕ
 image_refused_text fault =
-    codes "image refused: offset " ++ decimal fault.at ++ codes " code " ++ decimal fault.code ++ codes "\n"
+    codes "image refused: offset " ++ decimal fault.at ++ codes " code " ++ decimal fault.code
+    ++ codes "\n"
 
 -- the listing of an image doesn't compile to its program
 unfoldable pub no_listing_text : List ℕ

@@ -36,7 +36,8 @@ pub record IsLiveText (text : LiveText) : Type 0 where
 
 -- what `live` answers for these files
 abbrev pub LiveTextSays : (steps : ℕ) → LiveText → CallAnswer → Type 0
-LiveTextSays steps text answer = LiveSays steps text.image.items text.stimuli.items (scripts_of text) answer
+LiveTextSays steps text answer =
+    LiveSays steps text.image.items text.stimuli.items (scripts_of text) answer
 
 -- the first script that is refused is answered, by its number and its refusal, or memory was
 -- wanting
@@ -48,7 +49,9 @@ IsScriptRefusal scripts failure =
 
 -- what is found in the files of a live run: the program and the lists of the workers; an entry
 -- has four bytes of its text at least
-pub record FindsProgramAndScripts (text : LiveText) (loaded : LoadedProgram) (stimuli : List Entry) (scripts : List (List Entry)) : Type 0 where
+pub record FindsProgramAndScripts
+    (text : LiveText) (loaded : LoadedProgram) (stimuli : List Entry) (scripts : List (List Entry))
+    : Type 0 where
   -- the image loads as this program
   pub loads : LoadsAs text.image.items (Ok loaded)
   -- the stimuli break no rule and are these entries

@@ -31,22 +31,27 @@ HoldBytesInTurn c inputs contents = ⊥
 -- the reading ends at a file: a read of it failed, or it holds a byte past its limit
 abbrev pub StopsAt : Disk → Input → CallAnswer → Type 0
 StopsAt d i answer =
-    (CountRose (d.before.failed_reads i.name) (d.after.failed_reads i.name) × (answer ≡ read_fault_answer))
-    ⊎ ((bytes : List ℕ) × FileHoldsBytes d.before.contents i.name bytes × (limit_of i.file < length bytes) × (answer ≡ too_long_answer i.file))
+    (CountRose (d.before.failed_reads i.name) (d.after.failed_reads i.name)
+    × (answer ≡ read_fault_answer))
+    ⊎ ((bytes : List ℕ) × FileHoldsBytes d.before.contents i.name bytes
+    × (limit_of i.file < length bytes) × (answer ≡ too_long_answer i.file))
 
 -- the files are read in their order: the reading ends at one, or all hold bytes of which this is said
-abbrev pub ReadsFilesInTurn : Disk → List Input → (List (List ℕ) → CallAnswer → Type 0) → CallAnswer → Type 0
+abbrev pub ReadsFilesInTurn :
+    Disk → List Input → (List (List ℕ) → CallAnswer → Type 0) → CallAnswer → Type 0
 ReadsFilesInTurn d [] says answer = says [] answer
 ReadsFilesInTurn d (i ∷ is) says answer =
     StopsAt d i answer
-    ⊎ ((bytes : List ℕ) × HoldsBytes d.before.contents i bytes × ReadsFilesInTurn d is (λ files. says (bytes ∷ files)) answer)
+    ⊎ ((bytes : List ℕ) × HoldsBytes d.before.contents i bytes
+    × ReadsFilesInTurn d is (λ files. says (bytes ∷ files)) answer)
 
 -- over files whose contents are known the reading ends at a file: it is absent, or holds a byte
 -- past its limit
 abbrev pub StopsWhereContentsKnown : Contents → Input → CallAnswer → Type 0
 StopsWhereContentsKnown c i answer =
     ((c.at i.name ≡ None) × (answer ≡ read_fault_answer))
-    ⊎ ((bytes : List ℕ) × (c.at i.name ≡ Some bytes) × (limit_of i.file < length bytes) × (answer ≡ too_long_answer i.file))
+    ⊎ ((bytes : List ℕ) × (c.at i.name ≡ Some bytes)
+    × (limit_of i.file < length bytes) × (answer ≡ too_long_answer i.file))
 
 -- the file is there, within its limit
 pub record IsFileThere (c : Contents) (i : Input) (bytes : List ℕ) : Type 0 where
@@ -57,11 +62,13 @@ pub record IsFileThere (c : Contents) (i : Input) (bytes : List ℕ) : Type 0 wh
 
 -- what files whose contents are known allow where no read fails: the first that is absent or too
 -- long ends the reading, else this is said of all contents
-abbrev pub AllowsAnswer : Contents → List Input → (List (List ℕ) → CallAnswer → Type 0) → CallAnswer → Type 0
+abbrev pub AllowsAnswer :
+    Contents → List Input → (List (List ℕ) → CallAnswer → Type 0) → CallAnswer → Type 0
 AllowsAnswer c [] says answer = says [] answer
 AllowsAnswer c (i ∷ is) says answer =
     StopsWhereContentsKnown c i answer
-    ⊎ ((bytes : List ℕ) × IsFileThere c i bytes × AllowsAnswer c is (λ files. says (bytes ∷ files)) answer)
+    ⊎ ((bytes : List ℕ) × IsFileThere c i bytes
+    × AllowsAnswer c is (λ files. says (bytes ∷ files)) answer)
 
 -- a read of a file failed that the reading comes to: the first, or one behind files that are there, within their limits
 abbrev pub FailsOnTheWay : Disk → List Input → Type 0

@@ -39,15 +39,20 @@ pub record IsWatchText (text : WatchText) : Type 0 where
 
 -- what `watch` answers for these files
 abbrev pub WatchTextSays : (steps : ℕ) → WatchText → CallAnswer → Type 0
-WatchTextSays steps text answer = WatchSays steps text.image.items text.stimuli.items text.vars.items (watch_scripts text) answer
+WatchTextSays steps text answer =
+    WatchSays steps text.image.items text.stimuli.items text.vars.items (watch_scripts text) answer
 
 -- the variables are refused, and their refusal is answered
 abbrev pub AreVarsRefused : Result (List Var) Refusal → Failure → Type 0
-AreVarsRefused vars failure = (refusal : Refusal) × (vars ≡ Err refusal) × (failure ≡ Refused Vars refusal)
+AreVarsRefused vars failure =
+    (refusal : Refusal) × (vars ≡ Err refusal) × (failure ≡ Refused Vars refusal)
 
 -- what is found in the files of a watch: the program, the lists of the workers and the
 -- variables; an entry has four bytes of its text at least
-pub record FindsWatch (text : WatchText) (loaded : LoadedProgram) (stimuli : List Entry) (vars : List Var) (scripts : List (List Entry)) : Type 0 where
+pub record FindsWatch
+    (text : WatchText) (loaded : LoadedProgram) (stimuli : List Entry) (vars : List Var)
+    (scripts : List (List Entry))
+    : Type 0 where
   -- the image loads as this program
   pub loads : LoadsAs text.image.items (Ok loaded)
   -- the stimuli break no rule and are these entries

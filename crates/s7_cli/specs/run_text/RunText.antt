@@ -34,7 +34,8 @@ monitored_text n (Some one) = mon_text n one
 -- what entry n showed: the monitored statement, the outputs that changed, the mode that began
 unfoldable pub shown_text : ℕ → Observed → List ℕ
 shown_text n seen =
-    monitored_text n seen.mon ++ (flat_map (output_text n) seen.outputs ++ changed_mode_text n seen.mode)
+    monitored_text n seen.mon
+    ++ (flat_map (output_text n) seen.outputs ++ changed_mode_text n seen.mode)
 
 -- the reply to a request, which is entry n; the other entries have none
 abbrev pub replied_text : (n who : ℕ) → What → Reply → List ℕ
