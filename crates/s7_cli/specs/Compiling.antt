@@ -98,8 +98,8 @@ abbrev pub HasProgramIn : Language → (source symbols : List ℕ) → Type 0
 HasProgramIn language source symbols =
     (p : Program) × KeepsSourceIn language profile.Large source symbols p
 
--- bytes are the image of version 2, for the large profile, of the program to which a source with its
--- symbols compiles, as files hold them, and keep the source
+-- bytes are the image of version 2, for the large profile, of the program to which a source with
+-- its symbols compiles, as files hold them, and keep the source
 abbrev pub IsCompiledIn : Language → (bytes source symbols : List ℕ) → Type 0
 IsCompiledIn language bytes source symbols =
     (kept : ImageKeepsSourceIn language bytes source symbols)

@@ -98,8 +98,9 @@ abbrev pub LeavesFiles : Option Command → Disk → CallOutcome → Type 0
 LeavesFiles c d (Ok done) = ChangesOutputs c d × WritesOutputs c d
 LeavesFiles c d (Err failure) = SameFiles d.before.contents d.after.contents
 
--- the call was cut short: nothing was taken, or a front of the text of an answer that these files, and these counts of failed reads,
--- allow, and the files are as that answer leaves them: no `OK` before the image stands whole
+-- the call was cut short: nothing was taken, or a front of the text of an answer that these files,
+-- and these counts of failed reads, allow, and the files are as that answer leaves them: no `OK`
+-- before the image stands whole
 abbrev pub CutShort : Option Command → Disk → SinkMoments → Type 0
 CutShort c d s =
     (s.after.taken ≡ s.before.taken)

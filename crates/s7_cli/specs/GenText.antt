@@ -32,7 +32,8 @@ sum_of_eight s first = sum (take 8 (drop first s.world.memory.bit_memory))
 abbrev pub bit_memory_sum : State → ℕ
 bit_memory_sum s = sum (take 256 s.world.memory.bit_memory)
 
--- how many entries the history has, the mode after them, and the sum of bit memory bytes 0 to 255
+-- the line of `gen NUMBER`: how many entries the history has, the mode behind them, and the sum of
+-- the bytes MB 0 to MB 255
 unfoldable pub summary_of : (number entries : ℕ) → State → List ℕ
 summary_of number entries s =
     codes "GEN " ++ decimal number ++ codes " ENTRIES " ++ decimal entries ++ codes " MODE "

@@ -151,7 +151,8 @@ pub record WrittenFile : Type 0 where
 abbrev pub written_file : Output → WrittenFile
 written_file o = record { name = o.name.now; bytes = o.bytes.now }
 
--- a command whose input files hold this writes these two files, its only ones, the first one first, and `OK`
+-- a command whose input files hold this writes these two files, its only ones, the first one first,
+-- and `OK`
 pub record AreOutputs
     (c : Command) (contents : List (List ℕ)) (first second : WrittenFile)
     : Type 0 where

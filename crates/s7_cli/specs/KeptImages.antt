@@ -1,5 +1,6 @@
--- An image that keeps a source, beside the source: their runs. The addresses of the symbols are those of a
--- language, and where this is German, the source is the English text of what was compiled.
+-- An image that keeps a source, beside the source: their runs. The addresses of the symbols are
+-- those of a language, and where this is German, the source is the English text of what was
+-- compiled.
 use Rattle.std.specs.Prelude.{◌≡◌, ◌<◌, ℕ, List, get_or, Ok}
 use Rattle.var_access.specs.declared.Entry.{Entry}
 use Rattle.flat_code.specs.Stamps.{profile_of}

@@ -27,7 +27,8 @@ script_first number (Err refusal) more = Err (record { number = number; refusal 
 script_first number (Ok entries) (Err refused) = Err refused
 script_first number (Ok entries) (Ok more) = Ok (entries ∷ more)
 
--- scripts, numbered from this one on: script k is read as what worker k + 2 asks, with the names of the program
+-- scripts, numbered from this one on: script k is read as what worker k + 2 asks, with the names of
+-- the program
 abbrev pub scripts_from :
     List NameEntry → (number : ℕ) → List (List ℕ) → Result (List (List Entry)) RefusedScript
 scripts_from names number [] = Ok []

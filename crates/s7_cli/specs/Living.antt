@@ -30,9 +30,10 @@ StandInHistory who (x ∷ xs) history =
 abbrev pub opened_on : LoadedProgram → Opening
 opened_on loaded = record { program = loaded.program; profile = loaded.profile; first = [] }
 
--- a live history of stimuli, scripts and a number of steps on a program. Worker 1 made steps alone, at most so many, each but the last of
--- which leaves another mode than STOP at its place, and fewer only where the last one leaves STOP. The entries of worker 2 are the stimuli,
--- those of worker k + 2 script k, each list whole and in its order. There are no other workers
+-- a live history of stimuli, scripts and a number of steps on a program. Worker 1 made steps alone,
+-- at most so many, each but the last of which leaves another mode than STOP at its place, and fewer
+-- only where the last one leaves STOP. The entries of worker 2 are the stimuli, those of worker k +
+-- 2 script k, each list whole and in its order. There are no other workers
 pub record IsLive
     (loaded : LoadedProgram) (steps : ℕ) (stimuli : List Entry) (scripts : List (List Entry))
     (history : List Entry)

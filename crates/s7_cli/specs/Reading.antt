@@ -36,7 +36,8 @@ StopsAt d i answer =
     ⊎ ((bytes : List ℕ) × FileHoldsBytes d.before.contents i.name bytes
     × (limit_of i.file < length bytes) × (answer ≡ too_long_answer i.file))
 
--- the files are read in their order: the reading ends at one, or all hold bytes of which this is said
+-- the files are read in their order: the reading ends at one, or all hold bytes of which this is
+-- said
 abbrev pub ReadsFilesInTurn :
     Disk → List Input → (List (List ℕ) → CallAnswer → Type 0) → CallAnswer → Type 0
 ReadsFilesInTurn d [] says answer = says [] answer
@@ -70,7 +71,8 @@ AllowsAnswer c (i ∷ is) says answer =
     ⊎ ((bytes : List ℕ) × IsFileThere c i bytes
     × AllowsAnswer c is (λ files. says (bytes ∷ files)) answer)
 
--- a read of a file failed that the reading comes to: the first, or one behind files that are there, within their limits
+-- a read of a file failed that the reading comes to: the first, or one behind files that are there,
+-- within their limits
 abbrev pub FailsOnTheWay : Disk → List Input → Type 0
 FailsOnTheWay d [] = ⊥
 FailsOnTheWay d (i ∷ is) =

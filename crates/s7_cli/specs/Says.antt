@@ -68,8 +68,8 @@ run_loaded_answer loaded (Err refusal) = refused_file_answer History refusal
 run_loaded_answer loaded (Ok entries) =
     done_answer (run_text loaded.profile (code_of loaded.program) entries)
 
--- the answer of `run`, by how its image loads: the image is refused, or runs along the history, which
--- may name the variables whose names stand in the image
+-- the answer of `run`, by how its image loads: the image is refused, or runs along the history,
+-- which may name the variables whose names stand in the image
 abbrev pub run_answer : Result LoadedProgram LoadFault → (history : List ℕ) → CallAnswer
 run_answer (Err fault) history = refused_image_answer fault
 run_answer (Ok loaded) history =
@@ -92,7 +92,8 @@ UpgradeSays image answer =
     (loaded : Result LoadedProgram LoadFault) × LoadsAs image loaded
     × (answer ≡ upgrade_answer loaded)
 
--- bytes are the image of version 2 of the program, with its names, and of the profile as which an image loads
+-- bytes are the image of version 2 of the program, with its names, and of the profile as which an
+-- image loads
 abbrev pub IsUpgraded : (bytes image : List ℕ) → Type 0
 IsUpgraded bytes image =
     (loaded : LoadedProgram) × LoadsAs image (Ok loaded)

@@ -44,8 +44,9 @@ abbrev pub watch_text :
 watch_text loaded history vars seen =
     live_text loaded history ++ (codes "---\n" ++ seen_text vars seen)
 
--- the workers made some live history of these lists, in which operator 4 read the variables again and again. Each line of a view but that
--- of the opening item has the number and the reply of one of operator 4's entries, and the numbers never fall
+-- the workers made some live history of these lists, in which operator 4 read the variables again
+-- and again. Each line of a view but that of the opening item has the number and the reply of one
+-- of operator 4's entries, and the numbers never fall
 pub record RanWatch
     (loaded : LoadedProgram) (steps : ℕ) (stimuli : List Entry) (vars : List Var)
     (scripts : List (List Entry)) (answer : CallAnswer)

@@ -20,12 +20,14 @@ use Rattle.watch_board.specs.declared.shown.Shown.{Shown}
 abbrev pub read_entry_of : (who : ℕ) → List Var → Entry
 read_entry_of who vars = record { who = who; what = Ask (ReadVars vars) }
 
--- the lists of the four operators of a watch: its scripts, none for an operator without one, and so many reads by the last operator
+-- the lists of the four operators of a watch: its scripts, none for an operator without one, and so
+-- many reads by the last operator
 abbrev pub watch_lists : (reads : ℕ) → List (List Entry) → List Var → List (List Entry)
 watch_lists reads scripts vars =
     (scripts ++ replicate (3 - length scripts) []) ++ replicate reads (read_entry_of 6 vars) ∷ []
 
--- the item is the reply to this entry at a place of the history, with the number of the place, from 1
+-- the item is the reply to this entry at a place of the history, with the number of the place, from
+-- 1
 pub record IsReplyTo (e : Entry) (o : Opening) (story : List Entry) (item : Shown) : Type 0 where
   -- the history before the entry
   pub before : List Entry

@@ -1,5 +1,6 @@
--- The words of a call, and the command that they ask for. How a command line is read is clap's: its `fault_of` has what is wrong with
--- the words (also a request for help), and its `matches_of` what each argument found, of which `first_of` and `all_of` give the words.
+-- The words of a call, and the command that they ask for. How a command line is read is clap's: its
+-- `fault_of` has what is wrong with the words (also a request for help), and its `matches_of` what
+-- each argument found, of which `first_of` and `all_of` give the words.
 use Rattle.std.specs.Prelude.{◌≡◌, ◌≢◌, ◌==◌, ◌&&◌, ℕ, ◌≤◌, nat_le, nat_lt, Bool, true, false, not, List, [], ◌∷◌, ◌++◌, length, map, Option, Some, None, codes, bytes_eq, is_some, IfSome, option_and_then, option_map, unwrap_or, if◌then◌else◌}
 use Rattle.std.specs.List.{list_all}
 use Rattle.std.specs.Option.{option_map_or}
@@ -52,7 +53,8 @@ the_line =
     (with_rule (with_rule (with_rule (with_rule s7_alone command_rule) files_rule) symbols_rule)
     steps_rule) german_rule
 
--- the number that a word writes in decimal digits without a sign, from 1 to the most; none for another word
+-- the number that a word writes in decimal digits without a sign, from 1 to the most; none for
+-- another word
 abbrev pub number_from_one_up_to : (most : ℕ) (word : List ℕ) → Option ℕ
 number_from_one_up_to most word =
     option_and_then (λ number. if nat_lt 0 number then Some number else None)
@@ -140,7 +142,8 @@ stepped_command command words steps =
     if bytes_eq command (codes "watch") then watch_command words steps
     else live_command command words steps
 
--- the command that its word, the words behind it and the options ask for; `--steps N` goes with `live` and `watch`, and with nothing else
+-- the command that its word, the words behind it and the options ask for; `--steps N` goes with
+-- `live` and `watch`, and with nothing else
 abbrev pub asked_for :
     (command : List ℕ) (words : List (List ℕ)) (symbols : Option (List ℕ)) (german : Bool)
     (steps : Option (List ℕ)) → Option Command
@@ -161,12 +164,14 @@ asked_by found =
     (first_of (codes "symbols") found) (has_german found) (first_of (codes "steps") found))
     (first_of (codes "COMMAND") found)
 
--- the words, without the program's name: refused where clap refuses them, or where they ask for no command
+-- the command that the words of a call ask for, without the program's name: none where clap refuses
+-- the words, or where they ask for no command
 unfoldable pub command_of : List (List ℕ) → Option Command
 command_of words =
     if is_empty (fault_of the_line words) then asked_by (matches_of the_line words) else None
 
--- the limits of the numbers of a command, and of how many scripts it has, and that its output files are different words
+-- the limits of the numbers of a command, and of how many scripts it has, and that its output files
+-- are different words
 abbrev pub KeepsLimits : Command → Type 0
 KeepsLimits (Gen number) = (1 ≤ number) × (number ≤ 10000)
 KeepsLimits (Live image stimuli scripts steps) =
@@ -223,8 +228,9 @@ abbrev pub ReadsWordsBehindDashes : Type 0
 ReadsWordsBehindDashes =
     (words : List (List ℕ)) → command_of (codes "--" ∷ words) ≡ plain_command words None false None
 
--- an option with its value may stand anywhere among words that can be no options, and asks for the same: as two words, of which the second can be none
--- either, or as a single word with `=` between them, where the value may be anything
+-- an option with its value may stand anywhere among words that can be no options, and asks for the
+-- same: as two words, of which the second can be none either, or as a single word with `=` between
+-- them, where the value may be anything
 abbrev pub ReadsAnywhere :
     (option : List ℕ) (asked : (words : List (List ℕ)) (value : List ℕ) → Option Command) → Type 0
 ReadsAnywhere option asked =

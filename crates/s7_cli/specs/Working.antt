@@ -92,7 +92,8 @@ abbrev pub KnowsFault : LockView Opening → (story : List Entry) → Result Uni
 KnowsFault s story (Ok done) = Unit {0}
 KnowsFault s story (Err fault) = IsFaultAt s story fault
 
--- the worker's entries that stand before `last` or more others of its own leave another mode than STOP, each at its place in the story
+-- the worker's entries that stand before `last` or more others of its own leave another mode than
+-- STOP, each at its place in the story
 abbrev pub RunsBefore : (last : ℕ) → Opening → (who : ℕ) → (story : List Entry) → Type 0
 RunsBefore last o who story =
     (before after : List Entry) (e : Entry)

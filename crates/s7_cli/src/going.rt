@@ -58,8 +58,9 @@ fn go<F: Files, K: Sink>(
     go_along(alloc, &text, german, &history, out)
 }
 
-/// Runs the source in the file `src`, with the symbols in the file `symbols` if there is one, both of
-/// which are German where `german` says so, along the history in the file `hist`, and writes the text of the run, or the line of a refusal.
+/// Runs the source in the file `src`, with the symbols in the file `symbols` if there is one, both
+/// of which are German where `german` says so, along the history in the file `hist`, and writes the
+/// text of the run, or the line of a refusal.
 pub fn cmd_go<F: Files, K: Sink>(
     alloc: Global,
     src: &str,
