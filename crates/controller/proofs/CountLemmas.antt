@@ -108,7 +108,7 @@ stepped_on_counts : (code : Code) (activations : List Activation) (s : State)
     → (step_of_first code activations s).entries ≡ s.entries
 stepped_on_counts code [] s = cycle_counts code s
 stepped_on_counts code (a ∷ below) s =
-    statement_counts code (statement_step code a s.world) a.ob (spot_of_frame code a.running.frame) below s
+    statement_counts code (statement_step code a s.store) a.ob (spot_of_frame code a.running.frame) below s
 
 stepped_counts : (code : Code) (s : State) → (after_step code s).entries ≡ s.entries
 unfolding after_step
@@ -139,7 +139,7 @@ arrived_counts code ob value s =
 
 tick_counts : (code : Code) (c : TickState) (s : State) → (tick_taken code c s).entries ≡ s.entries
 tick_counts code c s =
-    course_counts code c (record s { world = timers_moved c.passed.ms s.world })
+    course_counts code c (record s { store = timers_moved c.passed.ms s.store })
 
 passed_counts : (code : Code) (ms : ℕ) (s : State) → (time_passed code ms s).entries ≡ s.entries
 unfolding time_passed

@@ -28,7 +28,7 @@ var_written var value w =
 -- a restart is a warm restart in STOP alone; one block at a time is monitored, which must be loaded.
 -- All else is done in every mode
 unfoldable pub request_effect : Code → Request → State → State
-request_effect code (WriteVar var value) s = record s { world = var_written var value s.world }
+request_effect code (WriteVar var value) s = record s { store = var_written var value s.store }
 request_effect code Stop s = if is_stop s.mode then s else stop_entered code causes.by_operator s
 request_effect code Restart s = if is_stop s.mode then warm_restarted code s else s
 request_effect code (MonitorOn block) s =
@@ -62,8 +62,8 @@ done_or_no_such false = reply.NoSuch 1
 
 -- what a request is answered, in the state in which it is asked. Indexes count from 1
 unfoldable pub request_reply : Code → Request → State → Reply
-request_reply code (ReadVars vars) s = read_reply (values_from s.world.memory 1 vars)
-request_reply code (WriteVar var value) s = done_or_no_such (is_some (var_value s.world.memory var))
+request_reply code (ReadVars vars) s = read_reply (values_from s.store.memory 1 vars)
+request_reply code (WriteVar var value) s = done_or_no_such (is_some (var_value s.store.memory var))
 request_reply code (MonitorOn block) s = done_or_no_such (is_some (code.head block))
 request_reply code Restart s = if is_stop s.mode then reply.Done else reply.NotStopped
 request_reply code Diag s = reply.Diag s.diagnostics

@@ -21,7 +21,7 @@ images_updated w = record w { memory = memory_refreshed w.memory }
 abbrev pub cycle_finished : State → State
 cycle_finished s =
     record s {
-      world = images_updated s.world;
+      store = images_updated s.store;
       sched = cycle_begun s.sched;
       first_cycle = false;
     }

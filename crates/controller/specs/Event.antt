@@ -25,7 +25,7 @@ input_set byte value w =
 -- tick do nothing in STOP
 abbrev pub entry_effect : Code → What → State → State
 entry_effect code Step s = if is_stop s.mode then s else after_step code s
-entry_effect code (Input byte value) s = record s { world = input_set byte value s.world }
+entry_effect code (Input byte value) s = record s { store = input_set byte value s.store }
 entry_effect code (Arrive ob value) s = arrival_served code ob value s
 entry_effect code (Tick ms) s = time_passed code ms s
 entry_effect code (Ask request) s = request_effect code request s

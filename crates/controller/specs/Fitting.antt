@@ -40,9 +40,9 @@ pub record HasWholeSchedule (s : Scheduler) : Type 0 where
 -- mode, and what is pending can wait
 pub record IsFit (p : Program) (s : State) : Type 0 where
   -- memory has the data blocks and areas of the program
-  pub memory : IsMemoryOf (code_of p) s.world.memory
+  pub memory : IsMemoryOf (code_of p) s.store.memory
   -- each activation fits the program and its memory
-  pub activations : AllFit p s.world.memory s.activations
+  pub activations : AllFit p s.store.memory s.activations
   -- the activations stand on each other as the mode has it
   pub standing : IsActivationStack s.mode s.activations
   -- what is pending can wait, and each delay and period is there

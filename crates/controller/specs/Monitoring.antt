@@ -66,7 +66,7 @@ abbrev pub step_record : Code → State → List Activation → Option MonRecord
 step_record code s [] = None
 step_record code s (a ∷ below) =
     statement_record code s.monitored a.running.frame.block a.running.frame.at
-    (regs_after s.sched (statement_step code a s.world) a)
+    (regs_after s.sched (statement_step code a s.store) a)
 
 -- what is recorded of an entry, by the state before it: a step outside STOP shows its statement, with
 -- the registers before settling, whatever comes of it

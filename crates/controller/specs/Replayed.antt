@@ -27,7 +27,7 @@ last_shown r = last_observed r.profile (code_of r.program) (entry_events r.histo
 
 -- the loaded data blocks by rising number, with their bytes after all entries
 abbrev pub final_data_blocks : Recording → List (ℕ × List ℕ)
-final_data_blocks r = finmap.entries (final_state r).world.memory.data_blocks
+final_data_blocks r = finmap.entries (final_state r).store.memory.data_blocks
 
 -- the number of a data block, with its bytes
 abbrev pub number_with_bytes : (number : ℕ) → (bytes : List ℕ) → ℕ × List ℕ

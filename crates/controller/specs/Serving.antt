@@ -54,7 +54,7 @@ result_given (Some to) value a m = return_state_of a (with_ret_val to value (loc
 abbrev pub resume_with : ReturnState → Scheduler → (below : List Activation) → State → State
 resume_with stage sched below s =
     record s {
-      world = with_memory stage.memory s.world;
+      store = with_memory stage.memory s.store;
       sched = sched;
       activations = stage.activation ∷ below;
     }
@@ -64,9 +64,9 @@ resume_with stage sched below s =
 abbrev pub after_service :
     (call : Option Spot) → ServiceResult → Option Binding → (below : List Activation) → State → State
 after_service call (Returns r) to below s =
-    resume_with (result_given to r.value r.activation s.world.memory) r.sched below s
+    resume_with (result_given to r.value r.activation s.store.memory) r.sched below s
 after_service call (Passes sched a) to below s =
-    resume_with (record { activation = a; memory = s.world.memory }) sched below s
+    resume_with (record { activation = a; memory = s.store.memory }) sched below s
 after_service call (Stops cause a) to below s = stop_entered_at call cause s
 
 -- a call of a system function: it does its work in the same step, and the running activation, which

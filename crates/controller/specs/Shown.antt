@@ -51,14 +51,14 @@ abbrev pub observed_changes :
     Option MonRecord → (outputs : PeripheralBytes) → Mode → (after : State) → Observed
 observed_changes mon outputs mode after = record {
   mon = mon;
-  outputs = changed_outputs outputs after.world.memory.peripheral_outputs;
+  outputs = changed_outputs outputs after.store.memory.peripheral_outputs;
   mode = changed_mode mode after.mode;
 }
 
 -- what an entry shows: its monitoring record, and what changed between the states before and after it
 unfoldable pub entry_shown : Code → (before : State) → What → (after : State) → Observed
 entry_shown code before what after =
-    observed_changes (monitoring_record code before what) before.world.memory.peripheral_outputs before.mode
+    observed_changes (monitoring_record code before what) before.store.memory.peripheral_outputs before.mode
     after
 
 -- what is kept from one entry to the next: the peripheral outputs and the mode, and what was shown
@@ -73,7 +73,7 @@ pub record WatchedState : Type 0 where
 -- what is kept of a state, with what was shown last
 abbrev pub watched_state : State → (seen : Observed) → WatchedState
 watched_state s seen = record {
-  outputs = s.world.memory.peripheral_outputs;
+  outputs = s.store.memory.peripheral_outputs;
   mode = s.mode;
   seen = seen;
 }

@@ -44,4 +44,4 @@ abbrev pub steps_silently : Code → State → Bool
 steps_silently code s =
     not (is_some s.monitored) && not (is_stop s.mode)
     && not (is_some (best_of s.mode s.sched.pending))
-    && goes_on_silently code s.activations s.world
+    && goes_on_silently code s.activations s.store

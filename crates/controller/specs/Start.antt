@@ -43,7 +43,7 @@ global_store_at_rest profile code = record {
 abbrev pub before_start : Profile → Code → State
 before_start profile code = record {
   profile = profile;
-  world = global_store_at_rest profile code;
+  store = global_store_at_rest profile code;
   mode = Run;
   activations = [];
   sched = sched_at_rest (loaded_obs code);
@@ -86,7 +86,7 @@ global_store_after_restart profile w = record w {
 abbrev pub restart_cleared : State → State
 restart_cleared s =
     record s {
-      world = global_store_after_restart s.profile s.world;
+      store = global_store_after_restart s.profile s.store;
       sched = sched_restarted s.sched;
       first_cycle = true;
     }

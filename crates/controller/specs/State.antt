@@ -17,8 +17,8 @@ use Rattle.ob_sched.specs.Scheduler.{Scheduler}
 pub record State : Type 0 where
   -- the profile (docs/SEMANTICS.md, "Memory")
   pub profile : Profile
-  -- memory, timers and counters
-  pub world : GlobalStore
+  -- the global store: memory, timers and counters
+  pub store : GlobalStore
   -- the operating mode: STARTUP, RUN or STOP
   pub mode : Mode
   -- the organization blocks that run or are interrupted, the running one first

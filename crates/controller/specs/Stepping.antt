@@ -22,7 +22,7 @@ ob_ended ob s = if ob == 100 then run_starts s else s
 
 -- memory, timers and counters, and the activations are these; all else stays
 abbrev pub with_activations : GlobalStore → List Activation → State → State
-with_activations w activations s = record s { world = w; activations = activations }
+with_activations w activations s = record s { store = w; activations = activations }
 
 -- the state by what comes of a statement of an organization block, which stands at `at`. One that
 -- is stuck changes nothing; a program that verifies has none
@@ -40,7 +40,7 @@ after_statement code Stuck ob at below s = s
 abbrev pub step_of_first : Code → List Activation → State → State
 step_of_first code [] s = cycle_point code s
 step_of_first code (a ∷ below) s =
-    after_statement code (statement_step code a s.world) a.ob (spot_of_frame code a.running.frame) below s
+    after_statement code (statement_step code a s.store) a.ob (spot_of_frame code a.running.frame) below s
 
 -- a step: of the activations that stand
 unfoldable pub after_step : Code → State → State

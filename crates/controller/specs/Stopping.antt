@@ -34,7 +34,7 @@ outputs_off w = record w { memory = outputs_cleared w.memory }
 abbrev pub stop_entered_at : Option Spot → (cause : ℕ) → State → State
 stop_entered_at at cause s =
     record (diagnosis_recorded 5 cause s) {
-      world = outputs_off s.world;
+      store = outputs_off s.store;
       mode = Stop cause at;
       activations = [];
       sched = sched_stopped s.sched;

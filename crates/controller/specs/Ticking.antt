@@ -22,7 +22,7 @@ active_obs activations = map (λ (a : Activation). a.ob) (reverse activations)
 -- millisecond the timers move first, so they move in that of a stop too
 abbrev pub tick_taken : Code → TickState → State → State
 tick_taken code c s =
-    tick_state_taken code c (record s { world = timers_moved c.passed.ms s.world })
+    tick_state_taken code c (record s { store = timers_moved c.passed.ms s.store })
 
 -- a tick of so many milliseconds: timers, the clock, delays, and in RUN cyclic interrupts and the cycle
 -- time. A stop ends it, and in STOP nothing passes

@@ -15,7 +15,7 @@ activations_of standing all = reverse (take standing all)
 abbrev pub cpu_state : Cpu → State
 cpu_state p = record {
   profile = p.profile;
-  world = global_store p.memory p.timers p.counters;
+  store = global_store p.memory p.timers p.counters;
   mode = p.mode;
   activations = p.activations;
   sched = scheduler_of p.sched;

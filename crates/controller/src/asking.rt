@@ -57,7 +57,7 @@ impl Cpu {
     fn write_var(&mut self, var: &Var, value: u32)
         requires { value < 2 ^ bit_count var.now.width }
         ensures state { cpu_state self.new ≡ record (cpu_state self.old) {
-          world = var_written var.now value (cpu_state self.old).world;
+          store = var_written var.now value (cpu_state self.old).store;
         } }
         ensures activations { self.new.activations ≡ self.old.activations }
         ensures mode { self.new.mode ≡ self.old.mode }

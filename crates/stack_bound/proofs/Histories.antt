@@ -268,9 +268,9 @@ service_bounded z c call (Returns r) to a below s same all b = record {
   profile = b.profile;
   room = (
     (
-      given_profile to r.value r.activation s.world.memory ∙ same.0 ∙ all.0.0,
+      given_profile to r.value r.activation s.store.memory ∙ same.0 ∙ all.0.0,
       subst (λ (stack : List _). HasRoom z c stack)
-          (sym (given_stack to r.value r.activation s.world.memory ∙ same.1)) all.0.1,
+          (sym (given_stack to r.value r.activation s.store.memory ∙ same.1)) all.0.1,
     ),
     all.1,
   );
@@ -323,13 +323,13 @@ cycle_bounded z code c s holds b =
     (record { profile = b.profile; room = b.room; mode = b.mode })
 
 stepped_on_bounded : (z : Profile) (p : Program) (c : List Bound) (activations : List Activation) (s : State)
-    → Certifies z (code_of p) c → AllFit p s.world.memory activations → AllRoom z c activations
+    → Certifies z (code_of p) c → AllFit p s.store.memory activations → AllRoom z c activations
     → Bounded z c s → Bounded z c (step_of_first (code_of p) activations s)
 stepped_on_bounded z p c [] s holds fit all b = cycle_bounded z (code_of p) c s holds b
 stepped_on_bounded z p c (a ∷ below) s holds fit all b =
-    statement_bounded z (code_of p) c (statement_step (code_of p) a s.world) a.ob
+    statement_bounded z (code_of p) c (statement_step (code_of p) a s.store) a.ob
     (spot_of_frame (code_of p) a.running.frame) below s holds
-    (statement_room z p c a s.world holds fit.0 all.0) all.1 b
+    (statement_room z p c a s.store holds fit.0 all.0) all.1 b
 
 step_bounded : (z : Profile) (p : Program) (c : List Bound) (s : State) → Certifies z (code_of p) c → IsFit p s
     → Bounded z c s → Bounded z c (after_step (code_of p) s)
@@ -372,7 +372,7 @@ time_bounded : (z : Profile) (code : Code) (c : List Bound) (ms : ℕ) (s : Stat
 unfolding time_passed
 time_bounded z code c ms s b =
     course_bounded z code c (after_tick s.mode (active_obs s.activations) ms s.sched)
-    (record s { world = timers_moved (after_tick s.mode (active_obs s.activations) ms s.sched).passed.ms s.world })
+    (record s { store = timers_moved (after_tick s.mode (active_obs s.activations) ms s.sched).passed.ms s.store })
     (ticked_fine s.mode (active_obs s.activations) ms s.sched) (record { profile = b.profile; room = b.room; mode = b.mode })
 
 started_bounded : (z : Profile) (c : List Bound) (one : Option Activation) (s : State) → RoomIf z c one
