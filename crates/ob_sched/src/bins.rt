@@ -9,7 +9,9 @@ use crate::bin::Bin;
 /// 1 exactly where bin n holds a request.
 #[derive(Drop)]
 pub struct Bins {
+    /// The bitmap: bit n is 1 exactly where a request waits in bin n.
     pub map: u32,
+    /// The 32 bins; bin n holds the requests of priority class n in RUN.
     pub bins: Vec<Bin>,
     ghost count: { length bins.items ≡ 32 },
     ghost bitmap: { map ≡ bitmap_of bins.items },
