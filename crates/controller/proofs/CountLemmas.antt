@@ -11,7 +11,7 @@ use Rattle.machine.specs.Statement.{StatementStep, Went, Ended, SyncError, SysCa
 use Rattle.ob_sched.specs.TickState.{TickState, ob_requested}
 use Rattle.ob_sched.specs.Millisecond.{tick_begun, after_tick}
 use Rattle.ob_sched.specs.OrganizationBlock.{priority_class_in}
-use Rattle.ob_sched.specs.Request.{best_of}
+use Rattle.ob_sched.specs.StartRequest.{best_of}
 use Rattle.ob_sched.specs.StartInformation.{start_info}
 use Rattle.ob_sched.specs.declared.requests.Pending.{Pending}
 use Rattle.ob_sched.specs.declared.start_infos.StartEvent.TheVariants.{Arrival}

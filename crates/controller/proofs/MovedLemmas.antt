@@ -21,7 +21,7 @@ use Rattle.ob_sched.specs.Scheduler.{Scheduler, cycle_retriggered, delay_of, del
 use Rattle.ob_sched.specs.StartInformation.{ob_of_error, start_info}
 use Rattle.ob_sched.specs.Millisecond.{after_tick, tick_begun as course_begun}
 use Rattle.ob_sched.specs.OrganizationBlock.{priority_class_in, is_delay}
-use Rattle.ob_sched.specs.Request.{best_of}
+use Rattle.ob_sched.specs.StartRequest.{best_of}
 use Rattle.ob_sched.specs.declared.requests.Pending.{Pending}
 use Rattle.ob_sched.specs.declared.start_infos.StartEvent.TheVariants.{Arrival}
 use Rattle.ob_sched.specs.declared.start_infos.StartInfo.{StartInfo}

@@ -12,7 +12,7 @@ use Rattle.machine.specs.Flat.{code_of}
 use Rattle.machine.specs.Lasting.{FitsProgram, IsStatementReady, StepFitsAgain}
 use Rattle.machine.specs.Silent.{GoesSilently, RunsSilently, StaysReady}
 use Rattle.machine.specs.Statement.{GlobalStore, StatementStep, Went, statement_step}
-use Rattle.ob_sched.specs.Request.{best_of}
+use Rattle.ob_sched.specs.StartRequest.{best_of}
 use Rattle.var_access.specs.declared.What.TheVariants as what
 use Rattle.controller.specs.Event.{state_after}
 use Rattle.controller.specs.Fitting.{AllFit, IsFit}

@@ -11,7 +11,7 @@ use Rattle.machine.specs.Fitting.{IsMemoryOf}
 use Rattle.machine.specs.Flat.{code_of}
 use Rattle.machine.specs.Lasting.{FitsProgram}
 use Rattle.ob_sched.specs.OrganizationBlock.{can_wait}
-use Rattle.ob_sched.specs.Request.{Request}
+use Rattle.ob_sched.specs.StartRequest.{StartRequest}
 use Rattle.ob_sched.specs.Scheduler.{Scheduler}
 use Rattle.var_access.specs.declared.What.{What}
 use Rattle.var_access.specs.Entry.{IsInRange}
@@ -30,7 +30,7 @@ AllFit p m (a ∷ below) = FitsProgram p m a × AllFit p m below
 -- nine periods of OB 30 to 38
 pub record HasWholeSchedule (s : Scheduler) : Type 0 where
   -- each pending request is of an OB that can wait
-  pub pending : list_all (λ (request : Request). can_wait request.0) s.pending ≡ true
+  pub pending : list_all (λ (request : StartRequest). can_wait request.0) s.pending ≡ true
   -- the delays of OB 20 to 23
   pub delays : length s.countdowns.delays ≡ 4
   -- the periods of OB 30 to 38

@@ -2,7 +2,7 @@
 use Rattle.std.specs.Prelude.{ℕ, ◌==◌, ◌&&◌, nat_lt, Bool, true, List, [], ◌∷◌, Option, Some, None, if◌then◌else◌}
 use Rattle.frames.specs.declared.Activation.{Activation}
 use Rattle.machine.specs.Code.{Code}
-use Rattle.ob_sched.specs.Request.{best_of}
+use Rattle.ob_sched.specs.StartRequest.{best_of}
 use Rattle.ob_sched.specs.Scheduler.{best_removed}
 use Rattle.ob_sched.specs.declared.requests.Pending.{Pending}
 use Rattle.controller.specs.Beginning.{ob_activation, with_ob_begun}

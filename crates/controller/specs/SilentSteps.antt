@@ -5,7 +5,7 @@ use Rattle.flat_code.specs.Programs.{Program}
 use Rattle.machine.specs.Code.{Code}
 use Rattle.machine.specs.Silent.{RunsSilently, StaysReady, goes_on_by_kind, is_silent}
 use Rattle.machine.specs.Statement.{GlobalStore}
-use Rattle.ob_sched.specs.Request.{best_of}
+use Rattle.ob_sched.specs.StartRequest.{best_of}
 use Rattle.var_access.specs.declared.What.{What}
 use Rattle.controller.specs.Replay.{entry_result}
 use Rattle.controller.specs.Shown.{nothing_shown}

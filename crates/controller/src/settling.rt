@@ -1,7 +1,7 @@
 //! Organization blocks that begin: by a request, at a cycle point.
 ghost use Rattle.std.specs.Prelude.{◌≡◌, [], false};
 ghost use Rattle.machine.specs.Flat.{code_of};
-ghost use Rattle.ob_sched.specs.Request.{IsBest};
+ghost use Rattle.ob_sched.specs.StartRequest.{IsBest};
 ghost use Rattle.ob_sched.specs.Views.{scheduler_of};
 ghost use Rattle.controller.specs.Beginning.{ob_activation, with_ob_begun};
 ghost use Rattle.controller.specs.CyclePoint.{cycle_point};

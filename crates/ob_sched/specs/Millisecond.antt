@@ -6,7 +6,7 @@ use Rattle.plc_base.specs.StopCauses as causes
 use Rattle.plc_base.specs.declared.Mode.{Mode}
 use Rattle.plc_base.specs.declared.Mode.TheVariants.{Run, Startup, Stop}
 use Rattle.ob_sched.specs.OrganizationBlock.{priority_class_in, period_of}
-use Rattle.ob_sched.specs.Request.{waiting_count, request_queued}
+use Rattle.ob_sched.specs.StartRequest.{waiting_count, request_queued}
 use Rattle.ob_sched.specs.Scheduler.{Scheduler, Countdowns, is_ob_loaded, is_ob_disabled}
 use Rattle.ob_sched.specs.StartInformation.{start_info}
 use Rattle.ob_sched.specs.TickState.{TickState, stopped_by, time_error, ob_requested}
@@ -74,7 +74,9 @@ abbrev pub period_queued : Mode → ℕ → TickState → TickState
 period_queued mode ob c =
     record c {
       sched = record c.sched {
-        pending = request_queued (ob, start_info (Period ob) (priority_class_in mode ob)) c.sched.pending;
+        pending =
+            request_queued (ob, start_info (Period ob) (priority_class_in mode ob))
+            c.sched.pending;
       };
     }
 
@@ -91,7 +93,9 @@ period_ended mode active ob c =
 -- time was exceeded
 abbrev pub with_cycle : ℕ → Bool → TickState → TickState
 with_cycle counter exceeded c =
-    record c { sched = record c.sched { cycle = record { counter = counter; exceeded = exceeded } } }
+    record c {
+      sched = record c.sched { cycle = record { counter = counter; exceeded = exceeded } };
+    }
 
 -- a tick in which the cycle counter counts one millisecond: at 151 ms the cycle time is exceeded
 -- and the counter begins anew. The first time in a cycle this is a time error of OB 1, the second
@@ -152,7 +156,10 @@ after_ms mode active c =
 -- a tick at its begin: no millisecond has passed, and there are no stop cause and no record of
 -- diagnostics
 abbrev pub tick_begun : Scheduler → TickState
-tick_begun s = record { sched = s; passed = record { ms = 0; stop = None; records = record { items = [] } } }
+tick_begun s = record {
+  sched = s;
+  passed = record { ms = 0; stop = None; records = record { items = [] } };
+}
 
 -- a tick of n milliseconds in an operating mode with some active OBs; in STOP no millisecond
 -- passes

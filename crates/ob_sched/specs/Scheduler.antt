@@ -1,7 +1,7 @@
 -- The state of the scheduler, and what its single calls do to it.
 use Rattle.std.specs.Prelude.{ℕ, ◌-◌, Bool, false, List, [], ◌∷◌, Option, Some, None, replicate, slice_index_or, slice_set, if◌then◌else◌, not, ◌==◌, drop}
 use Rattle.std.specs.List.{list_any}
-use Rattle.ob_sched.specs.Request.{Request, request_queued, is_queue_full}
+use Rattle.ob_sched.specs.StartRequest.{StartRequest, request_queued, is_queue_full}
 use Rattle.ob_sched.specs.declared.start_infos.StartInfo.{StartInfo}
 use Rattle.ob_sched.specs.declared.requests.Arrived.{Arrived}
 use Rattle.ob_sched.specs.declared.requests.Arrived.TheVariants.{Queued, Dropped, NotLoaded, Full}
@@ -29,7 +29,7 @@ pub record Scheduler : Type 0 where
   -- for each OB number from 0 to 127 whether the OB is disabled (SFC 39, DIS_IRT)
   pub disabled : List Bool
   -- the pending requests, by rank: the first is the one that is started next
-  pub pending : List Request
+  pub pending : List StartRequest
   -- the milliseconds left of the delays and periods
   pub countdowns : Countdowns
   -- the clock of SFC 64, TIME_TCK, in milliseconds from 0 to 2^31 - 1

@@ -100,7 +100,8 @@ four_bytes n = two_bytes (n / 65536) ++ two_bytes n
 -- the priority class and the OB number, byte 4 and bytes 12 to 19 are 0
 abbrev pub start_bytes : StartEvent → ℕ → List ℕ
 start_bytes event class =
-    event_class (event_ob event) ∷ start_code event ∷ class ∷ event_ob event ∷ 0 ∷ event_block_kind event
+    event_class (event_ob event) ∷ start_code event ∷ class ∷ event_ob event ∷ 0
+    ∷ event_block_kind event
     ∷ (two_bytes (event_number event) ++ four_bytes (event_value event) ++ replicate 8 0)
 
 -- the start information of the OB that a start event starts in a priority class

@@ -23,11 +23,13 @@ pub record TickState : Type 0 where
 -- the last 100 records of diagnostics with one more, a code and its detail; the oldest goes where
 -- there are 100 already
 abbrev pub latest_records : List (ℕ × ℕ) → ℕ × ℕ → List (ℕ × ℕ)
-latest_records records one = (if nat_lt (length records) 100 then records else drop 1 records) ++ one ∷ []
+latest_records records one =
+    (if nat_lt (length records) 100 then records else drop 1 records) ++ one ∷ []
 
 -- what passed in a tick with one record of diagnostics more, a code and its detail
 abbrev pub with_record : ℕ → ℕ → TickResult → TickResult
-with_record code info passed = record passed { records = record { items = latest_records passed.records.items (code, info) } }
+with_record code info passed =
+    record passed { records = record { items = latest_records passed.records.items (code, info) } }
 
 -- a tick with one record of diagnostics more, a code and its detail; its scheduler stays
 abbrev pub record_made : ℕ → ℕ → TickState → TickState
@@ -65,7 +67,8 @@ time_error mode event ob c = error_requested mode 80 causes.no_ob_80 event (reco
 -- a tick after a request of an OB that isn't loaded: the record of code 3 names the OB, and OB 85
 -- is requested; where OB 85 isn't loaded the controller stops
 unfoldable pub ob_not_loaded : Mode → ℕ → TickState → TickState
-ob_not_loaded mode ob c = error_requested mode 85 causes.no_ob_85 (OfNotLoaded ob) (record_made 3 ob c)
+ob_not_loaded mode ob c =
+    error_requested mode 85 causes.no_ob_85 (OfNotLoaded ob) (record_made 3 ob c)
 
 -- the start event of OB 80 for a request of an OB whose queue was full: a hardware interrupt has a
 -- start code of its own
@@ -85,4 +88,5 @@ after_request mode ob Full c = time_error mode (lost_event ob) ob c
 -- request isn't queued
 unfoldable pub ob_requested : Mode → ℕ → StartInfo → TickState → TickState
 ob_requested mode ob info c =
-    after_request mode ob (arrival c.sched ob) (record c { sched = request_arrived ob info c.sched })
+    after_request mode ob (arrival c.sched ob)
+    (record c { sched = request_arrived ob info c.sched })

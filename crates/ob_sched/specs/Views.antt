@@ -2,14 +2,14 @@
 use Rattle.std.specs.Prelude.{List}
 use Rattle.ob_sched.specs.Bin.{requests_by_rank}
 use Rattle.ob_sched.specs.TickState.{TickState}
-use Rattle.ob_sched.specs.Request.{Request}
+use Rattle.ob_sched.specs.StartRequest.{StartRequest}
 use Rattle.ob_sched.specs.Scheduler.{Scheduler}
 use Rattle.ob_sched.specs.declared.bins.Bins.{Bins}
 use Rattle.ob_sched.specs.declared.tick_results.TickResult.{TickResult}
 use Rattle.ob_sched.specs.declared.sched.Sched.{Sched}
 
 -- the pending requests that the bins stand for, by rank
-abbrev pub pending_of : Bins → List Request
+abbrev pub pending_of : Bins → List StartRequest
 pending_of bins = requests_by_rank bins.bins.items
 
 -- the scheduler that the fields of `Sched` stand for; its pending requests are those that wait in

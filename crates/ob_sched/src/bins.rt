@@ -1,7 +1,7 @@
 ghost use Rattle.std.specs.Prelude.{◌≡◌, ◌≤◌, ℕ, IsTrue, length};
 ghost use Rattle.ob_sched.specs.Bin.{requests_by_rank, bitmap_of, are_placed_from};
 ghost use Rattle.ob_sched.specs.OrganizationBlock.{queue_length};
-ghost use Rattle.ob_sched.specs.Request.{waiting_count};
+ghost use Rattle.ob_sched.specs.StartRequest.{waiting_count};
 
 use crate::bin::Bin;
 

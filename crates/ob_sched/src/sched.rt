@@ -1,7 +1,7 @@
 ghost use Rattle.std.specs.Prelude.{◌≡◌, ◌≤◌, ◌<◌, ◌^◌, IsTrue, is_some, true, false, length, IfOk, IfSome};
 ghost use Rattle.ob_sched.specs.Bin.{IsListedByClass, IsBitmapOf};
 ghost use Rattle.ob_sched.specs.OrganizationBlock.{can_wait, is_ob, is_delay};
-ghost use Rattle.ob_sched.specs.Request.{best_of, IsBest};
+ghost use Rattle.ob_sched.specs.StartRequest.{best_of, IsBest};
 ghost use Rattle.ob_sched.specs.Scheduler.{sched_at_rest, is_ob_loaded, is_ob_disabled, arrival, request_arrived, best_removed, disabled_as, delay_of, delay_started, delay_cancelled, cycle_retriggered, cycle_begun, run_begun, sched_stopped, sched_restarted};
 ghost use Rattle.ob_sched.specs.Views.{scheduler_of, pending_of};
 
@@ -20,11 +20,17 @@ use std::alloc::Global;
 /// the delays and periods, the clock of TIME_TCK and the cycle time.
 #[derive(Drop)]
 pub struct Sched {
+    /// The numbers of the organization blocks that are loaded.
     pub(crate) loaded: Vec<u16>,
+    /// The organization blocks that are disabled (SFC 39, DIS_IRT).
     pub(crate) disabled: ObSet,
+    /// The pending requests.
     pub(crate) pending: Bins,
+    /// The milliseconds left of the delays and periods.
     pub(crate) countdowns: Countdowns,
+    /// The clock of SFC 64, TIME_TCK.
     pub(crate) clock: Clock,
+    /// The cycle counter, and the mark that the cycle time was exceeded.
     pub(crate) cycle: CycleTime,
 }
 

@@ -96,7 +96,8 @@ impl Sched {
     /// The clock of TIME_TCK and the tick count one millisecond.
     fn count_time(&mut self, passed: &mut TickResult)
         requires { passed.old.ms + 1 < 2 ^ 32 }
-        ensures { tick_state_of self.new passed.new ≡ time_counted (tick_state_of self.old passed.old) }
+        ensures { tick_state_of self.new passed.new
+            ≡ time_counted (tick_state_of self.old passed.old) }
     {
         passed.ms += 1;
         self.clock.count(1);
@@ -219,7 +220,8 @@ impl Sched {
     /// the clock, the started delays by number, and in RUN the cyclic interrupts by number and the
     /// cycle counter. A stop ends it. In STOP nothing passes.
     pub fn pass_ms(&mut self, n: u32, mode: Mode, active: &[u16]) -> TickResult
-        ensures { tick_state_of self.new result ≡ after_tick mode active.now n (scheduler_of self.old) }
+        ensures { tick_state_of self.new result
+            ≡ after_tick mode active.now n (scheduler_of self.old) }
     {
         match mode {
             Mode::Run => self.pass(n, Mode::Run, active),
