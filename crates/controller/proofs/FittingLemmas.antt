@@ -91,7 +91,7 @@ moved_memory : (l : MachineLaws) (p : Program) (s : State) (w : GlobalStore)
 moved_memory l p s w same fit = record {
   memory = memory_stays p s.store.memory w.memory same fit.memory;
   activations = all_stay l p s.store.memory w.memory s.activations same fit.activations;
-  standing = fit.standing;
+  activation_stack = fit.activation_stack;
   sched = fit.sched;
 }
 
@@ -100,7 +100,7 @@ other_sched : (p : Program) (s : State) (sched : Scheduler) → HasWholeSchedule
 other_sched p s sched is fit = record {
   memory = fit.memory;
   activations = fit.activations;
-  standing = fit.standing;
+  activation_stack = fit.activation_stack;
   sched = is;
 }
 
@@ -158,7 +158,7 @@ begins_above p class ob None s one is may fit = fit
 begins_above p class ob (Some a) s one is may fit = record {
   memory = fit.memory;
   activations = (one, fit.activations);
-  standing = begun_stands s.mode class ob a s.activations is.0 is.1 fit.standing may;
+  activation_stack = begun_stands s.mode class ob a s.activations is.0 is.1 fit.activation_stack may;
   sched = fit.sched;
 }
 
@@ -169,7 +169,7 @@ diagnosed_fit : (p : Program) (code info : ℕ) (s : State) → IsFit p s
 diagnosed_fit p code info s fit = record {
   memory = fit.memory;
   activations = fit.activations;
-  standing = fit.standing;
+  activation_stack = fit.activation_stack;
   sched = fit.sched;
 }
 
@@ -186,7 +186,7 @@ halts l p at cause s fit = record {
       memory_stays p s.store.memory (outputs_cleared s.store.memory)
       (l.clears p s.store.memory fit.memory) fit.memory;
   activations = tt;
-  standing = record { stack = tt; startup = tt };
+  activation_stack = record { stack = tt; startup = tt };
   sched = stopped_schedule s.sched fit.sched;
 }
 
@@ -223,7 +223,7 @@ answers l p None error at a below s single one is all standing fit =
 answers l p (Some fresh) error at a below s single one is all standing fit = record {
   memory = fit.memory;
   activations = (one, all);
-  standing = error_stands s.mode error fresh a below is.0 is.1 single standing;
+  activation_stack = error_stands s.mode error fresh a below is.0 is.1 single standing;
   sched = fit.sched;
 }
 
@@ -373,7 +373,7 @@ service_fits l p call (Returns r) to a below s verifies kept same rest standing 
     record {
       memory = memory_stays p s.store.memory _ goes.sizes fit.memory;
       activations = (goes.fits, all_stay l p s.store.memory _ below goes.sizes rest);
-      standing =
+      activation_stack =
           same_stack s.mode a (result_given to r.value r.activation s.store.memory).activation below
           (given_same to r.value a r.activation s.store.memory same) standing;
       sched = kept.sched;
@@ -381,7 +381,7 @@ service_fits l p call (Returns r) to a below s verifies kept same rest standing 
 service_fits l p call (Passes sched b) to a below s verifies kept same rest standing fit = record {
   memory = fit.memory;
   activations = (kept.fits, rest);
-  standing = same_stack s.mode a b below same standing;
+  activation_stack = same_stack s.mode a b below same standing;
   sched = kept.sched;
 }
 service_fits l p call (Halts cause b) to a below s verifies kept same rest standing fit =
@@ -394,7 +394,7 @@ run_starts_fits : (p : Program) (s : State) → IsActivationStack Run s.activati
 run_starts_fits p s standing fit = record {
   memory = fit.memory;
   activations = fit.activations;
-  standing = standing;
+  activation_stack = standing;
   sched = run_schedule s.sched fit.sched;
 }
 
@@ -416,13 +416,13 @@ ended_fits l p w a below s same rest standing fit = by (a.ob == 100) refl
     by true is = record {
       memory = memory;
       activations = all;
-      standing = ended_by true s.mode a below is standing;
+      activation_stack = ended_by true s.mode a below is standing;
       sched = run_schedule s.sched fit.sched;
     }
     by false is = record {
       memory = memory;
       activations = all;
-      standing = ended_by false s.mode a below is standing;
+      activation_stack = ended_by false s.mode a below is standing;
       sched = fit.sched;
     }
 
@@ -433,7 +433,7 @@ statement_fits : (l : MachineLaws) (p : Program) (step : StatementStep) (a : Act
 statement_fits l p (Went b w) a at below s verifies lasts same rest standing fit = record {
   memory = memory_stays p s.store.memory w.memory lasts.sizes fit.memory;
   activations = (lasts.fits, all_stay l p s.store.memory w.memory below lasts.sizes rest);
-  standing = same_stack s.mode a b below same standing;
+  activation_stack = same_stack s.mode a b below same standing;
   sched = fit.sched;
 }
 statement_fits l p (Ended regs w) a at below s verifies lasts same rest standing fit =
@@ -460,7 +460,7 @@ passed_fits l p s fit =
       memory = memory_stays p s.store.memory (memory_refreshed s.store.memory) same fit.memory;
       activations =
           all_stay l p s.store.memory (memory_refreshed s.store.memory) s.activations same fit.activations;
-      standing = fit.standing;
+      activation_stack = fit.activation_stack;
       sched = cycle_schedule s.sched fit.sched;
     }
 
@@ -473,7 +473,7 @@ cycle_fits l p s verifies idle running fit =
     (ob_activation s.profile (code_of p) (priority_class_in s.mode 1) 1 (cycle_info s)) (cycle_finished s)
     (ob_fits s.profile l p (memory_refreshed s.store.memory) (priority_class_in s.mode 1) 1 (cycle_info s) verifies next.memory)
     (ob_is s.profile (code_of p) (priority_class_in s.mode 1) 1 (cycle_info s))
-    (cycle_may_begin s.mode s.activations idle running fit.standing) next
+    (cycle_may_begin s.mode s.activations idle running fit.activation_stack) next
 
 stepped_on_fits : (l : MachineLaws) (p : Program) (activations : List Activation) (s : State)
     → Verifies p → s.activations ≡ activations → is_stop s.mode ≡ false → IsFit p s
@@ -484,7 +484,7 @@ stepped_on_fits l p (a ∷ below) s verifies is running fit =
     subst (λ (acts : List Activation). AllFit p s.store.memory acts) is fit.activations in
     statement_fits l p (statement_step (code_of p) a s.store) a (spot_of_frame (code_of p) a.running.frame)
     below s verifies (l.lasts p a s.store verifies all.0) (statement_same (code_of p) a s.store) all.1
-    (subst (λ (acts : List Activation). IsActivationStack s.mode acts) is fit.standing) fit
+    (subst (λ (acts : List Activation). IsActivationStack s.mode acts) is fit.activation_stack) fit
 
 step_fits : (l : MachineLaws) (p : Program) (s : State) → Verifies p → is_stop s.mode ≡ false
     → IsFit p s → IsFit p (after_step (code_of p) s)
@@ -560,7 +560,7 @@ started_up_fits p None s one is idle fit =
 started_up_fits p (Some a) s one is idle fit = record {
   memory = fit.memory;
   activations = (one, fit.activations);
-  standing =
+  activation_stack =
       subst (λ (acts : List Activation). IsActivationStack Startup (a ∷ acts)) (sym idle)
       (first_stands a is.0 is.1);
   sched = fit.sched;
@@ -603,7 +603,7 @@ cleared_fits l p s fit =
       activations =
           all_stay l p s.store.memory (memory_after_restart s.store.memory) s.activations same
           fit.activations;
-      standing = fit.standing;
+      activation_stack = fit.activation_stack;
       sched = restarted_schedule s.sched fit.sched;
     }
 
@@ -623,14 +623,14 @@ restart_fits l p s verifies stop fit =
     started_up_fits p (startup_ob s.profile (code_of p)) (restart_cleared (diagnosis_recorded 6 0 s))
     (ob_fits s.profile l p (memory_after_restart s.store.memory) 27 100 startup_info verifies next.memory)
     (ob_is s.profile (code_of p) 27 100 startup_info)
-    (stop_idle s.mode s.activations stop fit.standing.stack) next
+    (stop_idle s.mode s.activations stop fit.activation_stack.stack) next
 
 monitored_fits : (p : Program) (s : State) (monitored : Option BlockId) → IsFit p s
     → IsFit p (record s { monitored = monitored })
 monitored_fits p s monitored fit = record {
   memory = fit.memory;
   activations = fit.activations;
-  standing = fit.standing;
+  activation_stack = fit.activation_stack;
   sched = fit.sched;
 }
 
@@ -662,7 +662,7 @@ counted_fits : (p : Program) (s : State) → IsFit p s → IsFit p (entry_counte
 counted_fits p s fit = record {
   memory = fit.memory;
   activations = fit.activations;
-  standing = fit.standing;
+  activation_stack = fit.activation_stack;
   sched = fit.sched;
 }
 
@@ -702,7 +702,7 @@ best_fits l p (Some best) s verifies running is fit =
         request_fits l p best s verifies
         (best_may_begin s.mode best.class best.ob s.activations running
         (best_waits s.mode s.sched.pending best is fit.sched.pending)
-        (best_class s.mode s.sched.pending best is) may fit.standing) fit
+        (best_class s.mode s.sched.pending best is) may fit.activation_stack) fit
     by false may = fit
 
 settled_fits : (l : MachineLaws) (p : Program) (s : State) → Verifies p → IsFit p s
@@ -725,7 +725,7 @@ before_fits : (profile : Profile) (l : MachineLaws) (p : Program) → IsFit p (b
 before_fits profile l p = record {
   memory = l.first profile p;
   activations = tt;
-  standing = record { stack = tt; startup = tt };
+  activation_stack = record { stack = tt; startup = tt };
   sched = rest_schedule (loaded_obs (code_of p));
 }
 

@@ -58,16 +58,16 @@ observed_changes mon outputs mode after = record {
 -- what an entry shows: its monitoring record, and what changed between the states before and after it
 unfoldable pub entry_shown : Code → (before : State) → What → (after : State) → Observed
 entry_shown code before what after =
-    observed_changes (monitoring_record code before what) before.store.memory.peripheral_outputs before.mode
-    after
+    observed_changes (monitoring_record code before what)
+    before.store.memory.peripheral_outputs before.mode after
 
--- what is kept from one entry to the next: the peripheral outputs and the mode, and what was shown
+-- what is kept from one entry to the next to find what an entry shows
 pub record WatchedState : Type 0 where
-  -- the peripheral outputs
+  -- the peripheral outputs after the last entry
   pub outputs : PeripheralBytes
-  -- the operating mode
+  -- the operating mode after the last entry
   pub mode : Mode
-  -- what was shown last
+  -- what the last entry showed
   pub seen : Observed
 
 -- what is kept of a state, with what was shown last

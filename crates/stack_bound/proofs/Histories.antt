@@ -440,7 +440,7 @@ counted_fit : (p : Program) (s : State) → IsFit p s → IsFit p (entry_counted
 counted_fit p s fit = record {
   memory = fit.memory;
   activations = fit.activations;
-  standing = fit.standing;
+  activation_stack = fit.activation_stack;
   sched = fit.sched;
 }
 
