@@ -206,7 +206,8 @@ impl Activations {
         requires room { length self.old < 48 }
         requires local { local_len ≤ 1024 }
         ensures { self.new ≡ with_start_bytes 0 info.now.bytes
-            (activation_begun profile class ob (frame_begun (block_of_ob ob) local_len)) ∷ self.old }
+            (activation_begun profile class ob (frame_begun (block_of_ob ob) local_len))
+            ∷ self.old }
     {
         make_place(&mut self.all, self.count);
         begin_in(
@@ -233,7 +234,8 @@ impl Activations {
         info: &StartInfo,
     ) -> bool
         requires { length self.old < 48 }
-        ensures begins { ObBegins (ob_activation profile (code_of program.now.program) class ob info.now)
+        ensures begins { ObBegins
+            (ob_activation profile (code_of program.now.program) class ob info.now)
             self.old self.new result }
         ensures is { IfSome (ob_activation profile (code_of program.now.program) class ob info.now)
             (λ a. (a.class ≡ class) × (a.ob ≡ ob)) }

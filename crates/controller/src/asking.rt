@@ -130,7 +130,8 @@ impl Cpu {
     #[tactic(auto, unfolding(crate::specs::Asking::request_reply))]
     pub fn answer(&self, program: &Loaded, request: &Request) -> Reply
         requires { IsRequest request.now }
-        ensures { result ≡ request_reply (code_of program.now.program) request.now (cpu_state self.now) }
+        ensures { result
+            ≡ request_reply (code_of program.now.program) request.now (cpu_state self.now) }
     {
         match request {
             Request::ReadVars { vars } => match read_vars(&self.memory, vars.as_slice()) {

@@ -241,7 +241,8 @@ impl Controller {
     pub fn db_bytes(&self, number: u16) -> Option<&[u8]>
         ensures value { option_copied result
             ≡ finmap.get (final_state self.now).store.memory.data_blocks number }
-        ensures loaded { is_some result ≡ is_some (data_bytes_of number self.now.program.data_blocks) }
+        ensures loaded { is_some result
+            ≡ is_some (data_bytes_of number self.now.program.data_blocks) }
     {
         self.cpu.db_bytes(number)
     }

@@ -25,7 +25,8 @@ impl Cpu {
         requires stack { IsActivationStack self.old.mode self.old.activations }
         requires above { MayBegin self.old.mode class ob self.old.activations }
         ensures state { cpu_state self.new
-            ≡ with_ob_begun (ob_activation self.old.profile (code_of program.now.program) class ob info)
+            ≡ with_ob_begun
+            (ob_activation self.old.profile (code_of program.now.program) class ob info)
             (cpu_state self.old) }
         ensures stack { IsActivationStack self.new.mode self.new.activations }
     {

@@ -23,7 +23,8 @@ impl Cpu {
         ensures nothing { ShowNothing (code_of program.now.program) (cpu_state self.old)
             (replicate result Step) }
         ensures state { cpu_state self.new
-            ≡ state_after_entries (code_of program.now.program) (cpu_state self.old) (replicate result Step) }
+            ≡ state_after_entries (code_of program.now.program) (cpu_state self.old)
+            (replicate result Step) }
         ensures outputs { (cpu_state self.new).store.memory.peripheral_outputs
             ≡ (cpu_state self.old).store.memory.peripheral_outputs }
         ensures mode { self.new.mode ≡ self.old.mode }

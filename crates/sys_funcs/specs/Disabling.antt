@@ -10,13 +10,16 @@ first_of_group ob = ob / 10 * 10
 -- MODE 0 means all interrupts and doesn't look at OB_NR, MODE 1 the group whose first number is OB_NR, MODE 2 the one of OB_NR
 abbrev pub is_interrupt_selected : (mode ob_nr ob : ℕ) → Bool
 is_interrupt_selected mode ob_nr ob =
-    is_interrupt ob && (mode == 0 || (mode == 1 && first_of_group ob == ob_nr) || (mode == 2 && ob == ob_nr))
+    is_interrupt ob
+    && (mode == 0 || (mode == 1 && first_of_group ob == ob_nr) || (mode == 2 && ob == ob_nr))
 
 -- OB_NR means interrupts: with MODE 0 always, with MODE 1 where it is the first number of a group,
 -- with MODE 2 where it is that of an interrupt; with another MODE none
 abbrev pub selects_interrupts : (mode ob_nr : ℕ) → Bool
 selects_interrupts mode ob_nr =
-    mode == 0 || (mode == 1 && is_interrupt ob_nr && first_of_group ob_nr == ob_nr) || (mode == 2 && is_interrupt ob_nr)
+    mode == 0
+    || (mode == 1 && is_interrupt ob_nr && first_of_group ob_nr == ob_nr)
+    || (mode == 2 && is_interrupt ob_nr)
 
 -- the error code: 16#8091 for another MODE; after that 16#8090 for an OB_NR that means none
 abbrev pub selection_error_code : (mode ob_nr : ℕ) → Option ℕ
@@ -30,10 +33,12 @@ abbrev pub disabled_if_selected : Bool → Bool → ℕ → Scheduler → Schedu
 disabled_if_selected meant disabled ob s = if meant then disabled_as disabled ob s else s
 
 -- each organization block that is meant is disabled, or enabled: of so many, from this number on
-abbrev pub selected_disabled_from : (disabled : Bool) (mode ob_nr ob count : ℕ) → Scheduler → Scheduler
+abbrev pub selected_disabled_from :
+    (disabled : Bool) (mode ob_nr ob count : ℕ) → Scheduler → Scheduler
 selected_disabled_from disabled mode ob_nr ob zero s = s
 selected_disabled_from disabled mode ob_nr ob (suc n) s =
-    selected_disabled_from disabled mode ob_nr (ob + 1) n (disabled_if_selected (is_interrupt_selected mode ob_nr ob) disabled ob s)
+    selected_disabled_from disabled mode ob_nr (ob + 1) n
+    (disabled_if_selected (is_interrupt_selected mode ob_nr ob) disabled ob s)
 
 -- the interrupts have the numbers 10 to 47
 unfoldable pub selected_disabled : (disabled : Bool) (mode ob_nr : ℕ) → Scheduler → Scheduler

@@ -21,9 +21,12 @@ en_airt s a =
     else int_result s (with_delay (a.delay - 1) a) (a.delay - 1)
 
 -- SFC 39 DIS_IRT and SFC 40 EN_IRT: an error code, or the organization blocks that are meant are disabled or enabled, and 0
-abbrev pub disabled_or_error : Option ℕ → (disabled : Bool) (mode ob_nr : ℕ) → Scheduler → Activation → SystemFunctionResult
+abbrev pub disabled_or_error :
+    Option ℕ → (disabled : Bool) (mode ob_nr : ℕ) → Scheduler → Activation
+    → SystemFunctionResult
 disabled_or_error (Some code) disabled mode ob_nr s a = int_result s a code
-disabled_or_error None disabled mode ob_nr s a = int_result (selected_disabled disabled mode ob_nr s) a 0
+disabled_or_error None disabled mode ob_nr s a =
+    int_result (selected_disabled disabled mode ob_nr s) a 0
 
 -- SFC 39 DIS_IRT: those that are meant are disabled; pending requests and started delays stay
 unfoldable pub dis_irt : Scheduler → Activation → (mode ob_nr : ℕ) → SystemFunctionResult

@@ -31,7 +31,9 @@ abbrev pub with_br_set : Activation → Activation
 with_br_set a = with_br true a
 
 -- a call leaves and answers this
-pub record LeavesSystemFunctionResult (r : SystemFunctionResult) (s : Scheduler) (a : Activation) (answer : ℕ) : Type 0 where
+pub record LeavesSystemFunctionResult
+    (r : SystemFunctionResult) (s : Scheduler) (a : Activation) (answer : ℕ)
+    : Type 0 where
   pub sched : s ≡ r.sched
   pub activation : a ≡ r.activation
   pub value : answer ≡ r.value

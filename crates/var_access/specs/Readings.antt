@@ -35,7 +35,10 @@ no_line = Err 1
 unfoldable pub number_in : (low high rule : ℕ) → List ℕ → Reading ℕ
 number_in low high rule word =
     if is_decimal word
-    then (if nat_le low (decimal_value word) && nat_le (decimal_value word) high then Ok (decimal_value word) else Err rule)
+    then
+    (if nat_le low (decimal_value word) && nat_le (decimal_value word) high
+    then Ok (decimal_value word)
+    else Err rule)
     else no_line
 
 -- the number of an address or a block: 0 to 65,535, else rule 2
@@ -50,7 +53,9 @@ is_hex (b ∷ t) = list_all is_ascii_hexdigit (b ∷ t)
 -- a value in so many hexadecimal digits; fewer or more of them break rule 2
 unfoldable pub hex_of : (digits : ℕ) → List ℕ → Reading ℕ
 hex_of digits word =
-    if is_hex word then (if length word == digits then Ok (digits_value 16 word) else Err 2) else no_line
+    if is_hex word
+    then (if length word == digits then Ok (digits_value 16 word) else Err 2)
+    else no_line
 
 -- a text without the blanks and tabs at its front
 unfoldable pub behind_blanks : List ℕ → List ℕ
@@ -74,7 +79,10 @@ trim text = behind_blanks (before_blanks text)
 abbrev pub leading_word : List ℕ → Option (List ℕ × List ℕ)
 leading_word [] = None
 leading_word (b ∷ t) =
-    Some (take (position_or_len is_blank (b ∷ t)) (b ∷ t), drop (position_or_len is_blank (b ∷ t)) (b ∷ t))
+    Some (
+      take (position_or_len is_blank (b ∷ t)) (b ∷ t),
+      drop (position_or_len is_blank (b ∷ t)) (b ∷ t),
+    )
 
 -- the first word of a text and what follows it; none where no word is left
 unfoldable pub first_word : List ℕ → Option (List ℕ × List ℕ)

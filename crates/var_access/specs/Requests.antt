@@ -19,7 +19,8 @@ abbrev pub comma_parts : (quoted : Bool) → List ℕ → List (List ℕ)
 comma_parts quoted [] = [] ∷ []
 comma_parts quoted (b ∷ t) =
     if is_quote b then onto_first b (comma_parts (not quoted) t)
-    else if is_comma b && not quoted then [] ∷ comma_parts quoted t else onto_first b (comma_parts quoted t)
+    else if is_comma b && not quoted then [] ∷ comma_parts quoted t
+    else onto_first b (comma_parts quoted t)
 
 -- how many bytes stand before the first comma that doesn't stand between quotes
 abbrev pub part_len : (quoted : Bool) → List ℕ → ℕ
@@ -66,7 +67,9 @@ kind_of_word word =
 abbrev pub monitor_on : (how kind number : List ℕ) → Reading Request
 monitor_on how kind number =
     if bytes_eq how (codes "on")
-    then reading_map (λ b. MonitorOn (record { kind = b.0; number = b.1 })) (both_readings (kind_of_word kind) (address_number number))
+    then
+    reading_map (λ b. MonitorOn (record { kind = b.0; number = b.1 }))
+    (both_readings (kind_of_word kind) (address_number number))
     else no_line
 
 -- `monitor on KIND n`, `monitor off`

@@ -17,4 +17,5 @@ pub record IsFilled (v : Inside) : Type 0 where
 
 -- the places that a list of variables fills
 abbrev pub places_of_variables : List Var → Inside
-places_of_variables vars = record { list = vars ++ replicate (8 - length vars) no_var; count = length vars }
+places_of_variables vars =
+    record { list = vars ++ replicate (8 - length vars) no_var; count = length vars }
