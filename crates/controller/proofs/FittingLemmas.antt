@@ -111,8 +111,8 @@ FitsIf p m None = Unit {0}
 FitsIf p m (Some a) = FitsProgram p m a
 
 told_one : (l : MachineLaws) (p : Program) (m : Areas) (byte value : ℕ) (a : Activation)
-    (told : Option Activation) → with_local_byte 0 byte value a ≡ told → FitsProgram p m a
-    → FitsProgram p m (unwrap_or told a)
+    (written : Option Activation) → with_local_byte 0 byte value a ≡ written → FitsProgram p m a
+    → FitsProgram p m (unwrap_or written a)
 told_one l p m byte value a None is fit = fit
 told_one l p m byte value a (Some b) is fit = l.local_byte p m a b 0 byte value is fit
 

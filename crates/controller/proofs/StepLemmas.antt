@@ -51,7 +51,7 @@ stepped_idle code s new w' steps = idle_on code s s.activations new w' refl step
 
 -- ---- where one runs
 
--- an error looks at no activation but those that it is told of
+-- an error looks at no activation but the given ones
 answered_from : (fresh : Option Activation) (error : ℕ) (at : Option Spot) (a : Activation)
     (below acts : List Activation) (s : State)
     → error_ob_started fresh error at a below s

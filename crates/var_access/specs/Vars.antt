@@ -5,7 +5,7 @@ use Rattle.plc_base.specs.declared.places.Width.TheVariants.{Bit}
 use Rattle.var_access.specs.declared.requests.Var.{Var}
 use Rattle.var_access.specs.declared.requests.Vars.TheInside.{Inside}
 
--- what stands in a place that no variable takes
+-- the variable that stands in a place that no variable takes
 abbrev pub no_var : Var
 no_var = record { place = record { number = 0; byte = 0; area = I; bit = 0 }; width = Bit }
 
