@@ -2,7 +2,7 @@ pub mod SizeLemmas
 pub mod MemberLemmas
 pub mod ScopeLemmas
 pub mod PathLemmas
-pub mod VerdictLemmas
+pub mod DeclarationFactLemmas
 pub mod CellLemmas
 pub mod SectionLemmas
 pub mod MeasureLemmas

@@ -17,7 +17,7 @@ use Rattle.block_layout.specs.declared.blocks.Section.TheVariants as section
 use Rattle.block_layout.specs.declared.walks.PathEnd.{PathEnd}
 use Rattle.block_layout.specs.declared.walks.PathEnd.TheVariants as walk
 use Rattle.block_layout.specs.Blocks.{known_block}
-use Rattle.block_layout.specs.Paths.{path_end_in_data_block, path_end_in_block, leaves_from, leaves_judged, structure_of, elementary_at, if_whole}
+use Rattle.block_layout.specs.Paths.{path_end_in_data_block, path_end_in_block, leaves_from, leaves_structure, structure_of, elementary_at, if_whole}
 
 -- the width of an elementary data type
 abbrev pub width_of : Simple → Width
@@ -52,7 +52,7 @@ place_at_path_end l a number _ = None
 abbrev pub component_place : List BlockLayout → (number block : ℕ) → List PathStep
     → Option (Place × Width)
 component_place l number block path =
-    if leaves_judged l (structure_of l block) path then None
+    if leaves_structure l (structure_of l block) path then None
     else place_at_path_end l area.Db number (path_end_in_data_block l block path)
 
 -- place and width of an elementary variable of a code block, in an area; none where an index is

@@ -182,9 +182,9 @@ leaves_from l block temporary (step.Named name ∷ ss) =
 leaves_from l block temporary _ = false
 
 -- a path that goes through what breaks a rule itself isn't checked
-abbrev pub is_judged : PathEnd → Bool
-is_judged walk.Rests = false
-is_judged _ = true
+abbrev pub is_checkable : PathEnd → Bool
+is_checkable walk.Rests = false
+is_checkable _ = true
 
 -- a block that isn't broken
 abbrev pub whole_block : Option BlockLayout → Option BlockLayout
@@ -225,10 +225,10 @@ unfoldable pub path_end_of_setting : List BlockLayout → (block : ℕ) → List
 path_end_of_setting l block path = path_end_or_rests l (setting_structure l block) path
 
 -- whether a path leaves an array, where it is checked
-abbrev pub leaves_judged : List BlockLayout → Option ℕ → List PathStep → Bool
-leaves_judged l None path = false
-leaves_judged l (Some block) path =
-    is_judged (path_end_in_block l block false path) && leaves_from l block false path
+abbrev pub leaves_structure : List BlockLayout → Option ℕ → List PathStep → Bool
+leaves_structure l None path = false
+leaves_structure l (Some block) path =
+    is_checkable (path_end_in_block l block false path) && leaves_from l block false path
 
 -- where a path into a data block leads; it rests where that block, or the one that declares its
 -- components, is broken
@@ -258,7 +258,7 @@ leaves_sections l block name path =
 -- itself
 abbrev pub leaves_local : List BlockLayout → (block : ℕ) → List ℕ → List PathStep → Bool
 leaves_local l block name path =
-    is_judged (walked_local l block name path) && leaves_sections l block name path
+    is_checkable (walked_local l block name path) && leaves_sections l block name path
 
 -- the elementary type of a component that a path reaches
 abbrev pub plain_kind : Element → Option Simple

@@ -16,7 +16,7 @@ ghost use Rattle.block_layout.specs.Declarations.{
 };
 ghost use Rattle.block_layout.specs.Measures.{capped_depth};
 ghost use Rattle.block_layout.specs.Rule56.{element_depth, own_depth, udt_depth};
-ghost use Rattle.block_layout.specs.Verdicts.{breaks_alone};
+ghost use Rattle.block_layout.specs.DeclarationFacts.{breaks_alone};
 
 use crate::constants::fits;
 use crate::sizes::count;

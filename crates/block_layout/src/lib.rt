@@ -10,6 +10,7 @@ mod bytes;
 mod cells;
 mod constants;
 mod cycles;
+mod declaration_facts;
 mod declarations;
 mod directory;
 mod excess;
@@ -33,7 +34,6 @@ mod settings;
 mod sizes;
 mod starts;
 mod types;
-mod verdicts;
 mod walks;
 
 pub use blocks::{BlockLayout, Section, Shape};
