@@ -10,13 +10,13 @@ use crate::declarations::{breaks_alone, deep, own_depth, uses_oversized};
 use crate::types::Types;
 use std::alloc::{AllocError, Global};
 use stl_ast::Declaration;
-use stl_symbols::Names;
+use stl_symbols::NameIndex;
 
 /// A list of declarations that is open: the names in it so far, how many structures and arrays are
 /// open around it, at most 9, and whether the declarations around it break no rule.
 #[derive(Drop)]
 pub(crate) struct OpenList {
-    pub(crate) names: Names,
+    pub(crate) names: NameIndex,
     pub(crate) depth: u8,
     pub(crate) sound: bool,
 }
@@ -90,7 +90,7 @@ fn enter(
     list.names.add(alloc, &name)?;
     open_.push(list)?;
     open_.push(OpenList {
-        names: Names::new(alloc),
+        names: NameIndex::new(alloc),
         depth: facts.reach,
         sound,
     })?;

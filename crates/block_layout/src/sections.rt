@@ -28,7 +28,7 @@ use crate::types::Types;
 use plc_base::{Refusal, lesser};
 use std::alloc::{AllocError, Global};
 use stl_ast::{Block, Name, Part, PartKind, Sequence, Simple};
-use stl_symbols::Names;
+use stl_symbols::NameIndex;
 
 /// What the declarations of a block come to: the cells of its components and of its temporary
 /// variables, and the least refusals by names that stand twice and by types nested too deep.
@@ -116,7 +116,7 @@ fn first_list(alloc: Global, returned: Option<Simple>) -> Result<OpenList, Alloc
     ensures depth { IfOk result (λ f. f.depth ≡ 0) }
     ensures sound { IfOk result (λ f. f.sound ≡ true) }
 {
-    let mut names = Names::new(alloc);
+    let mut names = NameIndex::new(alloc);
     if returned.is_some() {
         names.add(alloc, b"RET_VAL")?;
     }
@@ -172,7 +172,7 @@ fn structure_list(alloc: Global) -> OpenList
     ensures sound { result.sound ≡ true }
 {
     OpenList {
-        names: Names::new(alloc),
+        names: NameIndex::new(alloc),
         depth: 1,
         sound: true,
     }

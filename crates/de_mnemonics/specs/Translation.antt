@@ -7,9 +7,9 @@ use Rattle.stl_lexer.specs.Tokens.{text_of, AreTokens, IsViolation}
 use Rattle.stl_symbols.specs.declared.languages.Language.{Language}
 use Rattle.de_mnemonics.specs.declared.classes.TokenClass.{TokenClass}
 use Rattle.de_mnemonics.specs.declared.classes.TokenClass.TheVariants as class
-use Rattle.de_mnemonics.specs.declared.places.Place.TheVariants as place
+use Rattle.de_mnemonics.specs.declared.places.TokenPlace.TheVariants as place
 use Rattle.de_mnemonics.specs.declared.roles.Role.{Role}
-use Rattle.de_mnemonics.specs.declared.translation.Spot.{Spot}
+use Rattle.de_mnemonics.specs.declared.translation.TranslationPosition.{TranslationPosition}
 use Rattle.de_mnemonics.specs.Places.{place_behind, class_of, role_of}
 use Rattle.de_mnemonics.specs.Words.{translated_word}
 
@@ -37,38 +37,38 @@ abbrev pub with_word_before : Option (List ℕ) → ℕ → Result (List ℕ) �
 with_word_before None line rest = Err line
 with_word_before (Some word) line rest = with_bytes_before word rest
 
--- the role of a token at a spot, with the tokens behind it
-abbrev pub role_at : List ℕ → Spot → Token → List Token → Role
-role_at source spot t ts = role_of spot.place spot.before (class_in source t) (text_of source t) (next_class source ts)
+-- the role of a token at a position, with the tokens behind it
+abbrev pub role_at : List ℕ → TranslationPosition → Token → List Token → Role
+role_at source position t ts = role_of position.place position.before (class_in source t) (text_of source t) (next_class source ts)
 
--- the spot behind a token at a spot, with the tokens behind it
-abbrev pub spot_behind : List ℕ → Spot → Token → List Token → Spot
-spot_behind source spot t ts = record {
+-- the position behind a token at a position, with the tokens behind it
+abbrev pub position_behind : List ℕ → TranslationPosition → Token → List Token → TranslationPosition
+position_behind source position t ts = record {
   from = t.end;
-  place = place_behind spot.place spot.before (class_in source t) (text_of source t) (next_class source ts);
+  place = place_behind position.place position.before (class_in source t) (text_of source t) (next_class source ts);
   before = class_in source t;
 }
 
--- the translation of a source from a spot on: what stands between tokens stays, and each token is written as its role asks; or the
+-- the translation of a source from a position on: what stands between tokens stays, and each token is written as its role asks; or the
 -- line of the first word that has no translation
-unfoldable pub translation_from : Language → List ℕ → Spot → List Token → Result (List ℕ) ℕ
-translation_from language source spot [] = Ok (drop spot.from source)
-translation_from language source spot (t ∷ ts) =
-    with_bytes_before (slice_range source spot.from t.start) (with_word_before (translated_word language (role_at source spot t ts) (text_of source t)) t.line
-    (translation_from language source (spot_behind source spot t ts) ts))
+unfoldable pub translation_from : Language → List ℕ → TranslationPosition → List Token → Result (List ℕ) ℕ
+translation_from language source position [] = Ok (drop position.from source)
+translation_from language source position (t ∷ ts) =
+    with_bytes_before (slice_range source position.from t.start) (with_word_before (translated_word language (role_at source position t ts) (text_of source t)) t.line
+    (translation_from language source (position_behind source position t ts) ts))
 
 -- the front of a source
-abbrev pub front_spot : Spot
-front_spot = record { from = 0; place = place.Outside; before = class.Other }
+abbrev pub front_position : TranslationPosition
+front_position = record { from = 0; place = place.Outside; before = class.Other }
 
 -- the translation of a source with these tokens
 unfoldable pub translation_of : Language → List ℕ → List Token → Result (List ℕ) ℕ
-translation_of language source ts = translation_from language source front_spot ts
+translation_of language source ts = translation_from language source front_position ts
 
--- behind a text that was written, the translation goes on from one spot as from another, behind a text that was then written
-abbrev pub ContinuesTranslation : Language → List ℕ → List ℕ → Spot → List Token → List ℕ → Spot → List Token → Type 0
-ContinuesTranslation language source old spot ts now next rest =
-    with_bytes_before old (translation_from language source spot ts) ≡ with_bytes_before now (translation_from language source next rest)
+-- behind a text that was written, the translation goes on from one position as from another, behind a text that was then written
+abbrev pub ContinuesTranslation : Language → List ℕ → List ℕ → TranslationPosition → List Token → List ℕ → TranslationPosition → List Token → Type 0
+ContinuesTranslation language source old position ts now next rest =
+    with_bytes_before old (translation_from language source position ts) ≡ with_bytes_before now (translation_from language source next rest)
 
 -- a translation ends as a refusal says, at a word of the other language on its line; nothing is
 -- said of want of memory

@@ -12,7 +12,7 @@ use Rattle.stl_lexer.specs.Tokens.{text_of}
 use Rattle.stl_ast.specs.declared.names.BlockName.{BlockName}
 use Rattle.stl_ast.specs.declared.names.BlockName.TheVariants as block
 use Rattle.stl_lexer.specs.declared.marks.Mark.TheVariants as mark
-use Rattle.stl_parser.specs.declared.tables.Address.{Address}
+use Rattle.stl_parser.specs.declared.tables.AddressKind.{AddressKind}
 use Rattle.stl_parser.specs.Terminals.{has_kind, is_mark}
 use Rattle.stl_parser.specs.Tables.{look_up, block_kinds, addresses}
 use Rattle.stl_parser.specs.Numbers.{number_of}
@@ -43,7 +43,7 @@ letters_and_number_at table source (w ∷ rest) =
     else None
 
 -- an address, as `MW 2`, or a block, as `DB 10`, each with what follows
-unfoldable pub address_at : List ℕ → List Token → Option (Address × ℕ × List Token)
+unfoldable pub address_at : List ℕ → List Token → Option (AddressKind × ℕ × List Token)
 address_at source tokens = letters_and_number_at addresses source tokens
 
 -- a block by kind and number, as `DB 10` or `DB10`, and what follows

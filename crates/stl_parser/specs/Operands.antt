@@ -21,9 +21,9 @@ use Rattle.stl_ast.specs.declared.operands.Operand.TheVariants as operand
 use Rattle.stl_ast.specs.declared.operands.PathHead.{PathHead}
 use Rattle.stl_ast.specs.declared.operands.PathHead.TheVariants as head
 use Rattle.stl_lexer.specs.declared.marks.Mark.TheVariants as mark
-use Rattle.stl_parser.specs.declared.keywords.Key.TheVariants as key
-use Rattle.stl_parser.specs.declared.tables.Address.{Address}
-use Rattle.stl_parser.specs.declared.tables.Address.TheVariants as address
+use Rattle.stl_parser.specs.declared.keywords.ClauseWord.TheVariants as key
+use Rattle.stl_parser.specs.declared.tables.AddressKind.{AddressKind}
+use Rattle.stl_parser.specs.declared.tables.AddressKind.TheVariants as address
 use Rattle.stl_parser.specs.Terminals.{has_kind, is_mark, is_key}
 use Rattle.stl_parser.specs.Tables.{look_up, addresses, flags, registers}
 use Rattle.stl_parser.specs.Numbers.{number_of, int_at}
@@ -72,7 +72,7 @@ unfoldable pub area_operand : List ℕ → Letters → Width → ℕ → List To
 area_operand source area w byte rest = option_map (λ bit. operand.Direct None area w byte bit) (place_bit source w rest)
 
 -- width, byte and bit of an address of a data block, as `DBW 2`
-unfoldable pub place_of_data_address : List ℕ → Address → ℕ → List Token → Option (Width × ℕ × ℕ)
+unfoldable pub place_of_data_address : List ℕ → AddressKind → ℕ → List Token → Option (Width × ℕ × ℕ)
 place_of_data_address source (address.Area letters.Db w) byte rest = option_map (λ bit. (w, byte, bit)) (place_bit source w rest)
 place_of_data_address source _ byte rest = None
 
@@ -110,7 +110,7 @@ data_block_operand source n [] = Some (operand.OpenBlock false (data_block_name 
 data_block_operand source n (t ∷ rest) = operand_behind_block source (data_block_name n) (t ∷ rest)
 
 -- an operand that is letters and a number
-unfoldable pub direct_address_operand : List ℕ → Address → ℕ → List Token → Option Operand
+unfoldable pub direct_address_operand : List ℕ → AddressKind → ℕ → List Token → Option Operand
 direct_address_operand source (address.Area area w) n rest = area_operand source area w n rest
 direct_address_operand source address.Timer n [] = Some (operand.Timer n)
 direct_address_operand source address.Timer n (t ∷ rest) = None
@@ -159,7 +159,7 @@ pointer_close source area byte _ = None
 
 -- `]` behind an address in brackets that is a double word for a pointer, or a word for a number:
 -- its area and its byte
-unfoldable pub pointer_end : List ℕ → Bool → Address → ℕ → List Token → Option (Letters × ℕ)
+unfoldable pub pointer_end : List ℕ → Bool → AddressKind → ℕ → List Token → Option (Letters × ℕ)
 pointer_end source pointer (address.Area area width.Dword) byte rest = if pointer then pointer_close source area byte rest else None
 pointer_end source pointer (address.Area area width.Word) byte rest = if pointer then None else pointer_close source area byte rest
 pointer_end source pointer _ byte rest = None
@@ -183,7 +183,7 @@ operand_by_pointer source area w tokens =
     (operand_by_register source (Some area) w tokens)
 
 -- an operand that is letters and a pointer in brackets
-unfoldable pub indirect_operand : List ℕ → Address → List Token → Option Operand
+unfoldable pub indirect_operand : List ℕ → AddressKind → List Token → Option Operand
 indirect_operand source (address.Area area w) tokens = operand_by_pointer source area w tokens
 indirect_operand source address.Timer tokens = operand_by_memory_number source numbered.Timer tokens
 indirect_operand source address.Counter tokens = operand_by_memory_number source numbered.Counter tokens
@@ -191,7 +191,7 @@ indirect_operand source (address.Block false) tokens = operand_by_memory_number 
 indirect_operand source (address.Block true) tokens = operand_by_memory_number source numbered.Di tokens
 
 -- a pointer constant with an area, behind `P#`
-unfoldable pub area_pointer : List ℕ → Address → ℕ → List Token → Option Operand
+unfoldable pub area_pointer : List ℕ → AddressKind → ℕ → List Token → Option Operand
 area_pointer source (address.Area area width.Bit) byte rest =
     option_map (λ bit. operand.Pointer (Some area) byte bit) (bit_of source rest)
 area_pointer source _ byte rest = None

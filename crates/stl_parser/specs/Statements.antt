@@ -15,7 +15,7 @@ use Rattle.stl_ast.specs.declared.operands.Operand.TheVariants as operand
 use Rattle.stl_ast.specs.declared.statements.Actual.{Actual}
 use Rattle.stl_ast.specs.declared.statements.Statement.{Statement}
 use Rattle.stl_lexer.specs.declared.marks.Mark.TheVariants as mark
-use Rattle.stl_parser.specs.declared.keywords.Key.TheVariants as key
+use Rattle.stl_parser.specs.declared.keywords.ClauseWord.TheVariants as key
 use Rattle.stl_parser.specs.declared.statements.BareStatement.{BareStatement}
 use Rattle.stl_parser.specs.declared.tables.OperandSyntax.{OperandSyntax}
 use Rattle.stl_parser.specs.declared.tables.OperandSyntax.TheVariants as form

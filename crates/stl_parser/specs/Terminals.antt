@@ -7,11 +7,11 @@ use Rattle.stl_lexer.specs.declared.kinds.TokenKind.TheVariants as kind
 use Rattle.stl_lexer.specs.Marks.{mark_text}
 use Rattle.stl_lexer.specs.Tokens.{text_of}
 use Rattle.stl_lexer.specs.declared.marks.Mark.{Mark}
-use Rattle.stl_parser.specs.declared.keywords.Key.{Key}
-use Rattle.stl_parser.specs.declared.keywords.Key.TheVariants as key
+use Rattle.stl_parser.specs.declared.keywords.ClauseWord.{ClauseWord}
+use Rattle.stl_parser.specs.declared.keywords.ClauseWord.TheVariants as key
 
 -- how a word of the language is written
-unfoldable pub key_text : Key → List ℕ
+unfoldable pub key_text : ClauseWord → List ℕ
 key_text key.True = codes "TRUE"
 key_text key.False = codes "FALSE"
 key_text key.Array = codes "ARRAY"
@@ -50,5 +50,5 @@ unfoldable pub is_mark : List ℕ → Token → Mark → Bool
 is_mark source t m = has_kind t kind.Mark && str_eq_ignore_ascii_case (text_of source t) (mark_text m)
 
 -- the token is this word of the language, without case
-unfoldable pub is_key : List ℕ → Token → Key → Bool
+unfoldable pub is_key : List ℕ → Token → ClauseWord → Bool
 is_key source t k = has_kind t kind.Word && str_eq_ignore_ascii_case (text_of source t) (key_text k)

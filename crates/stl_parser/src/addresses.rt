@@ -18,7 +18,7 @@ use crate::literals::unquoted;
 use crate::lookups::{address_of, look_up};
 use crate::numbers::{decimal, number};
 use crate::parsed::{Parsed, ParsedNumbered};
-use crate::tables::{ADDRESSES, Address, BLOCK_KINDS};
+use crate::tables::{ADDRESSES, AddressKind, BLOCK_KINDS};
 use plc_base::{BlockId, BlockKind, are_digits};
 use std::alloc::{AllocError, Global};
 use stl_ast::{BlockName, Name};
@@ -91,7 +91,10 @@ fn numbered<'a, X: Copy + Drop>(
 
 /// An address, as `MW 2`, with what follows.
 #[tactic(auto, unfolding(crate::specs::Addresses::address_at, crate::specs::Tables::addresses))]
-pub(crate) fn address<'a>(source: &[u8], tokens: &'a [Token]) -> Option<ParsedNumbered<'a, Address>>
+pub(crate) fn address<'a>(
+    source: &[u8],
+    tokens: &'a [Token],
+) -> Option<ParsedNumbered<'a, AddressKind>>
     ensures { result ≡ address_at source.now tokens.now }
 {
     numbered(&ADDRESSES, source, tokens)

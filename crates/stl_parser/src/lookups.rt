@@ -14,7 +14,7 @@ ghost use Rattle.stl_parser.specs.Tables.{
 };
 
 use crate::tables::{
-    ADDRESSES, Address, FLAGS, HEAD_WORDS, HeadWord, KEYWORDS, Keyword, MNEMONICS,
+    ADDRESSES, AddressKind, FLAGS, HEAD_WORDS, HeadWord, KEYWORDS, Keyword, MNEMONICS,
     OPENING_MNEMONICS, OperandSyntax, REGISTERS, SIMPLE_TYPES,
 };
 use plc_base::Flag;
@@ -76,7 +76,7 @@ pub(crate) fn simple_type_of(word: &[u8]) -> Option<Simple>
 
 /// What these letters of an address name.
 #[tactic(auto, unfolding(crate::specs::Tables::addresses))]
-pub(crate) fn address_of(word: &[u8]) -> Option<Address>
+pub(crate) fn address_of(word: &[u8]) -> Option<AddressKind>
     ensures { result ≡ look_up addresses word.now }
 {
     look_up(&ADDRESSES, word)

@@ -10,8 +10,8 @@ use Rattle.csv.specs.declared.parser.Action.{Action}
 use Rattle.csv.specs.declared.parser.Action.TheVariants as action
 use Rattle.csv.specs.declared.parser.Terminator.TheVariants as terminator
 use Rattle.stl_symbols.specs.Line.{lone_record}
-use Rattle.stl_symbols.specs.declared.fields.Spot.{Spot}
-use Rattle.stl_symbols.specs.declared.fields.Spot.TheVariants as spot
+use Rattle.stl_symbols.specs.declared.fields.FieldState.{FieldState}
+use Rattle.stl_symbols.specs.declared.fields.FieldState.TheVariants as field_state
 use Rattle.stl_symbols.specs.declared.fields.Step.{Step}
 use Rattle.stl_symbols.specs.declared.fields.Step.TheVariants as step
 use Rattle.stl_symbols.specs.declared.fields.Ending.{Ending}
@@ -19,12 +19,12 @@ use Rattle.stl_symbols.specs.declared.fields.Ending.TheVariants as ending
 use Rattle.stl_symbols.specs.declared.fields.Behind.{Behind}
 use Rattle.stl_symbols.specs.declared.fields.Behind.TheVariants as behind
 
--- the machine's state at a spot in a field
-abbrev pub state_of : Spot → State
-state_of spot.Start = state.StartField
-state_of spot.Plain = state.InField
-state_of spot.Quoted = state.InQuoted
-state_of spot.AfterQuote = state.AfterQuote
+-- the state of the machine for that of a field
+abbrev pub state_of : FieldState → State
+state_of field_state.Start = state.StartField
+state_of field_state.Plain = state.InField
+state_of field_state.Quoted = state.InQuoted
+state_of field_state.AfterQuote = state.AfterQuote
 
 -- the state and the action of the machine at a step
 abbrev pub machine_step : Step → ℕ → State × Action

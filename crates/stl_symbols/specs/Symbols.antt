@@ -11,8 +11,8 @@ use Rattle.plc_base.specs.declared.refusals.SourceFault.TheVariants.{Refused, No
 use Rattle.stl_symbols.specs.Address.{address_of, has_type}
 use Rattle.stl_symbols.specs.Line.{Columns, columns_of_line}
 use Rattle.stl_symbols.specs.Symbol.{Symbol, symbol_named}
-use Rattle.stl_symbols.specs.declared.addresses.Address.{Address}
-use Rattle.stl_symbols.specs.declared.addresses.Address.TheVariants.{Names, NoSymbol}
+use Rattle.stl_symbols.specs.declared.addresses.SymbolAddress.{SymbolAddress}
+use Rattle.stl_symbols.specs.declared.addresses.SymbolAddress.TheVariants.{Names, NoSymbol}
 use Rattle.stl_symbols.specs.declared.languages.Language.{Language}
 use Rattle.stl_symbols.specs.declared.languages.Language.TheVariants.{English}
 
@@ -37,7 +37,7 @@ abbrev pub is_name : List ℕ → Bool
 is_name name = nat_le 1 (length name) && nat_le (length name) 24
 
 -- what a line declares: a symbol, or nothing
-abbrev pub declared_symbol : List ℕ → Address → Option Symbol
+abbrev pub declared_symbol : List ℕ → SymbolAddress → Option Symbol
 declared_symbol name (Names target) = Some (record { name = name; target = target })
 declared_symbol name NoSymbol = None
 

@@ -21,7 +21,7 @@ ghost use Rattle.stl_symbols.specs.Symbols.{
   without_last_blanks,
 };
 
-use crate::addresses::{Address, address_of, has_type};
+use crate::addresses::{SymbolAddress, address_of, has_type};
 use crate::columns::{Columns, read_columns};
 use crate::languages::Language;
 use crate::symbols::{LONGEST_NAME, Symbol, Symbols};
@@ -97,8 +97,8 @@ fn declaration(
         return None;
     }
     match address {
-        Address::Names { target } => Some(Some(Symbol { name, target })),
-        Address::NoSymbol => Some(None),
+        SymbolAddress::Names { target } => Some(Some(Symbol { name, target })),
+        SymbolAddress::NoSymbol => Some(None),
     }
 }
 
