@@ -17,12 +17,14 @@ pub record Holder : Type 0 where
 abbrev pub structures_around : ℕ → List Declaration → List Holder
 structures_around level [] = []
 structures_around level (d ∷ ds) =
-    if nat_lt d.level level then record { declaration = d; before = ds } ∷ structures_around d.level ds
+    if nat_lt d.level level
+    then record { declaration = d; before = ds } ∷ structures_around d.level ds
     else structures_around level ds
 
 -- what stands before the declaration that follows these, the nearest first: these, and those in
 -- `before`
-abbrev pub declarations_before_next : (before : List Declaration) → List Declaration → List Declaration
+abbrev pub declarations_before_next : (before : List Declaration) → List Declaration
+    → List Declaration
 declarations_before_next before [] = before
 declarations_before_next before (d ∷ ds) = declarations_before_next (d ∷ before) ds
 
@@ -56,9 +58,11 @@ abbrev pub of_structure : Outside
 of_structure = record { names = []; depth = 1 }
 
 -- the refusals by a rule of declarations, of all declarations that follow those in `before`
-abbrev pub refusals_in_rest : (List Declaration → Declaration → List Refusal) → (before : List Declaration)
+abbrev pub refusals_in_rest : (List Declaration → Declaration → List Refusal)
+    → (before : List Declaration)
     → List Declaration → List Refusal
-refusals_in_rest broken before ds = refusals_along (λ d. false) broken (λ before d. d ∷ before) before ds
+refusals_in_rest broken before ds =
+    refusals_along (λ d. false) broken (λ before d. d ∷ before) before ds
 
 -- the refusals by a rule of declarations, of all declarations that stand in a list
 abbrev pub refusals_in_list : (List Declaration → Declaration → List Refusal) → List Declaration
@@ -74,6 +78,7 @@ refusals_in_block broken b =
     ++ refusals_in_list (broken of_structure) b.components
 
 -- the refusals by a rule of declarations, of all declarations of a source, block by block
-abbrev pub refusals_in_blocks : (Outside → List Declaration → Declaration → List Refusal) → List Block
+abbrev pub refusals_in_blocks : (Outside → List Declaration → Declaration → List Refusal)
+    → List Block
     → List Refusal
 refusals_in_blocks broken blocks = flat_map (refusals_in_block broken) blocks

@@ -49,7 +49,8 @@ block_of _ = None
 -- the block that a name means: its number, or that of the symbol
 abbrev pub named_block : List Symbol → BlockName → Option BlockId
 named_block symbols (Number id) = Some id
-named_block symbols (Quoted name) = block_of (option_map (λ s. s.target) (symbol_named name symbols))
+named_block symbols (Quoted name) =
+    block_of (option_map (λ s. s.target) (symbol_named name symbols))
 
 -- a block, where it is of one of these kinds; none where it isn't
 abbrev pub of_kind : (BlockKind → Bool) → Option BlockId → Option BlockId
@@ -72,7 +73,8 @@ is_id id (Some other) = is_same_block id other
 -- the first place of a block among these, counted from 0
 abbrev pub place_of_block : BlockId → List (Option BlockId) → Option ℕ
 place_of_block id [] = None
-place_of_block id (i ∷ is) = if is_id id i then Some 0 else option_map (λ k. suc k) (place_of_block id is)
+place_of_block id (i ∷ is) =
+    if is_id id i then Some 0 else option_map (λ k. suc k) (place_of_block id is)
 
 -- the block of the source that is meant: of several with one number the first; none that has a number beyond the limits
 abbrev pub known_block : BlockId → List (Option BlockId) → Option ℕ

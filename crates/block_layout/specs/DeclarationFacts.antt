@@ -27,7 +27,8 @@ abbrev pub breaks_alone : Types → Declaration → Bool
 breaks_alone y d = is_unknown_type y d.of.of || not (init_fits d) || has_upside_down d
 
 -- what the rules find of a declaration by those before it; `reach` is its deepest place, 9 at most
-abbrev pub facts_of_declaration : Types → Outside → List Declaration → Declaration → DeclarationFacts
+abbrev pub facts_of_declaration : Types → Outside → List Declaration → Declaration
+    → DeclarationFacts
 facts_of_declaration y o before d = record {
   twice = is_twice o before d;
   deep = is_too_deep y o before d;
@@ -38,16 +39,19 @@ facts_of_declaration y o before d = record {
 
 -- what the rules find of declarations one behind the other, of which those in `before` stand before
 -- the first
-abbrev pub facts_of_declarations : Types → Outside → (before : List Declaration) → List Declaration → List DeclarationFacts
+abbrev pub facts_of_declarations : Types → Outside → (before : List Declaration) → List Declaration
+    → List DeclarationFacts
 facts_of_declarations y o before [] = []
-facts_of_declarations y o before (d ∷ ds) = facts_of_declaration y o before d ∷ facts_of_declarations y o (d ∷ before) ds
+facts_of_declarations y o before (d ∷ ds) =
+    facts_of_declaration y o before d ∷ facts_of_declarations y o (d ∷ before) ds
 
 -- the open list that a declaration at a level goes on, behind those in `before`
 abbrev pub open_list_of : Types → Outside → List Declaration → (level : ℕ) → OpenList
 open_list_of y o before level = record {
   names = names_before o.names level before;
   depth = capped_depth (depth_around y o level before);
-  sound = list_all (λ h. not (breaks_rule y o h.before h.declaration)) (structures_around level before);
+  sound =
+      list_all (λ h. not (breaks_rule y o h.before h.declaration)) (structures_around level before);
 }
 
 -- a declaration opens the ninth structure or array: by how many are around it and are its own
@@ -57,7 +61,8 @@ is_deep_in around_it own = nat_le around_it 8 && nat_lt 8 (around_it + own)
 -- a declaration breaks rule 21, 23, 41, 42 or 56, by the list that it goes on
 abbrev pub breaks_in : Types → OpenList → Declaration → Bool
 breaks_in y f d =
-    is_some (name_place (upper_case_name d.name) f.names) || breaks_alone y d || is_deep_in f.depth (capped_depth (own_depth y d))
+    is_some (name_place (upper_case_name d.name) f.names) || breaks_alone y d
+    || is_deep_in f.depth (capped_depth (own_depth y d))
 
 -- what the rules find of a declaration by its list alone, without those before it
 unfoldable pub facts_by_list : Types → OpenList → Declaration → DeclarationFacts
@@ -86,18 +91,22 @@ unfoldable pub open_lists_behind : Types → List OpenList → OpenList → Decl
 open_lists_behind y open_ f d = take d.level open_ ++ with_name f d ∷ inner_list y f d ∷ []
 
 -- these lists, the outermost first, are open behind the declarations in `before`
-pub record AreOpen (y : Types) (o : Outside) (before : List Declaration) (open_ : List OpenList) : Type 0 where
-  pub lists : (level : ℕ) (f : OpenList) → level < length open_ → get_or open_ level f ≡ open_list_of y o before level
+pub record AreOpen (y : Types) (o : Outside) (before : List Declaration)
+    (open_ : List OpenList) : Type 0 where
+  pub lists : (level : ℕ) (f : OpenList) → level < length open_
+      → get_or open_ level f ≡ open_list_of y o before level
 
 -- these are the facts of declarations that follow those in `before`, and these lists are open
 -- behind them
-pub record CheckedOnto (y : Types) (o : Outside) (before ds : List Declaration) (vs : List DeclarationFacts)
+pub record CheckedOnto (y : Types) (o : Outside) (before ds : List Declaration)
+    (vs : List DeclarationFacts)
     (open_ : List OpenList) : Type 0 where
   pub facts : vs ≡ facts_of_declarations y o before ds
   pub lists : AreOpen y o (declarations_before_next before ds) open_
 
 -- refusals of declarations by what the rules find of each
-abbrev pub refusals_by_facts : (DeclarationFacts → Declaration → List Refusal) → List DeclarationFacts → List Declaration → List Refusal
+abbrev pub refusals_by_facts : (DeclarationFacts → Declaration → List Refusal)
+    → List DeclarationFacts → List Declaration → List Refusal
 refusals_by_facts broken [] ds = []
 refusals_by_facts broken (v ∷ vs) [] = []
 refusals_by_facts broken (v ∷ vs) (d ∷ ds) = broken v d ++ refusals_by_facts broken vs ds
@@ -124,20 +133,25 @@ cell_with y section sound opens d = record {
 }
 
 -- cells by the facts of their declarations; `begun` says that a sound one of the section stands before them
-abbrev pub cells_by : Types → PartKind → (begun : Bool) → List DeclarationFacts → List Declaration → List Cell
+abbrev pub cells_by : Types → PartKind → (begun : Bool) → List DeclarationFacts → List Declaration
+    → List Cell
 cells_by y section begun [] ds = []
 cells_by y section begun (v ∷ vs) [] = []
 cells_by y section begun (v ∷ vs) (d ∷ ds) =
-    cell_with y section v.sound (not begun && v.sound) d ∷ cells_by y section (begun || v.sound) vs ds
+    cell_with y section v.sound (not begun && v.sound) d
+    ∷ cells_by y section (begun || v.sound) vs ds
 
 -- a section comes to cells, and to the least refusals by rules 21 and 56, behind those before it
-pub record SectionAdded (y : Types) (o : Outside) (before : List Declaration) (p : Part) (old new : Declared)
+pub record SectionAdded (y : Types) (o : Outside) (before : List Declaration) (p : Part)
+    (old new : Declared)
     (open_ : List OpenList) : Type 0 where
   pub lists : AreOpen y o (declarations_before_next before p.items) open_
   pub components : new.components.items ≡ old.components.items
-      ++ (if is_temp p.kind then [] else with_first_cell_opening (cells_of y o p.kind before p.items))
+      ++ (if is_temp p.kind then []
+      else with_first_cell_opening (cells_of y o p.kind before p.items))
   pub temps : new.temps.items ≡ old.temps.items
-      ++ (if is_temp p.kind then with_first_cell_opening (cells_of y o p.kind before p.items) else [])
+      ++ (if is_temp p.kind then with_first_cell_opening (cells_of y o p.kind before p.items)
+      else [])
   pub twice : new.twice ≡ lesser old.twice (least (refusals_in_rest (broken_21 o) before p.items))
   pub deep : new.deep ≡ lesser old.deep (least (refusals_in_rest (broken_56 y o) before p.items))
 
@@ -146,8 +160,10 @@ pub record IsDeclaredBySections (y : Types) (b : Block) (made : Declared) : Type
   pub components : made.components.items ≡ returned_cells b.result
       ++ section_cells y (of_sections b) (λ k. not (is_temp k)) [] b.parts
   pub temps : made.temps.items ≡ temps_of y b
-  pub twice : made.twice ≡ least (refusals_in_list (broken_21 (of_sections b)) (section_declarations b))
-  pub deep : made.deep ≡ least (refusals_in_list (broken_56 y (of_sections b)) (section_declarations b))
+  pub twice : made.twice
+      ≡ least (refusals_in_list (broken_21 (of_sections b)) (section_declarations b))
+  pub deep : made.deep
+      ≡ least (refusals_in_list (broken_56 y (of_sections b)) (section_declarations b))
 
 -- what the declarations of a block come to
 pub record IsDeclaredByBlock (y : Types) (b : Block) (made : Declared) : Type 0 where

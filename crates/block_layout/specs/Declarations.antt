@@ -51,7 +51,8 @@ are_within n (Some most) = nat_le n most
 -- rule 41: each value fits the type, and there are no more values than elements; another type takes none
 abbrev pub fit_type : List Bounds → ElementType → List Init → Bool
 fit_type arrays (element.Plain kind) init =
-    list_all (λ i. fits_elementary_type i.value kind) init && are_within (elements_set_by init) (settable_count arrays)
+    list_all (λ i. fits_elementary_type i.value kind) init
+    && are_within (elements_set_by init) (settable_count arrays)
 fit_type arrays _ init = nat_eq (length init) 0
 
 -- without initial values there is nothing to fit, whatever the type

@@ -21,7 +21,8 @@ pub record AreFacts (y : Types) (blocks : List Block) (f : Facts) : Type 0 where
 
 -- of one block, before which those in `some` stand, whether it is a data type that contains itself,
 -- how long its local data are, and how long its structure, in bytes
-pub record AreFactsOf (y : Types) (blocks some : List Block) (b : Block) (in_itself : Bool) (local len : ℕ) : Type 0 where
+pub record AreFactsOf (y : Types) (blocks some : List Block) (b : Block) (in_itself : Bool)
+    (local len : ℕ) : Type 0 where
   pub itself : in_itself ≡ contains_itself y blocks some b
   pub locals : local ≡ local_len y b
   pub bytes : len ≡ length_of_block y blocks b

@@ -28,7 +28,8 @@ pub record Write : Type 0 where
 
 -- so many offsets in bits from `start` on, each a step behind the one before it, up to the cap
 abbrev pub in_steps : (step count start : ℕ) → List ℕ
-in_steps step count start = map (λ k. capped_size (start + capped_size (k * step))) (range_with_len 0 count)
+in_steps step count start =
+    map (λ k. capped_size (start + capped_size (k * step))) (range_with_len 0 count)
 
 -- where the elements of arrays begin that themselves begin at these places, in their order; of no array the places
 -- themselves
@@ -85,7 +86,8 @@ writes_from of_type level starts at [] = []
 writes_from of_type level starts at (c ∷ cs) =
     if nat_lt c.level level then []
     else cell_writes (λ inner. writes_from of_type (c.level + 1) inner 0 cs) of_type level at
-    starts c (element_of c cs) ++ writes_from of_type level starts (end_behind_cell level at c (cell_bits c cs)) cs
+    starts c (element_of c cs)
+    ++ writes_from of_type level starts (end_behind_cell level at c (cell_bits c cs)) cs
 
 -- the writes of structures of a block that begin at these places; data types in it are nested at
 -- most eight deep
@@ -116,7 +118,8 @@ setting_write l value _ = []
 -- the writes of the settings of the data block at this place, in the order of the text
 abbrev pub setting_writes : List BlockLayout → (block : ℕ) → List Setting → List Write
 setting_writes l block settings =
-    flat_map (λ s. setting_write l s.value (path_end_in_data_block l block (folded_path s.path))) settings
+    flat_map
+    (λ s. setting_write l s.value (path_end_in_data_block l block (folded_path s.path))) settings
 
 -- a byte with its bit at a place set to the lowest bit of a value
 abbrev pub with_bit : (bit value byte : ℕ) → ℕ

@@ -34,7 +34,8 @@ capped_depth n = min n 9
 
 -- the depth of a user-defined data type; that of another block is 0
 unfoldable pub type_depth : Types → Block → ℕ
-type_depth y b = if is_data_type b.kind then capped_depth (deepest_nesting y of_structure [] b.components) else 0
+type_depth y b =
+    if is_data_type b.kind then capped_depth (deepest_nesting y of_structure [] b.components) else 0
 
 -- the size in bits of a user-defined data type; that of another block is 0
 unfoldable pub type_bits : Types → Block → ℕ
@@ -75,4 +76,5 @@ with_all_bits y blocks = with_bits y (bits_after measuring_rounds y blocks)
 
 -- what is known of the types of a source, depths and sizes in bits measured
 unfoldable pub types_of_source : List Symbol → List Block → Types
-types_of_source symbols blocks = with_all_bits (with_all_depths (unmeasured_types symbols blocks) blocks) blocks
+types_of_source symbols blocks =
+    with_all_bits (with_all_depths (unmeasured_types symbols blocks) blocks) blocks

@@ -19,7 +19,8 @@ component_of_name level at place name (c ∷ cs) =
 -- of a cell at another level none
 abbrev pub member_here : (level at place : ℕ) → Cell → List Member
 member_here level at place c =
-    if nat_eq c.level level then record { place = place; offset = next_multiple at (alignment c) } ∷ [] else []
+    if nat_eq c.level level
+    then record { place = place; offset = next_multiple at (alignment c) } ∷ [] else []
 
 -- the name of a cell at this level; of one at another level none
 abbrev pub name_here : (level : ℕ) → Cell → List (List ℕ)

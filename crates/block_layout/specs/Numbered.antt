@@ -13,7 +13,8 @@ block_has_number n (Some m) = nat_eq n m
 -- the first place of a number, counted from 0
 abbrev pub numbered_place : ℕ → List (Option ℕ) → Option ℕ
 numbered_place n [] = None
-numbered_place n (m ∷ ms) = if block_has_number n m then Some 0 else option_map (λ k. suc k) (numbered_place n ms)
+numbered_place n (m ∷ ms) =
+    if block_has_number n m then Some 0 else option_map (λ k. suc k) (numbered_place n ms)
 
 -- the number of a block, if it is of this kind
 abbrev pub number_of_kind : BlockKind → Option BlockId → Option ℕ

@@ -36,15 +36,18 @@ abbrev pub place_at : Area → (number bits : ℕ) → Place
 place_at a number bits = record { area = a; number = number; byte = bits / 8; bit = bits % 8 }
 
 -- place and width of an elementary component so many bits from the start; none past byte 65,535
-abbrev pub elementary_place : Area → (number : ℕ) → (bits : ℕ) → Option Simple → Option (Place × Width)
+abbrev pub elementary_place : Area → (number : ℕ) → (bits : ℕ) → Option Simple
+    → Option (Place × Width)
 elementary_place a number bits None = None
 elementary_place a number bits (Some kind) =
     if nat_le (bits / 8) 65535 then Some (place_at a number bits, width_of kind) else None
 
 -- place and width of the elementary component that a path leads to; none where it leads to no
 -- component, or to one of another type
-abbrev pub place_at_path_end : List BlockLayout → Area → (number : ℕ) → PathEnd → Option (Place × Width)
-place_at_path_end l a number (walk.Reaches spot) = elementary_place a number spot.offset (elementary_at l spot)
+abbrev pub place_at_path_end : List BlockLayout → Area → (number : ℕ) → PathEnd
+    → Option (Place × Width)
+place_at_path_end l a number (walk.Reaches spot) =
+    elementary_place a number spot.offset (elementary_at l spot)
 place_at_path_end l a number _ = None
 
 -- place and width of an elementary component of a data block, in that block; none where an index is
@@ -57,7 +60,8 @@ component_place l number block path =
 
 -- place and width of an elementary variable of a code block, in an area; none where an index is
 -- outside its array
-abbrev pub variable_place : List BlockLayout → Area → (block : ℕ) → (temporary : Bool) → List PathStep
+abbrev pub variable_place : List BlockLayout → Area → (block : ℕ) → (temporary : Bool)
+    → List PathStep
     → Option (Place × Width)
 variable_place l a block temporary path =
     if leaves_from l block temporary path then None

@@ -58,5 +58,6 @@ IsOneOf m (n ∷ ns) = (m ≡ n) ⊎ IsOneOf m ns
 abbrev pub FindsSound : Type 0
 FindsSound =
     (level : ℕ) (name : List ℕ) (cells : List Cell) (m : Member)
-    → component_of_name level 0 0 name cells ≡ Some m → is_sound_cell (slice_get cells m.place) ≡ true
+    → component_of_name level 0 0 name cells ≡ Some m
+    → is_sound_cell (slice_get cells m.place) ≡ true
     → IsOneOf m (sound_members level cells)

@@ -18,11 +18,13 @@ declaration_name_here level d = if nat_eq d.level level then upper_case_name d.n
 abbrev pub names_before : (outer : List (List ℕ)) → ℕ → List Declaration → List (List ℕ)
 names_before outer level [] = outer
 names_before outer level (d ∷ ds) =
-    if nat_lt d.level level then [] else names_before outer level ds ++ declaration_name_here level d
+    if nat_lt d.level level then []
+    else names_before outer level ds ++ declaration_name_here level d
 
 -- the name of a declaration stands before it in its list
 abbrev pub is_twice : Outside → List Declaration → Declaration → Bool
-is_twice o before d = is_some (name_place (upper_case_name d.name) (names_before o.names d.level before))
+is_twice o before d =
+    is_some (name_place (upper_case_name d.name) (names_before o.names d.level before))
 
 -- the refusal of a declaration, at its line
 abbrev pub broken_21 : Outside → List Declaration → Declaration → List Refusal

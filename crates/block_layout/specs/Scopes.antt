@@ -39,7 +39,8 @@ pub record HaveParameters (cells first : List Cell) : Type 0 where
   pub others : AreOthers rest
 
 -- sizes and components of cells, and how many of them have all parameters
-pub record AreCellTables (cells : List Cell) (elements : List ℕ) (outer : NameList) (scopes : List NameList)
+pub record AreCellTables (cells : List Cell) (elements : List ℕ) (outer : NameList)
+    (scopes : List NameList)
     (bits parameters : ℕ) : Type 0 where
   pub sized : elements ≡ elements_of cells
   pub outermost : HasComponents 0 cells outer

@@ -27,7 +27,8 @@ use Rattle.block_layout.specs.Sizes.{alignment, array_bits, cell_bits, element_o
 -- where the next component may begin, behind a cell of so many bits: past its end where it is a sound component of these,
 -- which lies at the least place; else where it might have begun itself
 abbrev pub EndsAt : (counts : Bool) → (end : ℕ) → Cell → (bits next : ℕ) → Type 0
-EndsAt true end c bits next = (start : ℕ) × IsLeastPlace end (alignment c) start × (next ≡ start + bits)
+EndsAt true end c bits next =
+    (start : ℕ) × IsLeastPlace end (alignment c) start × (next ≡ start + bits)
 EndsAt false end c bits next = next ≡ end
 
 -- the component at a place among these cells begins so many bits from the start of its structure: it and each sound
@@ -67,7 +68,8 @@ abbrev pub NamesComponentOf : List BlockLayout → ComponentAt → List ℕ → 
     → Type 0
 NamesComponentOf l from name c Structure to =
     NamesComponent l from.block from.temporary (from.place + 1) (c.level + 1) from.offset name to
-NamesComponentOf l from name c (Udt block bits) to = NamesComponent l block false 0 0 from.offset name to
+NamesComponentOf l from name c (Udt block bits) to =
+    NamesComponent l block false 0 0 from.offset name to
 NamesComponentOf l from name c _ to = ⊥
 
 -- a name leads from a component with all its indices to one inside it
@@ -108,7 +110,8 @@ LeadsTo l from (s ∷ ss) to = (next : ComponentAt) × StepLeadsTo l from s next
 abbrev pub LeadsFrom : List BlockLayout → (block : ℕ) → (temporary : Bool) → List PathStep
     → ComponentAt → Type 0
 LeadsFrom l block temporary (step.Named name ∷ ss) to =
-    (first : ComponentAt) × NamesComponent l block temporary 0 0 0 name first × LeadsTo l first ss to
+    (first : ComponentAt) × NamesComponent l block temporary 0 0 0 name first
+    × LeadsTo l first ss to
 LeadsFrom l block temporary _ to = ⊥
 
 -- the block that declares what a section of a block has: the components of a data block may stand in another one

@@ -46,7 +46,8 @@ impl Model for Layout {
 
     ghost view = { λ l. l.cells.items };
 
-    ghost invariant = { λ l. AreCellTables l.cells.items l.elements.items l.outer l.scopes.items l.bits
+    ghost invariant = { λ l. AreCellTables l.cells.items l.elements.items l.outer l.scopes.items
+        l.bits
         l.parameters };
 }
 

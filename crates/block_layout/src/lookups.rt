@@ -92,7 +92,8 @@ impl Layouts {
 
     /// Whether a block has a variable of this name, in upper case, outside VAR_TEMP.
     pub fn has_component(&self, block: usize, name: &[u8]) -> bool
-        ensures { result ≡ is_some (component_of_name 0 0 0 name.now (cells_at self.now block false)) }
+        ensures { result
+            ≡ is_some (component_of_name 0 0 0 name.now (cells_at self.now block false)) }
     {
         has_component(self.list(), block, name)
     }

@@ -101,7 +101,8 @@ pub(crate) fn walk_data(layouts: &[BlockLayout], block: usize, path: &[PathStep]
 
 #[tactic(auto, unfolding(crate::specs::Members::component_of_name))]
 pub(crate) fn has_component(layouts: &[BlockLayout], block: usize, name: &[u8]) -> bool
-    ensures { result ≡ is_some (component_of_name 0 0 0 name.now (cells_at layouts.now block false)) }
+    ensures { result
+        ≡ is_some (component_of_name 0 0 0 name.now (cells_at layouts.now block false)) }
 {
     match layout_at(layouts, block, false) {
         None => false,

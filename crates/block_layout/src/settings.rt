@@ -90,7 +90,9 @@ pub(crate) fn least_of_settings(
     blocks: &[Block],
 ) -> Result<Option<Refusal>, AllocError>
     ensures { IfOk result (λ r. r
-        ≡ least (on_settings (setting_breaks layouts.now which) (rule_of_setting_fault which) 0 blocks.now)) }
+        ≡ least
+        (on_settings (setting_breaks layouts.now which)
+        (rule_of_setting_fault which) 0 blocks.now)) }
 {
     let mut found = None;
     for i in 0..blocks.len() {

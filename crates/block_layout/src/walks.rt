@@ -84,7 +84,8 @@ pub(crate) fn layout_at(layouts: &[BlockLayout], block: usize, temporary: bool) 
 /// The component at a place of a block.
 fn entered(layout: &Layout, block: usize, temporary: bool, place: usize, offset: u64) -> PathEnd
     requires { offset ≤ largest_size }
-    ensures value { result ≡ path_end_at_cell block temporary place offset (slice_get layout.now place) }
+    ensures value { result
+        ≡ path_end_at_cell block temporary place offset (slice_get layout.now place) }
     ensures near { OffsetIsNear result }
 {
     match layout.cell_at(place) {
@@ -316,7 +317,8 @@ fn walk_behind(layouts: &[BlockLayout], start: ComponentAt, path: &[PathStep]) -
 pub(crate) fn walk_on(layouts: &[BlockLayout], found: PathEnd, path: &[PathStep]) -> PathEnd
     requires near { OffsetIsNear found }
     requires sound { ReachesSound layouts.now found }
-    ensures value { result ≡ path_end_and_then found (λ spot. path_end_behind layouts.now spot path.now) }
+    ensures value { result
+        ≡ path_end_and_then found (λ spot. path_end_behind layouts.now spot path.now) }
     ensures near { OffsetIsNear result }
 {
     match found {

@@ -50,7 +50,8 @@ is_word_in_list table word = list_any (λ entry. str_eq_ignore_ascii_case word e
 
 -- a word is in one of the two columns of a table, without case
 unfoldable pub is_word_in_pairs : WordPairs → List ℕ → Bool
-is_word_in_pairs table word = is_some (partner_in_table German table word) || is_some (partner_in_table English table word)
+is_word_in_pairs table word =
+    is_some (partner_in_table German table word) || is_some (partner_in_table English table word)
 
 -- an instruction word is that of a jump
 unfoldable pub is_jump_word : List ℕ → Bool
@@ -64,13 +65,16 @@ may_be_keyword _ = true
 
 -- the place behind a word outside of blocks, or in a block of data
 unfoldable pub place_behind_outside : TokenClass → List ℕ → TokenPlace
-place_behind_outside before word = if may_be_keyword before && is_word_in_list code_openings word then place.Head else place.Outside
+place_behind_outside before word =
+    if may_be_keyword before && is_word_in_list code_openings word then place.Head
+    else place.Outside
 
 -- the place behind a word before the body of a block of statements
 unfoldable pub place_behind_head : TokenClass → List ℕ → TokenPlace
 place_behind_head before word =
     if may_be_keyword before
-    then (if is_word_in_list begin_words word then place.Start else (if is_word_in_list data_openings word then place.Outside else place.Head))
+    then (if is_word_in_list begin_words word then place.Start
+    else (if is_word_in_list data_openings word then place.Outside else place.Head))
     else place.Head
 
 -- the place behind an instruction word
@@ -140,7 +144,8 @@ place_behind_sign place.Instruction c = place_behind_opening c
 place_behind_sign _ c = place_behind_part place.Inside c
 
 -- the place behind a token of this class, with the classes of the tokens before and behind it
-unfoldable pub place_behind : TokenPlace → TokenClass → TokenClass → List ℕ → TokenClass → TokenPlace
+unfoldable pub place_behind : TokenPlace → TokenClass → TokenClass → List ℕ → TokenClass
+    → TokenPlace
 place_behind p before class.Word text next = place_behind_word p before text next
 place_behind p before c text next = place_behind_sign p c
 
@@ -158,11 +163,14 @@ is_pointer _ = false
 -- an operand word with its number, in the same word or behind it
 unfoldable pub is_numbered_operand : List ℕ → TokenClass → Bool
 is_numbered_operand word next =
-    is_word_in_pairs operand_pairs (letters_of_word word) && list_all is_ascii_digit (digits_of_word word) && (nat_lt 0 (length (digits_of_word word)) || opens_number next)
+    is_word_in_pairs operand_pairs (letters_of_word word)
+    && list_all is_ascii_digit (digits_of_word word)
+    && (nat_lt 0 (length (digits_of_word word)) || opens_number next)
 
 -- a word stands in an operand place: behind `P#`, as an operand word with its number, or as one that stands alone
 unfoldable pub is_operand_place : TokenClass → List ℕ → TokenClass → Bool
-is_operand_place before word next = is_pointer before || is_numbered_operand word next || is_word_in_pairs result_pairs word
+is_operand_place before word next =
+    is_pointer before || is_numbered_operand word next || is_word_in_pairs result_pairs word
 
 -- a token of this class is a `.`
 abbrev pub is_dot : TokenClass → Bool
@@ -206,7 +214,8 @@ role_first next = role.Instruction
 -- stays, and so does a label
 unfoldable pub role_at_start : List ℕ → TokenClass → Role
 role_at_start word next =
-    if is_word_in_list block_end_words word || is_word_in_list network_words word then role.Stays else role_first next
+    if is_word_in_list block_end_words word || is_word_in_list network_words word then role.Stays
+    else role_first next
 
 -- the role of a word
 unfoldable pub role_of_word : TokenPlace → TokenClass → List ℕ → TokenClass → Role

@@ -92,7 +92,8 @@ begin_words = codes "BEGIN" ∷ []
 
 -- the words that end a block of statements
 unfoldable pub block_end_words : List (List ℕ)
-block_end_words = codes "END_ORGANIZATION_BLOCK" ∷ codes "END_FUNCTION" ∷ codes "END_FUNCTION_BLOCK" ∷ []
+block_end_words =
+    codes "END_ORGANIZATION_BLOCK" ∷ codes "END_FUNCTION" ∷ codes "END_FUNCTION_BLOCK" ∷ []
 
 -- the word that opens a network
 unfoldable pub network_words : List (List ℕ)

@@ -142,9 +142,11 @@ fn put_token(
     token: &Token,
     rest: &[Token],
 ) -> Result<TranslationPosition, SourceFault>
-    ensures ok { IfOk result (λ next. ContinuesTranslation language source.now text.old.items position.now
+    ensures ok { IfOk result
+        (λ next. ContinuesTranslation language source.now text.old.items position.now
         (token.now ∷ rest.now) text.new.items next rest.now) }
-    ensures stopped { IfErr result (IsStoppedByForeignWord (translation_from language source.now position.now
+    ensures stopped { IfErr result
+        (IsStoppedByForeignWord (translation_from language source.now position.now
         (token.now ∷ rest.now))) }
 {
     let Some(spelling) = spelling_at(language, source, position, token, rest) else {
@@ -168,8 +170,10 @@ fn translate_tokens(
     source: &[u8],
     tokens: &[Token],
 ) -> Result<Vec<u8>, SourceFault>
-    ensures ok { IfOk result (λ text. translation_of language source.now tokens.now ≡ Ok text.items) }
-    ensures stopped { IfErr result (IsStoppedByForeignWord (translation_of language source.now tokens.now)) }
+    ensures ok { IfOk result (λ text. translation_of language source.now tokens.now
+        ≡ Ok text.items) }
+    ensures stopped { IfErr result
+        (IsStoppedByForeignWord (translation_of language source.now tokens.now)) }
 {
     let mut text = Vec::new(alloc);
     let mut position = TranslationPosition {

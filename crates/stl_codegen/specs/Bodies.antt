@@ -46,7 +46,8 @@ number_here n (Some label) = n ∷ []
 -- the number of the statement of each label, of statements from a number on
 abbrev pub numbers_of_labels : (n : ℕ) → List Statement → List ℕ
 numbers_of_labels n [] = []
-numbers_of_labels n (s ∷ ss) = number_here n s.label ++ numbers_of_labels (n + count_of_statement s) ss
+numbers_of_labels n (s ∷ ss) =
+    number_here n s.label ++ numbers_of_labels (n + count_of_statement s) ss
 
 -- the labels of a body with the numbers of their statements, and how many statements it has
 pub record AreTargets (body : List Statement) (names : List (List ℕ)) (places : List ℕ) (total : ℕ)

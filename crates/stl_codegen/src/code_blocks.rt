@@ -127,7 +127,8 @@ pub(crate) fn code_blocks(
         ≡ map compiled_block (each_block (λ c b l. code_block_of c b l l.id)
         (record scope.now { block = 0 }) blocks.now layouts.now))) }
     ensures none { IfOk result (λ made. IfNone made
-        (AllByRecursion BlockFits (map compiled_block (each_block (λ c b l. code_block_of c b l l.id)
+        (AllByRecursion BlockFits
+        (map compiled_block (each_block (λ c b l. code_block_of c b l l.id)
         (record scope.now { block = 0 }) blocks.now layouts.now)) → ⊥)) }
 {
     let mut made = Vec::new(alloc);

@@ -194,7 +194,8 @@ chains_by labels links = record {
 
 -- the chains of a program
 unfoldable pub chains_of : List CodeBlock → Chains
-chains_of blocks = chains_by (chain_labels (total_parameter_count blocks) (links blocks)) (links blocks)
+chains_of blocks =
+    chains_by (chain_labels (total_parameter_count blocks) (links blocks)) (links blocks)
 
 -- a label is marked; none is not
 abbrev pub mark_at : List Bool → Option ℕ → Bool

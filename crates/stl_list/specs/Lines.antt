@@ -30,4 +30,5 @@ last_statement_line b = line_of_statement b.lines (length b.lines - 1)
 abbrev pub stands_before : CodeBlock → CodeBlock → Bool
 stands_before a b =
     nat_lt (first_statement_line a) (first_statement_line b)
-    || nat_eq (first_statement_line a) (first_statement_line b) && nat_lt (last_statement_line a) (last_statement_line b)
+    || nat_eq (first_statement_line a) (first_statement_line b)
+    && nat_lt (last_statement_line a) (last_statement_line b)

@@ -33,7 +33,8 @@ formal_of_param c behind index parameter p =
 
 -- parameters from an index on. `returns`: the block may have a return value; `behind`: an IN_OUT stands
 -- before them; `first` is the number of the first of them
-abbrev pub formals_from : Chains → (returns behind : Bool) → (index first : ℕ) → List Param → List Formal
+abbrev pub formals_from : Chains → (returns behind : Bool) → (index first : ℕ) → List Param
+    → List Formal
 formals_from c returns behind index first [] = []
 formals_from c returns behind index first (p ∷ ps) =
     formal_of_param c behind index first p
@@ -51,7 +52,8 @@ signature c first b = record {
 -- the signatures of code blocks, of which the first has its parameters from the number `first` on
 abbrev pub signatures_from : Chains → (first : ℕ) → List CodeBlock → List Signature
 signatures_from c first [] = []
-signatures_from c first (b ∷ bs) = signature c first b ∷ signatures_from c (first + length b.params) bs
+signatures_from c first (b ∷ bs) =
+    signature c first b ∷ signatures_from c (first + length b.params) bs
 
 -- the signatures of the code blocks of a program
 unfoldable pub signatures : Chains → List CodeBlock → List Signature
@@ -65,4 +67,5 @@ formals_of_block (s ∷ ss) id = if is_same_block s.id id then s.formals else fo
 -- the parameters of a block that is called
 abbrev pub called_formals : List Signature → BlockId → List Formal
 called_formals signatures id =
-    if is_system_function id.kind then system_parameters id.number else formals_of_block signatures id
+    if is_system_function id.kind then system_parameters id.number
+    else formals_of_block signatures id

@@ -212,7 +212,8 @@ fn add_parameters(
     kind: PartKind,
 ) -> Result<(), NoMemory>
     ensures { IfOk result (λ _. parts.new.items
-        ≡ parts.old.items ++ section_part line kind (declarations_of_section line formals.now kind)) }
+        ≡ parts.old.items
+        ++ section_part line kind (declarations_of_section line formals.now kind)) }
 {
     let items = declared_in(alloc, line, formals, kind)?;
     add_section(parts, line, kind, items)

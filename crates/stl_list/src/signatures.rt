@@ -66,7 +66,8 @@ fn formals(
 ) -> Result<Vec<Formal>, NoMemory>
     requires first { first < 2 ^ 32 }
     requires few { length params.now ≤ 60 }
-    ensures { IfOk result (λ v. v.items ≡ formals_from chains.now returns false 0 first params.now) }
+    ensures { IfOk result (λ v. v.items
+        ≡ formals_from chains.now returns false 0 first params.now) }
 {
     let mut formals = Vec::new(alloc);
     let mut behind = false;

@@ -27,10 +27,12 @@ shape_behind k (suc level) = Some (place.Shape k level)
 unfoldable pub next_place_in_head : BlockKind → Clause → Option ClausePlace
 next_place_in_head k clause.Note = Some (place.Head k)
 next_place_in_head k clause.Title = Some (place.Head k)
-next_place_in_head k (clause.Section line p) = if may_have_section k p then Some (place.Section k p 0) else None
+next_place_in_head k (clause.Section line p) =
+    if may_have_section k p then Some (place.Section k p 0) else None
 next_place_in_head k clause.Begins = if is_code k then Some (place.Body k) else None
 next_place_in_head k clause.Structure = if has_shape k then Some (place.Shape k 0) else None
-next_place_in_head k (clause.Based name) = if nat_eq (kind_order k) 3 then Some (place.Shaped k) else None
+next_place_in_head k (clause.Based name) =
+    if nat_eq (kind_order k) 3 then Some (place.Shaped k) else None
 next_place_in_head k _ = None
 
 -- what may stand in a section

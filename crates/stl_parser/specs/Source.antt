@@ -64,7 +64,8 @@ is_outside _ = false
 -- last token
 abbrev pub BreaksClauseRule : List ℕ → ClausePlace → List Token → ℕ → ℕ → ℕ → Type 0
 BreaksClauseRule source p [] last line rule = (is_outside p ≡ false) × (line ≡ last) × (rule ≡ 13)
-BreaksClauseRule source p (t ∷ ts) last line rule = (line ≡ t.line) × (step_of source p (t ∷ ts) ≡ Err rule)
+BreaksClauseRule source p (t ∷ ts) last line rule =
+    (line ≡ t.line) × (step_of source p (t ∷ ts) ≡ Err rule)
 
 -- a refusal is right about the clause at the front of the tokens, at the place `p`: that clause
 -- breaks the rule of the refusal in its line; nothing is said of want of memory
@@ -114,7 +115,8 @@ pub record ReadsKeptClauses (source : List ℕ) (p : ClausePlace) (tokens : List
 
 -- the clauses of the source are right, and `kept` are those of them that a tree keeps
 abbrev pub AreKeptClauses : List ℕ → List Token → List Clause → Type 0
-AreKeptClauses source tokens kept = ReadsKeptClauses source place.Outside tokens kept place.Outside []
+AreKeptClauses source tokens kept =
+    ReadsKeptClauses source place.Outside tokens kept place.Outside []
 
 -- the tree of a source: the clauses that it keeps are those that spell it
 abbrev pub IsTree : List ℕ → List Token → Tree → Type 0

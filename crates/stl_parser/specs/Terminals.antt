@@ -47,7 +47,8 @@ has_kind t k = nat_eq (kind_rank t.kind) (kind_rank k)
 
 -- the token is this mark
 unfoldable pub is_mark : List ℕ → Token → Mark → Bool
-is_mark source t m = has_kind t kind.Mark && str_eq_ignore_ascii_case (text_of source t) (mark_text m)
+is_mark source t m =
+    has_kind t kind.Mark && str_eq_ignore_ascii_case (text_of source t) (mark_text m)
 
 -- the token is this word of the language, without case
 unfoldable pub is_key : List ℕ → Token → ClauseWord → Bool

@@ -39,7 +39,8 @@ fn glued<'a, X: Copy + Drop>(
     text: &[u8],
     rest: &'a [Token],
 ) -> Option<ParsedNumbered<'a, X>>
-    ensures { result ≡ glued_letters_and_number (map (λ e. (e.0.now, e.1)) table.now) text.now rest.now }
+    ensures { result
+        ≡ glued_letters_and_number (map (λ e. (e.0.now, e.1)) table.now) text.now rest.now }
 {
     let count = letter_count(text);
     let (letters, digits) = text.split_at(count);
@@ -57,7 +58,8 @@ fn separate<'a, X: Copy + Drop>(
     tokens: &'a [Token],
 ) -> Option<ParsedNumbered<'a, X>>
     ensures { result
-        ≡ separate_letters_and_number (map (λ e. (e.0.now, e.1)) table.now) source.now text.now tokens.now }
+        ≡ separate_letters_and_number
+        (map (λ e. (e.0.now, e.1)) table.now) source.now text.now tokens.now }
 {
     let [token, rest @ ..] = tokens else {
         return None;
@@ -74,7 +76,8 @@ fn numbered<'a, X: Copy + Drop>(
     source: &[u8],
     tokens: &'a [Token],
 ) -> Option<ParsedNumbered<'a, X>>
-    ensures { result ≡ letters_and_number_at (map (λ e. (e.0.now, e.1)) table.now) source.now tokens.now }
+    ensures { result
+        ≡ letters_and_number_at (map (λ e. (e.0.now, e.1)) table.now) source.now tokens.now }
 {
     let [token, rest @ ..] = tokens else {
         return None;

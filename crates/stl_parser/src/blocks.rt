@@ -57,7 +57,8 @@ fn is_inside(at: ClausePlace) -> bool
 
 /// Keeps a declaration, where the clause is one.
 fn keep_declaration(items: &mut Vec<Declaration>, clause: Clause) -> Result<(), AllocError>
-    ensures { IfOk result (λ _. items.new.items ≡ items.old.items ++ declarations_of_clause clause) }
+    ensures { IfOk result (λ _. items.new.items
+        ≡ items.old.items ++ declarations_of_clause clause) }
 {
     match clause {
         Clause::Declares { declaration } => {
@@ -70,7 +71,8 @@ fn keep_declaration(items: &mut Vec<Declaration>, clause: Clause) -> Result<(), 
 
 /// Keeps a setting, where the clause is one.
 fn keep_setting(settings: &mut Vec<Setting>, clause: Clause) -> Result<(), AllocError>
-    ensures { IfOk result (λ _. settings.new.items ≡ settings.old.items ++ settings_of_clause clause) }
+    ensures { IfOk result (λ _. settings.new.items
+        ≡ settings.old.items ++ settings_of_clause clause) }
 {
     match clause {
         Clause::Sets { setting } => {
@@ -228,7 +230,8 @@ fn sections<'a>(
 ) -> Result<(Sequence<Part>, Clause, &'a [Token]), SourceFault>
     requires few { length tokens.now ≤ source_limit }
     ensures read { IfOk result (λ r. ReadsKeptClauses source.now (place.Head kind) tokens.now
-        (flat_map spelled_part r.0 ++ filter is_kept_by_tree (r.1 ∷ [])) (opened_place kind r.1) r.2.now) }
+        (flat_map spelled_part r.0 ++ filter is_kept_by_tree (r.1 ∷ []))
+        (opened_place kind r.1) r.2.now) }
     ensures opens { IfOk result (λ r. opens_content r.1 ≡ true) }
     ensures few { IfOk result (λ r. length r.2.now ≤ source_limit) }
     ensures broken { IfErr result (IsBrokenBehind source.now (place.Head kind) tokens.now last) }

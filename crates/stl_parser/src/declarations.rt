@@ -90,7 +90,8 @@ fn declared(
     of: ElementType,
     init: Sequence<Init>,
 ) -> Result<Declaration, AllocError>
-    ensures { IfOk result (λ d. d ≡ declaration_from_parts source.now level word.now arrays of init) }
+    ensures { IfOk result (λ d. d
+        ≡ declaration_from_parts source.now level word.now arrays of init) }
 {
     let name = Name::new(alloc, word.text(source))?;
     Ok(Declaration {

@@ -208,7 +208,8 @@ fn direct(
     number: u16,
     rest: &[Token],
 ) -> Result<Option<Operand>, AllocError>
-    ensures { IfOk result (λ found. found ≡ direct_address_operand source.now address number rest.now) }
+    ensures { IfOk result (λ found. found
+        ≡ direct_address_operand source.now address number rest.now) }
 {
     match address {
         AddressKind::Area { letters, width } => Ok(area(source, letters, width, number, rest)),

@@ -382,7 +382,8 @@ fn labelled(
     word: &Token,
     tokens: &[Token],
 ) -> Result<Option<(Statement, bool)>, AllocError>
-    ensures { IfOk result (λ found. found ≡ labelled_statement source.now line word.now tokens.now) }
+    ensures { IfOk result (λ found. found
+        ≡ labelled_statement source.now line word.now tokens.now) }
 {
     let Some(instruction) = whole_instruction(alloc, source, tokens)? else {
         return Ok(None);

@@ -291,7 +291,8 @@ fn further_inits<'a>(
     tokens: &'a [Token],
 ) -> Result<Option<Parsed<'a, Sequence<Init>>>, AllocError>
     ensures { IfOk result (λ found. found
-        ≡ parts_from end_of_tokens (next_init source.now) first.items (length tokens.now) tokens.now) }
+        ≡ parts_from end_of_tokens (next_init source.now) first.items
+        (length tokens.now) tokens.now) }
 {
     let mut read = first;
     let mut rest = tokens;

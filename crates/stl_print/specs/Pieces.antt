@@ -38,7 +38,8 @@ number_piece g n = token_piece g kind.Number (decimal n)
 -- a number with a sign where it is below 0: the sign is a token of its own
 abbrev pub signed_number_pieces : Gap → ℤ → List Piece
 signed_number_pieces g (pos n) = number_piece g n ∷ []
-signed_number_pieces g (negsuc n) = mark_piece g mark_of.Minus ∷ number_piece gap.Nothing (suc n) ∷ []
+signed_number_pieces g (negsuc n) =
+    mark_piece g mark_of.Minus ∷ number_piece gap.Nothing (suc n) ∷ []
 
 -- a name in double quotes
 abbrev pub quoted_piece : Gap → List ℕ → Piece

@@ -52,7 +52,8 @@ fn append_return_type(
 #[tactic(auto, unfolding(crate::specs::Clauses::clause_pieces, crate::specs::Clauses::line_of, crate::specs::Clauses::with_clause))]
 pub(crate) fn append_head(block: &Block, reached: u32, out: &mut Vec<u8>) -> Result<u32, NoMemory>
     ensures { IfOk result (λ behind. (behind, out.new.items)
-        ≡ with_clauses (reached, out.old.items) (clause.Head block.now.line block.now.kind block.now.name block.now.result ∷ [])) }
+        ≡ with_clauses (reached, out.old.items)
+        (clause.Head block.now.line block.now.kind block.now.name block.now.result ∷ [])) }
 {
     let line = append_keyword(head_word(block.kind), block.line, reached, out)?;
     append_block_name(Gap::Blank, &block.name, out)?;

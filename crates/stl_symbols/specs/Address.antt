@@ -60,7 +60,8 @@ letters_in_language English english german = english
 letters_in_language German english german = german
 
 -- what stands beside the first letters of a table that a language spells as this word
-unfoldable pub letters_spelled_as : Language → List (List ℕ × List ℕ × AddressLetters) → List ℕ → Option AddressLetters
+unfoldable pub letters_spelled_as : Language → List (List ℕ × List ℕ × AddressLetters) → List ℕ
+    → Option AddressLetters
 letters_spelled_as language table word =
     option_map (λ e. e.2) (find (λ e. bytes_eq word (letters_in_language language e.0 e.1)) table)
 

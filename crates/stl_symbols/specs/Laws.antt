@@ -22,7 +22,8 @@ pub record AreSymbols (file : List ℕ) (symbols : List Symbol) : Type 0 where
   pub few : length symbols ≤ most_symbols
   pub each : AllByRecursion IsSymbol symbols
   pub apart : SymbolNamesDiffer symbols
-  pub bytes : (test : ℕ → Bool) → EachBytePasses test file → AllByRecursion (λ s. EachBytePasses test s.name) symbols
+  pub bytes : (test : ℕ → Bool) → EachBytePasses test file
+      → AllByRecursion (λ s. EachBytePasses test s.name) symbols
 
 -- the symbols of a file are such
 abbrev pub SymbolsAreRight : Type 0

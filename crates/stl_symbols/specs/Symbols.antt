@@ -81,7 +81,8 @@ with_columns language symbols (Some line) =
 -- the symbols with what a line declares, or the rule that it breaks; an empty line declares nothing
 unfoldable pub with_line : Language → List Symbol → List ℕ → Result (List Symbol) ℕ
 with_line language symbols [] = Ok symbols
-with_line language symbols (byte ∷ line) = with_columns language symbols (columns_of_line (byte ∷ line))
+with_line language symbols (byte ∷ line) =
+    with_columns language symbols (columns_of_line (byte ∷ line))
 
 -- what the lines behind one with this number make of the symbols up to it, or its refusal
 abbrev pub and_then_lines : (number : ℕ) → (more : List Symbol → Result (List Symbol) Refusal)

@@ -29,7 +29,8 @@ is_closing_bracket _ = false
 -- the brackets that are open behind a statement that opens none, the outermost first. A ) without
 -- open bracket leaves none
 abbrev pub brackets_after_closing : List SourceBracket → Mnemonic → List SourceBracket
-brackets_after_closing brackets m = if is_closing_bracket m then take (length brackets - 1) brackets else brackets
+brackets_after_closing brackets m =
+    if is_closing_bracket m then take (length brackets - 1) brackets else brackets
 
 -- the brackets that are open behind a statement with this function code, if it opens one: it stands
 -- behind those that are open
@@ -51,7 +52,8 @@ brackets_behind_all brackets (s ∷ ss) = brackets_behind_all (brackets_behind b
 -- the refusals of the statements of a body, by the brackets that are open before each
 abbrev pub with_brackets : (List SourceBracket → Statement → List Refusal) → List SourceBracket
     → List Statement → List Refusal
-with_brackets broken brackets body = refusals_along (λ s. false) broken brackets_behind brackets body
+with_brackets broken brackets body =
+    refusals_along (λ s. false) broken brackets_behind brackets body
 
 -- a bracket closes where none is open
 abbrev pub closes_no_bracket : List SourceBracket → Statement → Bool
@@ -64,7 +66,8 @@ is_eighth_bracket brackets s = is_some (bracket_function s.code) && nat_le 7 (le
 -- rule 29, in all bodies: a ) without open bracket; the line is that of the )
 unfoldable pub rule_29 : List Block → List Refusal
 rule_29 blocks =
-    in_bodies (with_brackets (λ brackets s. broken_if (closes_no_bracket brackets s) s.line 29) []) blocks
+    in_bodies
+    (with_brackets (λ brackets s. broken_if (closes_no_bracket brackets s) s.line 29) []) blocks
 
 -- rule 30 in a body: a bracket that is open at the block's end; the line is that of the bracket
 abbrev pub brackets_left_open : List Statement → List Refusal
@@ -77,4 +80,5 @@ rule_30 blocks = in_bodies brackets_left_open blocks
 -- rule 31, in all bodies: the eighth open bracket, and each one inside it
 unfoldable pub rule_31 : List Block → List Refusal
 rule_31 blocks =
-    in_bodies (with_brackets (λ brackets s. broken_if (is_eighth_bracket brackets s) s.line 31) []) blocks
+    in_bodies
+    (with_brackets (λ brackets s. broken_if (is_eighth_bracket brackets s) s.line 31) []) blocks

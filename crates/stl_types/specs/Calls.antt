@@ -54,7 +54,8 @@ names_no_formal formals a = not (has_formal formals (upper_case_name a.name))
 
 -- rule 34 in a call, for each of its actual parameters
 abbrev pub actuals_without_formal : List Formal → List Actual → List Refusal
-actuals_without_formal formals actuals = flat_map (λ a. broken_if (names_no_formal formals a) a.line 34) actuals
+actuals_without_formal formals actuals =
+    flat_map (λ a. broken_if (names_no_formal formals a) a.line 34) actuals
 
 -- rule 34, in all bodies: a call that names no such parameter
 unfoldable pub rule_34 : Context → List Block → List Refusal
@@ -66,9 +67,11 @@ is_supplied_twice formals before a =
     not (names_no_formal formals a) && is_some (name_place (upper_case_name a.name) before)
 
 -- rule 35 in a call; `before` are the names supplied before these actual parameters
-abbrev pub actuals_supplied_twice : List Formal → (before : List (List ℕ)) → List Actual → List Refusal
+abbrev pub actuals_supplied_twice : List Formal → (before : List (List ℕ)) → List Actual
+    → List Refusal
 actuals_supplied_twice formals before actuals =
-    refusals_along (λ a. false) (λ before a. broken_if (is_supplied_twice formals before a) a.line 35)
+    refusals_along (λ a. false) (λ before a. broken_if
+    (is_supplied_twice formals before a) a.line 35)
     (λ before a. before ++ upper_case_name a.name ∷ []) before actuals
 
 -- rule 35, in all bodies: a parameter supplied twice
@@ -103,7 +106,8 @@ misfits_formal c a (Some f) = not (fits_operand c f a.value)
 -- rule 37 in a call, for each of its actual parameters
 abbrev pub call_37 : Context → Callee → Statement → List Refusal
 call_37 c callee s =
-    flat_map (λ a. broken_if (misfits_formal c a (formal_named callee.formals a.name)) a.line 37) s.actuals
+    flat_map
+    (λ a. broken_if (misfits_formal c a (formal_named callee.formals a.name)) a.line 37) s.actuals
 
 -- rule 37, in all bodies: an actual parameter that doesn't fit
 unfoldable pub rule_37 : Context → List Block → List Refusal
@@ -117,7 +121,8 @@ sees_date _ = false
 -- rule 24 in a body, for its actual parameters, whatever is called
 abbrev pub dates_in : Context → List Statement → List Refusal
 dates_in c body =
-    flat_map (λ s. flat_map (λ a. broken_if (sees_date (resolution_of c a.value)) a.line 24) s.actuals) body
+    flat_map
+    (λ s. flat_map (λ a. broken_if (sees_date (resolution_of c a.value)) a.line 24) s.actuals) body
 
 -- rule 24 of actual parameters, in all bodies
 unfoldable pub rule_24_of_actuals : Context → List Block → List Refusal

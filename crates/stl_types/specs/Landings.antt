@@ -81,7 +81,8 @@ lands_elsewhere here None = false
 lands_elsewhere here (Some there) = landings_differ here there
 
 -- an operand is a label at which other brackets or another number of zones are open
-abbrev pub crosses_nesting : (labels : List (List ℕ)) → List Landing → SourceNesting → Operand → Bool
+abbrev pub crosses_nesting : (labels : List (List ℕ)) → List Landing → SourceNesting → Operand
+    → Bool
 crosses_nesting labels landings n (operand.Label name) =
     lands_elsewhere (landing_of n) (landing_at labels landings name)
 crosses_nesting labels landings n _ = false
@@ -90,7 +91,8 @@ crosses_nesting labels landings n _ = false
 abbrev pub crossing_jumps : (labels : List (List ℕ)) → List Landing → List Statement
     → List Refusal
 crossing_jumps labels landings body =
-    refusals_along (λ s. false) (λ n s. broken_if (crosses_nesting labels landings n s.operand) s.line 33)
+    refusals_along (λ s. false) (λ n s. broken_if
+    (crosses_nesting labels landings n s.operand) s.line 33)
     nesting_behind empty_nesting body
 
 -- rule 33, in all bodies

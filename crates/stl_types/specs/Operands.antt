@@ -32,10 +32,12 @@ takes_operand form.ReadsBitOrBare v =
 takes_operand form.WritesBit v = is_in_memory v
 takes_operand form.Sets v = is_in_memory v || is_counter v
 takes_operand form.Resets v = is_in_memory v || is_timer v || is_counter v
-takes_operand form.Loads v = is_in_memory v || is_timer v || is_counter v || is_pointer_constant v || is_loadable_register v
+takes_operand form.Loads v =
+    is_in_memory v || is_timer v || is_counter v || is_pointer_constant v || is_loadable_register v
 takes_operand form.Transfers v = is_in_memory v || is_status_word v
 takes_operand form.LoadsBcd v = is_timer v || is_counter v
-takes_operand form.LoadsAr1 v = names_nothing v || is_pointer_constant v || is_direct v || is_second_register v
+takes_operand form.LoadsAr1 v =
+    names_nothing v || is_pointer_constant v || is_direct v || is_second_register v
 takes_operand form.LoadsAr2 v = names_nothing v || is_pointer_constant v || is_direct v
 takes_operand form.StoresAr1 v = names_nothing v || is_direct v || is_second_register v
 takes_operand form.StoresAr2 v = names_nothing v || is_direct v

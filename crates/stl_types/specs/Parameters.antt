@@ -52,9 +52,11 @@ is_one_of (m ∷ ms) n = if nat_eq n m then true else is_one_of ms n
 -- the parameters of a system function by its number, in their order; none are known but of the nine
 unfoldable pub system_formals : ℕ → Option (List Formal)
 system_formals n =
-    if nat_eq n 32 then Some (ob_nr_formal ∷ dtime_formal ∷ sign_formal ∷ return_value_formal simple.Int ∷ [])
+    if nat_eq n 32
+    then Some (ob_nr_formal ∷ dtime_formal ∷ sign_formal ∷ return_value_formal simple.Int ∷ [])
     else if nat_eq n 33 then Some (ob_nr_formal ∷ return_value_formal simple.Int ∷ [])
-    else if is_one_of (39 ∷ 40 ∷ []) n then Some (mode_formal ∷ ob_nr_formal ∷ return_value_formal simple.Int ∷ [])
+    else if is_one_of (39 ∷ 40 ∷ []) n
+    then Some (mode_formal ∷ ob_nr_formal ∷ return_value_formal simple.Int ∷ [])
     else if is_one_of (41 ∷ 42 ∷ []) n then Some (return_value_formal simple.Int ∷ [])
     else if is_one_of (43 ∷ 46 ∷ []) n then Some []
     else if nat_eq n 64 then Some (return_value_formal simple.Time ∷ [])

@@ -82,7 +82,8 @@ own_elementary c temporary spot kind =
 -- is seen
 abbrev pub own_at : Context → (temporary : Bool) → ComponentAt → Option Simple → Resolution
 own_at c temporary spot None =
-    Resolved (composite_operand (slice_get (cells_at c.layouts spot.block spot.temporary) spot.place))
+    Resolved
+    (composite_operand (slice_get (cells_at c.layouts spot.block spot.temporary) spot.place))
 own_at c temporary spot (Some kind) = own_elementary c temporary spot kind
 
 -- what a path into the block's own variables names, by where it leads; it may be unknown or rest on
@@ -101,8 +102,10 @@ own_variable c name steps =
 -- what a component of the data block with this number is; of what isn't elementary no place is seen
 abbrev pub data_at : Context → (number : ℕ) → ComponentAt → Option Simple → Resolution
 data_at c number spot None =
-    Resolved (composite_operand (slice_get (cells_at c.layouts spot.block spot.temporary) spot.place))
-data_at c number spot (Some kind) = variable_in_area kind (elementary_place area.Db number spot.offset (Some kind))
+    Resolved
+    (composite_operand (slice_get (cells_at c.layouts spot.block spot.temporary) spot.place))
+data_at c number spot (Some kind) =
+    variable_in_area kind (elementary_place area.Db number spot.offset (Some kind))
 
 -- what a path into the data block with this number names, by where it leads; it may be unknown or
 -- rest on what breaks a rule itself

@@ -53,7 +53,8 @@ pub(crate) fn pass(
     brackets: &mut Vec<SourceBracket>,
     statement: &Statement,
 ) -> Result<(), AllocError>
-    ensures { IfOk result (λ _. brackets.new.items ≡ brackets_behind brackets.old.items statement.now) }
+    ensures { IfOk result (λ _. brackets.new.items
+        ≡ brackets_behind brackets.old.items statement.now) }
 {
     if let Some(function) = opening(statement.code) {
         brackets.push(SourceBracket {
@@ -82,7 +83,8 @@ fn is_eighth(brackets: &[SourceBracket], statement: &Statement) -> bool
 
 fn closed_without(alloc: Global, body: &[Statement]) -> Result<Option<Refusal>, AllocError>
     ensures { IfOk result (λ found. found ≡ least
-        (with_brackets (λ brackets s. broken_if (closes_no_bracket brackets s) s.line 29) [] body.now)) }
+        (with_brackets
+        (λ brackets s. broken_if (closes_no_bracket brackets s) s.line 29) [] body.now)) }
 {
     let mut brackets = Vec::new(alloc);
     let mut found = None;
@@ -107,7 +109,8 @@ pub(crate) fn least_closed_without(
 
 fn eighth(alloc: Global, body: &[Statement]) -> Result<Option<Refusal>, AllocError>
     ensures { IfOk result (λ found. found ≡ least
-        (with_brackets (λ brackets s. broken_if (is_eighth_bracket brackets s) s.line 31) [] body.now)) }
+        (with_brackets
+        (λ brackets s. broken_if (is_eighth_bracket brackets s) s.line 31) [] body.now)) }
 {
     let mut brackets = Vec::new(alloc);
     let mut found = None;

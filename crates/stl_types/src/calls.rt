@@ -59,7 +59,8 @@ pub(crate) fn least_unnamed(
     alloc: Global,
     actuals: &[Actual],
 ) -> Result<Option<Refusal>, AllocError>
-    ensures { IfOk result (λ found. found ≡ least (actuals_without_formal formals.now actuals.now)) }
+    ensures { IfOk result (λ found. found
+        ≡ least (actuals_without_formal formals.now actuals.now)) }
 {
     try_least_of(actuals, |a: &Actual| unnamed_here(formals, alloc, a))
 }
@@ -94,7 +95,8 @@ pub(crate) fn least_supplied_twice(
     alloc: Global,
     actuals: &[Actual],
 ) -> Result<Option<Refusal>, AllocError>
-    ensures { IfOk result (λ found. found ≡ least (actuals_supplied_twice formals.now [] actuals.now)) }
+    ensures { IfOk result (λ found. found
+        ≡ least (actuals_supplied_twice formals.now [] actuals.now)) }
 {
     let mut before = NameIndex::new(alloc);
     let mut found = None;

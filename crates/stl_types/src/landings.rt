@@ -133,7 +133,8 @@ fn add_landing(
 
 fn targets_of(alloc: Global, body: &[Statement]) -> Result<Targets, AllocError>
     ensures labels { IfOk result (λ t. t.labels ≡ labels_of body.now) }
-    ensures landings { IfOk result (λ t. t.landings.items ≡ landings_at_labels empty_nesting body.now) }
+    ensures landings { IfOk result (λ t. t.landings.items
+        ≡ landings_at_labels empty_nesting body.now) }
 {
     let mut labels = NameIndex::new(alloc);
     let mut landings = Vec::new(alloc);
@@ -185,7 +186,8 @@ fn crosses(
     nesting: &SourceNesting,
     operand: &Operand,
 ) -> Result<bool, AllocError>
-    ensures { IfOk result (λ wrong. wrong ≡ crosses_nesting targets.now.labels targets.now.landings.items
+    ensures { IfOk result (λ wrong. wrong
+        ≡ crosses_nesting targets.now.labels targets.now.landings.items
         nesting.now operand.now) }
 {
     match operand {

@@ -80,7 +80,8 @@ fn of_cancel(alloc: Global) -> Result<Vec<Formal>, AllocError>
 
 /// Those of the switching off and on of interrupts.
 fn of_switch(alloc: Global) -> Result<Vec<Formal>, AllocError>
-    ensures { IfOk result (λ v. v.items ≡ mode_formal ∷ ob_nr_formal ∷ return_value_formal Simple.Int ∷ []) }
+    ensures { IfOk result (λ v. v.items
+        ≡ mode_formal ∷ ob_nr_formal ∷ return_value_formal Simple.Int ∷ []) }
 {
     let mut formals = Vec::with_capacity(alloc, 3)?;
     formals.push(mode(alloc)?)?;
