@@ -35,7 +35,7 @@ pub record Outside : Type 0 where
   -- how many structures are open around the declarations
   pub depth : ℕ
 
--- the return value of a function
+-- the name of the return value of a function
 abbrev pub ret_val : List ℕ
 ret_val = codes "RET_VAL"
 

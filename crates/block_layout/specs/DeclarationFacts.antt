@@ -74,11 +74,11 @@ facts_by_list y f d = record {
   reach = capped_depth (f.depth + capped_depth (own_depth y d));
 }
 
--- the list with the name of a declaration, in upper case, behind the others
+-- an open list with the name of a declaration, in upper case, behind the others
 abbrev pub with_name : OpenList → Declaration → OpenList
 with_name f d = record f { names = f.names ++ upper_case_name d.name ∷ [] }
 
--- the list inside a declaration
+-- the open list of the components of a declaration
 abbrev pub inner_list : Types → OpenList → Declaration → OpenList
 inner_list y f d = record {
   names = [];

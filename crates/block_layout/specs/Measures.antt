@@ -43,7 +43,7 @@ type_bits y b =
     if is_data_type b.kind then structure_bits
     (cells_of y of_structure part.Static [] b.components) else 0
 
--- the rounds that settle sound types
+-- how many rounds settle the depths and sizes of all sound data types
 abbrev pub measuring_rounds : ℕ
 measuring_rounds = 9
 

@@ -95,7 +95,7 @@ unfoldable pub path_end_by_name : List BlockLayout → ComponentAt → List ℕ 
 path_end_by_name l spot name =
     named_behind l spot name (slice_get (cells_at l spot.block spot.temporary) spot.place)
 
--- an index outside these bounds
+-- an index is outside these bounds
 abbrev pub is_beyond : Bounds → ℤ → Bool
 is_beyond b at = int_lt at b.low || int_lt b.high at
 
@@ -189,7 +189,7 @@ leaves_from l block temporary (step.Named name ∷ ss) =
     (λ spot. leaves_array l spot ss)
 leaves_from l block temporary _ = false
 
--- a path that goes through what breaks a rule itself isn't checked
+-- a path can be checked by where it leads: it does not go through what breaks a rule itself
 abbrev pub is_checkable : PathEnd → Bool
 is_checkable walk.Rests = false
 is_checkable _ = true
@@ -232,7 +232,8 @@ setting_structure l block =
 unfoldable pub path_end_of_setting : List BlockLayout → (block : ℕ) → List PathStep → PathEnd
 path_end_of_setting l block path = path_end_or_rests l (setting_structure l block) path
 
--- whether a path leaves an array, where it is checked
+-- whether a path leaves an array of the structure that this block declares, unless it rests on what
+-- breaks a rule itself
 abbrev pub leaves_structure : List BlockLayout → Option ℕ → List PathStep → Bool
 leaves_structure l None path = false
 leaves_structure l (Some block) path =

@@ -23,7 +23,7 @@ pub data Reaches (w : Write) (byte bit : ℕ) : Type 0 where
   InBytes : (nat_eq w.width 1 ≡ false) → (w.offset / 8 ≤ byte) → (byte < w.offset / 8 + w.width / 8)
       → Reaches w byte bit
 
--- one of some writes reaches a bit
+-- one of these writes reaches a bit
 abbrev pub OneReaches : List Write → (byte bit : ℕ) → Type 0
 OneReaches [] byte bit = ⊥
 OneReaches (w ∷ ws) byte bit = Reaches w byte bit ⊎ OneReaches ws byte bit

@@ -7,7 +7,7 @@ use Rattle.block_layout.specs.Heads.{on_heads}
 use Rattle.block_layout.specs.Lengths.{length_of_block}
 use Rattle.block_layout.specs.Types.{Types}
 
--- a block is above 16,384 bytes
+-- the structure of a block has more than 16,384 bytes
 abbrev pub is_too_long : Types → List Block → Block → Bool
 is_too_long y blocks b = nat_lt 16384 (length_of_block y blocks b)
 

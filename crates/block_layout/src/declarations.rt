@@ -146,7 +146,7 @@ fn element_depth(types: &Types, of: &ElementType) -> u64
     }
 }
 
-/// At most 9.
+/// A depth of nesting, capped at 9: what is deeper breaks rule 56 alike.
 pub(crate) fn deep(n: u64) -> u64
     ensures { result ≡ capped_depth n }
 {

@@ -115,7 +115,7 @@ fn parameters_end(cells: &[Cell]) -> usize
 }
 
 impl Layout {
-    /// These cells, laid out.
+    /// Lays out cells.
     pub(crate) fn new(alloc: Global, cells: Vec<Cell>) -> Result<Self, AllocError>
         ensures { IfOk result (λ l. l ≡ cells.items) }
     {
@@ -134,7 +134,7 @@ impl Layout {
         })
     }
 
-    /// The cells.
+    /// The cells in their order.
     pub fn cells(&self) -> &[Cell]
         ensures { result.now ≡ self.now }
     {

@@ -63,7 +63,8 @@ pub(crate) fn structure_of(layouts: &[BlockLayout], block: usize) -> Option<usiz
     shape_block(layouts, block, found.shape)
 }
 
-/// The same of a block that may itself be broken, as its settings are checked.
+/// The block that declares the components of a data block, which may itself be broken, as its
+/// settings are checked all the same.
 pub(crate) fn setting_structure(layouts: &[BlockLayout], block: usize) -> Option<usize>
     ensures { result ≡ setting_structure layouts.now block }
 {

@@ -133,7 +133,7 @@ fn found_at(
     }
 }
 
-/// A name in the outermost declarations of a block.
+/// Where a name in the outermost declarations of a block leads.
 #[tactic(auto, unfolding(crate::specs::Paths::outermost_path_end, crate::specs::Members::component_of_name))]
 pub(crate) fn outermost(
     layouts: &[BlockLayout],
@@ -161,7 +161,7 @@ pub(crate) fn is_used_up(cell: &Cell, depth: usize) -> bool
     depth == cell.bounds.len()
 }
 
-/// A name behind a component.
+/// Where a name behind a component leads, by its declaration.
 fn named_in(
     layouts: &[BlockLayout],
     layout: &Layout,
@@ -194,7 +194,7 @@ fn named_in(
     }
 }
 
-/// A step by name.
+/// Where a name leads from a component.
 #[tactic(auto, unfolding(crate::specs::Paths::path_end_by_name))]
 fn named(layouts: &[BlockLayout], spot: ComponentAt, name: &[u8]) -> PathEnd
     requires offset { spot.offset ≤ largest_size }
@@ -267,7 +267,7 @@ fn indexed_in(layout: &Layout, spot: ComponentAt, at: i32) -> PathEnd
     }
 }
 
-/// A step by index.
+/// Where an index leads from a component.
 #[tactic(auto, unfolding(crate::specs::Paths::path_end_by_index))]
 fn indexed(layouts: &[BlockLayout], spot: ComponentAt, at: i32) -> PathEnd
     requires { spot.offset ≤ largest_size }
@@ -280,7 +280,7 @@ fn indexed(layouts: &[BlockLayout], spot: ComponentAt, at: i32) -> PathEnd
     }
 }
 
-/// A step.
+/// Where a step of a path leads from a component.
 #[tactic(auto, unfolding(crate::specs::Paths::path_end_by_step))]
 pub(crate) fn step(layouts: &[BlockLayout], spot: ComponentAt, step: &PathStep) -> PathEnd
     requires offset { spot.offset ≤ largest_size }

@@ -2,7 +2,7 @@
 -- word. All other words are the same in both (docs/LANGUAGE.md, "German mnemonics").
 use Rattle.std.specs.Prelude.{ℕ, List, [], ◌∷◌, codes}
 
--- a table of pairs
+-- a table of words in pairs: English, German
 abbrev pub WordPairs : Type 0
 WordPairs = List (List ℕ × List ℕ)
 

@@ -26,7 +26,7 @@ abbrev pub next_class : List ℕ → List Token → TokenClass
 next_class source [] = class.Other
 next_class source (t ∷ ts) = class_in source t
 
--- bytes in front of a translation
+-- a translation with these bytes in front; where there is none, its violation stays
 abbrev pub with_bytes_before : List ℕ → Result (List ℕ) ℕ → Result (List ℕ) ℕ
 with_bytes_before front (Ok rest) = Ok (front ++ rest)
 with_bytes_before front (Err line) = Err line
@@ -64,7 +64,7 @@ translation_from language source position (t ∷ ts) =
     (translated_word language (role_at source position t ts) (text_of source t)) t.line
     (translation_from language source (position_behind source position t ts) ts))
 
--- the front of a source
+-- where a translation stands at the front of a source
 abbrev pub front_position : TranslationPosition
 front_position = record { from = 0; place = place.Outside; before = class.Other }
 

@@ -11,7 +11,7 @@ use Rattle.de_mnemonics.specs.declared.roles.Role.{Role}
 use Rattle.de_mnemonics.specs.declared.roles.Role.TheVariants as role
 use Rattle.de_mnemonics.specs.Tables.{WordPairs, instruction_pairs, jump_pairs, operand_pairs, result_pairs}
 
--- the other language
+-- of German and English the language that is not this one
 abbrev pub opposite_language : Language → Language
 opposite_language English = German
 opposite_language German = English

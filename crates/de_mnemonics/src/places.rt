@@ -110,7 +110,7 @@ fn behind_instruction(word: &[u8]) -> TokenPlace
     }
 }
 
-/// The same, where the word may be a label.
+/// The place behind the first word of a statement: a label, or else an instruction word.
 fn behind_first(next: TokenClass, word: &[u8]) -> TokenPlace
     ensures { result ≡ place_behind_first next word.now }
 {
@@ -174,7 +174,7 @@ fn behind_front(class: TokenClass) -> TokenPlace
     }
 }
 
-/// The same at the start of a statement.
+/// The place behind a token that is no word, at the start of a statement.
 fn behind_open(class: TokenClass) -> TokenPlace
     ensures { result ≡ place_behind_open class }
 {

@@ -122,21 +122,21 @@ fn letters(word: &[u8]) -> &[u8]
     &word[..letter_count(word)]
 }
 
-/// What stands behind them.
+/// What stands behind the letters of a word.
 fn digits(word: &[u8]) -> &[u8]
     ensures { result.now ≡ digits_of_word word.now }
 {
     &word[letter_count(word)..]
 }
 
-/// Whether nothing but digits stands behind them.
+/// Whether nothing but digits stands behind the letters of a word.
 pub(crate) fn ends_in_digits(word: &[u8]) -> bool
     ensures { result ≡ list_all is_ascii_digit (digits_of_word word.now) }
 {
     digits(word).iter().all(|b| b.is_ascii_digit())
 }
 
-/// Whether anything stands behind them.
+/// Whether anything stands behind the letters of a word.
 pub(crate) fn has_digits(word: &[u8]) -> bool
     ensures { result ≡ nat_lt 0 (length (digits_of_word word.now)) }
 {
@@ -201,7 +201,7 @@ fn has_instruction(language: Language, word: &[u8]) -> bool
     instruction_partner(language, word).is_some()
 }
 
-/// The same for an operand word.
+/// Whether the language that is translated from has this operand word, in the table.
 fn has_operand(language: Language, word: &[u8]) -> bool
     ensures { result ≡ is_some (operand_partner language word.now) }
 {
@@ -286,7 +286,7 @@ fn is_listed(table: &'static [&'static [u8]], word: &[u8]) -> bool
     table.iter().any(|entry| word.eq_ignore_ascii_case(entry))
 }
 
-/// The same, where the list is seen as bytes.
+/// Whether a word is in a list, whose words a contract sees as bytes.
 fn is_among(table: &'static [&'static [u8]], word: &[u8]) -> bool
     ensures { result ≡ is_word_in_list (map (λ entry. entry.now) table.now) word.now }
 {

@@ -36,7 +36,7 @@ abbrev pub AreItemsAppended : {A : Type 0} → (A → Type 0) → (old new items
 AreItemsAppended fits old new items (Some done) = new ≡ old ++ items
 AreItemsAppended fits old new items None = AllByRecursion fits items → ⊥
 
--- a parameter's place fits its field
+-- the place of a parameter fits its field of an image
 abbrev pub ParamFits : Param → Type 0
 ParamFits p = p.byte < 65536
 
@@ -50,7 +50,7 @@ pub record CodeFits (code : List OpData) (lines : List ℕ) : Type 0 where
   pub ops : are_ops code ≡ true
   pub count : length lines < 65536
 
--- all of a code block fits
+-- all of a code block fits the fields of an image
 pub record BlockFits (b : CodeBlock) : Type 0 where
   pub local_len : b.local_len < 65536
   pub instance_len : b.instance_len < 65536

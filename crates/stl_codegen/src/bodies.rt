@@ -115,7 +115,7 @@ fn number_at(numbers: &[u32], place: usize) -> u32
 }
 
 impl<'a> Body<'a> {
-    /// These statements.
+    /// The body with these statements.
     pub(crate) fn new(alloc: Global, statements: &'a [Statement]) -> Result<Self, AllocError>
         requires { count_of_statements statements.now < 65536 }
         ensures { IfOk result (λ body. body ≡ statements.now) }

@@ -18,7 +18,7 @@ pub record Signature : Type 0 where
   pub instance_len : ℕ
   -- the parameters with their places
   pub params : List Param
-  -- the same parameters, in the same order, by name, section and type
+  -- the parameters in the order of `params`, by name, section and type
   pub formals : List Formal
 
 -- whether an IN_OUT of a function stands here or before. `returns`: the block is a function

@@ -42,7 +42,7 @@ abbrev pub label_at : (targets : List Bool) → (n : ℕ) → Option (List ℕ)
 label_at targets n =
     if unwrap_or (slice_get targets n) false then Some (label_of_number n) else None
 
--- the statement of a number
+-- the statement with this number in its block, made from its ops
 abbrev pub listed_statement : Surroundings → (n : ℕ) → Run → Statement
 listed_statement s n r = record {
   line = line_of_statement s.lines n;

@@ -26,7 +26,7 @@ address_text e =
 abbrev pub fields_of : NameEntry → List (List ℕ)
 fields_of e = e.name ∷ address_text e ∷ type_word (kind_of_width e.width) ∷ [] ∷ []
 
--- the line of a name
+-- the line of a name in the symbols file
 abbrev pub name_text : NameEntry → List ℕ
 name_text e = row_text symbols_writer (fields_of e)
 

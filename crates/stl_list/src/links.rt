@@ -33,9 +33,9 @@ use stl_types::{Formal, system_formals};
 /// all code blocks are counted in the image's order.
 #[derive(Clone, Copy)]
 pub enum Link {
-    /// It is passed for another parameter.
+    /// The parameter is passed for another one.
     Joins { own: usize, other: usize },
-    /// It is passed for a parameter of a system function, which has a type.
+    /// The parameter is passed for one of a system function, which has a type.
     Has { own: usize, kind: Simple },
 }
 

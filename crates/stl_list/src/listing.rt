@@ -26,7 +26,7 @@ use std::alloc::Global;
 use stl_ast::{Block, Sequence, Tree};
 use stl_print::print;
 
-/// A source and a symbols file.
+/// What a program is listed as: a source and a symbols file.
 #[derive(Drop)]
 pub struct Listing {
     pub source: Vec<u8>,

@@ -73,7 +73,7 @@ place_bit source width.Bit rest = bit_of source rest
 place_bit source _ [] = Some 0
 place_bit source _ (t ∷ rest) = None
 
--- an address in an area
+-- the operand that is an address in an area, with its byte and what follows
 unfoldable pub area_operand : List ℕ → Letters → Width → ℕ → List Token → Option Operand
 area_operand source area w byte rest =
     option_map (λ bit. operand.Direct None area w byte bit) (place_bit source w rest)

@@ -54,7 +54,7 @@ abbrev pub last_line : ℕ → List Token → ℕ
 last_line line [] = line
 last_line line (t ∷ ts) = last_line t.line ts
 
--- no block is open
+-- a place between blocks, where no block is open
 abbrev pub is_outside : ClausePlace → Bool
 is_outside place.Outside = true
 is_outside _ = false

@@ -62,7 +62,7 @@ unfoldable pub next_actual : List ℕ → List Token → Option (Actual × List 
 next_actual source [] = None
 next_actual source (t ∷ rest) = if is_mark source t mark.Comma then actual_at source rest else None
 
--- the last token is `)`
+-- the end of actual parameters: `)` as the last token
 unfoldable pub actuals_end : List ℕ → List Token → Option (List Token)
 actuals_end source (t ∷ []) = if is_mark source t mark.CloseParen then Some [] else None
 actuals_end source _ = None

@@ -115,7 +115,7 @@ unfoldable pub next_init : List ℕ → List Token → Option (Init × List Toke
 next_init source [] = None
 next_init source (t ∷ rest) = if is_mark source t mark.Comma then init_at source rest else None
 
--- nothing is left
+-- the end of a part: no token is left
 unfoldable pub end_of_tokens : List Token → Option (List Token)
 end_of_tokens [] = Some []
 end_of_tokens (t ∷ rest) = None

@@ -43,7 +43,7 @@ fn entry_of<X: Copy + Drop>(table: &[(&[u8], X)], word: &[u8]) -> Option<X>
         .map(|entry| entry.1)
 }
 
-/// The same, where the table is seen with its texts as bytes.
+/// What stands beside a word in a table, whose texts a contract sees as bytes.
 pub(crate) fn look_up<X: Copy + Drop>(table: &[(&[u8], X)], word: &[u8]) -> Option<X>
     ensures { result ≡ look_up (map (λ e. (e.0.now, e.1)) table.now) word.now }
 {

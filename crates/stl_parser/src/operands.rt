@@ -88,7 +88,7 @@ fn place(source: &[u8], address: AddressKind, byte: u16, rest: &[Token]) -> Opti
     }
 }
 
-/// The same, behind the block and the `.`.
+/// Width, byte and bit of the address behind a data block and its `.`, as in `DB1.DBW 2`.
 #[tactic(auto, unfolding(crate::specs::Operands::block_place))]
 fn block_place(source: &[u8], tokens: &[Token]) -> Option<(Width, u16, u8)>
     ensures { result ≡ block_place source.now tokens.now }

@@ -121,7 +121,8 @@ fn pointer_close(
     }
 }
 
-/// The same behind an address, which must have the width of a number or of a pointer.
+/// The area and the byte of a pointer in memory whose address was read, up to its `]`: the address
+/// must have the width of a number or of a pointer.
 #[tactic(auto, unfolding(crate::specs::Operands::pointer_end))]
 fn pointer_end(
     source: &[u8],

@@ -25,7 +25,7 @@ array_pieces b =
     ∷ (signed_number_pieces gap.Nothing b.high
     ++ (mark_piece gap.Nothing mark_of.CloseBracket ∷ word_piece gap.Blank (codes "OF") ∷ []))))
 
--- a type that is no array
+-- how a type that is no array is written
 unfoldable pub element_pieces : Gap → ElementType → List Piece
 element_pieces g (element.Plain k) = word_piece g (type_word k) ∷ []
 element_pieces g element.Structure = word_piece g (codes "STRUCT") ∷ []
@@ -39,7 +39,7 @@ value_pieces g (Some count) value =
     number_piece g count ∷ mark_piece gap.Blank mark_of.OpenParen
     ∷ (literal_pieces gap.Nothing value ++ mark_piece gap.Nothing mark_of.CloseParen ∷ [])
 
--- an initial value
+-- how an initial value is written
 unfoldable pub init_pieces : Gap → Init → List Piece
 init_pieces g i = value_pieces g i.count i.value
 

@@ -95,7 +95,7 @@ instance_pieces None = []
 instance_pieces (Some name) =
     mark_piece gap.Nothing mark_of.Comma ∷ block_name_pieces gap.Blank name
 
--- an operand
+-- how an operand is written
 unfoldable pub operand_pieces : Gap → Operand → List Piece
 operand_pieces g operand.Nothing = []
 operand_pieces g (operand.Direct name area w byte bit) = direct_pieces g name area w byte bit

@@ -265,7 +265,7 @@ fn entry_of(
         .map(|entry| entry.2)
 }
 
-/// The same, where the table is seen with its letters as bytes.
+/// What stands beside letters in a table, whose letters a contract sees as bytes.
 fn look_up(
     language: Language,
     table: &[(&[u8], &[u8], AddressLetters)],

@@ -30,7 +30,7 @@ impl Model for NameIndex {
 }
 
 impl NameIndex {
-    /// No names.
+    /// An index without names.
     pub fn new(alloc: Global) -> Self
         ensures { result ≡ [] }
     {

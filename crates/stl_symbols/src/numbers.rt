@@ -28,7 +28,7 @@ impl Model for NumberIndex {
 }
 
 impl NumberIndex {
-    /// No numbers.
+    /// An index without numbers.
     pub fn new(alloc: Global) -> Self
         ensures { result ≡ [] }
     {

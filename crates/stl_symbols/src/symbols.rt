@@ -82,7 +82,7 @@ impl Symbols {
     ghost use Rattle.std.specs.Option.{option_map};
     ghost use Rattle.stl_symbols.specs.Symbol.{symbol_named};
 
-    /// No symbols.
+    /// A table without symbols.
     pub(crate) fn new(alloc: Global) -> Self
         ensures { result ≡ [] }
     {
