@@ -1,4 +1,5 @@
--- Declarations and what they stand in. Those before a declaration are listed with the nearest first.
+-- Declarations and what they stand in. Those before a declaration are listed with the nearest
+-- first.
 use Rattle.std.specs.Prelude.{ℕ, nat_lt, List, [], ◌∷◌, ◌++◌, false, Option, Some, None, codes, if◌then◌else◌}
 use Rattle.std.specs.List.{flat_map}
 use Rattle.plc_base.specs.declared.refusals.Refusal.{Refusal}
@@ -12,8 +13,8 @@ pub record Holder : Type 0 where
   pub declaration : Declaration
   pub before : List Declaration
 
--- the structures around a declaration at this level, the innermost first: of those before it the nearest at a lower
--- level, and those around that one
+-- the structures around a declaration at this level, the innermost first: of those before it the
+-- nearest at a lower level, and those around that one
 abbrev pub structures_around : ℕ → List Declaration → List Holder
 structures_around level [] = []
 structures_around level (d ∷ ds) =
@@ -28,7 +29,8 @@ abbrev pub declarations_before_next : (before : List Declaration) → List Decla
 declarations_before_next before [] = before
 declarations_before_next before (d ∷ ds) = declarations_before_next (d ∷ before) ds
 
--- what the outermost declarations of a list stand in: names that the list has already, and open structures
+-- what the outermost declarations of a list stand in: names that the list has already, and open
+-- structures
 pub record Outside : Type 0 where
   -- the names that stand before the declarations in their list
   pub names : List (List ℕ)

@@ -1,5 +1,5 @@
--- What the rules of declarations find of each, gathered on one walk. At each moment the structures around the next
--- declaration are open, the outermost list first.
+-- What the rules of declarations find of each, gathered on one walk. At each moment the structures
+-- around the next declaration are open, the outermost list first.
 use Rattle.std.specs.Prelude.{◌≡◌, ◌<◌, ◌||◌, ℕ, ◌+◌, max, nat_le, nat_lt, Bool, ◌&&◌, not, is_some, List, [], ◌∷◌, ◌++◌, take, get_or, length, map, if◌then◌else◌}
 use Rattle.std.specs.List.{list_all}
 use Rattle.stl_ast.specs.declared.blocks.PartKind.{PartKind}
@@ -132,7 +132,8 @@ cell_with y section sound opens d = record {
   presets = map preset_of d.init;
 }
 
--- cells by the facts of their declarations; `begun` says that a sound one of the section stands before them
+-- cells by the facts of their declarations; `begun` says that a sound one of the section stands
+-- before them
 abbrev pub cells_by : Types → PartKind → (begun : Bool) → List DeclarationFacts → List Declaration
     → List Cell
 cells_by y section begun [] ds = []

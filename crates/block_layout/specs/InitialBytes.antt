@@ -1,5 +1,5 @@
--- The initial bytes of a data block: zeros, over which the initial values of its structure are written in the order of the
--- text, and then its settings, so that a later setting wins.
+-- The initial bytes of a data block: zeros, over which the initial values of its structure are
+-- written in the order of the text, and then its settings, so that a later setting wins.
 use Rattle.std.specs.Prelude.{ℕ, zero, suc, ◌+◌, ◌-◌, ◌*◌, ◌/◌, ◌%◌, ◌^◌, nat_lt, nat_eq, bit_and, bit_or, false, ◌&&◌, List, [], ◌∷◌, ◌++◌, slice_index, slice_set, map, replicate, Option, Some, None, if◌then◌else◌}
 use Rattle.std.specs.List.{flat_map, slice_get, fold, zip, range_with_len}
 use Rattle.stl_ast.specs.declared.blocks.Block.{Block}
@@ -31,8 +31,8 @@ abbrev pub in_steps : (step count start : ℕ) → List ℕ
 in_steps step count start =
     map (λ k. capped_size (start + capped_size (k * step))) (range_with_len 0 count)
 
--- where the elements of arrays begin that themselves begin at these places, in their order; of no array the places
--- themselves
+-- where the elements of arrays begin that themselves begin at these places, in their order; of no
+-- array the places themselves
 abbrev pub element_starts : List Bounds → (element : ℕ) → (starts : List ℕ) → List ℕ
 element_starts [] element starts = starts
 element_starts (b ∷ bs) element starts =
@@ -66,7 +66,8 @@ component_writes inside of_type c element starts (Udt block bits) =
     of_type block (filled_starts c.bounds element starts)
 component_writes inside of_type c element starts _ = []
 
--- where a component begins in structures that begin at these places; the first component may begin at `at` in them
+-- where a component begins in structures that begin at these places; the first component may begin
+-- at `at` in them
 abbrev pub component_starts : (at : ℕ) → Cell → (starts : List ℕ) → List ℕ
 component_starts at c starts = map (λ s. capped_size (s + next_multiple at (alignment c))) starts
 

@@ -1,6 +1,7 @@
--- How deep and how large the user-defined data types of a source are. A type may use another one, so both are found by
--- rounds: a round takes what the one before it gave for the types that are used. Types that are sound are nested at most
--- eight deep, so nine rounds settle them; one that contains itself, or leads to one that does, is deeper than 8 in the ninth.
+-- How deep and how large the user-defined data types of a source are. A type may use another one,
+-- so both are found by rounds: a round takes what the one before it gave for the types that are
+-- used. Types that are sound are nested at most eight deep, so nine rounds settle them; one that
+-- contains itself, or leads to one that does, is deeper than 8 in the ninth.
 use Rattle.std.specs.Prelude.{ℕ, zero, suc, ◌+◌, min, max, List, [], ◌∷◌, map, if◌then◌else◌}
 use Rattle.plc_base.specs.Kinds.{is_data_type}
 use Rattle.stl_ast.specs.declared.blocks.Block.{Block}

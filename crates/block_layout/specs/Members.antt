@@ -1,4 +1,5 @@
--- The components of a structure, each with its place among the cells and its offset in the structure.
+-- The components of a structure, each with its place among the cells and its offset in the
+-- structure.
 use Rattle.std.specs.Prelude.{ℕ, ◌+◌, ◌&&◌, ◌++◌, nat_eq, nat_lt, List, [], ◌∷◌, Option, Some, None, if◌then◌else◌}
 use Rattle.std.specs.Str.{bytes_eq}
 use Rattle.block_layout.specs.declared.cells.Cell.{Cell}

@@ -1,5 +1,5 @@
--- Rule 23: an unknown block or user-defined data type, but for system functions. A quoted name is unknown too where its
--- symbol stands for no block, or for one of another kind.
+-- Rule 23: an unknown block or user-defined data type, but for system functions. A quoted name is
+-- unknown too where its symbol stands for no block, or for one of another kind.
 use Rattle.std.specs.Prelude.{Bool, true, false, ◌||◌, List, ◌++◌, Option, Some, None, if◌then◌else◌}
 use Rattle.std.specs.List.{flat_map}
 use Rattle.std.specs.Option.{is_none}

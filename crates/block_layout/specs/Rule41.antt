@@ -1,5 +1,6 @@
--- Rule 41: an initial value that doesn't fit, of a declaration or set in a data block. A structure, an array or a data type
--- that is set fits no value. The line is that of the declaration or of the setting.
+-- Rule 41: an initial value that doesn't fit, of a declaration or set in a data block. A structure,
+-- an array or a data type that is set fits no value. The line is that of the declaration or of the
+-- setting.
 use Rattle.std.specs.Prelude.{ℕ, Bool, false, not, List, ◌++◌, Option, Some, None}
 use Rattle.plc_base.specs.declared.refusals.Refusal.{Refusal}
 use Rattle.stl_ast.specs.declared.blocks.Block.{Block}

@@ -1,5 +1,6 @@
--- Rule 42: an array with the upper below the lower bound, or an index outside its array, in a setting or an operand. The
--- line is that of the declaration, of the setting, of the statement, or of the actual parameter.
+-- Rule 42: an array with the upper below the lower bound, or an index outside its array, in a
+-- setting or an operand. The line is that of the declaration, of the setting, of the statement, or
+-- of the actual parameter.
 use Rattle.std.specs.Prelude.{ℕ, Bool, false, List, ◌++◌, Option, Some, None}
 use Rattle.plc_base.specs.Kinds.{is_data_block}
 use Rattle.plc_base.specs.declared.refusals.Refusal.{Refusal}

@@ -1,5 +1,5 @@
--- Rule 51: a data block, a user-defined data type or an instance above 16,384 bytes. The line is that of the head: of the
--- function block, and of each of its instance data blocks.
+-- Rule 51: a data block, a user-defined data type or an instance above 16,384 bytes. The line is
+-- that of the head: of the function block, and of each of its instance data blocks.
 use Rattle.std.specs.Prelude.{Bool, nat_lt, List}
 use Rattle.plc_base.specs.declared.refusals.Refusal.{Refusal}
 use Rattle.stl_ast.specs.declared.blocks.Block.{Block}

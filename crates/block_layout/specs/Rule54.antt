@@ -1,5 +1,5 @@
--- Rule 54: data blocks above 2,097,152 bytes together. The line is that of the head of the data block with which they are
--- more, and of each later one.
+-- Rule 54: data blocks above 2,097,152 bytes together. The line is that of the head of the data
+-- block with which they are more, and of each later one.
 use Rattle.std.specs.Prelude.{ℕ, ◌+◌, Bool, nat_lt, ◌&&◌, List, sum_by, if◌then◌else◌}
 use Rattle.plc_base.specs.Kinds.{is_data_block}
 use Rattle.plc_base.specs.declared.refusals.Refusal.{Refusal}

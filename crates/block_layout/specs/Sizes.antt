@@ -44,8 +44,8 @@ abbrev pub alignment : Cell → ℕ
 alignment c =
     if c.opens then 16 else if nat_eq (length c.bounds) 0 then element_alignment c.of else 16
 
--- arrays, the outermost first, of elements of so many bits: the elements stand without gap, and each array ends at an
--- even byte
+-- arrays, the outermost first, of elements of so many bits: the elements stand without gap, and
+-- each array ends at an even byte
 abbrev pub array_bits : List Bounds → ℕ → ℕ
 array_bits [] element = element
 array_bits (b ∷ bs) element =
@@ -59,8 +59,8 @@ element_bits DateAndTime components = 64
 element_bits (Udt block bits) components = capped_size bits
 element_bits Unknown components = 0
 
--- the end of a component that begins at the least place at or past `at` that meets its alignment; an unsound one takes
--- no place
+-- the end of a component that begins at the least place at or past `at` that meets its alignment;
+-- an unsound one takes no place
 abbrev pub component_end : (at : ℕ) → Cell → (bits : ℕ) → ℕ
 component_end at c bits =
     if c.sound then capped_size (next_multiple at (alignment c) + bits) else at
@@ -70,8 +70,8 @@ component_end at c bits =
 abbrev pub end_behind_cell : (level at : ℕ) → Cell → (bits : ℕ) → ℕ
 end_behind_cell level at c bits = if nat_eq c.level level then component_end at c bits else at
 
--- where the components at this level end, of which the first may begin at `at`: they stand before the first cell at a
--- lower level
+-- where the components at this level end, of which the first may begin at `at`: they stand before
+-- the first cell at a lower level
 unfoldable pub components_end : (level at : ℕ) → List Cell → ℕ
 components_end level at [] = at
 components_end level at (c ∷ cs) =

@@ -113,15 +113,16 @@ pub(crate) fn leaves_from(
     }
 }
 
-/// Whether a path can be checked by where it leads: it does not go through what breaks a rule itself.
+/// Whether a path can be checked by where it leads: it does not go through what breaks a rule
+/// itself.
 fn is_checkable(walk: PathEnd) -> bool
     ensures { result ≡ is_checkable walk }
 {
     !matches!(walk, PathEnd::Rests)
 }
 
-/// Whether a path leaves an array of the structure that this block declares, unless it rests on what
-/// breaks a rule itself.
+/// Whether a path leaves an array of the structure that this block declares, unless it rests on
+/// what breaks a rule itself.
 pub(crate) fn leaves_structure(
     layouts: &[BlockLayout],
     structure: Option<usize>,

@@ -21,9 +21,9 @@ pub(crate) struct OpenList {
     pub(crate) sound: bool,
 }
 
-/// What is found of a declaration: its name stands before it, it opens the ninth structure or array,
-/// it breaks a rule of declarations, it is sound, and how many structures and arrays are open
-/// inside it, at most 9.
+/// What is found of a declaration: its name stands before it, it opens the ninth structure or
+/// array, it breaks a rule of declarations, it is sound, and how many structures and arrays are
+/// open inside it, at most 9.
 #[derive(Clone, Copy, Debug, PartialEq, Eq)]
 pub(crate) struct DeclarationFacts {
     pub(crate) twice: bool,

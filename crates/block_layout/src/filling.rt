@@ -62,9 +62,9 @@ fn put_plain(
     Ok(())
 }
 
-/// Writes the initial values of a cell, if it is a sound component at this level, of structures that
-/// begin at these places. `behind` has the cells behind it, and `elements` the bits of an element of
-/// each of those.
+/// Writes the initial values of a cell, if it is a sound component at this level, of structures
+/// that begin at these places. `behind` has the cells behind it, and `elements` the bits of an
+/// element of each of those.
 #[cycle(filling)]
 fn put_cell(
     alloc: Global,

@@ -1,4 +1,5 @@
-//! Where the declarations of a source lie: sizes, offsets, paths, local data, and the rules on them.
+//! Where the declarations of a source lie: sizes, offsets, paths, local data, and the rules on
+//! them.
 #![tactic(auto)]
 
 mod alone;

@@ -59,8 +59,8 @@ pub struct ComponentAt {
 }
 
 /// Where a path leads. `Unknown` names a component that isn't there, `Rests` goes through a
-/// declaration or a block that breaks a rule itself. An index outside its array leads on as the first
-/// element does.
+/// declaration or a block that breaks a rule itself. An index outside its array leads on as the
+/// first element does.
 #[derive(Clone, Copy, Debug, PartialEq, Eq)]
 pub enum PathEnd {
     Reaches { spot: ComponentAt },

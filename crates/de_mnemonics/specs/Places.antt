@@ -87,7 +87,8 @@ abbrev pub place_behind_first : TokenClass → List ℕ → TokenPlace
 place_behind_first class.Colon word = place.Label
 place_behind_first next word = place_behind_instruction word
 
--- the place behind a word at the start of a statement: the end of the block, a further network, a label or an instruction word
+-- the place behind a word at the start of a statement: the end of the block, a further network, a
+-- label or an instruction word
 unfoldable pub place_behind_start : List ℕ → TokenClass → TokenPlace
 place_behind_start word next =
     if is_word_in_list block_end_words word then place.Outside
@@ -167,7 +168,8 @@ is_numbered_operand word next =
     && list_all is_ascii_digit (digits_of_word word)
     && (nat_lt 0 (length (digits_of_word word)) || opens_number next)
 
--- a word stands in an operand place: behind `P#`, as an operand word with its number, or as one that stands alone
+-- a word stands in an operand place: behind `P#`, as an operand word with its number, or as one
+-- that stands alone
 unfoldable pub is_operand_place : TokenClass → List ℕ → TokenClass → Bool
 is_operand_place before word next =
     is_pointer before || is_numbered_operand word next || is_word_in_pairs result_pairs word

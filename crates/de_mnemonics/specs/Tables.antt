@@ -1,5 +1,6 @@
--- The words that differ between the English and the German mnemonics of the Statement List, in pairs: the English word, the German
--- word. All other words are the same in both (docs/LANGUAGE.md, "German mnemonics").
+-- The words that differ between the English and the German mnemonics of the Statement List, in
+-- pairs: the English word, the German word. All other words are the same in both (docs/LANGUAGE.md,
+-- "German mnemonics").
 use Rattle.std.specs.Prelude.{ℕ, List, [], ◌∷◌, codes}
 
 -- a table of words in pairs: English, German

@@ -53,8 +53,8 @@ position_behind source position t ts = record {
   before = class_in source t;
 }
 
--- the translation of a source from a position on: what stands between tokens stays, and each token is written as its role asks; or the
--- line of the first word that has no translation
+-- the translation of a source from a position on: what stands between tokens stays, and each token
+-- is written as its role asks; or the line of the first word that has no translation
 unfoldable pub translation_from : Language → List ℕ → TranslationPosition → List Token
     → Result (List ℕ) ℕ
 translation_from language source position [] = Ok (drop position.from source)
@@ -72,7 +72,8 @@ front_position = record { from = 0; place = place.Outside; before = class.Other 
 unfoldable pub translation_of : Language → List ℕ → List Token → Result (List ℕ) ℕ
 translation_of language source ts = translation_from language source front_position ts
 
--- behind a text that was written, the translation goes on from one position as from another, behind a text that was then written
+-- behind a text that was written, the translation goes on from one position as from another, behind
+-- a text that was then written
 abbrev pub ContinuesTranslation : Language → List ℕ → List ℕ → TranslationPosition → List Token
     → List ℕ → TranslationPosition → List Token → Type 0
 ContinuesTranslation language source old position ts now next rest =
@@ -91,12 +92,14 @@ abbrev pub IsTranslation : Language → List ℕ → List ℕ → Type 0
 IsTranslation language source text =
     (ts : List Token) × AreTokens source ts × (translation_of language source ts ≡ Ok text)
 
--- the first word of the other language, in a source that breaks no rule of tokens, stands on this line
+-- the first word of the other language, in a source that breaks no rule of tokens, stands on this
+-- line
 abbrev pub HasForeignWord : Language → List ℕ → ℕ → Type 0
 HasForeignWord language source line =
     (ts : List Token) × AreTokens source ts × (translation_of language source ts ≡ Err line)
 
--- the first violation of the rules of tokens and, where there is none, of the rule of words of the other language
+-- the first violation of the rules of tokens and, where there is none, of the rule of words of the
+-- other language
 abbrev pub IsTranslationViolation : Language → List ℕ → ℕ → ℕ → Type 0
 IsTranslationViolation language source line rule =
     IsViolation source line rule ⊎

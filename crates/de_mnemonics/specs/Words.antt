@@ -16,7 +16,8 @@ abbrev pub opposite_language : Language → Language
 opposite_language English = German
 opposite_language German = English
 
--- what a table has beside a word of the language that is translated from; words are compared without case
+-- what a table has beside a word of the language that is translated from; words are compared
+-- without case
 unfoldable pub partner_in_table : Language → WordPairs → List ℕ → Option (List ℕ)
 partner_in_table German table word =
     option_map (λ pair. pair.1) (find (λ pair. str_eq_ignore_ascii_case word pair.0) table)
@@ -56,7 +57,8 @@ unfoldable pub operand_partner : Language → List ℕ → Option (List ℕ)
 operand_partner language word =
     option_or (numbered_partner language word) (partner_in_table language result_pairs word)
 
--- a word is exchanged for its partner; a word of the other language alone has no translation; any other word stays
+-- a word is exchanged for its partner; a word of the other language alone has no translation; any
+-- other word stays
 abbrev pub exchanged_word : Option (List ℕ) → Bool → List ℕ → Option (List ℕ)
 exchanged_word (Some found) foreign word = Some found
 exchanged_word None true word = None
@@ -67,7 +69,8 @@ abbrev pub marked_name : Bool → List ℕ → List ℕ
 marked_name true word = hash ∷ word
 marked_name false word = word
 
--- how a word in this role is written in the translation, or None where it is a word of the other language alone
+-- how a word in this role is written in the translation, or None where it is a word of the other
+-- language alone
 unfoldable pub translated_word : Language → Role → List ℕ → Option (List ℕ)
 translated_word language role.Instruction word =
     exchanged_word (instruction_partner language word)

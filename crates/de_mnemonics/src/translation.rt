@@ -31,7 +31,8 @@ use stl_symbols::Language;
 /// The rule of a word of the other language.
 const FOREIGN_WORD: u16 = 17;
 
-/// Where a translation stands: the byte, the place in the program, and the class of the token before.
+/// Where a translation stands: the byte, the place in the program, and the class of the token
+/// before.
 #[derive(Clone, Copy, Debug)]
 pub struct TranslationPosition {
     pub from: usize,
@@ -230,8 +231,8 @@ pub fn to_german(alloc: Global, bytes: &[u8]) -> Result<Vec<u8>, SourceFault>
     translate(alloc, Language::German, bytes)
 }
 
-/// A source has one translation, or none and one violation: so each call refuses exactly the sources
-/// with a violation, with exactly that line and rule.
+/// A source has one translation, or none and one violation: so each call refuses exactly the
+/// sources with a violation, with exactly that line and rule.
 pub fn law_of_translations()
     ensures one_text { IsTranslationUnique }
     ensures text_or_violation { TranslationExcludesViolation }

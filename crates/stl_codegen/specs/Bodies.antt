@@ -1,5 +1,5 @@
--- The statements of a body one behind the other: what each adds to the code, and the numbers of those
--- that have labels.
+-- The statements of a body one behind the other: what each adds to the code, and the numbers of
+-- those that have labels.
 use Rattle.std.specs.Prelude.{◌≡◌, ℕ, ◌+◌, List, [], ◌∷◌, ◌++◌, Option, Some, None, if◌then◌else◌}
 use Rattle.std.specs.List.{flat_map}
 use Rattle.flat_code.specs.Ops.{OpData}

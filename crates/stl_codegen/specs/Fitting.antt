@@ -1,4 +1,5 @@
--- Why code has no image: an op that the table of ops hasn't, or a number that doesn't fit its field.
+-- Why code has no image: an op that the table of ops hasn't, or a number that doesn't fit its
+-- field.
 use Rattle.std.specs.Prelude.{◌≡◌, ◌<◌, ◌≤◌, ◌++◌, ℕ, true, false, List, map, length, Option, Some, None}
 use Rattle.std.specs.List.{AllByRecursion}
 use Rattle.flat_code.specs.Codes.{are_ops}

@@ -1,5 +1,5 @@
--- Which parameters a chain of passings joins to an INT or a TIME of a system function. A parameter is
--- a number here: those of all code blocks are counted in the image's order.
+-- Which parameters a chain of passings joins to an INT or a TIME of a system function. A parameter
+-- is a number here: those of all code blocks are counted in the image's order.
 use Rattle.std.specs.Prelude.{ℕ, ◌+◌, ◌==◌, Bool, true, false, List, [], ◌∷◌, ◌++◌, length, map, replicate, Option, Some, None, if◌then◌else◌, slice_get, slice_set}
 use Rattle.std.specs.List.{flat_map, fold, range_with_len}
 use Rattle.std.specs.Option.{unwrap_or}
@@ -136,8 +136,8 @@ abbrev pub merged_labels : Option ℕ → Option ℕ → List ℕ → List ℕ
 merged_labels (Some from) (Some to) labels = map (replaced_label from to) labels
 merged_labels _ _ labels = labels
 
--- the labels of parameters after a link: two that are joined have the same label, and so have all that
--- were joined to one of them before
+-- the labels of parameters after a link: two that are joined have the same label, and so have all
+-- that were joined to one of them before
 abbrev pub labels_after_link : List ℕ → Link → List ℕ
 labels_after_link labels (Joins own other) =
     merged_labels (slice_get labels own) (slice_get labels other) labels

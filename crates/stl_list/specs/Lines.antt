@@ -1,5 +1,5 @@
--- The lines on which a listing prints its pieces. No line comes back: what has a line that has passed by
--- stands on the current one.
+-- The lines on which a listing prints its pieces. No line comes back: what has a line that has
+-- passed by stands on the current one.
 use Rattle.std.specs.Prelude.{ℕ, max, nat_eq, nat_lt, Bool, ◌&&◌, ◌||◌, ◌-◌, length, List, [], ◌∷◌, slice_get}
 use Rattle.std.specs.List.{fold}
 use Rattle.std.specs.Option.{unwrap_or}

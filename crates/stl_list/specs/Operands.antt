@@ -80,7 +80,8 @@ name_at formals index = name_or index (slice_get formals index)
 abbrev pub own_parameter : List Formal → ℕ → Operand
 own_parameter formals index = operand.Named (head.Local (name_at formals index)) []
 
--- what an instruction without operand in the code has in a source: STW and AR2 stand in the operation
+-- what an instruction without operand in the code has in a source: STW and AR2 stand in the
+-- operation
 abbrev pub implied_operand : Operation → Operand
 implied_operand operation.LoadStatus = operand.Other (codes "STW")
 implied_operand operation.TransferStatus = operand.Other (codes "STW")

@@ -25,14 +25,15 @@ pub record Signature : Type 0 where
 abbrev pub is_behind : (returns behind : Bool) → Param → Bool
 is_behind returns behind p = behind || returns && p.section == SECTION_IN_OUT
 
--- a parameter of an index with its number among all; `behind`: an IN_OUT of a function stands before it
+-- a parameter of an index with its number among all; `behind`: an IN_OUT of a function stands
+-- before it
 abbrev pub formal_of_param : Chains → (behind : Bool) → (index parameter : ℕ) → Param → Formal
 formal_of_param c behind index parameter p =
     formal (name_of (behind && p.section == SECTION_OUT) index) (section_of p.section)
     (kind_at c parameter p.width)
 
--- parameters from an index on. `returns`: the block may have a return value; `behind`: an IN_OUT stands
--- before them; `first` is the number of the first of them
+-- parameters from an index on. `returns`: the block may have a return value; `behind`: an IN_OUT
+-- stands before them; `first` is the number of the first of them
 abbrev pub formals_from : Chains → (returns behind : Bool) → (index first : ℕ) → List Param
     → List Formal
 formals_from c returns behind index first [] = []

@@ -14,8 +14,8 @@ use Rattle.stl_list.specs.Operands.{operand_of_run}
 use Rattle.stl_list.specs.Runs.{Run, runs, statement_starts, target_marks}
 use Rattle.stl_list.specs.Signatures.{Signature, formals_of_block}
 
--- what the statements of a block refer to: the blocks of the program, the block's own parameters, the
--- lines on which its statements stand, their offsets, and of each whether a jump leads to it
+-- what the statements of a block refer to: the blocks of the program, the block's own parameters,
+-- the lines on which its statements stand, their offsets, and of each whether a jump leads to it
 pub record Surroundings : Type 0 where
   pub signatures : List Signature
   -- the parameters of the block itself

@@ -244,7 +244,8 @@ unfoldable pub plain_clause : List ℕ → ClausePlace → ℕ → List Token �
 plain_clause source p line tokens =
     option_or (structure_clause source p tokens) (semicolon_clause source p line tokens)
 
--- a clause that begins with no keyword; in the head of a data block it may name what the block is based on
+-- a clause that begins with no keyword; in the head of a data block it may name what the block is
+-- based on
 unfoldable pub other_clause : List ℕ → ClausePlace → ℕ → List Token → ClauseReading
 other_clause source p line tokens =
     if in_data_head p
@@ -276,7 +277,8 @@ clause_by_kind source p t rest tokens kind.Title =
     Some (clause.Title, behind_note source p rest, false)
 clause_by_kind source p t rest tokens _ = other_clause source p t.line tokens
 
--- the clause at the front, what follows it, and whether a label in it is too long; None where it isn't in the grammar
+-- the clause at the front, what follows it, and whether a label in it is too long; None where it
+-- isn't in the grammar
 unfoldable pub clause_at : List ℕ → ClausePlace → List Token → ClauseReading
 clause_at source p [] = None
 clause_at source p (t ∷ rest) = clause_by_kind source p t rest (t ∷ rest) t.kind

@@ -187,7 +187,8 @@ pointer_end source pointer (address.Area area width.Word) byte rest =
     if pointer then None else pointer_close source area byte rest
 pointer_end source pointer _ byte rest = None
 
--- `[MD n]` for a pointer, or `[MW n]` for a number, that is all of the tokens: the area and the byte
+-- `[MD n]` for a pointer, or `[MW n]` for a number, that is all of the tokens: the area and the
+-- byte
 unfoldable pub memory_pointer : List ℕ → Bool → List Token → Option (Letters × ℕ)
 memory_pointer source pointer [] = None
 memory_pointer source pointer (t ∷ rest) =

@@ -17,8 +17,8 @@ use Rattle.stl_parser.specs.Frame.{next_place}
 abbrev pub ClauseStep : Type 0
 ClauseStep = Clause × List Token × ClausePlace
 
--- where the clauses behind one of the grammar stand, or the rule that it breaks: rule 11 where its kind
--- may not stand here, else rule 12 where a label is too long
+-- where the clauses behind one of the grammar stand, or the rule that it breaks: rule 11 where its
+-- kind may not stand here, else rule 12 where a label is too long
 abbrev pub place_or_rule : Bool → Option ClausePlace → Result ClausePlace ℕ
 place_or_rule long None = Err 11
 place_or_rule true (Some next) = Err 12

@@ -26,7 +26,8 @@ use Rattle.stl_parser.specs.Literals.{text_between_quotes}
 use Rattle.stl_parser.specs.Addresses.{block_at}
 use Rattle.stl_parser.specs.Operands.{operand_of}
 
--- the value of an actual parameter ends before a `)` that is last, and before a comma with the next parameter
+-- the value of an actual parameter ends before a `)` that is last, and before a comma with the next
+-- parameter
 unfoldable pub value_ends : List ℕ → List Token → Bool
 value_ends source (close ∷ []) = is_mark source close mark.CloseParen
 value_ends source (comma ∷ w ∷ assign ∷ rest) =

@@ -10,7 +10,8 @@ use Rattle.stl_lexer.specs.TimeLiteral.{milliseconds, time_units}
 use Rattle.stl_ast.specs.declared.literals.Literal.{Literal}
 use Rattle.stl_ast.specs.declared.literals.Literal.TheVariants as literal
 
--- the value of the digits of a base behind the number n, `_` left out, where it is at most `greatest`
+-- the value of the digits of a base behind the number n, `_` left out, where it is at most
+-- `greatest`
 unfoldable pub value_from : ℕ → ℕ → ℕ → List ℕ → Option ℕ
 value_from greatest base n [] = Some n
 value_from greatest base n (b ∷ bs) =

@@ -41,7 +41,8 @@ clause_pieces g (clause.Declares d) = declaration_pieces g d
 clause_pieces g (clause.Sets s) = setting_pieces g s
 clause_pieces g (clause.Runs s) = statement_pieces g s
 
--- the line on which a clause is to stand; 0 for one that stands on the line that is reached, since a tree has no line of it
+-- the line on which a clause is to stand; 0 for one that stands on the line that is reached, since
+-- a tree has no line of it
 unfoldable pub line_of : Clause → ℕ
 line_of (clause.Head line k name result) = line
 line_of (clause.Ends line k) = line

@@ -41,7 +41,8 @@ unlabelled_pieces g s =
     if is_empty_statement s.code then mark_piece g mark_of.Semicolon ∷ []
     else instruction_pieces g s
 
--- what stands behind a label; behind that of an empty statement, which is no statement of a source, nothing
+-- what stands behind a label; behind that of an empty statement, which is no statement of a source,
+-- nothing
 unfoldable pub labelled_pieces : Statement → List Piece
 labelled_pieces s = if is_empty_statement s.code then [] else instruction_pieces gap.Blank s
 

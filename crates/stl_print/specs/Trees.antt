@@ -22,7 +22,8 @@ use Rattle.stl_print.specs.Clauses.{pieces_from}
 abbrev pub structure_ends : ℕ → List Clause
 structure_ends count = replicate count clause.EndStructure
 
--- declarations, where so many structures are open: each closes those that it doesn't stand in, and the last one all
+-- declarations, where so many structures are open: each closes those that it doesn't stand in, and
+-- the last one all
 abbrev pub declaration_clauses_from : (level : ℕ) → List Declaration → List Clause
 declaration_clauses_from level [] = structure_ends level
 declaration_clauses_from level (d ∷ ds) =
@@ -34,7 +35,8 @@ unfoldable pub part_clauses : Part → List Clause
 part_clauses p =
     clause.Section p.line p.kind ∷ (declaration_clauses_from 0 p.items ++ clause.EndSection ∷ [])
 
--- the type of a block: a structure with its components, or a user-defined data type; a block has no other
+-- the type of a block: a structure with its components, or a user-defined data type; a block has no
+-- other
 unfoldable pub type_clauses : ElementType → List Declaration → List Clause
 type_clauses element.Structure components =
     clause.Structure ∷ (declaration_clauses_from 0 components ++ clause.EndStructure ∷ [])
@@ -55,8 +57,8 @@ instance_clauses (Some name) = clause.Based name ∷ []
 abbrev pub begin_clauses : BlockKind → List Clause
 begin_clauses k = if is_data_type k then [] else clause.Begins ∷ []
 
--- a block: its head, its sections, its type or the function block of which it is an instance, BEGIN, its settings or its
--- statements, and its END clause
+-- a block: its head, its sections, its type or the function block of which it is an instance,
+-- BEGIN, its settings or its statements, and its END clause
 unfoldable pub block_clauses : Block → List Clause
 block_clauses b =
     clause.Head b.line b.kind b.name b.result

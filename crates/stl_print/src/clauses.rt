@@ -1,5 +1,5 @@
-//! Clauses, each on its line. A function takes the line that the text has reached, 0 where nothing is
-//! printed yet, and answers the line that it has reached behind the clause.
+//! Clauses, each on its line. A function takes the line that the text has reached, 0 where nothing
+//! is printed yet, and answers the line that it has reached behind the clause.
 ghost use Rattle.std.specs.Prelude.{◌≡◌, ◌++◌, ◌∷◌, [], IfOk, OnOk};
 ghost use Rattle.stl_parser.specs.declared.clauses.Clause.TheVariants as clause;
 ghost use Rattle.stl_print.specs.Clauses.{result_pieces, with_clauses};

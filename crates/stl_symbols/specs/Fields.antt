@@ -42,11 +42,13 @@ is_line_end byte = byte == 13 || byte == 10
 abbrev pub record_from : State → List (List ℕ) → List ℕ → List ℕ → Option (List (List ℕ))
 record_from s fields field left = lone_record (next_record default_config s fields field left)
 
--- the fields of a line of one record: those that were read, where only line ends are left; else None
+-- the fields of a line of one record: those that were read, where only line ends are left; else
+-- None
 abbrev pub record_before : List (List ℕ) → List ℕ → Option (List (List ℕ))
 record_before fields left = if list_all is_line_end left then Some fields else None
 
--- the fields of a line of one record, read on behind a byte that ended a field, the record or nothing
+-- the fields of a line of one record, read on behind a byte that ended a field, the record or
+-- nothing
 abbrev pub record_at : Option Ending → State → (fields : List (List ℕ)) → (field rest : List ℕ)
     → Option (List (List ℕ))
 record_at None s fields field rest = record_from s fields field rest

@@ -49,8 +49,8 @@ symbol_declaration language name address kind =
     (address_of language address)
     else None
 
--- what the columns of a line declare, None where they are wrong: blanks and tabs at the end of name and type
--- are dropped, and all those of the address
+-- what the columns of a line declare, None where they are wrong: blanks and tabs at the end of name
+-- and type are dropped, and all those of the address
 unfoldable pub declaration_in_columns : Language → Columns → Option (Option Symbol)
 declaration_in_columns language line =
     symbol_declaration language (without_last_blanks line.name) (without_blanks line.address)
@@ -71,8 +71,8 @@ with_declaration symbols None = Err 15
 with_declaration symbols (Some None) = Ok symbols
 with_declaration symbols (Some (Some symbol)) = with_symbol symbols symbol
 
--- the symbols with what the columns of a line declare, or the rule that it breaks: 14 where the line isn't one
--- record of four fields
+-- the symbols with what the columns of a line declare, or the rule that it breaks: 14 where the
+-- line isn't one record of four fields
 abbrev pub with_columns : Language → List Symbol → Option Columns → Result (List Symbol) ℕ
 with_columns language symbols None = Err 14
 with_columns language symbols (Some line) =

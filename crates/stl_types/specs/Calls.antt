@@ -1,5 +1,6 @@
--- Rules 34 to 38, 40 and 46: calls. Those of an actual parameter have its line, all others that of the statement. A call
--- of a block that breaks a rule itself, or by the declaration of a parameter, isn't checked by them.
+-- Rules 34 to 38, 40 and 46: calls. Those of an actual parameter have its line, all others that of
+-- the statement. A call of a block that breaks a rule itself, or by the declaration of a parameter,
+-- isn't checked by them.
 use Rattle.std.specs.Prelude.{ℕ, nat_eq, Bool, true, false, ◌&&◌, ◌||◌, not, is_some, List, [], ◌∷◌, ◌++◌, map, Option, Some, None}
 use Rattle.std.specs.List.{flat_map, list_all, list_any, slice_get}
 use Rattle.std.specs.Str.{bytes_eq}

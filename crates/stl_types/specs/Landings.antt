@@ -41,7 +41,8 @@ pub record Landing : Type 0 where
   pub functions : List ℕ
   pub zones : ℕ
 
--- the function codes of open brackets. Of more than seven eight are kept: the eighth has broken rule 31
+-- the function codes of open brackets. Of more than seven eight are kept: the eighth has broken
+-- rule 31
 abbrev pub functions_of : List SourceBracket → List ℕ
 functions_of brackets = map (λ b. b.function) (take 8 brackets)
 

@@ -1,5 +1,5 @@
--- Rule 32: the jump list of a JL. Its label comes later, and between the two stand jumps JU alone, at most 255 of them;
--- an empty statement is none. The line is that of the JL.
+-- Rule 32: the jump list of a JL. Its label comes later, and between the two stand jumps JU alone,
+-- at most 255 of them; an empty statement is none. The line is that of the JL.
 use Rattle.std.specs.Prelude.{ℕ, ◌-◌, ◌&&◌, nat_lt, Bool, true, false, not, is_some, List, [], ◌∷◌, ◌++◌, Option, Some, None, if◌then◌else◌}
 use Rattle.std.specs.Str.{bytes_eq}
 use Rattle.plc_base.specs.declared.refusals.Refusal.{Refusal}

@@ -1,5 +1,6 @@
--- Rules 24, 25 and 39: the operand of an instruction. 24: its width doesn't fit; 25: its form isn't allowed, or the
--- constant that it is; 39: an input parameter of a function is written. The line is that of the statement.
+-- Rules 24, 25 and 39: the operand of an instruction. 24: its width doesn't fit; 25: its form isn't
+-- allowed, or the constant that it is; 39: an input parameter of a function is written. The line is
+-- that of the statement.
 use Rattle.std.specs.Prelude.{ℕ, Bool, true, false, ◌&&◌, ◌||◌, not, List, [], ◌∷◌, Option, Some, None, if◌then◌else◌}
 use Rattle.std.specs.List.{flat_map}
 use Rattle.plc_base.specs.declared.places.Width.{Width}
@@ -118,7 +119,8 @@ is_input _ = false
 abbrev pub composite_rule : OperandRule → ResolvedOperand → ℕ
 composite_rule f v = if is_date v || takes_places f then 24 else 25
 
--- the rule that an instruction breaks by its operand: of one that the form takes, the width comes before the side
+-- the rule that an instruction breaks by its operand: of one that the form takes, the width comes
+-- before the side
 unfoldable pub rule_of_resolved_operand : OperandRule → ResolvedOperand → Option ℕ
 rule_of_resolved_operand f v =
     if is_composite v then Some (composite_rule f v)

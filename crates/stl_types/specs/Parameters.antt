@@ -115,8 +115,8 @@ callee_by c id k =
     else if is_function_block k then source_callee c id
     else None
 
--- the block that a call is checked by: a system function of the nine, or a function or function block of the source that
--- breaks no rule itself or by a parameter
+-- the block that a call is checked by: a system function of the nine, or a function or function
+-- block of the source that breaks no rule itself or by a parameter
 unfoldable pub callee_of : Context → Operand → Option Callee
 callee_of c (operand.Called name instance) =
     option_and_then (λ id. callee_by c id id.kind) (named_block c.symbols name)

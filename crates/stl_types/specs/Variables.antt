@@ -40,8 +40,8 @@ abbrev pub variable_in_area : Simple → Option (Place × Width) → Resolution
 variable_in_area kind None = Unjudged
 variable_in_area kind (Some p) = Resolved (view.Direct p.0 p.1 side.Both (Some kind))
 
--- the place of a parameter in a call: those declared in their order, and the return value, which is the first of the
--- components, behind them
+-- the place of a parameter in a call: those declared in their order, and the return value, which is
+-- the first of the components, behind them
 abbrev pub behind_others : (count place : ℕ) → Option Simple → ℕ
 behind_others count place None = place
 behind_others count place (Some result) = if nat_eq place 0 then count - 1 else place - 1
@@ -70,8 +70,9 @@ abbrev pub is_temporary_variable : Context → List ℕ → Bool
 is_temporary_variable c name =
     not (is_some (component_of_name 0 0 0 name (cells_at c.layouts c.block false)))
 
--- a variable of the block: a temporary one lies in the local data, a parameter of a function is bound at its call, and
--- each variable of a function block lies in the data block of the DI register
+-- a variable of the block: a temporary one lies in the local data, a parameter of a function is
+-- bound at its call, and each variable of a function block lies in the data block of the DI
+-- register
 abbrev pub own_elementary : Context → (temporary : Bool) → ComponentAt → Simple → Resolution
 own_elementary c temporary spot kind =
     if temporary then variable_in_area kind (elementary_place area.L 0 spot.offset (Some kind))
