@@ -61,8 +61,7 @@ of_structure = record { names = []; depth = 1 }
 
 -- the refusals by a rule of declarations, of all declarations that follow those in `before`
 abbrev pub refusals_in_rest : (List Declaration → Declaration → List Refusal)
-    → (before : List Declaration)
-    → List Declaration → List Refusal
+    → (before : List Declaration) → List Declaration → List Refusal
 refusals_in_rest broken before ds =
     refusals_along (λ d. false) broken (λ before d. d ∷ before) before ds
 
@@ -81,6 +80,5 @@ refusals_in_block broken b =
 
 -- the refusals by a rule of declarations, of all declarations of a source, block by block
 abbrev pub refusals_in_blocks : (Outside → List Declaration → Declaration → List Refusal)
-    → List Block
-    → List Refusal
+    → List Block → List Refusal
 refusals_in_blocks broken blocks = flat_map (refusals_in_block broken) blocks

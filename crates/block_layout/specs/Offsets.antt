@@ -61,8 +61,7 @@ component_place l number block path =
 -- place and width of an elementary variable of a code block, in an area; none where an index is
 -- outside its array
 abbrev pub variable_place : List BlockLayout → Area → (block : ℕ) → (temporary : Bool)
-    → List PathStep
-    → Option (Place × Width)
+    → List PathStep → Option (Place × Width)
 variable_place l a block temporary path =
     if leaves_from l block temporary path then None
     else place_at_path_end l a 0 (path_end_in_block l block temporary path)

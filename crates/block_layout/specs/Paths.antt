@@ -66,8 +66,7 @@ path_end_at_member cells block temporary first offset (Some m) =
 
 -- where a name in the outermost declarations of a block leads
 unfoldable pub outermost_path_end : List BlockLayout → (block : ℕ) → (temporary : Bool)
-    → (offset : ℕ)
-    → List ℕ → PathEnd
+    → (offset : ℕ) → List ℕ → PathEnd
 outermost_path_end l block temporary offset name =
     path_end_at_member (cells_at l block temporary) block temporary 0 offset
     (component_of_name 0 0 0 name (cells_at l block temporary))

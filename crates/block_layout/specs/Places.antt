@@ -60,5 +60,4 @@ abbrev pub FindsSound : Type 0
 FindsSound =
     (level : ℕ) (name : List ℕ) (cells : List Cell) (m : Member)
     → component_of_name level 0 0 name cells ≡ Some m
-    → is_sound_cell (slice_get cells m.place) ≡ true
-    → IsOneOf m (sound_members level cells)
+    → is_sound_cell (slice_get cells m.place) ≡ true → IsOneOf m (sound_members level cells)

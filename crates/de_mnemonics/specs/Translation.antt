@@ -116,15 +116,13 @@ IsTranslationRefused language source NoMemory = Unit {0}
 abbrev pub IsTranslationUnique : Type 0
 IsTranslationUnique =
     (language : Language) (source text other : List ℕ) → IsTranslation language source text
-    → IsTranslation language source other
-    → text ≡ other
+    → IsTranslation language source other → text ≡ other
 
 -- a source that has a translation has no violation
 abbrev pub TranslationExcludesViolation : Type 0
 TranslationExcludesViolation =
     (language : Language) (source text : List ℕ) (line rule : ℕ)
-    → IsTranslation language source text
-    → IsTranslationViolation language source line rule → ⊥
+    → IsTranslation language source text → IsTranslationViolation language source line rule → ⊥
 
 -- a source has one violation at most: two have the same line and the same rule
 abbrev pub IsTranslationViolationUnique : Type 0

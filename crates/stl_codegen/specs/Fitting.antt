@@ -32,8 +32,7 @@ AreOpsAppended old new ops None = HasNoOp ops
 
 -- items that come behind others, or of which one doesn't fit
 abbrev pub AreItemsAppended : {A : Type 0} → (A → Type 0) → (old new items : List A)
-    → Option (Unit {0})
-    → Type 0
+    → Option (Unit {0}) → Type 0
 AreItemsAppended fits old new items (Some done) = new ≡ old ++ items
 AreItemsAppended fits old new items None = AllByRecursion fits items → ⊥
 

@@ -18,8 +18,7 @@ use Rattle.stl_list.specs.Signatures.{Signature}
 
 -- a data block on a line: a structure with its components, or an instance with its settings
 abbrev pub data_block_tree : (line number : ℕ) → Option TypeTree → List Declaration
-    → Option BlockName
-    → List Setting → Block
+    → Option BlockName → List Setting → Block
 data_block_tree line number shape components instance_of settings = record {
   line = line;
   end_line = line;

@@ -138,8 +138,7 @@ plain_operand opened o other = condition_operand other
 -- the operand of an op. `formals` are the parameters of its block, `starts` the offsets of the
 -- statements, `opened` is the data block that the statement opens first
 unfoldable pub operand_by : List Formal → (starts : List ℕ) → (opened : Option ℕ) → Operation
-    → FlatOperand
-    → Operand
+    → FlatOperand → Operand
 operand_by formals starts opened o flat.Nothing = implied_operand o
 operand_by formals starts opened o (flat.Literal value) = instruction_constant o value
 operand_by formals starts opened o (flat.Parameter index width) = own_parameter formals index
