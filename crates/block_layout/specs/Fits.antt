@@ -56,7 +56,7 @@ abbrev pub is_dint_type : Simple → Bool
 is_dint_type simple.Dint = true
 is_dint_type _ = false
 
--- DWORD, which DW#16# fits, as it does DINT
+-- DWORD, which DW#16# fits; it fits DINT too
 abbrev pub is_dword_type : Simple → Bool
 is_dword_type simple.Dword = true
 is_dword_type _ = false
@@ -66,7 +66,7 @@ abbrev pub is_time_type : Simple → Bool
 is_time_type simple.Time = true
 is_time_type _ = false
 
--- S5TIME, which S5T# fits, as it does WORD
+-- S5TIME, which S5T# fits; it fits WORD too
 abbrev pub is_s5time_type : Simple → Bool
 is_s5time_type simple.S5time = true
 is_s5time_type _ = false

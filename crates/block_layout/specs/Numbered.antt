@@ -21,6 +21,6 @@ abbrev pub number_of_kind : BlockKind → Option BlockId → Option ℕ
 number_of_kind kind None = None
 number_of_kind kind (Some id) = if is_same_kind kind id.kind then Some id.number else None
 
--- of each block its number, or none where it isn't of this kind
+-- the number of each block; none where the block isn't of this kind
 abbrev pub numbers_of_kind : BlockKind → List (Option BlockId) → List (Option ℕ)
 numbers_of_kind kind ids = map (number_of_kind kind) ids

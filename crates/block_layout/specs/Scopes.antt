@@ -13,7 +13,7 @@ pub record HasComponents (level : ℕ) (cells : List Cell) (s : NameList) : Type
   pub names : s.names ≡ component_names level cells
   pub members : s.members.items ≡ members_of level 0 0 cells
 
--- the components of the cell c, of which those behind it are
+-- the names and places of the components of the cell `c`, which are among the cells behind it
 abbrev pub IsScope : Cell → List Cell → NameList → Type 0
 IsScope c behind s = HasComponents (c.level + 1) behind s
 

@@ -161,7 +161,7 @@ abbrev pub is_pointer : TokenClass → Bool
 is_pointer class.Pointer = true
 is_pointer _ = false
 
--- an operand word with its number, in the same word or behind it
+-- a word is an operand word whose number stands in the same word or behind it
 unfoldable pub is_numbered_operand : List ℕ → TokenClass → Bool
 is_numbered_operand word next =
     is_word_in_pairs operand_pairs (letters_of_word word)

@@ -310,7 +310,7 @@ fn is_in(table: &'static [Pair], word: &[u8]) -> bool
     has_partner(Language::German, table, word) || has_partner(Language::English, table, word)
 }
 
-/// Whether a word is an operand word that takes a number, without it.
+/// Whether these are the letters of an operand word that takes a number.
 #[tactic(auto, unfolding(crate::specs::Tables::operand_pairs))]
 fn is_operand(letters: &[u8]) -> bool
     ensures { result ≡ is_word_in_pairs operand_pairs letters.now }
@@ -341,7 +341,7 @@ fn is_own_jump(word: &[u8]) -> bool
     is_in(&JUMPS, word)
 }
 
-/// Whether this is the word of a jump in both of them.
+/// Whether this is the word of a jump in both languages.
 #[tactic(auto, unfolding(crate::specs::Tables::common_jumps))]
 fn is_common_jump(word: &[u8]) -> bool
     ensures { result ≡ is_word_in_list common_jumps word.now }

@@ -38,7 +38,7 @@ abbrev pub count_of_statements : List Statement → ℕ
 count_of_statements [] = 0
 count_of_statements (s ∷ ss) = count_of_statement s + count_of_statements ss
 
--- the number of a statement, in a list, where it has a label
+-- the list that holds the number of a statement; it is empty where the statement has no label
 abbrev pub number_here : (n : ℕ) → Option (List ℕ) → List ℕ
 number_here n None = []
 number_here n (Some label) = n ∷ []

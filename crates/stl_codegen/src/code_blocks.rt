@@ -20,7 +20,7 @@ use std::alloc::{AllocError, Global};
 use stl_ast::Block;
 use stl_types::Context;
 
-/// A length in bytes, where it fits its field.
+/// A length in bytes, where it fits its field of an image.
 fn field(bytes: u64) -> Option<u16>
     ensures value { IfSome result (λ n. n ≡ bytes) }
     ensures long { IfNone result (65536 ≤ bytes) }

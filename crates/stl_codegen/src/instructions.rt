@@ -76,7 +76,7 @@ fn append_operation(
     append(ops, operation, true, operand)
 }
 
-/// The list with its first item behind the others.
+/// A list with its first item moved behind the others.
 fn first_last<T>(list: Vec<T>) -> Vec<T>
     ensures { result.items ≡ drop 1 list.items ++ take 1 list.items }
 {

@@ -42,7 +42,7 @@ fn replaced(from: usize, to: usize, label: usize) -> usize
     if label == from { to } else { label }
 }
 
-/// Gives all that have one label another.
+/// Gives all parameters that have the label `from` the label `to`.
 fn relabel(labels: &mut [usize], from: usize, to: usize)
     ensures { labels.new ≡ map (replaced_label from to) labels.old }
 {

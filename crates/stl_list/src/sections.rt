@@ -119,7 +119,7 @@ fn is_declared_in(kind: PartKind, formal: &Formal) -> bool
     rank(formal.section) == rank(kind) && !is_return(formal)
 }
 
-/// Adds a parameter, if it is of the section.
+/// Adds the declaration of a parameter, if the parameter is declared in this section.
 fn add_declared(
     alloc: Global,
     items: &mut Vec<Declaration>,

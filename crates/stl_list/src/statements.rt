@@ -100,7 +100,7 @@ impl<'a> Surroundings<'a> {
         }
     }
 
-    /// The statement of a number, by its last op and those before it.
+    /// The statement with this number in its block, by its last op and those before it.
     fn statement(
         &self,
         alloc: Global,

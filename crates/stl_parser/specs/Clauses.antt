@@ -127,7 +127,7 @@ structure_end source p tokens =
     if nat_lt 0 (level_at p) then inner_end source tokens
     else Some (clause.EndStructure, skip_semicolon source tokens, false)
 
--- a clause that begins with a keyword, behind it
+-- the clause that begins with a keyword, read from the tokens behind that keyword
 unfoldable pub keyword_clause : List ℕ → ClausePlace → ℕ → Keyword → List Token → ClauseReading
 keyword_clause source p line (keyword.Opens k) rest = head_clause source line k rest
 keyword_clause source p line (keyword.Ends k) rest = Some (clause.Ends line k, rest, false)
@@ -158,7 +158,7 @@ head_word_at source head_word.Version rest = version_at source rest
 head_word_at source head_word.Named rest = colon_and_word_at source rest
 head_word_at source head_word.Alone rest = Some rest
 
--- a clause that begins with a word of the head, behind it
+-- the clause that begins with a word of the head, read from the tokens behind that word
 unfoldable pub head_word_clause : List ℕ → ClausePlace → HeadWord → List Token → ClauseReading
 head_word_clause source p w rest =
     option_map (λ behind. (clause.Note, behind_note source p behind, false))

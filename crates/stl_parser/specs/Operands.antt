@@ -232,13 +232,13 @@ plain_pointer source (n ∷ rest) =
     option_and_then (λ byte. option_map (λ bit. operand.Pointer None byte bit) (bit_of source rest))
     (number_of source n)
 
--- a pointer constant, behind `P#`
+-- the pointer constant that stands behind `P#`
 unfoldable pub pointer_constant_operand : List ℕ → List Token → Option Operand
 pointer_constant_operand source tokens =
     option_or (plain_pointer source tokens)
     (option_and_then (λ r. area_pointer source r.0 r.1 r.2) (address_at source tokens))
 
--- a condition of the status word
+-- the operand that is a condition of the status word
 unfoldable pub condition_of : List ℕ → Token → Option Operand
 condition_of source t = option_map operand.OfStatus (look_up flags (text_of source t))
 

@@ -107,7 +107,7 @@ instance_at source name (t ∷ rest) =
 abbrev pub statement_without_actuals : Mnemonic → Operand → BareStatement
 statement_without_actuals code o = record { code = code; operand = o; actuals = []; long = false }
 
--- CALL, behind the word
+-- the call that stands behind the word CALL
 unfoldable pub call_of : List ℕ → Mnemonic → List Token → Option BareStatement
 call_of source code tokens =
     option_and_then (λ b. option_and_then (λ i. option_map
@@ -119,7 +119,7 @@ call_of source code tokens =
     })
     (actuals_of source i.1)) (instance_at source b.0 b.1)) (block_at source tokens)
 
--- UC and CC, behind the word: one block
+-- the call of one block that stands behind the word UC or CC
 unfoldable pub block_call_of : List ℕ → Mnemonic → List Token → Option BareStatement
 block_call_of source code tokens =
     option_map (λ name. statement_without_actuals code (operand.Called name None))

@@ -202,7 +202,7 @@ fn behind_head_word<'a>(source: &[u8], word: HeadWord, tokens: &'a [Token]) -> O
     }
 }
 
-/// A clause that begins with a word of the head, behind it.
+/// The clause that begins with a word of the head, read from the tokens behind that word.
 #[tactic(auto, unfolding(crate::specs::Clauses::head_word_clause))]
 pub(crate) fn head_word_clause<'a>(
     source: &[u8],

@@ -256,7 +256,7 @@ fn address_pointer(source: &[u8], tokens: &[Token]) -> Option<Operand>
     area_pointer(source, address, byte, rest)
 }
 
-/// A pointer constant, behind `P#`.
+/// The pointer constant that stands behind `P#`.
 #[tactic(auto, unfolding(crate::specs::Operands::pointer_constant_operand))]
 pub(crate) fn pointer(source: &[u8], tokens: &[Token]) -> Option<Operand>
     ensures { result ≡ pointer_constant_operand source.now tokens.now }

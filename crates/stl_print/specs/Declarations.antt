@@ -17,7 +17,7 @@ use Rattle.stl_print.specs.Words.{type_word}
 use Rattle.stl_print.specs.declared.gaps.Gap.{Gap}
 use Rattle.stl_print.specs.declared.gaps.Gap.TheVariants as gap
 
--- an array of what stands behind it, `ARRAY [0..9] OF`
+-- the words of an array before the type of its elements, `ARRAY [0..9] OF`
 unfoldable pub array_pieces : Bounds → List Piece
 array_pieces b =
     word_piece gap.Blank (codes "ARRAY") ∷ mark_piece gap.Blank mark_of.OpenBracket

@@ -46,7 +46,7 @@ unlabelled_pieces g s =
 unfoldable pub labelled_pieces : Statement → List Piece
 labelled_pieces s = if is_empty_statement s.code then [] else instruction_pieces gap.Blank s
 
--- a statement by its label
+-- how a statement is written, by its label
 abbrev pub pieces_by_label : Gap → Option (List ℕ) → Statement → List Piece
 pieces_by_label g None s = unlabelled_pieces g s
 pieces_by_label g (Some name) s =

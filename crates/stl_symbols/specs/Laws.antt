@@ -25,7 +25,7 @@ pub record AreSymbols (file : List ℕ) (symbols : List Symbol) : Type 0 where
   pub bytes : (test : ℕ → Bool) → EachBytePasses test file
       → AllByRecursion (λ s. EachBytePasses test s.name) symbols
 
--- the symbols of a file are such
+-- whatever symbols a file is read as, in either language, are right
 abbrev pub SymbolsAreRight : Type 0
 SymbolsAreRight =
     (language : Language) (file : List ℕ) (symbols : List Symbol)

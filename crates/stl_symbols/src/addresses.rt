@@ -240,7 +240,7 @@ pub static LETTERS: [(&[u8], &[u8], AddressLetters); 29] = [
     (b"SDB", b"SDB", AddressLetters::NoSymbol),
 ];
 
-/// The letters as a language spells them.
+/// The letters of an address as a language spells them.
 fn spelled<'a>(language: Language, english: &'a [u8], german: &'a [u8]) -> &'a [u8]
     ensures { result.now ≡ letters_in_language language english.now german.now }
 {

@@ -35,7 +35,7 @@ side_of _ = side.Both
 abbrev pub area_left : Option Letters → Option Area
 area_left a = option_map area_for_letters a
 
--- an address; `number` is that of the data block before it, else 0
+-- what an address names; `number` is that of the data block before it, else 0
 abbrev pub resolved_address : (number : ℕ) → Letters → Width → (byte bit : ℕ) → ResolvedOperand
 resolved_address number a width byte bit =
     view.Direct

@@ -58,7 +58,7 @@ abbrev pub actuals_without_formal : List Formal → List Actual → List Refusal
 actuals_without_formal formals actuals =
     flat_map (λ a. broken_if (names_no_formal formals a) a.line 34) actuals
 
--- rule 34, in all bodies: a call that names no such parameter
+-- rule 34, in all bodies: a call names a parameter that its block does not have
 unfoldable pub rule_34 : Context → List Block → List Refusal
 rule_34 c blocks = in_calls (λ c callee s. actuals_without_formal callee.formals s.actuals) c blocks
 

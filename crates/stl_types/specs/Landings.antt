@@ -70,7 +70,7 @@ abbrev pub are_unequal : (here there : List ℕ) → Bool
 are_unequal here there =
     not (nat_eq (length here) 8 && nat_eq (length there) 8) && not (bytes_eq here there)
 
--- other brackets, or another number of zones
+-- at one of two statements other brackets are open than at the other, or another number of zones
 abbrev pub landings_differ : (here there : Landing) → Bool
 landings_differ here there =
     are_unequal here.functions there.functions || not (nat_eq here.zones there.zones)

@@ -36,7 +36,8 @@ left_behind left m =
     if is_empty_statement m then Some left
     else if is_unconditional_jump m && nat_lt 0 left then Some (left - 1) else None
 
--- the list goes on with so many jumps left
+-- a jump list goes on behind a statement: the statement is of the list, and `next` holds of how
+-- many jumps the list may still have
 abbrev pub list_goes_on : Option ℕ → (ℕ → Bool) → Bool
 list_goes_on None next = false
 list_goes_on (Some left) next = next left

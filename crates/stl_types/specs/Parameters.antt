@@ -75,11 +75,11 @@ formal_here c = if is_parameter c.section then formal_of c c.of else []
 abbrev pub formals_of : List Cell → List Formal
 formals_of cells = flat_map formal_here cells
 
--- no parameter breaks a rule by its declaration
+-- a cell that is a parameter breaks no rule by its declaration
 abbrev pub is_sound_formal : Cell → Bool
 is_sound_formal c = if is_parameter c.section then c.sound else true
 
--- the parameters, where none of them breaks a rule
+-- the parameters among these cells; none at all where one of them breaks a rule
 abbrev pub sound_formals : List Cell → Option (List Formal)
 sound_formals cells = if list_all is_sound_formal cells then Some (formals_of cells) else None
 
