@@ -131,7 +131,7 @@ total_parameter_count (b ∷ bs) = length b.params + total_parameter_count bs
 abbrev pub replaced_label : (from to label : ℕ) → ℕ
 replaced_label from to label = if label == from then to else label
 
--- all that have one label get another
+-- labels in which each that is the first of these two gives way to the second
 abbrev pub merged_labels : Option ℕ → Option ℕ → List ℕ → List ℕ
 merged_labels (Some from) (Some to) labels = map (replaced_label from to) labels
 merged_labels _ _ labels = labels
