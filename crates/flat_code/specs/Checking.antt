@@ -23,7 +23,8 @@ good_lines lines = all_good (line_field false) line_after 0 lines
 -- whether code blocks behind one of kind and number `before` (0 and 0 for none) are without fault;
 -- faults 5 to 9 aside
 abbrev pub good_blocks : ℕ × ℕ → List CodeBlock → Bool
-good_blocks before bs = all_good (code_block_layout false) after_block before (map record_of_block bs)
+good_blocks before bs =
+    all_good (code_block_layout false) after_block before (map record_of_block bs)
 
 -- whether data blocks are without fault, behind one of the number `before.0` (0 for none), with
 -- `before.1` bytes in all data blocks before

@@ -11,7 +11,8 @@ abbrev pub cons_op : OpData → List OpData × List ℕ → List OpData × List 
 cons_op op r = (op ∷ r.0, r.1)
 
 -- where bytes begin no op (None) all of them are left; else `more` reads on behind the op
-abbrev pub ops_next : Option (OpData × List ℕ) → List ℕ → (List ℕ → List OpData × List ℕ) → List OpData × List ℕ
+abbrev pub ops_next :
+    Option (OpData × List ℕ) → List ℕ → (List ℕ → List OpData × List ℕ) → List OpData × List ℕ
 ops_next None bytes more = ([], bytes)
 ops_next (Some r) bytes more = cons_op r.0 (more r.1)
 
@@ -56,7 +57,9 @@ most_ops = 64
 -- statement stand before the first of these, `at`: the offset of this
 abbrev pub overlong_statement : ℕ → ℕ → List OpData → Option ℕ
 overlong_statement count at [] = None
-overlong_statement count at (op ∷ ops) = if count == most_ops then Some at else overlong_statement (if op.last then 0 else suc count) (at + size_of_op op) ops
+overlong_statement count at (op ∷ ops) =
+    if count == most_ops then Some at
+    else overlong_statement (if op.last then 0 else suc count) (at + size_of_op op) ops
 
 -- the left one of two offsets, if there is one, else the right one
 abbrev pub first_found : Option ℕ → Option ℕ → Option ℕ

@@ -105,7 +105,8 @@ literal_coding = u32
 
 -- form 02: area, width, byte, and bit 0 to 7, whatever the width is
 unfoldable pub direct_coding : Coding (Area × (Width × (ℕ × ℕ)))
-direct_coding = then_coding any_area_coding (then_coding width_coding (then_coding u16 (range_coding 0 7)))
+direct_coding =
+    then_coding any_area_coding (then_coding width_coding (then_coding u16 (range_coding 0 7)))
 
 -- the area byte of form 03: 16#81 I to 16#86 L
 abbrev pub memory_area_coding : Coding Area
@@ -117,11 +118,13 @@ pointer_area_coding = such_that holds_pointers any_area_coding
 
 -- form 03: area and width of the operand, then area and byte of its pointer in memory
 abbrev pub by_memory_coding : Coding (Area × (Width × (Area × ℕ)))
-by_memory_coding = then_coding memory_area_coding (then_coding width_coding (then_coding pointer_area_coding u16))
+by_memory_coding =
+    then_coding memory_area_coding (then_coding width_coding (then_coding pointer_area_coding u16))
 
 -- form 04: area and width of the operand, address register 1 or 2, the offset in bits
 abbrev pub register_coding : Coding (Option Area × (Width × (ℕ × ℕ)))
-register_coding = then_coding crossing_area_coding (then_coding width_coding (then_coding (range_coding 1 2) u32))
+register_coding =
+    then_coding crossing_area_coding (then_coding width_coding (then_coding (range_coding 1 2) u32))
 
 -- form 05: the index of the function's parameter, from 0, and the width
 abbrev pub parameter_coding : Coding (ℕ × Width)
@@ -178,7 +181,8 @@ actual_fits (passed.InBlock number area width byte bit) =
 -- what is passed, as bytes: the form byte 01, 02, 05 or 0C, and the payload of this form
 abbrev pub actual_spelled : Passed → List ℕ
 actual_spelled (passed.Literal value) = 1 ∷ literal_coding.spell value
-actual_spelled (passed.Direct area width byte bit) = 2 ∷ direct_coding.spell (area, (width, (byte, bit)))
+actual_spelled (passed.Direct area width byte bit) =
+    2 ∷ direct_coding.spell (area, (width, (byte, bit)))
 actual_spelled (passed.Parameter index width) = 5 ∷ parameter_coding.spell (index, width)
 actual_spelled (passed.InBlock number area width byte bit) =
     12 ∷ in_block_coding.spell (number, (area, (width, (byte, bit))))
@@ -234,7 +238,8 @@ abbrev pub payload_fits : Operand → Bool
 payload_fits operand.Nothing = true
 payload_fits (operand.Literal value) = literal_coding.fits value
 payload_fits (operand.Direct area width byte bit) = direct_coding.fits (area, (width, (byte, bit)))
-payload_fits (operand.ByMemory area width from byte) = by_memory_coding.fits (area, (width, (from, byte)))
+payload_fits (operand.ByMemory area width from byte) =
+    by_memory_coding.fits (area, (width, (from, byte)))
 payload_fits (operand.ByRegister area width register bits) =
     register_coding.fits (area, (width, (register, bits)))
 payload_fits (operand.Parameter index width) = parameter_coding.fits (index, width)
@@ -253,7 +258,8 @@ abbrev pub payload : Operand → List ℕ
 payload operand.Nothing = []
 payload (operand.Literal value) = literal_coding.spell value
 payload (operand.Direct area width byte bit) = direct_coding.spell (area, (width, (byte, bit)))
-payload (operand.ByMemory area width from byte) = by_memory_coding.spell (area, (width, (from, byte)))
+payload (operand.ByMemory area width from byte) =
+    by_memory_coding.spell (area, (width, (from, byte)))
 payload (operand.ByRegister area width register bits) =
     register_coding.spell (area, (width, (register, bits)))
 payload (operand.Parameter index width) = parameter_coding.spell (index, width)

@@ -51,7 +51,11 @@ bytes_fit (b ∷ bs) = nat_lt b 256 && bytes_fit bs
 
 -- n bytes as one field, which can't be read where fewer are left
 abbrev pub bytes_coding : ℕ → Coding (List ℕ)
-bytes_coding n = record { fits = λ bs. length bs == n && bytes_fit bs; spell = λ bs. bs; read = λ text. if nat_lt (length text) n then None else Some (take n text, drop n text) }
+bytes_coding n = record {
+  fits = λ bs. length bs == n && bytes_fit bs;
+  spell = λ bs. bs;
+  read = λ text. if nat_lt (length text) n then None else Some (take n text, drop n text);
+}
 
 -- the section of a parameter, the first of its fields: section u8 (1 VAR_INPUT, 2 VAR_OUTPUT, 3
 -- VAR_IN_OUT), width u8, byte u16, bit u8, zero u8
@@ -61,7 +65,8 @@ section_field = field_layout u8 (λ n. field_fault (field_of.Section n))
 -- the byte of a parameter: with its width w (1 to 4) inside the `instance` bytes of an FB (kind 3),
 -- 0 in an FC
 unfoldable pub parameter_byte : ℕ → ℕ → ℕ → Layout ℕ
-parameter_byte kind instance w = field_layout u16 (λ n. field_fault (field_of.ParameterByte kind instance w n))
+parameter_byte kind instance w =
+    field_layout u16 (λ n. field_fault (field_of.ParameterByte kind instance w n))
 
 -- the bit of a parameter: 0 to 7 in an FB, whatever the width is, and 0 in an FC
 unfoldable pub parameter_bit : ℕ → Layout ℕ
@@ -81,7 +86,13 @@ ParameterRow = ℕ × (ℕ × (ℕ × (ℕ × ℕ)))
 
 -- the fields of a parameter, by the row of them in the order of the image
 abbrev pub parameter_fields : ParameterRow → ParameterFields
-parameter_fields r = record { section = r.0; width = r.1.0; byte = r.1.1.0; bit = r.1.1.1.0; reserved = r.1.1.1.1 }
+parameter_fields r = record {
+  section = r.0;
+  width = r.1.0;
+  byte = r.1.1.0;
+  bit = r.1.1.1.0;
+  reserved = r.1.1.1.1;
+}
 
 -- the fields of a parameter as a row in the order of the image
 abbrev pub parameter_row : ParameterFields → ParameterRow
@@ -102,7 +113,13 @@ parameter_of_fields f = record { section = f.section; width = f.width; byte = f.
 
 -- the fields of a parameter's record; the reserved one is 0
 abbrev pub fields_of_parameter : ParameterRecord → ParameterFields
-fields_of_parameter p = record { section = p.section; width = p.width; byte = p.byte; bit = p.bit; reserved = 0 }
+fields_of_parameter p = record {
+  section = p.section;
+  width = p.width;
+  byte = p.byte;
+  bit = p.bit;
+  reserved = 0;
+}
 
 -- the six bytes of a parameter as its record
 unfoldable pub parameter_layout : ℕ → ℕ → Layout ParameterRecord
@@ -121,7 +138,8 @@ parameter_count_layout kind = field_layout u8 (λ n. field_fault (field_of.Param
 -- the number of a code block: one that its kind has, above that of the block before where this has
 -- the same kind
 unfoldable pub block_number_layout : ℕ → ℕ → ℕ → Layout ℕ
-block_number_layout kind_before before kind = field_layout u16 (λ n. field_fault (field_of.Number kind_before before kind n))
+block_number_layout kind_before before kind =
+    field_layout u16 (λ n. field_fault (field_of.Number kind_before before kind n))
 
 -- the local bytes: at most 1,024; at least 20 for an OB, which has its start information there
 unfoldable pub local_length_layout : ℕ → Layout ℕ
@@ -188,7 +206,8 @@ same_state s p = s
 
 -- as many parameters of a code block as its head counts, by its kind and instance bytes
 unfoldable pub parameters_layout : Head → Layout (List ParameterRecord)
-parameters_layout h = list_layout (λ s. parameter_layout h.kind h.instance_bytes) same_state 0 h.parameter_count
+parameters_layout h =
+    list_layout (λ s. parameter_layout h.kind h.instance_bytes) same_state 0 h.parameter_count
 
 -- how many ops have the end mark: the number of statements, where the code ends with one
 abbrev pub end_marks : List OpData → ℕ
@@ -201,7 +220,8 @@ line_after before line = line
 
 -- a line: not 0, nor below the line `before` (0 for none), else fault 9; with false any u32
 unfoldable pub line_field : Bool → ℕ → Layout ℕ
-line_field with_code_faults before = field_layout u32 (λ n. if_checked with_code_faults (field_fault (field_of.Line before n)))
+line_field with_code_faults before =
+    field_layout u32 (λ n. if_checked with_code_faults (field_fault (field_of.Line before n)))
 
 -- as many lines as the head counts, u32 each, of a code block at offset `start`; with true, fault 9
 -- at the statement count (`start` + 8) where it is another number than that of end marks
@@ -243,7 +263,15 @@ block_rows with_code_faults before start = chain_layout (head_layout before) (λ
 -- the record of a code block's parts, without counts, code length and reserved field: the lists are
 -- as long as those say
 abbrev pub block_of_parts : BlockParts → BlockRecord
-block_of_parts p = record { kind = p.head.kind; number = p.head.number; local_len = p.head.local_bytes; instance_len = p.head.instance_bytes; params = p.params; code = p.code; lines = p.lines }
+block_of_parts p = record {
+  kind = p.head.kind;
+  number = p.head.number;
+  local_len = p.head.local_bytes;
+  instance_len = p.head.instance_bytes;
+  params = p.params;
+  code = p.code;
+  lines = p.lines;
+}
 
 -- the head of a code block's record: counts and code length are those of its lists, the reserved
 -- field is 0
@@ -261,7 +289,12 @@ head_of_block b = record {
 
 -- the parts of a code block, by its record
 abbrev pub parts_of_block : BlockRecord → BlockParts
-parts_of_block b = record { head = head_of_block b; params = b.params; code = b.code; lines = b.lines }
+parts_of_block b = record {
+  head = head_of_block b;
+  params = b.params;
+  code = b.code;
+  lines = b.lines;
+}
 
 -- a code block at offset `start` of the image, as its record; nothing is noted once it was read
 -- whole
@@ -275,7 +308,8 @@ whole_note start b = Whole (start + 16 + 6 * length b.params) b
 
 -- a code block at offset `start`, noted once it was read whole, so that 6 to 8 are checked
 abbrev pub code_block_at : Bool → ℕ × ℕ → ℕ → Layout BlockRecord
-code_block_at with_code_faults before start = noted_layout (whole_note start) (plain_block with_code_faults before start)
+code_block_at with_code_faults before start =
+    noted_layout (whole_note start) (plain_block with_code_faults before start)
 
 -- a code block wherever it begins, behind one of kind and number `before`
 unfoldable pub code_block_layout : Bool → ℕ × ℕ → Layout BlockRecord
@@ -321,7 +355,13 @@ DataRow = ℕ × (ℕ × (ℕ × (ℕ × List ℕ)))
 
 -- the fields of a data block, by the row of them in the order of the image
 abbrev pub data_fields : DataRow → DataFields
-data_fields r = record { number = r.0; instance = r.1.0; length = r.1.1.0; reserved = r.1.1.1.0; bytes = r.1.1.1.1 }
+data_fields r = record {
+  number = r.0;
+  instance = r.1.0;
+  length = r.1.1.0;
+  reserved = r.1.1.1.0;
+  bytes = r.1.1.1.1;
+}
 
 -- the fields of a data block as a row in the order of the image
 abbrev pub data_row : DataFields → DataRow
@@ -349,11 +389,21 @@ number_of_instance (Some n) = suc n
 
 -- a data block without length and reserved field: it has as many bytes as the length says
 abbrev pub data_of_fields : DataFields → DataBlock
-data_of_fields f = record { number = f.number; instance_of = instance_of_number f.instance; bytes = f.bytes }
+data_of_fields f = record {
+  number = f.number;
+  instance_of = instance_of_number f.instance;
+  bytes = f.bytes;
+}
 
 -- the fields of a data block: the length is that of its bytes, the reserved field is 0
 abbrev pub fields_of_data : DataBlock → DataFields
-fields_of_data d = record { number = d.number; instance = number_of_instance d.instance_of; length = length d.bytes; reserved = 0; bytes = d.bytes }
+fields_of_data d = record {
+  number = d.number;
+  instance = number_of_instance d.instance_of;
+  length = length d.bytes;
+  reserved = 0;
+  bytes = d.bytes;
+}
 
 -- the bytes of a data block as its record
 unfoldable pub data_block_layout : ℕ × ℕ → Layout DataBlock
@@ -397,7 +447,14 @@ NameRow = ℕ × (List ℕ × (ℕ × (ℕ × (ℕ × ℕ))))
 
 -- the fields of a name, by the row of them in the order of the image
 abbrev pub name_fields : NameRow → NameFields
-name_fields r = record { length = r.0; name = r.1.0; area = r.1.1.0; width = r.1.1.1.0; byte = r.1.1.1.1.0; bit = r.1.1.1.1.1 }
+name_fields r = record {
+  length = r.0;
+  name = r.1.0;
+  area = r.1.1.0;
+  width = r.1.1.1.0;
+  byte = r.1.1.1.1.0;
+  bit = r.1.1.1.1.1;
+}
 
 -- the fields of a name as a row in the order of the image
 abbrev pub name_row : NameFields → NameRow
@@ -414,11 +471,24 @@ name_rows before =
 
 -- the record of a name's fields, without the length: the name has as many bytes
 abbrev pub name_of_fields : NameFields → NameRecord
-name_of_fields f = record { name = f.name; area = f.area; width = f.width; byte = f.byte; bit = f.bit }
+name_of_fields f = record {
+  name = f.name;
+  area = f.area;
+  width = f.width;
+  byte = f.byte;
+  bit = f.bit;
+}
 
 -- the fields of a name's record; the length is that of the name
 abbrev pub fields_of_name : NameRecord → NameFields
-fields_of_name n = record { length = length n.name; name = n.name; area = n.area; width = n.width; byte = n.byte; bit = n.bit }
+fields_of_name n = record {
+  length = length n.name;
+  name = n.name;
+  area = n.area;
+  width = n.width;
+  byte = n.byte;
+  bit = n.bit;
+}
 
 -- the bytes of a name and its variable as its record
 unfoldable pub name_record : List ℕ → Layout NameRecord
@@ -446,7 +516,12 @@ CountRow = ℕ × (ℕ × (ℕ × ℕ))
 
 -- the counts of an image, by the row of them in their order there
 abbrev pub counts_of_row : CountRow → RecordCounts
-counts_of_row r = record { code_blocks = r.0; data_blocks = r.1.0; names = r.1.1.0; reserved = r.1.1.1 }
+counts_of_row r = record {
+  code_blocks = r.0;
+  data_blocks = r.1.0;
+  names = r.1.1.0;
+  reserved = r.1.1.1;
+}
 
 -- the counts of an image as a row in their order there
 abbrev pub row_of_counts : RecordCounts → CountRow
@@ -462,7 +537,8 @@ counts_layout = seen_as counts_of_row row_of_counts count_rows
 
 -- n code blocks, checked from the first on, which has none before it
 unfoldable pub code_blocks_layout : Bool → ℕ → Layout (List BlockRecord)
-code_blocks_layout with_code_faults n = list_layout (code_block_layout with_code_faults) after_block (0, 0) n
+code_blocks_layout with_code_faults n =
+    list_layout (code_block_layout with_code_faults) after_block (0, 0) n
 
 -- n data blocks, checked from the first on, which has none before it
 abbrev pub plain_data_blocks : ℕ → Layout (List DataBlock)
@@ -490,7 +566,12 @@ BodyRow = RecordCounts × (List BlockRecord × (List DataBlock × List NameRecor
 
 -- the parts of an image behind the total length, by the row of them in its order
 abbrev pub parts_of_body_row : BodyRow → BodyParts
-parts_of_body_row r = record { counts = r.0; code_blocks = r.1.0; data_blocks = r.1.1.0; names = r.1.1.1 }
+parts_of_body_row r = record {
+  counts = r.0;
+  code_blocks = r.1.0;
+  data_blocks = r.1.1.0;
+  names = r.1.1.1;
+}
 
 -- the parts of an image behind the total length as a row in its order
 abbrev pub row_of_body_parts : BodyParts → BodyRow
@@ -503,15 +584,29 @@ body_rows with_code_faults = chain_layout counts_layout (λ c. chain_layout (cod
 
 -- the records of an image, without the counts: the lists are as long as these say
 abbrev pub records_of_parts : BodyParts → Records
-records_of_parts p = record { code_blocks = p.code_blocks; data_blocks = p.data_blocks; names = p.names }
+records_of_parts p = record {
+  code_blocks = p.code_blocks;
+  data_blocks = p.data_blocks;
+  names = p.names;
+}
 
 -- the counts of an image with these records: the lengths of their lists; the reserved field is 0
 abbrev pub counts_of : Records → RecordCounts
-counts_of r = record { code_blocks = length r.code_blocks; data_blocks = length r.data_blocks; names = length r.names; reserved = 0 }
+counts_of r = record {
+  code_blocks = length r.code_blocks;
+  data_blocks = length r.data_blocks;
+  names = length r.names;
+  reserved = 0;
+}
 
 -- the parts of an image behind the total length, by its records
 abbrev pub parts_of_records : Records → BodyParts
-parts_of_records r = record { counts = counts_of r; code_blocks = r.code_blocks; data_blocks = r.data_blocks; names = r.names }
+parts_of_records r = record {
+  counts = counts_of r;
+  code_blocks = r.code_blocks;
+  data_blocks = r.data_blocks;
+  names = r.names;
+}
 
 -- the records of an image, with their counts before them
 unfoldable pub records_layout : Bool → Layout Records
@@ -551,39 +646,83 @@ number_of_area _ _ = 0
 
 -- a parameter of a program by its record; the section stays a number, 1 IN, 2 OUT, 3 IN_OUT
 abbrev pub param_of_record : ParameterRecord → Param
-param_of_record p = record { section = p.section; width = width_of_number p.width; byte = p.byte; bit = p.bit }
+param_of_record p = record {
+  section = p.section;
+  width = width_of_number p.width;
+  byte = p.byte;
+  bit = p.bit;
+}
 
 -- the record of a parameter: its width by number, the rest as it is
 abbrev pub record_of_param : Param → ParameterRecord
-record_of_param p = record { section = p.section; width = width_number p.width; byte = p.byte; bit = p.bit }
+record_of_param p = record {
+  section = p.section;
+  width = width_number p.width;
+  byte = p.byte;
+  bit = p.bit;
+}
 
 -- a code block by its record; ops and lines are the same in both
 abbrev pub block_of_record : BlockRecord → CodeBlock
-block_of_record b = record { id = record { kind = kind_of_number b.kind; number = b.number }; local_len = b.local_len; instance_len = b.instance_len; params = map param_of_record b.params; code = b.code; lines = b.lines }
+block_of_record b = record {
+  id = record { kind = kind_of_number b.kind; number = b.number };
+  local_len = b.local_len;
+  instance_len = b.instance_len;
+  params = map param_of_record b.params;
+  code = b.code;
+  lines = b.lines;
+}
 
 -- the record of a code block: its kind and the widths of its parameters by numbers
 abbrev pub record_of_block : CodeBlock → BlockRecord
-record_of_block b = record { kind = kind_number b.id.kind; number = b.id.number; local_len = b.local_len; instance_len = b.instance_len; params = map record_of_param b.params; code = b.code; lines = b.lines }
+record_of_block b = record {
+  kind = kind_number b.id.kind;
+  number = b.id.number;
+  local_len = b.local_len;
+  instance_len = b.instance_len;
+  params = map record_of_param b.params;
+  code = b.code;
+  lines = b.lines;
+}
 
 -- a symbol by its record; the variable lies in no data block, so its place has number 0
 abbrev pub entry_of_name : NameRecord → NameEntry
-entry_of_name n = record { name = n.name; place = record { area = area_of_number n.area; number = 0; byte = n.byte; bit = n.bit }; width = width_of_number n.width }
+entry_of_name n = record {
+  name = n.name;
+  place = record { area = area_of_number n.area; number = 0; byte = n.byte; bit = n.bit };
+  width = width_of_number n.width;
+}
 
 -- the record of a symbol; where its place isn't in I, Q or M its area is 0, which is fault 4
 abbrev pub name_of_entry : NameEntry → NameRecord
-name_of_entry e = record { name = e.name; area = number_of_area e.place.number e.place.area; width = width_number e.width; byte = e.place.byte; bit = e.place.bit }
+name_of_entry e = record {
+  name = e.name;
+  area = number_of_area e.place.number e.place.area;
+  width = width_number e.width;
+  byte = e.place.byte;
+  bit = e.place.bit;
+}
 
 -- the program of records; data blocks are the same in both
 abbrev pub program_of_records : Records → Program
-program_of_records r = record { code_blocks = map block_of_record r.code_blocks; data_blocks = r.data_blocks; names = map entry_of_name r.names }
+program_of_records r = record {
+  code_blocks = map block_of_record r.code_blocks;
+  data_blocks = r.data_blocks;
+  names = map entry_of_name r.names;
+}
 
 -- the records of a program; data blocks are the same in both
 abbrev pub records_of : Program → Records
-records_of p = record { code_blocks = map record_of_block p.code_blocks; data_blocks = p.data_blocks; names = map name_of_entry p.names }
+records_of p = record {
+  code_blocks = map record_of_block p.code_blocks;
+  data_blocks = p.data_blocks;
+  names = map name_of_entry p.names;
+}
 
 -- a program as the bytes behind the total length: the counts, then all records
 unfoldable pub body_layout : Bool → Layout Program
-body_layout with_code_faults = seen_as program_of_records records_of (records_layout with_code_faults)
+body_layout with_code_faults =
+    seen_as program_of_records records_of (records_layout with_code_faults)
 
 -- the magic, `S7FB`, else fault 1; the first field of an image: magic u32, version u16, profile
 -- u16, total length u32
@@ -633,7 +772,12 @@ front_size = 12
 
 -- the front of an image of so many bytes: the magic `S7FB`, version and profile, the total length
 abbrev pub front_of : Stamp → ℕ → Front
-front_of stamp total = record { magic = 0x53374642; version = version_number stamp; profile = profile_field_of stamp; total_length = total }
+front_of stamp total = record {
+  magic = 0x53374642;
+  version = version_number stamp;
+  profile = profile_field_of stamp;
+  total_length = total;
+}
 
 -- the version and profile that the front of an image says
 abbrev pub stamp_in : Front → Stamp
@@ -641,7 +785,9 @@ stamp_in f = stamp_of f.version f.profile
 
 -- the bytes of a program: the front, with the length of them all, and the body
 unfoldable pub image : Stamp → Program → List ℕ
-image stamp p = front_layout.spell (front_of stamp (front_size + length ((body_layout false).spell p))) ++ (body_layout false).spell p
+image stamp p =
+    front_layout.spell (front_of stamp (front_size + length ((body_layout false).spell p)))
+    ++ (body_layout false).spell p
 
 -- A PROGRAM: every number fits its field, nothing in it is fault 4, and its image has at most
 -- 8,388,608 bytes
@@ -655,7 +801,10 @@ IsRight p = (body_layout true).good p ≡ true
 
 -- what is found once the last record was read; fault 10 where bytes stand behind it
 abbrev pub end_layout : Stamp → Program → Cursor → ReadResult (Stamp × Program)
-end_layout stamp p end = record { notes = if length end.rest == 0 then [] else Faulty end.at 10 ∷ []; found = Some ((stamp, p), end) }
+end_layout stamp p end = record {
+  notes = if length end.rest == 0 then [] else Faulty end.at 10 ∷ [];
+  found = Some ((stamp, p), end);
+}
 
 -- the body of an image read from `size` bytes, all behind the total length; fault 10 where bytes
 -- stand behind its last record
@@ -670,7 +819,8 @@ read_cut_off with_code_faults stamp size total cur =
     if nat_lt total 20 || nat_lt size total then reading_ended 8 3
     else if nat_lt 8388608 total then reading_ended 8 4
     else record {
-      notes = (if size == total then [] else Faulty total 10 ∷ []) ++ (read_body with_code_faults stamp (total - front_size) cur).notes;
+      notes = (if size == total then [] else Faulty total 10 ∷ [])
+          ++ (read_body with_code_faults stamp (total - front_size) cur).notes;
       found = (read_body with_code_faults stamp (total - front_size) cur).found;
     }
 

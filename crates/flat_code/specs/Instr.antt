@@ -23,6 +23,8 @@ pub data Instr : Type 0 where
   -- JL, the jump list: accumulator 1 picks one of the targets, and else it goes on at `otherwise`
   JumpsByList : (targets : List ℕ) (otherwise : ℕ) → Instr
   -- CALL, UC and CC of a function, function block or system function
-  Calls : (how : CallOperation) (block : BlockId) (instance : Option ℕ) (passings : List Passing) → Instr
+  Calls :
+      (how : CallOperation) (block : BlockId) (instance : Option ℕ) (passings : List Passing)
+      → Instr
   -- BE, BEC and BEU
   Returns : (how : EndOperation) → Instr

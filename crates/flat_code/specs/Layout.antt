@@ -41,7 +41,8 @@ reading_given x cur = record { notes = []; found = Some (x, cur) }
 
 -- reading goes on with what was found and the place behind it; where nothing was found it ends
 -- there
-abbrev pub go_on : {A B : Type 0} → List Note → Option (A × Cursor) → (A → Cursor → ReadResult B) → ReadResult B
+abbrev pub go_on :
+    {A B : Type 0} → List Note → Option (A × Cursor) → (A → Cursor → ReadResult B) → ReadResult B
 go_on notes None f = record { notes = notes; found = None }
 go_on notes (Some x) f = record { notes = notes ++ (f x.0 x.1).notes; found = (f x.0 x.1).found }
 
@@ -64,11 +65,18 @@ is_fine (Some code) = false
 -- are missing, or that name no value) and ends the reading
 abbrev pub field_of : {A : Type 0} → (A → Option ℕ) → Cursor → Option (A × List ℕ) → ReadResult A
 field_of fault_in cur None = reading_ended cur.at 3
-field_of fault_in cur (Some r) = record { notes = fault_note cur.at (fault_in r.0); found = Some (r.0, record { at = cur.at + (length cur.rest - length r.1); rest = r.1 }) }
+field_of fault_in cur (Some r) = record {
+  notes = fault_note cur.at (fault_in r.0);
+  found = Some (r.0, record { at = cur.at + (length cur.rest - length r.1); rest = r.1 });
+}
 
 -- a field is good where its value fits and has no fault; a fault is noted, and reading goes on
 abbrev pub field_layout : {A : Type 0} → Coding A → (A → Option ℕ) → Layout A
-field_layout c fault_in = record { spell = c.spell; good = λ x. c.fits x && is_fine (fault_in x); read = λ cur. field_of fault_in cur (c.read cur.rest) }
+field_layout c fault_in = record {
+  spell = c.spell;
+  good = λ x. c.fits x && is_fine (fault_in x);
+  read = λ cur. field_of fault_in cur (c.read cur.rest);
+}
 
 -- two values one behind the other; the layout of the second may depend on the first
 abbrev pub chain_layout : {A B : Type 0} → Layout A → (A → Layout B) → Layout (A × B)
@@ -88,7 +96,11 @@ checked_layout at fault l = record {
 
 -- a layout that depends on the offset at which its value begins; its bytes don't
 abbrev pub located_layout : {A : Type 0} → (ℕ → Layout A) → Layout A
-located_layout l = record { spell = (l 0).spell; good = (l 0).good; read = λ cur. (l cur.at).read cur }
+located_layout l = record {
+  spell = (l 0).spell;
+  good = (l 0).good;
+  read = λ cur. (l cur.at).read cur;
+}
 
 -- the bytes of values one behind the other; the layout of each depends on a state of those before
 -- it
@@ -104,18 +116,27 @@ good_many l next s (suc n) [] = false
 good_many l next s (suc n) (x ∷ xs) = (l s).good x && good_many l next (next s x) n xs
 
 -- n values from left to right; one at which reading ends is the last, and no list is found
-abbrev pub read_many : {S A : Type 0} → (S → Layout A) → (S → A → S) → S → ℕ → Cursor → ReadResult (List A)
+abbrev pub read_many :
+    {S A : Type 0} → (S → Layout A) → (S → A → S) → S → ℕ → Cursor → ReadResult (List A)
 read_many l next s zero cur = reading_given [] cur
 read_many l next s (suc n) cur = bind_reading ((l s).read cur) (λ x after. bind_reading (read_many l next (next s x) n after) (λ xs end. reading_given (x ∷ xs) end))
 
 -- n values; `s` is the state before the first of them, `next` the state behind one
 abbrev pub list_layout : {S A : Type 0} → (S → Layout A) → (S → A → S) → S → ℕ → Layout (List A)
-list_layout l next s n = record { spell = spell_many l next s; good = good_many l next s n; read = read_many l next s n }
+list_layout l next s n = record {
+  spell = spell_many l next s;
+  good = good_many l next s n;
+  read = read_many l next s n;
+}
 
 -- a layout whose values are of another type, with the bytes and faults of the layout `l`: `to`
 -- makes such a value of one of `l`, `from` the one of `l` that is spelled
 abbrev pub seen_as : {A B : Type 0} → (A → B) → (B → A) → Layout A → Layout B
-seen_as to from l = record { spell = λ y. l.spell (from y); good = λ y. l.good (from y); read = λ cur. bind_reading (l.read cur) (λ x end. reading_given (to x) end) }
+seen_as to from l = record {
+  spell = λ y. l.spell (from y);
+  good = λ y. l.good (from y);
+  read = λ cur. bind_reading (l.read cur) (λ x end. reading_given (to x) end);
+}
 
 -- a value that was read whole is noted
 abbrev pub noted_layout : {A : Type 0} → (A → Note) → Layout A → Layout A

@@ -15,8 +15,15 @@ lens_of (d ∷ ds) = (d.number, length d.bytes) ∷ lens_of ds
 
 -- what the faults of a block depend on besides its ops, among the code blocks `all`, and by number
 -- and length of the data blocks, if all were read
-abbrev pub environment_of_block : Option (List (ℕ × ℕ)) → List BlockRecord → BlockRecord → Environment
-environment_of_block data_lens all b = record { kind = b.kind; local_len = b.local_len; params = b.params; blocks = map signature_of all; data_lens = data_lens }
+abbrev pub environment_of_block :
+    Option (List (ℕ × ℕ)) → List BlockRecord → BlockRecord → Environment
+environment_of_block data_lens all b = record {
+  kind = b.kind;
+  local_len = b.local_len;
+  params = b.params;
+  blocks = map signature_of all;
+  data_lens = data_lens;
+}
 
 -- THE FAULTS OF BYTES, as offset and code: those of the fields, and those of the ops of each block that
 -- was read whole
@@ -29,7 +36,8 @@ whole_blocks (Whole start block ∷ notes) = (start, block) ∷ whole_blocks not
 whole_blocks (AllBlocks blocks ∷ notes) = whole_blocks notes
 
 -- the data blocks of a later note, if there is one, else those of the note before
-abbrev pub later_data_blocks : Option (List DataBlock) → Option (List DataBlock) → Option (List DataBlock)
+abbrev pub later_data_blocks :
+    Option (List DataBlock) → Option (List DataBlock) → Option (List DataBlock)
 later_data_blocks before None = before
 later_data_blocks before (Some blocks) = Some blocks
 
@@ -46,9 +54,12 @@ blocks_of [] = []
 blocks_of (b ∷ bs) = b.1 ∷ blocks_of bs
 
 -- the faults 6 to 8 of each block, by the offset of its code; a call finds the blocks of `all`
-abbrev pub op_faults_of_blocks : Option (List (ℕ × ℕ)) → List BlockRecord → List (ℕ × BlockRecord) → List (ℕ × ℕ)
+abbrev pub op_faults_of_blocks :
+    Option (List (ℕ × ℕ)) → List BlockRecord → List (ℕ × BlockRecord) → List (ℕ × ℕ)
 op_faults_of_blocks data_lens all [] = []
-op_faults_of_blocks data_lens all (b ∷ bs) = block_faults (environment_of_block data_lens all b.1) b.0 b.1.code ++ op_faults_of_blocks data_lens all bs
+op_faults_of_blocks data_lens all (b ∷ bs) =
+    block_faults (environment_of_block data_lens all b.1) b.0 b.1.code
+    ++ op_faults_of_blocks data_lens all bs
 
 -- the faults that reading noted, and those of the ops of the blocks that were read whole
 abbrev pub faults_in_notes : List Note → List (ℕ × ℕ)
@@ -67,7 +78,9 @@ pub record GivesProgram (text : List ℕ) (stamp : Stamp) (p : Program) : Type 0
 -- no op of any block has a fault 6, 7 or 8, where calls find the blocks of `all`
 abbrev pub AreVerified : List (ℕ × ℕ) → List BlockRecord → List BlockRecord → Type 0
 AreVerified data_lens all [] = Unit {0}
-AreVerified data_lens all (b ∷ bs) = (block_faults (environment_of_block (Some data_lens) all b) 0 b.code ≡ []) × AreVerified data_lens all bs
+AreVerified data_lens all (b ∷ bs) =
+    (block_faults (environment_of_block (Some data_lens) all b) 0 b.code ≡ [])
+    × AreVerified data_lens all bs
 
 -- A PROGRAM VERIFIES where no field, and no op of any block, has a fault
 pub record Verifies (p : Program) : Type 0 where

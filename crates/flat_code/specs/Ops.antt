@@ -23,7 +23,8 @@ is_op code operand = nat_lt code 128 && admits (takes_of code) operand && payloa
 
 -- whether an operation takes the operand, so that the two make an op
 unfoldable pub is_instruction : Operation → Operand → Bool
-is_instruction operation operand = admits (takes_of_operation operation) operand && payload_fits operand
+is_instruction operation operand =
+    admits (takes_of_operation operation) operand && payload_fits operand
 
 -- an op that the tables have: a code below 16#80, a form that it takes, values that fit the payload
 abbrev pub IsOp : OpData → Type 0

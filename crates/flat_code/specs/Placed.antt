@@ -11,7 +11,8 @@ use Rattle.plc_base.specs.declared.instructions.Check.TheVariants as check
 -- the op at an offset and the offset after it, of ops that begin at an offset; none where no op begins there
 abbrev pub op_placed : ℕ → List OpData → ℕ → Option (OpData × ℕ)
 op_placed from [] at = None
-op_placed from (op ∷ ops) at = if from == at then Some (op, from + size_of_op op) else op_placed (from + size_of_op op) ops at
+op_placed from (op ∷ ops) at =
+    if from == at then Some (op, from + size_of_op op) else op_placed (from + size_of_op op) ops at
 
 -- the line of the statement that begins at an offset, of ops that begin at an offset; `begins_its_statement`: whether
 -- a statement begins with the first of them. None where no statement begins there
@@ -34,7 +35,9 @@ pub record PlacedOp : Type 0 where
 
 -- whether an op code is one of A( to XN(, which open a bracket and whose codes stand together
 abbrev pub is_opening : ℕ → Bool
-is_opening code = nat_le (op_code_of (operation.Nest check.A)) code && nat_le code (op_code_of (operation.Nest check.Xn))
+is_opening code =
+    nat_le (op_code_of (operation.Nest check.A)) code
+    && nat_le code (op_code_of (operation.Nest check.Xn))
 
 -- open brackets without the innermost, which is the last of the list; none where none is open
 abbrev pub outer_brackets : List OpenBracket → List OpenBracket
@@ -97,7 +100,8 @@ most_zones = 8
 
 -- the op codes of open brackets, the outermost first; None where more than seven are open
 abbrev pub codes_of_few_brackets : List OpenBracket → Option (List ℕ)
-codes_of_few_brackets brackets = if nat_le (length brackets) most_brackets then Some (bracket_codes brackets) else None
+codes_of_few_brackets brackets =
+    if nat_le (length brackets) most_brackets then Some (bracket_codes brackets) else None
 
 -- a statement of a block: the offset at which it begins, the brackets that stand open there, and how
 -- many zones
@@ -137,9 +141,11 @@ last_op p = ending_op p.op p.rest
 -- the brackets that stand open behind all ops, of which the first begins at an offset, behind these
 abbrev pub open_behind : ℕ → List OpenBracket → List OpData → List OpenBracket
 open_behind at brackets [] = brackets
-open_behind at brackets (op ∷ ops) = open_behind (at + size_of_op op) (brackets_after at op.code brackets) ops
+open_behind at brackets (op ∷ ops) =
+    open_behind (at + size_of_op op) (brackets_after at op.code brackets) ops
 
 -- the zones that stand open behind all ops, of which the first begins at an offset, behind these
 abbrev pub zones_left : ℕ → List ℕ → List OpData → List ℕ
 zones_left at zones [] = zones
-zones_left at zones (op ∷ ops) = zones_left (at + size_of_op op) (zones_behind_op at op.code zones) ops
+zones_left at zones (op ∷ ops) =
+    zones_left (at + size_of_op op) (zones_behind_op at op.code zones) ops

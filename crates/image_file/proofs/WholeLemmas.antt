@@ -247,7 +247,7 @@ code_block_notes : (before : ℕ × ℕ) → Notes BlockRecord (code_block_layou
 unfolding code_block_layout plain_block
 code_block_notes before = located_notes (code_block_at true before) one (λ at. remembered_notes (whole_note at) (plain_block true before at) one (one_block at) (seen_notes (λ r. block_of_parts (parts_of_block_row r)) (λ b. row_of_block_parts (parts_of_block b)) (block_rows true before at) (λ x. nothing) (λ b. nothing) (λ x. refl) (block_rows_notes before at)))
 
-singles : (bs : List BlockRecord) → all_of one bs ≡ (bs, None)
+singles : (bs : List BlockRecord) → all_of one bs ≡ record { codes = bs; datas = None }
 unfolding all_of one join nothing
 singles [] = refl
 singles (b ∷ bs) = ap (λ (z : NotedBlocks). let y : NotedBlocks = record { codes = b ∷ z.codes; datas = later_data_blocks None z.datas } in y) (singles bs)

@@ -24,5 +24,6 @@ pub record IsImageOf (bytes : List ℕ) (l : LoadedProgram) : Type 0 where
 -- memory is wanting
 abbrev pub GivesBack : Program → Stamp → Result LoadedProgram LoadError → Type 0
 GivesBack p stamp (Ok l) = (l.program ≡ p) × (l.profile ≡ profile_of stamp)
-GivesBack p stamp (Err (error.Fault f)) = (Verifies p → ⊥) × IsLeastFault f (faults_of (image stamp p))
+GivesBack p stamp (Err (error.Fault f)) =
+    (Verifies p → ⊥) × IsLeastFault f (faults_of (image stamp p))
 GivesBack p stamp (Err error.NoMemory) = Unit {0}

@@ -20,7 +20,8 @@ ImagesAreOfOne =
 abbrev pub ImagesAreRead : Type 0
 ImagesAreRead =
     (s : Stamp) (p : Program) → IsProgram p → IsRight p
-    → (end : Cursor) × ((read_image (image s p)).found ≡ Some ((s, p), end)) × (faults_in (read_image (image s p)).notes ≡ [])
+    → (end : Cursor) × ((read_image (image s p)).found ≡ Some ((s, p), end))
+    × (faults_in (read_image (image s p)).notes ≡ [])
 
 -- bytes that are read with no fault are the image of what was found
 abbrev pub ReadingsAreImages : Type 0
@@ -34,7 +35,8 @@ ReadingsAreImages =
 abbrev pub GivesExactlyImages : Type 0
 GivesExactlyImages =
     (bytes : List ℕ) (s : Stamp) (p : Program) → ((i : ℕ) → get_or bytes i 0 < 256)
-    → (GivesProgram bytes s p → IsLoadable bytes s p) × (IsLoadable bytes s p → GivesProgram bytes s p)
+    → (GivesProgram bytes s p → IsLoadable bytes s p)
+    × (IsLoadable bytes s p → GivesProgram bytes s p)
 
 -- the fault that one pass keeps is the least of all
 abbrev pub KeptIsLeast : Type 0

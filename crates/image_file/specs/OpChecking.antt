@@ -12,7 +12,13 @@ use Rattle.image_file.specs.declared.verifying.Place.{Place}
 
 -- what the faults of a block depend on besides its ops, by the record of the code
 abbrev pub around_of : BlockEnvironment → Environment
-around_of s = record { kind = s.kind; local_len = s.local_len; params = s.params.now; blocks = s.blocks.now; data_lens = option_map (λ d. d.now) s.data_lens }
+around_of s = record {
+  kind = s.kind;
+  local_len = s.local_len;
+  params = s.params.now;
+  blocks = s.blocks.now;
+  data_lens = option_map (λ d. d.now) s.data_lens;
+}
 
 -- what is called, by its kind, its instance bytes and its parameters as the code finds them
 abbrev pub callee_values : ℕ × ℕ × Bor (List ParameterRecord) → CalleeSeen
@@ -30,4 +36,11 @@ ZonesUpTo n (at ∷ zones) = (at ≤ n) × ZonesUpTo n zones
 
 -- an op in its place, by what the checker has at the place
 abbrev pub placed_of : OpData → Place → PlacedOp
-placed_of op p = record { at = p.at; brackets = p.brackets.now; zones = p.zones.now; before = p.before.now; op = op; rest = p.rest.now }
+placed_of op p = record {
+  at = p.at;
+  brackets = p.brackets.now;
+  zones = p.zones.now;
+  before = p.before.now;
+  op = op;
+  rest = p.rest.now;
+}

@@ -25,7 +25,8 @@ op_at_offset id at blocks = option_and_then (λ b. op_placed 0 b.code at) (block
 
 -- the source line of the statement of a block at an offset
 abbrev pub line_at_offset : BlockId → ℕ → List CodeBlock → Option ℕ
-line_at_offset id at blocks = option_and_then (λ b. line_placed 0 true b.code b.lines at) (block_by_id id blocks)
+line_at_offset id at blocks =
+    option_and_then (λ b. line_placed 0 true b.code b.lines at) (block_by_id id blocks)
 
 -- the bytes of the data block of a number
 abbrev pub data_bytes_of : ℕ → List DataBlock → Option (List ℕ)

@@ -55,7 +55,11 @@ with_all datas (AllBlocks found ∷ notes) = with_all (Some found) notes
 
 -- what is kept once notes have come: the lesser fault, more code blocks, the data blocks
 unfoldable pub log_after : Log → List Note → Log
-log_after log notes = record { least = with_faults log.least (faults_in notes); blocks = with_wholes log.blocks notes; datas = with_all log.datas notes }
+log_after log notes = record {
+  least = with_faults log.least (faults_in notes);
+  blocks = with_wholes log.blocks notes;
+  datas = with_all log.datas notes;
+}
 
 -- what one pass has in the end: a value and what follows, or that it ended, with what it kept
 pub data Ran (A : Type 0) : Type 0 where
@@ -84,7 +88,11 @@ started_block s = (s.start, s.block)
 
 -- what the reader has kept so far
 abbrev pub log_of : Reader → Log
-log_of r = record { least = r.least; blocks = map started_block r.blocks.items; datas = option_map (λ v. v.items) r.datas }
+log_of r = record {
+  least = r.least;
+  blocks = map started_block r.blocks.items;
+  datas = option_map (λ v. v.items) r.datas;
+}
 
 -- where the reader stands: the offset, and the bytes that are left
 abbrev pub reader_cursor : Reader → Cursor
@@ -123,7 +131,9 @@ with_front xs (Stops log) = Stops log
 -- a code block was read and kept, and its kind and number are answered, or reading ended at a
 -- fault; nothing is said where memory is wanting
 abbrev pub SeesBlock : Result (ℕ × ℕ) Stop → Reader → Ran BlockRecord → Type 0
-SeesBlock (Ok key) r all = (b : BlockRecord) × (Goes b (reader_cursor r) (log_of r) ≡ all) × (key.0 ≡ b.kind) × (key.1 ≡ b.number)
+SeesBlock (Ok key) r all =
+    (b : BlockRecord) × (Goes b (reader_cursor r) (log_of r) ≡ all) × (key.0 ≡ b.kind)
+    × (key.1 ≡ b.number)
 SeesBlock (Err stop.AtFault) r all = Stops (log_of r) ≡ all
 SeesBlock (Err stop.NoMemory) r all = Unit {0}
 
@@ -148,18 +158,30 @@ SeesDatas (Err stop.NoMemory) r all = Unit {0}
 -- the counts of code blocks, data blocks and names, and the reserved field behind them, by what the
 -- reader answers
 abbrev pub counts_values : CountsRead → RecordCounts
-counts_values c = record { code_blocks = c.code_blocks; data_blocks = c.data_blocks; names = c.names; reserved = c.reserved }
+counts_values c = record {
+  code_blocks = c.code_blocks;
+  data_blocks = c.data_blocks;
+  names = c.names;
+  reserved = c.reserved;
+}
 
 -- all records were read, the names are answered and the blocks kept, or reading ended at a fault;
 -- nothing is said where memory is wanting
-abbrev pub SeesRecords : {X : Type 0} → (X → List NameRecord) → Result X Stop → Reader → Ran Records → Type 0
-SeesRecords view (Ok names) r all = (x : Records) × (Goes x (reader_cursor r) (log_of r) ≡ all) × (x.names ≡ view names)
+abbrev pub SeesRecords :
+    {X : Type 0} → (X → List NameRecord) → Result X Stop → Reader → Ran Records → Type 0
+SeesRecords view (Ok names) r all =
+    (x : Records) × (Goes x (reader_cursor r) (log_of r) ≡ all) × (x.names ≡ view names)
 SeesRecords view (Err stop.AtFault) r all = Stops (log_of r) ≡ all
 SeesRecords view (Err stop.NoMemory) r all = Unit {0}
 
 -- the front of an image, its header up to the total length, by what the reader answers
 abbrev pub front_values : FrontRead → Front
-front_values f = record { magic = f.magic; version = f.version; profile = f.profile; total_length = f.total_length }
+front_values f = record {
+  magic = f.magic;
+  version = f.version;
+  profile = f.profile;
+  total_length = f.total_length;
+}
 
 -- the version and profile of an image, and its names
 abbrev pub found_values : FoundRead → Stamp × List NameRecord
@@ -171,7 +193,9 @@ run_of_read r log = run_result r.found (log_after log r.notes)
 
 -- an image was read whole, or reading ended at a fault
 abbrev pub SeesFound : Option (Stamp × List NameRecord) → Reader → Ran (Stamp × Program) → Type 0
-SeesFound (Some found) r all = (x : Records) × (end : Cursor) × (Goes (found.0, program_of_records x) end (log_of r) ≡ all) × (x.names ≡ found.1)
+SeesFound (Some found) r all =
+    (x : Records) × (end : Cursor) × (Goes (found.0, program_of_records x) end (log_of r) ≡ all)
+    × (x.names ≡ found.1)
 SeesFound None r all = Stops (log_of r) ≡ all
 
 -- an image was read whole, and its version and profile and its names are answered, or reading ended at a
@@ -182,20 +206,29 @@ SeesImage (Err stop.AtFault) r all = SeesFound None r all
 SeesImage (Err stop.NoMemory) r all = Unit {0}
 
 -- what was kept is what bytes hold, as far as they could be read
-abbrev pub HasFound : List ℕ → List (ℕ × BlockRecord) → Option (List DataBlock) → Option (Stamp × List NameRecord) → Type 0
+abbrev pub HasFound :
+    List ℕ → List (ℕ × BlockRecord) → Option (List DataBlock) → Option (Stamp × List NameRecord)
+    → Type 0
 HasFound text blocks datas None = (read_image text).found ≡ None
-HasFound text blocks datas (Some found) = (x : Records) × (end : Cursor) × ((read_image text).found ≡ Some ((found.0, program_of_records x), end)) × (x.names ≡ found.1) × (blocks ≡ whole_blocks (read_image text).notes) × (datas ≡ all_blocks (read_image text).notes)
+HasFound text blocks datas (Some found) =
+    (x : Records) × (end : Cursor)
+    × ((read_image text).found ≡ Some ((found.0, program_of_records x), end)) × (x.names ≡ found.1)
+    × (blocks ≡ whole_blocks (read_image text).notes) × (datas ≡ all_blocks (read_image text).notes)
 
 -- the faults of the ops of the blocks that were read, by what one pass keeps
 abbrev pub checked_faults : Log → List (ℕ × ℕ)
-checked_faults log = op_faults_of_blocks (option_map lens_of log.datas) (blocks_of log.blocks) log.blocks
+checked_faults log =
+    op_faults_of_blocks (option_map lens_of log.datas) (blocks_of log.blocks) log.blocks
 
 -- the program of an image that was read whole
 abbrev pub program_read : ImageRead → Program
-program_read image = program_from (map started_block image.blocks.items) image.data_blocks.items image.names.items
+program_read image =
+    program_from (map started_block image.blocks.items) image.data_blocks.items image.names.items
 
 -- the least fault, or all that was read where there is none
-abbrev pub HoldsAll : Option LoadFault → List Started → Option (List DataBlock) → Option FoundRead → CheckResult → Type 0
+abbrev pub HoldsAll :
+    Option LoadFault → List Started → Option (List DataBlock) → Option FoundRead → CheckResult
+    → Type 0
 HoldsAll least blocks datas found (outcome.Faulty f) = least ≡ Some f
 HoldsAll least blocks datas found (outcome.Clean image) =
     (least ≡ None) × (image.blocks.items ≡ blocks) × (datas ≡ Some image.data_blocks.items)

@@ -12,7 +12,8 @@ use Rattle.image_file.specs.Readers.{block_by_id}
 -- the place of the first number in a list that is the offset `at`; None where none is
 abbrev pub start_index : ℕ → List ℕ → Option ℕ
 start_index at [] = None
-start_index at (start ∷ starts) = if start == at then Some 0 else option_map suc (start_index at starts)
+start_index at (start ∷ starts) =
+    if start == at then Some 0 else option_map suc (start_index at starts)
 
 -- the number that a table of places has where there is none: it is past the end of each list
 abbrev pub no_index : ℕ
@@ -30,11 +31,14 @@ pub record IsTableOf (starts : List ℕ) (len : ℕ) (table : List ℕ) : Type 0
   -- each place is below the entry that stands for none
   pub few : length starts ≤ no_index
   -- each entry is the place of the start at that offset
-  pub places : (at : ℕ) → at < len → slice_index_or table at no_index ≡ table_entry (start_index at starts)
+  pub places :
+      (at : ℕ) → at < len → slice_index_or table at no_index ≡ table_entry (start_index at starts)
 
 -- a table finds, by offset, the statements of a block
 abbrev pub FindsStatements : List StatementSpot → List ℕ → Type 0
-FindsStatements spots table = (at : ℕ) → option_and_then (λ place. slice_get spots place) (slice_get table at) ≡ spot_at spots at
+FindsStatements spots table =
+    (at : ℕ)
+    → option_and_then (λ place. slice_get spots place) (slice_get table at) ≡ spot_at spots at
 
 -- a table finds, by number, the lengths of data blocks
 abbrev pub FindsLens : List (ℕ × ℕ) → List ℕ → Type 0
@@ -56,9 +60,13 @@ found_callee blocks table key = option_map signature_callee (option_and_then (λ
 -- a table finds functions and function blocks by number: the first block of a kind and number
 pub record FindsCallees (blocks : List BlockSignature) (table : List ℕ) : Type 0 where
   -- functions (kind 2) stand at even keys
-  pub functions : (number : ℕ) → number < 65536 → found_callee blocks table (2 * number) ≡ block_with 2 number blocks
+  pub functions :
+      (number : ℕ) → number < 65536
+      → found_callee blocks table (2 * number) ≡ block_with 2 number blocks
   -- function blocks (kind 3) stand at odd keys
-  pub function_blocks : (number : ℕ) → number < 65536 → found_callee blocks table (2 * number + 1) ≡ block_with 3 number blocks
+  pub function_blocks :
+      (number : ℕ) → number < 65536
+      → found_callee blocks table (2 * number + 1) ≡ block_with 3 number blocks
 
 -- a block's code and lines are as short as those of a program
 pub record HasSmallCode (block : CodeBlock) : Type 0 where
@@ -80,14 +88,18 @@ slots = 6144
 -- for another block
 abbrev pub slot_of : BlockId → Option ℕ
 slot_of id =
-    if nat_lt (kind_order id.kind) 3 && nat_lt id.number 2048 then Some (2048 * kind_order id.kind + id.number) else None
+    if nat_lt (kind_order id.kind) 3 && nat_lt id.number 2048
+    then Some (2048 * kind_order id.kind + id.number)
+    else None
 
 -- a table has, by slot, where a block stands in a list
 pub record FindsBlocks (blocks : List CodeBlock) (table : List ℕ) : Type 0 where
   -- it has an entry for each slot
   pub size : length table ≡ slots
   -- the entry of a block's slot is the block's place
-  pub there : (id : BlockId) (slot : ℕ) → slot_of id ≡ Some slot → slice_get blocks (slice_index_or table slot 0) ≡ block_by_id id blocks
+  pub there :
+      (id : BlockId) (slot : ℕ) → slot_of id ≡ Some slot
+      → slice_get blocks (slice_index_or table slot 0) ≡ block_by_id id blocks
 
 -- each block of a program has a slot
 abbrev pub HaveSlots : List CodeBlock → Type 0

@@ -12,4 +12,8 @@ AreFew (b ∷ bs) = (length b.params ≤ 60) × AreFew bs
 
 -- the program of what was read
 abbrev pub program_from : List (ℕ × BlockRecord) → List DataBlock → List NameRecord → Program
-program_from blocks datas names = record { code_blocks = map block_of_record (blocks_of blocks); data_blocks = datas; names = map entry_of_name names }
+program_from blocks datas names = record {
+  code_blocks = map block_of_record (blocks_of blocks);
+  data_blocks = datas;
+  names = map entry_of_name names;
+}

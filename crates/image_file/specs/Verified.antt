@@ -64,12 +64,16 @@ pub record IsReaderOp (ops : List OpData) (at : ℕ) (op : OpData) (next : ℕ) 
 
 -- of any ops the one that the readers give at an offset is the one in its place
 abbrev pub OpsArePlaced : Type 0
-OpsArePlaced = (ops : List OpData) (at : ℕ) (op : OpData) (next : ℕ) → op_placed 0 ops at ≡ Some (op, next) → IsReaderOp ops at op next
+OpsArePlaced =
+    (ops : List OpData) (at : ℕ) (op : OpData) (next : ℕ) → op_placed 0 ops at ≡ Some (op, next)
+    → IsReaderOp ops at op next
 
 -- `ops` stand behind an op of a block: the first of them is the next op in its place; where there
 -- are none the op is BE, ends its statement, and no bracket and no zone stands open there
 abbrev pub HasNext : CodeBlock → PlacedOp → List OpData → Type 0
-HasNext b q [] = (q.op.code ≡ op_code_of (operation.End ends.Be)) × (q.op.last ≡ true) × (q.brackets ≡ []) × (q.zones ≡ [])
+HasNext b q [] =
+    (q.op.code ≡ op_code_of (operation.End ends.Be)) × (q.op.last ≡ true) × (q.brackets ≡ [])
+    × (q.zones ≡ [])
 HasNext b q (op ∷ ops) = placed_at (q.at + size_of_op q.op) (code_places b.code) ≡ Some (record {
   at = q.at + size_of_op q.op;
   brackets = brackets_after q.at q.op.code q.brackets;
@@ -92,7 +96,8 @@ pub record StatementIsRight (q : PlacedOp) : Type 0 where
 
 -- in a program that verifies a statement has at most 64 ops, all but the last USEDB or PASS
 abbrev pub StatementsAreRight : Type 0
-StatementsAreRight = (p : Program) (b : CodeBlock) (q : PlacedOp) → IsVerifiedOp p b q → StatementIsRight q
+StatementsAreRight =
+    (p : Program) (b : CodeBlock) (q : PlacedOp) → IsVerifiedOp p b q → StatementIsRight q
 
 -- each statement has a line
 pub record HasLine (b : CodeBlock) (at : ℕ) : Type 0 where
@@ -103,7 +108,9 @@ pub record HasLine (b : CodeBlock) (at : ℕ) : Type 0 where
 
 -- in a program that verifies each statement has a source line, found where its first op begins
 abbrev pub StatementsHaveLines : Type 0
-StatementsHaveLines = (p : Program) (b : CodeBlock) (q : PlacedOp) → IsVerifiedOp p b q → begins_its_statement q ≡ true → HasLine b q.at
+StatementsHaveLines =
+    (p : Program) (b : CodeBlock) (q : PlacedOp) → IsVerifiedOp p b q
+    → begins_its_statement q ≡ true → HasLine b q.at
 
 -- in a program that verifies each op is one of the table
 abbrev pub OpsAreOfTable : Type 0
@@ -164,11 +171,16 @@ pub record Lands (b : CodeBlock) (q : PlacedOp) (target : ℕ) : Type 0 where
 -- in a program that verifies each jump, JL and LOOP too, has as its target a statement of its
 -- block, where the same brackets and as many zones stand open
 abbrev pub JumpsLand : Type 0
-JumpsLand = (p : Program) (b : CodeBlock) (q : PlacedOp) (kind target : ℕ) → IsVerifiedOp p b q → q.op.operand ≡ operand.Jump kind target → Lands b q target
+JumpsLand =
+    (p : Program) (b : CodeBlock) (q : PlacedOp) (kind target : ℕ) → IsVerifiedOp p b q
+    → q.op.operand ≡ operand.Jump kind target → Lands b q target
 
 -- in a program that verifies at most 255 JU and nothing else stand between a JL and its target
 abbrev pub ListsLead : Type 0
-ListsLead = (p : Program) (b : CodeBlock) (q : PlacedOp) (target : ℕ) → IsVerifiedOp p b q → q.op.operand ≡ operand.Jump (jump_number jump.Jl) target → leads_to_target 255 target (q.at + size_of_op q.op) q.rest ≡ true
+ListsLead =
+    (p : Program) (b : CodeBlock) (q : PlacedOp) (target : ℕ) → IsVerifiedOp p b q
+    → q.op.operand ≡ operand.Jump (jump_number jump.Jl) target
+    → leads_to_target 255 target (q.at + size_of_op q.op) q.rest ≡ true
 
 -- at most seven brackets stand open, one of A( to XN( finds room, `)` finds an open one
 pub record BracketsAreRight (q : PlacedOp) : Type 0 where
@@ -216,15 +228,22 @@ pub record HasParam (b : CodeBlock) (index : ℕ) (w : Width) (param : Param) : 
 -- only where a bit is meant; local places lie within the local bytes; a parameter of the function
 -- is there, and an input of it isn't written
 abbrev pub FitsOperand : CodeBlock → OpData → Operand → Type 0
-FitsOperand b op (operand.Direct a w byte bit) = (has_memory_width (takes_of op.code) w ≡ true) × (is_odd_bit w bit ≡ false) × LiesWithin b a w byte
+FitsOperand b op (operand.Direct a w byte bit) =
+    (has_memory_width (takes_of op.code) w ≡ true) × (is_odd_bit w bit ≡ false)
+    × LiesWithin b a w byte
 FitsOperand b op (operand.ByMemory a w from byte) = has_memory_width (takes_of op.code) w ≡ true
-FitsOperand b op (operand.ByRegister a w register bits) = has_memory_width (takes_of op.code) w ≡ true
-FitsOperand b op (operand.Parameter index w) = (has_memory_width (takes_of op.code) w ≡ true) × (param : Param) × HasParam b index w param × (writes_operand op.code ≡ true → param.section ≡ section_in → ⊥)
+FitsOperand b op (operand.ByRegister a w register bits) =
+    has_memory_width (takes_of op.code) w ≡ true
+FitsOperand b op (operand.Parameter index w) =
+    (has_memory_width (takes_of op.code) w ≡ true) × (param : Param) × HasParam b index w param
+    × (writes_operand op.code ≡ true → param.section ≡ section_in → ⊥)
 FitsOperand b op _ = Unit {0}
 
 -- in a program that verifies each operand fits its instruction and its block
 abbrev pub OperandsFit : Type 0
-OperandsFit = (p : Program) (b : CodeBlock) (q : PlacedOp) → IsVerifiedOp p b q → FitsOperand b q.op q.op.operand
+OperandsFit =
+    (p : Program) (b : CodeBlock) (q : PlacedOp) → IsVerifiedOp p b q
+    → FitsOperand b q.op q.op.operand
 
 -- ---- USEDB and PASS
 
@@ -240,13 +259,18 @@ FitsPassed b (passed.InBlock number a w byte bit) = (a ≡ area.Db) × (is_odd_b
 -- USEDB stands first, in a statement whose last op has a place in DB; PASS stands in a statement that ends
 -- by CALL, with an index above that of the PASS before it
 abbrev pub FitsPrepared : CodeBlock → PlacedOp → Operand → Type 0
-FitsPrepared b q (operand.UseDb number) = (begins_its_statement q ≡ true) × (is_in_db (last_op q).operand ≡ true)
-FitsPrepared b q (operand.Pass index actual) = ((last_op q).code ≡ op_code_of (operation.Call calls.Call)) × (is_above index (pass_before None q.before) ≡ true) × FitsPassed b actual
+FitsPrepared b q (operand.UseDb number) =
+    (begins_its_statement q ≡ true) × (is_in_db (last_op q).operand ≡ true)
+FitsPrepared b q (operand.Pass index actual) =
+    ((last_op q).code ≡ op_code_of (operation.Call calls.Call))
+    × (is_above index (pass_before None q.before) ≡ true) × FitsPassed b actual
 FitsPrepared b q _ = Unit {0}
 
 -- in a program that verifies USEDB stands first before a place in DB, and PASS before a CALL
 abbrev pub PreparedFit : Type 0
-PreparedFit = (p : Program) (b : CodeBlock) (q : PlacedOp) → IsVerifiedOp p b q → FitsPrepared b q q.op.operand
+PreparedFit =
+    (p : Program) (b : CodeBlock) (q : PlacedOp) → IsVerifiedOp p b q
+    → FitsPrepared b q q.op.operand
 
 -- ---- calls
 
@@ -268,7 +292,9 @@ pub record FitsCall (p : Program) (q : PlacedOp) (kind number instance : ℕ) : 
 
 -- in a program that verifies each CALL, UC and CC has its block, what it passes, and its instance
 abbrev pub CallsFit : Type 0
-CallsFit = (p : Program) (b : CodeBlock) (q : PlacedOp) (kind number instance : ℕ) → IsVerifiedOp p b q → q.op.operand ≡ operand.Called kind number instance → FitsCall p q kind number instance
+CallsFit =
+    (p : Program) (b : CodeBlock) (q : PlacedOp) (kind number instance : ℕ) → IsVerifiedOp p b q
+    → q.op.operand ≡ operand.Called kind number instance → FitsCall p q kind number instance
 
 -- what is passed fits a parameter of what the statement calls
 pub record FitsParameter (p : Program) (b : CodeBlock) (called : CalleeSeen) (index : ℕ) (actual : Passed) : Type 0 where
@@ -288,11 +314,17 @@ pub record IsCalledBlock (p : Program) (kind number : ℕ) (called : CalleeSeen)
   -- the block
   pub block : CodeBlock
   -- it is a block of the program
-  pub there : block_by_id (record { kind = kind_of_number kind; number = number }) p.code_blocks ≡ Some block
+  pub there :
+      block_by_id (record { kind = kind_of_number kind; number = number }) p.code_blocks
+      ≡ Some block
   -- its head is what the call sees
   pub same : called ≡ (kind, block.instance_len, map record_of_param block.params)
 
 -- what a call of a function or function block finds is a block of the program, with the head that
 -- the call sees, whether the program verifies or not
 abbrev pub CalledAreThere : Type 0
-CalledAreThere = (p : Program) (kind number : ℕ) (called : CalleeSeen) → (kind ≡ kind_number kinds.Fc) ⊎ (kind ≡ kind_number kinds.Fb) → callee_among (block_signatures p) kind number ≡ Some called → IsCalledBlock p kind number called
+CalledAreThere =
+    (p : Program) (kind number : ℕ) (called : CalleeSeen)
+    → (kind ≡ kind_number kinds.Fc) ⊎ (kind ≡ kind_number kinds.Fb)
+    → callee_among (block_signatures p) kind number ≡ Some called
+    → IsCalledBlock p kind number called

@@ -69,7 +69,8 @@ DecidesFor id f (g ∷ gs) Later =
 abbrev pub IsFirstOf :
     Option (List (ℕ × ℕ)) → List BlockRecord → List CodeBlock → VerifyFault → Type 0
 IsFirstOf lens all [] f = ⊥
-IsFirstOf lens all (b ∷ bs) f = DecidesFor b.id f (faults_among lens all b) (IsFirstOf lens all bs f)
+IsFirstOf lens all (b ∷ bs) f =
+    DecidesFor b.id f (faults_among lens all b) (IsFirstOf lens all bs f)
 
 -- the fault of a program: that of the first block that has one
 unfoldable pub IsFaultOf : Program → VerifyFault → Type 0

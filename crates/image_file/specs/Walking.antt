@@ -5,7 +5,8 @@ use Rattle.flat_code.specs.Codes.{ops_from, code_bytes, last_place, ends_by_be, 
 
 -- the ops that were found so far, in front of those from a place on
 abbrev pub ops_behind_front : List OpData → ℕ → List ℕ → ℕ → List OpData × List ℕ
-ops_behind_front front n bytes at = (front ++ (ops_from n (drop at bytes)).0, (ops_from n (drop at bytes)).1)
+ops_behind_front front n bytes at =
+    (front ++ (ops_from n (drop at bytes)).0, (ops_from n (drop at bytes)).1)
 
 -- ops were read up to a place: the offset of the last of them, whether it ends the block, and how many
 -- the statement has so far
@@ -21,4 +22,6 @@ pub record HasReadOps (code : List ℕ) (ops : List OpData) (at before : ℕ) (e
   -- whether the last op ends the block
   pub ended : end ≡ ends_by_be ops
   -- the 65th op of a statement, if there is one, is found from here on with `count` ops before it
-  pub few : overlong_statement 0 0 (ops_from (length code) code).0 ≡ overlong_statement count at (ops_from (length code) (drop at code)).0
+  pub few :
+      overlong_statement 0 0 (ops_from (length code) code).0
+      ≡ overlong_statement count at (ops_from (length code) (drop at code)).0
