@@ -8,7 +8,7 @@ use Rattle.flat_code.specs.Blocks.{Environment, CalleeSeen}
 use Rattle.flat_code.specs.Ops.{OpData}
 use Rattle.flat_code.specs.Placed.{PlacedOp}
 use Rattle.image_file.specs.declared.environments.BlockEnvironment.{BlockEnvironment}
-use Rattle.image_file.specs.declared.verifying.Place.{Place}
+use Rattle.image_file.specs.declared.verifying.OpPlace.{OpPlace}
 
 -- what the faults of a block depend on besides its ops, by the record of the code
 abbrev pub around_of : BlockEnvironment → Environment
@@ -35,7 +35,7 @@ ZonesUpTo n [] = Unit {0}
 ZonesUpTo n (at ∷ zones) = (at ≤ n) × ZonesUpTo n zones
 
 -- an op in its place, by what the checker has at the place
-abbrev pub placed_of : OpData → Place → PlacedOp
+abbrev pub placed_of : OpData → OpPlace → PlacedOp
 placed_of op p = record {
   at = p.at;
   brackets = p.brackets.now;

@@ -5,7 +5,7 @@ ghost use Rattle.image_file.specs.Tables.{AreSmall, FindsBlocks, HaveSlots};
 
 use crate::block_table::{block_table, id_of, place_in};
 use crate::copies::program_again;
-use crate::heads::Head;
+use crate::heads::CodeBlockHead;
 use crate::loaded_blocks::LoadedBlock;
 use crate::loaded_code::LoadedCode;
 use flat_code::{CodeBlock, DataBlock, Names, Op, Program};
@@ -202,7 +202,7 @@ impl Loaded {
     }
 
     /// The head of a block. `None` exactly where it isn't a loaded code block.
-    pub fn head(&self, block: BlockId) -> Option<Head>
+    pub fn head(&self, block: BlockId) -> Option<CodeBlockHead>
         ensures { result ≡ option_map code_block_head (block_by_id block self.now.program.code_blocks) }
     {
         Some(self.block(block)?.head())
