@@ -1,4 +1,5 @@
--- The faults that are checked over whole blocks, op by op: 6 jump targets, 7 operands, 8 brackets and zones.
+-- The faults that are checked over whole blocks, op by op: 6 jump targets, 7 operands, 8 brackets
+-- and zones of the master control relay.
 use Rattle.std.specs.Prelude.{ℕ, zero, suc, ◌+◌, nat_le, nat_lt, ◌==◌, Bool, true, false, ◌&&◌, ◌||◌, not, if◌then◌else◌, List, [], ◌∷◌, ◌++◌, length, slice_get, Option, Some, None}
 use Rattle.std.specs.Option.{option_map}
 use Rattle.plc_base.specs.declared.places.Area.{Area}
@@ -29,9 +30,13 @@ use Rattle.flat_code.specs.Table.{takes_of, has_memory_width}
 
 -- what a CALL sees of a block: kind and number, the bytes of an instance, the parameters
 pub record BlockSignature : Type 0 where
+  -- the kind of the block: 1 OB, 2 FC, 3 FB
   pub kind : ℕ
+  -- the number of the block, by which with the kind a CALL names it
   pub number : ℕ
+  -- how many bytes an instance data block of it has at least; 0 but for an FB
   pub instance_len : ℕ
+  -- the parameters in the order of their declaration, by whose index a PASS names one
   pub params : List ParameterRecord
 
 -- what a CALL sees of a code block: neither its local bytes nor its ops nor their lines
@@ -43,13 +48,19 @@ signature_of b = record {
   params = b.params;
 }
 
--- what the faults of a block depend on besides its ops: its kind, local bytes and parameters; the code
--- blocks; the numbers and lengths of the data blocks, if all blocks were read, so that calls are checked
+-- what the faults of a block depend on besides the ops: the head and parameters of the block, and
+-- the other blocks of the program, as far as a call needs them
 pub record Environment : Type 0 where
+  -- the kind of the block: 1 OB, 2 FC, 3 FB
   pub kind : ℕ
+  -- how many local bytes (area L) the block has
   pub local_len : ℕ
+  -- the parameters of the block
   pub params : List ParameterRecord
+  -- all code blocks of the program, as a CALL sees them
   pub blocks : List BlockSignature
+  -- the numbers and lengths in bytes of the data blocks, once all blocks were read; None where
+  -- reading ended before, and calls aren't checked
   pub data_lens : Option (List (ℕ × ℕ))
 
 -- ---- what is called
@@ -66,12 +77,14 @@ out_record width = record { section = section_out; width = width_number width; b
 abbrev pub system_params : ℕ → Option (List ParameterRecord)
 system_params n =
     -- SRT_DINT: OB_NR, DTIME, SIGN, RET_VAL
-    if n == 32 then Some (in_record width.Word ∷ in_record width.Dword ∷ in_record width.Word ∷ out_record width.Word ∷ [])
+    if n == 32
+    then Some (in_record width.Word ∷ in_record width.Dword ∷ in_record width.Word
+    ∷ out_record width.Word ∷ [])
     -- CAN_DINT: OB_NR, RET_VAL
     else if n == 33 then Some (in_record width.Word ∷ out_record width.Word ∷ [])
     -- DIS_IRT, EN_IRT: MODE, OB_NR, RET_VAL
-    else if n == 39
-    || n == 40 then Some (in_record width.Byte ∷ in_record width.Word ∷ out_record width.Word ∷ [])
+    else if n == 39 || n == 40
+    then Some (in_record width.Byte ∷ in_record width.Word ∷ out_record width.Word ∷ [])
     -- DIS_AIRT, EN_AIRT: RET_VAL
     else if n == 41 || n == 42 then Some (out_record width.Word ∷ [])
     -- RE_TRIGR, STP
@@ -184,8 +197,9 @@ is_stray_pass p index =
     not ((last_op p).code == op_code_of (operation.Call calls.Call))
     || not (is_above index (pass_before None p.before))
 
--- whether what a PASS passes has a fault by itself, whatever its parameter: that of such an
--- operand; only a place in DB is named by its data block
+-- whether what a PASS passes has a fault by itself, whatever parameter it is for: a direct place or
+-- a parameter of the calling function has it as the operand of an op would; a place in a named data
+-- block must be in the area DB
 abbrev pub is_bad_actual : Environment → Passed → Bool
 is_bad_actual around (passed.Literal value) = false
 is_bad_actual around (passed.Direct a w byte bit) = is_bad_place around a w byte bit
@@ -256,7 +270,9 @@ is_short_instance needed (Some len) = nat_lt len needed
 -- the block has no parameters; one is given to function blocks alone, and is there and long enough
 abbrev pub is_bad_instance : List (ℕ × ℕ) → CalleeSeen → ℕ → Bool
 is_bad_instance data_lens s instance =
-    if s.0 == kind_number kinds.Fb then (if instance == 0 then not (is_empty_list s.2) else is_short_instance s.1 (length_of_data instance data_lens))
+    if s.0 == kind_number kinds.Fb
+    then (if instance == 0 then not (is_empty_list s.2)
+    else is_short_instance s.1 (length_of_data instance data_lens))
     else not (instance == 0)
 
 -- whether a call is fault 7: what is called is absent (None), a function or system function isn't
@@ -270,7 +286,8 @@ is_bad_call data_lens (Some s) instance before =
 
 -- ---- jumps
 
--- equally many open brackets, with the same op codes (16#18 to 16#1D, A( to XN() in the same order
+-- whether two places have equally many open brackets, with the same op codes (16#18 to 16#1D, A(
+-- to XN() in the same order
 abbrev pub are_same_codes : List ℕ → List ℕ → Bool
 are_same_codes [] [] = true
 are_same_codes [] (y ∷ ys) = false
@@ -303,8 +320,8 @@ are_other_brackets None others = false
 are_other_brackets (Some codes) None = true
 are_other_brackets (Some codes) (Some others) = not (are_same_codes codes others)
 
--- 8: other brackets, or another number of zones, stand open at the target of a jump than at the
--- jump
+-- the fault 8 of a jump at whose target other brackets, or another number of zones, stand open than
+-- at the jump itself; `codes`, `zones`: what stands open at the jump
 abbrev pub nesting_fault : Option (List ℕ) → ℕ → StatementSpot → Option ℕ
 nesting_fault codes zones there =
     if are_other_brackets codes there.codes || not (zones == there.zones) then Some 8 else None
@@ -335,7 +352,9 @@ operand_fault around statements p (operand.Direct a w byte bit) =
 operand_fault around statements p (operand.ByMemory a w from byte) = seven_if (lacks_width p.op w)
 operand_fault around statements p (operand.ByRegister a w register bits) =
     seven_if (lacks_width p.op w)
-operand_fault around statements p (operand.Parameter index w) = seven_if (lacks_width p.op w || lacks_own_parameter (parameter_meant around index) w || writes_operand p.op.code && is_in_parameter (parameter_meant around index))
+operand_fault around statements p (operand.Parameter index w) =
+    seven_if (lacks_width p.op w || lacks_own_parameter (parameter_meant around index) w
+    || writes_operand p.op.code && is_in_parameter (parameter_meant around index))
 operand_fault around statements p (operand.Jump kind target) = jump_fault statements p kind target
 operand_fault around statements p (operand.UseDb number) = seven_if (is_stray_use_db p)
 operand_fault around statements p (operand.Pass index actual) =
@@ -347,10 +366,13 @@ operand_fault around statements p _ = None
 abbrev pub call_fault_among : Environment → List (ℕ × ℕ) → PlacedOp → Operand → Option ℕ
 call_fault_among around data_lens p (operand.Called kind number instance) =
     seven_if (is_bad_call data_lens (callee_among around.blocks kind number) instance p.before)
-call_fault_among around data_lens p (operand.Pass index actual) = seven_if ((last_op p).code == op_code_of (operation.Call calls.Call) && misfits_call around (last_op p).operand index actual)
+call_fault_among around data_lens p (operand.Pass index actual) =
+    seven_if ((last_op p).code == op_code_of (operation.Call calls.Call)
+    && misfits_call around (last_op p).operand index actual)
 call_fault_among around data_lens p _ = None
 
--- what is called and passed is checked only where all code and data blocks were read
+-- the fault 7 of a call, or of a PASS for it, by the data blocks' numbers and lengths; none where
+-- these are missing (None), since not all blocks were read
 abbrev pub call_fault : Environment → Option (List (ℕ × ℕ)) → PlacedOp → Option ℕ
 call_fault around None p = None
 call_fault around (Some data_lens) p = call_fault_among around data_lens p p.op.operand
@@ -368,15 +390,18 @@ mark_fault op = seven_if (if prepares_statement op.code then op.last else not op
 abbrev pub bracket_fault : ℕ → List OpenBracket → Option ℕ
 bracket_fault code brackets =
     if is_opening code then (if nat_le most_brackets (length brackets) then Some 8 else None)
-    else if code == op_code_of operation.Unnest then (if is_empty_list brackets then Some 8 else None)
+    else if code == op_code_of operation.Unnest
+    then (if is_empty_list brackets then Some 8 else None)
     else None
 
 -- the fault 8 of an op's zone of the master control relay: `)MCR` without open zone, or a ninth
 -- open zone
 abbrev pub zone_fault : ℕ → List ℕ → Option ℕ
 zone_fault code zones =
-    if code == op_code_of (operation.Relay relay.Open) then (if nat_le most_zones (length zones) then Some 8 else None)
-    else if code == op_code_of (operation.Relay relay.Close) then (if is_empty_list zones then Some 8 else None)
+    if code == op_code_of (operation.Relay relay.Open)
+    then (if nat_le most_zones (length zones) then Some 8 else None)
+    else if code == op_code_of (operation.Relay relay.Close)
+    then (if is_empty_list zones then Some 8 else None)
     else None
 
 -- a fault by its code, if there is one, with the offset at which it is
@@ -405,12 +430,13 @@ abbrev pub open_faults : ℕ → List OpenBracket → List (ℕ × ℕ)
 open_faults start [] = []
 open_faults start (b ∷ bs) = (start + b.at, 8) ∷ open_faults start bs
 
--- the fault 8 of each zone that is open behind the last op, at its own `MCR(`
+-- the fault 8 of each zone that is open behind the last op, at the `MCR(` that opens it
 abbrev pub open_zone_faults : ℕ → List ℕ → List (ℕ × ℕ)
 open_zone_faults start [] = []
 open_zone_faults start (at ∷ zones) = (start + at, 8) ∷ open_zone_faults start zones
 
--- the faults of a block whose code begins at an offset
+-- the faults 6 to 8 of a block whose code begins at the offset `start`: those of its ops, then those
+-- of brackets and zones that its end leaves open
 unfoldable pub block_faults : Environment → ℕ → List OpData → List (ℕ × ℕ)
 block_faults around start ops =
     faults_over around (statement_spots ops) start (code_places ops)

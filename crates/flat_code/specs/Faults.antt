@@ -1,5 +1,5 @@
--- The faults of an image's fields, each by its code: 1 magic, 2 version, 4 a value beyond its limit or
--- out of order, 9 statement count and lines.
+-- The faults of an image's fields, each by its code: 1 magic, 2 version, 4 a value beyond its limit
+-- or out of order, 9 statement count and lines.
 use Rattle.std.specs.Prelude.{ℕ, nat_le, nat_lt, ◌+◌, ◌==◌, Bool, true, false, ◌&&◌, ◌||◌, not, if◌then◌else◌, List, [], ◌∷◌, Option, Some, None}
 use Rattle.plc_base.specs.Kinds.{kind_number}
 use Rattle.plc_base.specs.Widths.{byte_count, width_number}
@@ -45,16 +45,25 @@ field_fault (field.Magic number) = fault_unless_met (number == 0x53374642) 1
 -- 2: the version is 1 or 2
 field_fault (field.Version number) = fault_unless_met (number == 1 || number == 2) 2
 -- 4: the profile of version 2 is that of Small or Large; in version 1 the field is 0
-field_fault (field.Profile version number) = fault_unless_met (if version == 2 then is_in_range (profile_number profile.Small) (profile_number profile.Large) number else number == 0) 4
+field_fault (field.Profile version number) =
+    fault_unless_met (if version == 2
+    then is_in_range (profile_number profile.Small) (profile_number profile.Large) number
+    else number == 0) 4
 -- 4: a reserved field is 0
 field_fault (field.Reserved number) = fault_unless_met (number == 0) 4
 -- sizes, counts, kinds and numbers are within their limits, and records rise
 field_fault (field.DataBlockCount count) = fault_unless_met (nat_le count 256) 4
-field_fault (field.Kind before kind) = fault_unless_met (is_in_range (kind_number kinds.Ob) (kind_number kinds.Fb) kind && nat_le before kind) 4
+field_fault (field.Kind before kind) =
+    fault_unless_met (is_in_range (kind_number kinds.Ob) (kind_number kinds.Fb) kind
+    && nat_le before kind) 4
 field_fault (field.ParameterCount kind count) =
     fault_unless_met (nat_le count 60 && (not (kind == kind_number kinds.Ob) || count == 0)) 4
-field_fault (field.Number kind_before before kind number) = fault_unless_met (has_number kind number && (not (kind == kind_before) || nat_lt before number)) 4
-field_fault (field.LocalBytes kind bytes) = fault_unless_met (nat_le bytes 1024 && (not (kind == kind_number kinds.Ob) || nat_le 20 bytes)) 4
+field_fault (field.Number kind_before before kind number) =
+    fault_unless_met (has_number kind number
+    && (not (kind == kind_before) || nat_lt before number)) 4
+field_fault (field.LocalBytes kind bytes) =
+    fault_unless_met (nat_le bytes 1024
+    && (not (kind == kind_number kinds.Ob) || nat_le 20 bytes)) 4
 field_fault (field.InstanceBytes kind bytes) =
     fault_unless_met (if kind == kind_number kinds.Fb then nat_le bytes 16384 else bytes == 0) 4
 field_fault (field.Section section) =
