@@ -435,8 +435,8 @@ abbrev pub open_zone_faults : ℕ → List ℕ → List (ℕ × ℕ)
 open_zone_faults start [] = []
 open_zone_faults start (at ∷ zones) = (start + at, 8) ∷ open_zone_faults start zones
 
--- the faults 6 to 8 of a block whose code begins at the offset `start`: those of its ops, then those
--- of brackets and zones that its end leaves open
+-- the faults 6 to 8 of a block whose code begins at the offset `start`: those of its ops, then
+-- those of brackets and zones that its end leaves open
 unfoldable pub block_faults : Environment → ℕ → List OpData → List (ℕ × ℕ)
 block_faults around start ops =
     faults_over around (statement_spots ops) start (code_places ops)

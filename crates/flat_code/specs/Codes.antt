@@ -72,8 +72,8 @@ if_checked true found = found
 if_checked false found = None
 
 -- the offset at which reading code ends by fault 5, by the ops that were read and the bytes left
--- over: the 65th op of a statement; bytes that begin no op; a last op that isn't BE with the end mark
--- (0 where there are no ops). With false only bytes that begin no op are a fault
+-- over: the 65th op of a statement; bytes that begin no op; a last op that isn't BE with the end
+-- mark (0 where there are no ops). With false only bytes that begin no op are a fault
 abbrev pub stop_at : Bool → List OpData → List ℕ → Option ℕ
 stop_at with_code_faults ops [] =
     first_found

@@ -115,8 +115,8 @@ direct_coding =
 abbrev pub memory_area_coding : Coding Area
 memory_area_coding = such_that is_memory_area any_area_coding
 
--- the coding of the area byte of a pointer, or of a word with the number of a timer, counter or data
--- block: 16#83 M to 16#86 L
+-- the coding of the area byte of a pointer, or of a word with the number of a timer, counter or
+-- data block: 16#83 M to 16#86 L
 abbrev pub pointer_area_coding : Coding Area
 pointer_area_coding = such_that holds_pointers any_area_coding
 
@@ -126,8 +126,8 @@ abbrev pub by_memory_coding : Coding (Area × (Width × (Area × ℕ)))
 by_memory_coding =
     then_coding memory_area_coding (then_coding width_coding (then_coding pointer_area_coding u16))
 
--- the payload of form 04, register-indirect: area and width of the operand, address register 1 (AR1)
--- or 2 (AR2), the offset in bits
+-- the payload of form 04, register-indirect: area and width of the operand, address register 1
+-- (AR1) or 2 (AR2), the offset in bits
 abbrev pub register_coding : Coding (Option Area × (Width × (ℕ × ℕ)))
 register_coding =
     then_coding crossing_area_coding (then_coding width_coding (then_coding (range_coding 1 2) u32))
@@ -173,8 +173,8 @@ open_block_coding = then_coding (range_coding 1 2) u16
 abbrev pub open_by_coding : Coding (ℕ × (Area × ℕ))
 open_by_coding = then_coding (range_coding 1 2) (then_coding pointer_area_coding u16)
 
--- the payload of form 0C, which stands only inside form 0B: the number of a data block, and a direct
--- place in it (area, width, byte, bit)
+-- the payload of form 0C, which stands only inside form 0B: the number of a data block, and a
+-- direct place in it (area, width, byte, bit)
 abbrev pub in_block_coding : Coding (ℕ × (Area × (Width × (ℕ × ℕ))))
 in_block_coding = then_coding u16 direct_coding
 
@@ -199,8 +199,8 @@ actual_spelled (passed.Parameter index width) = 5 ∷ parameter_coding.spell (in
 actual_spelled (passed.InBlock number area width byte bit) =
     12 ∷ in_block_coding.spell (number, (area, (width, (byte, bit))))
 
--- the actual parameter of a form byte and the bytes behind it; None for forms but 01, 02, 05 and 0C,
--- and for bytes that the form doesn't have
+-- the actual parameter of a form byte and the bytes behind it; None for forms but 01, 02, 05 and
+-- 0C, and for bytes that the form doesn't have
 abbrev pub actual_in : ℕ → List ℕ → Option (Passed × List ℕ)
 actual_in n bytes =
     if n == 1 then read_as passed.Literal literal_coding bytes
@@ -247,8 +247,8 @@ form_of_operand (operand.Called kind number instance) = 13
 form_of_operand (operand.OpenBlock register number) = 14
 form_of_operand (operand.OpenBy register from byte) = 15
 
--- whether each number of an operand is in the range that the form of the operand has for it; form 00
--- has no number
+-- whether each number of an operand is in the range that the form of the operand has for it; form
+-- 00 has no number
 abbrev pub payload_fits : Operand → Bool
 payload_fits operand.Nothing = true
 payload_fits (operand.Literal value) = literal_coding.fits value

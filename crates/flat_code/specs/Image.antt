@@ -135,8 +135,8 @@ parameter_layout kind instance =
     (parameter_rows kind instance)
 
 -- the kind of a code block, 1 OB, 2 FC or 3 FB, not below `before`, that of the block before it (0
--- for none), else fault 4. A head has the fields kind u8, parameter count u8, number u16, local bytes
--- u16, instance bytes u16, statement count u16, zero u16, code length u32
+-- for none), else fault 4. A head has the fields kind u8, parameter count u8, number u16, local
+-- bytes u16, instance bytes u16, statement count u16, zero u16, code length u32
 unfoldable pub kind_field : ℕ → Layout ℕ
 kind_field before = field_layout u8 (λ n. field_fault (field_of.Kind before n))
 
@@ -144,19 +144,19 @@ kind_field before = field_layout u8 (λ n. field_fault (field_of.Kind before n))
 unfoldable pub parameter_count_layout : ℕ → Layout ℕ
 parameter_count_layout kind = field_layout u8 (λ n. field_fault (field_of.ParameterCount kind n))
 
--- the number of a code block: one that there is of its kind; above `before`, that of the block before
--- it, where this has the same kind; else fault 4
+-- the number of a code block: one that there is of its kind; above `before`, that of the block
+-- before it, where this has the same kind; else fault 4
 unfoldable pub block_number_layout : ℕ → ℕ → ℕ → Layout ℕ
 block_number_layout kind_before before kind =
     field_layout u16 (λ n. field_fault (field_of.Number kind_before before kind n))
 
--- how many local bytes (area L) a code block has: at most 1,024; at least 20 for an OB, which has its
--- start information there; else fault 4
+-- how many local bytes (area L) a code block has: at most 1,024; at least 20 for an OB, which has
+-- its start information there; else fault 4
 unfoldable pub local_length_layout : ℕ → Layout ℕ
 local_length_layout kind = field_layout u16 (λ n. field_fault (field_of.LocalBytes kind n))
 
--- how many bytes an instance of a code block has: at most 16,384 for an FB, and 0 for another block,
--- else fault 4
+-- how many bytes an instance of a code block has: at most 16,384 for an FB, and 0 for another
+-- block, else fault 4
 unfoldable pub instance_bytes_layout : ℕ → Layout ℕ
 instance_bytes_layout kind = field_layout u16 (λ n. field_fault (field_of.InstanceBytes kind n))
 
@@ -213,8 +213,8 @@ row_of_head h = (
   ),
 )
 
--- the head of a code block as a row of its fields, behind a block of kind and number `before` (0 and
--- 0 for none)
+-- the head of a code block as a row of its fields, behind a block of kind and number `before` (0
+-- and 0 for none)
 unfoldable pub head_rows : ℕ × ℕ → Layout HeadRow
 head_rows before =
     chain_layout (kind_field before.0) (λ kind.
@@ -353,13 +353,14 @@ plain_block with_code_faults before start =
 abbrev pub whole_note : ℕ → BlockRecord → Note
 whole_note start b = Whole (start + 16 + 6 * length b.params) b
 
--- a code block at offset `start` of the image, noted once it was read whole, so that its faults 6 to
--- 8 are checked
+-- a code block at offset `start` of the image, noted once it was read whole, so that its faults 6
+-- to 8 are checked
 abbrev pub code_block_at : Bool → ℕ × ℕ → ℕ → Layout BlockRecord
 code_block_at with_code_faults before start =
     noted_layout (whole_note start) (plain_block with_code_faults before start)
 
--- a code block at any offset of the image, behind one of kind and number `before` (0 and 0 for none)
+-- a code block at any offset of the image, behind one of kind and number `before` (0 and 0 for
+-- none)
 unfoldable pub code_block_layout : Bool → ℕ × ℕ → Layout BlockRecord
 code_block_layout with_code_faults before = located_layout (code_block_at with_code_faults before)
 
@@ -367,9 +368,9 @@ code_block_layout with_code_faults before = located_layout (code_block_at with_c
 abbrev pub after_block : ℕ × ℕ → BlockRecord → ℕ × ℕ
 after_block before b = (b.kind, b.number)
 
--- the number of a data block: 1 to 2,047, and above `before`, that of the data block before it (0 for
--- none), else fault 4. A data block has the fields number u16, instance u16, length u16, zero u16,
--- bytes
+-- the number of a data block: 1 to 2,047, and above `before`, that of the data block before it (0
+-- for none), else fault 4. A data block has the fields number u16, instance u16, length u16, zero
+-- u16, bytes
 unfoldable pub data_number_layout : ℕ → Layout ℕ
 data_number_layout before = field_layout u16 (λ n. field_fault (field_of.DataNumber before n))
 
@@ -378,8 +379,8 @@ data_number_layout before = field_layout u16 (λ n. field_fault (field_of.DataNu
 unfoldable pub instance_field : Layout ℕ
 instance_field = field_layout u16 (λ n. field_fault (field_of.InstanceOf n))
 
--- the length of a data block in bytes: at most 16,384, and at most 2,097,152 together with `before`,
--- the bytes of all data blocks before it, else fault 4
+-- the length of a data block in bytes: at most 16,384, and at most 2,097,152 together with
+-- `before`, the bytes of all data blocks before it, else fault 4
 unfoldable pub data_length_layout : ℕ → Layout ℕ
 data_length_layout before = field_layout u16 (λ n. field_fault (field_of.DataBytes before n))
 
@@ -470,8 +471,8 @@ data_block_layout before =
 abbrev pub after_data : ℕ × ℕ → DataBlock → ℕ × ℕ
 after_data before d = (d.number, before.1 + length d.bytes)
 
--- the length of a name in bytes: 1 to 24, else fault 4. A name has the fields length u8, bytes, area
--- u8, width u8, byte u16, bit u8
+-- the length of a name in bytes: 1 to 24, else fault 4. A name has the fields length u8, bytes,
+-- area u8, width u8, byte u16, bit u8
 unfoldable pub name_len : Layout ℕ
 name_len = field_layout u8 (λ n. field_fault (field_of.NameLength n))
 
@@ -689,8 +690,8 @@ parts_of_records r = record {
   names = r.names;
 }
 
--- all records of an image, with their counts before them; with false no fault 9, and fault 5 only for
--- bytes that begin no op
+-- all records of an image, with their counts before them; with false no fault 9, and fault 5 only
+-- for bytes that begin no op
 unfoldable pub records_layout : Bool → Layout Records
 records_layout with_code_faults =
     seen_as

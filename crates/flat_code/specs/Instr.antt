@@ -18,11 +18,13 @@ pub record Passing : Type 0 where
 
 -- the instruction of a statement
 pub data Instr : Type 0 where
-  -- an instruction after which the next statement runs; `use_db`: the data block that it opens first
+  -- an instruction after which the next statement runs; `use_db`: the data block that it opens
+  -- first
   Does : (use_db : Option ℕ) (operation : Operation) (operand : Operand) → Instr
   -- a jump to one target, LOOP among them (manual: logic control instructions)
   Jumps : (jump : JumpOperation) (target : ℕ) → Instr
-  -- JL, the jump list: accumulator 1 picks one of the targets; beyond the list it jumps to `otherwise`
+  -- JL, the jump list: accumulator 1 picks one of the targets; beyond the list it jumps to
+  -- `otherwise`
   JumpsByList : (targets : List ℕ) (otherwise : ℕ) → Instr
   -- CALL, UC or CC of a function, function block or system function; `instance`: the number of the
   -- instance data block of a function block

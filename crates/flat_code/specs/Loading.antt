@@ -13,8 +13,8 @@ abbrev pub lens_of : List DataBlock → List (ℕ × ℕ)
 lens_of [] = []
 lens_of (d ∷ ds) = (d.number, length d.bytes) ∷ lens_of ds
 
--- what the faults of the code block `b` depend on besides its ops: `all` are the code blocks that it
--- may call, `data_lens` numbers and lengths of the data blocks, once all blocks were read
+-- what the faults of the code block `b` depend on besides its ops: `all` are the code blocks that
+-- it may call, `data_lens` numbers and lengths of the data blocks, once all blocks were read
 abbrev pub environment_of_block :
     Option (List (ℕ × ℕ)) → List BlockRecord → BlockRecord → Environment
 environment_of_block data_lens all b = record {

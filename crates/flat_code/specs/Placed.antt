@@ -16,8 +16,8 @@ op_placed from (op ∷ ops) at =
     if from == at then Some (op, from + size_of_op op) else op_placed (from + size_of_op op) ops at
 
 -- the source line of the statement that begins at the offset `at`, among ops of which the first
--- begins at the offset `from`; `begins`: whether a statement begins with that op, `lines`: the lines
--- of the statements from there on. None where no statement begins at `at`
+-- begins at the offset `from`; `begins`: whether a statement begins with that op, `lines`: the
+-- lines of the statements from there on. None where no statement begins at `at`
 abbrev pub line_placed : ℕ → Bool → List OpData → List ℕ → ℕ → Option ℕ
 line_placed from begins [] lines at = None
 line_placed from begins (op ∷ ops) lines at =
@@ -119,13 +119,14 @@ codes_of_few_brackets brackets =
 pub record StatementSpot : Type 0 where
   -- the offset in bytes at which the statement begins in the block's code
   pub at : ℕ
-  -- the op codes of the brackets that stand open there, the outermost first; None for more than seven
+  -- the op codes of the brackets that stand open there, the outermost first; None for more than
+  -- seven
   pub codes : Option (List ℕ)
   -- how many zones of the master control relay stand open there
   pub zones : ℕ
 
--- the statements of ops of which the first begins at the offset `at`, behind these open brackets and
--- zones; `begin`: whether that op begins a statement or goes on with one
+-- the statements of ops of which the first begins at the offset `at`, behind these open brackets
+-- and zones; `begin`: whether that op begins a statement or goes on with one
 abbrev pub spots_from : ℕ → Bool → List OpenBracket → List ℕ → List OpData → List StatementSpot
 spots_from at begin brackets zones [] = []
 spots_from at begin brackets zones (op ∷ ops) =
@@ -159,8 +160,8 @@ abbrev pub ending_op : OpData → List OpData → OpData
 ending_op op [] = op
 ending_op op (next ∷ ops) = if op.last then op else ending_op next ops
 
--- the op that ends the statement of a placed op: the first with an end mark from it on, with none the
--- last op of the code
+-- the op that ends the statement of a placed op: the first with an end mark from it on, with none
+-- the last op of the code
 abbrev pub last_op : PlacedOp → OpData
 last_op p = ending_op p.op p.rest
 
@@ -171,8 +172,8 @@ open_behind at brackets [] = brackets
 open_behind at brackets (op ∷ ops) =
     open_behind (at + size_of_op op) (brackets_after at op.code brackets) ops
 
--- the zones that stand open behind the last of ops, by those that stand open before the first, which
--- begins at the offset `at`
+-- the zones that stand open behind the last of ops, by those that stand open before the first,
+-- which begins at the offset `at`
 abbrev pub zones_left : ℕ → List ℕ → List OpData → List ℕ
 zones_left at zones [] = zones
 zones_left at zones (op ∷ ops) =

@@ -20,8 +20,8 @@ abbrev pub profile_field_of : Stamp → ℕ
 profile_field_of stamp.One = 0
 profile_field_of (stamp.Two profile) = profile_number profile
 
--- the version and profile of an image, by the numbers of its version field and its profile field; an
--- unknown profile of version 2 stands for Small, an unknown version for 1
+-- the version and profile of an image, by the numbers of its version field and its profile field;
+-- an unknown profile of version 2 stands for Small, an unknown version for 1
 abbrev pub stamp_of : (version number : ℕ) → Stamp
 stamp_of version number =
     if version == 2

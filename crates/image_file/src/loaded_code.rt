@@ -73,8 +73,8 @@ impl<'a> LoadedCode<'a> {
         }
     }
 
-    /// The op that begins at an offset in bytes, and the offset after it. `None` exactly where no op
-    /// begins there.
+    /// The op that begins at an offset in bytes, and the offset after it. `None` exactly where no
+    /// op begins there.
     #[inline(always)]
     pub fn op(&self, at: u32) -> Option<(Op, u32)>
         ensures { result ≡ op_placed 0 self.now.code at }
