@@ -13,7 +13,11 @@ use Rattle.flat_code.specs.declared.operands.Operand.{Operand}
 use Rattle.flat_code.specs.declared.operands.Operand.TheVariants as operand
 use Rattle.flat_code.specs.declared.operands.Passed.{Passed}
 use Rattle.flat_code.specs.declared.operands.Passed.TheVariants as passed
-use Rattle.flat_code.specs.Coding.{Coding, u8, u16, u32, byte_coding, such_that, range_coding, then_coding}
+use Rattle.flat_code.specs.Coding.{Coding, u8, u16, u32, byte_coding, such_that, range_coding, then_coding, behind_fourth, behind_second, behind_third, fourth_value, second_value, third_value}
+use Rattle.flat_code.specs.Kinds.{jump_number, condition_number, timer_kind, counter_kind, ar1_number, ar2_number, db_register_number, di_register_number}
+use Rattle.flat_code.specs.declared.kinds.JumpOperation.TheVariants as jump
+use Rattle.plc_base.specs.Kinds.{kind_number}
+use Rattle.plc_base.specs.declared.flags.Flag.TheVariants as flag
 
 -- the byte that names an area in an image: 128 and its number, 128 P to 134 L
 abbrev pub area_code : Area → ℕ
@@ -26,19 +30,19 @@ area_of_code n = if nat_lt n 128 then None else area_numbered (n - 128)
 -- the width that a byte names: 1 bit, 2 byte, 3 word, 4 double word
 abbrev pub width_of_code : ℕ → Option Width
 width_of_code n =
-    if n == 1 then Some width.Bit
-    else if n == 2 then Some width.Byte
-    else if n == 3 then Some width.Word
-    else if n == 4 then Some width.Dword
+    if n == width_number width.Bit then Some width.Bit
+    else if n == width_number width.Byte then Some width.Byte
+    else if n == width_number width.Word then Some width.Word
+    else if n == width_number width.Dword then Some width.Dword
     else None
 
 -- the kind of block that a byte names: 1 OB, 2 FC, 3 FB, 5 SFC; other bytes name none
 abbrev pub kind_of_code : ℕ → Option BlockKind
 kind_of_code n =
-    if n == 1 then Some kind.Ob
-    else if n == 2 then Some kind.Fc
-    else if n == 3 then Some kind.Fb
-    else if n == 5 then Some kind.Sfc
+    if n == kind_number kind.Ob then Some kind.Ob
+    else if n == kind_number kind.Fc then Some kind.Fc
+    else if n == kind_number kind.Fb then Some kind.Fb
+    else if n == kind_number kind.Sfc then Some kind.Sfc
     else None
 
 -- a width, and a bit (BOOL) in place of a missing one (None)
@@ -95,7 +99,8 @@ width_coding = byte_coding width_number width_of_code
 
 -- whether the number of a kind is one of blocks that are called: 2 FC, 3 FB, 5 SFC
 abbrev pub is_callable_number : ℕ → Bool
-is_callable_number n = n == 2 || n == 3 || n == 5
+is_callable_number n =
+    n == kind_number kind.Fc || n == kind_number kind.Fb || n == kind_number kind.Sfc
 
 -- the coding of the kind byte of a call: 2 FC, 3 FB, 5 SFC; another, as that of an OB (1), can't be
 -- read
@@ -130,7 +135,8 @@ by_memory_coding =
 -- (AR1) or 2 (AR2), the offset in bits
 abbrev pub register_coding : Coding (Option Area × (Width × (ℕ × ℕ)))
 register_coding =
-    then_coding crossing_area_coding (then_coding width_coding (then_coding (range_coding 1 2) u32))
+    then_coding crossing_area_coding
+    (then_coding width_coding (then_coding (range_coding ar1_number ar2_number) u32))
 
 -- the payload of form 05: the index of a parameter of the function, from 0, and the width
 abbrev pub parameter_coding : Coding (ℕ × Width)
@@ -138,21 +144,22 @@ parameter_coding = then_coding u8 width_coding
 
 -- the payload of form 06: 1 for a timer or 2 for a counter, and the number, 0 to 65,535
 abbrev pub numbered_coding : Coding (ℕ × ℕ)
-numbered_coding = then_coding (range_coding 1 2) u16
+numbered_coding = then_coding (range_coding timer_kind counter_kind) u16
 
 -- the payload of form 07: 1 for a timer or 2 for a counter, then area and byte of the word that has
 -- the number of the timer or counter
 abbrev pub numbered_by_coding : Coding (ℕ × (Area × ℕ))
-numbered_by_coding = then_coding (range_coding 1 2) (then_coding pointer_area_coding u16)
+numbered_by_coding =
+    then_coding (range_coding timer_kind counter_kind) (then_coding pointer_area_coding u16)
 
 -- the payload of form 08, a jump: the kind, 0 JU to 17 LOOP, and the target as an offset in bytes
 -- from the first byte of the block's code
 abbrev pub jump_coding : Coding (ℕ × ℕ)
-jump_coding = then_coding (range_coding 0 17) u32
+jump_coding = then_coding (range_coding (jump_number jump.Ju) (jump_number jump.Loop)) u32
 
 -- the payload of form 09: a condition of the status word, 1 BR to 10 UO
 abbrev pub of_status_coding : Coding ℕ
-of_status_coding = range_coding 1 10
+of_status_coding = range_coding (condition_number flag.Br) (condition_number flag.Uo)
 
 -- the payload of form 0A (USEDB): the number of the data block that the statement opens first
 abbrev pub use_db_coding : Coding ℕ
@@ -166,12 +173,14 @@ called_coding = then_coding callable_coding (then_coding u16 u16)
 -- the payload of form 0E (OPN): the data block register, 1 DB or 2 DI, and the number of the data
 -- block to open
 abbrev pub open_block_coding : Coding (ℕ × ℕ)
-open_block_coding = then_coding (range_coding 1 2) u16
+open_block_coding = then_coding (range_coding db_register_number di_register_number) u16
 
 -- the payload of form 0F (OPN): the data block register, 1 DB or 2 DI, then area and byte of the
 -- word that has the number of the data block to open
 abbrev pub open_by_coding : Coding (ℕ × (Area × ℕ))
-open_by_coding = then_coding (range_coding 1 2) (then_coding pointer_area_coding u16)
+open_by_coding =
+    then_coding (range_coding db_register_number di_register_number)
+    (then_coding pointer_area_coding u16)
 
 -- the payload of form 0C, which stands only inside form 0B: the number of a data block, and a
 -- direct place in it (area, width, byte, bit)
@@ -204,10 +213,17 @@ actual_spelled (passed.InBlock number area width byte bit) =
 abbrev pub actual_in : ℕ → List ℕ → Option (Passed × List ℕ)
 actual_in n bytes =
     if n == 1 then read_as passed.Literal literal_coding bytes
-    else if n == 2 then read_as (λ x. passed.Direct x.0 x.1.0 x.1.1.0 x.1.1.1) direct_coding bytes
+    else if n == 2 then
+    read_as
+    (λ x. passed.Direct x.0 (second_value x) (third_value x) (behind_third x))
+    direct_coding
+    bytes
     else if n == 5 then read_as (λ x. passed.Parameter x.0 x.1) parameter_coding bytes
     else if n == 12 then
-    read_as (λ x. passed.InBlock x.0 x.1.0 x.1.1.0 x.1.1.1.0 x.1.1.1.1) in_block_coding bytes
+    read_as
+    (λ x. passed.InBlock x.0 (second_value x) (third_value x) (fourth_value x) (behind_fourth x))
+    in_block_coding
+    bytes
     else None
 
 -- the actual parameter that bytes begin with, from the form byte on; None where there are no bytes
@@ -294,19 +310,35 @@ unfoldable pub payload_in : ℕ → List ℕ → Option (Operand × List ℕ)
 payload_in n bytes =
     if n == 0 then Some (operand.Nothing, bytes)
     else if n == 1 then read_as operand.Literal literal_coding bytes
-    else if n == 2 then read_as (λ x. operand.Direct x.0 x.1.0 x.1.1.0 x.1.1.1) direct_coding bytes
+    else if n == 2 then
+    read_as
+    (λ x. operand.Direct x.0 (second_value x) (third_value x) (behind_third x))
+    direct_coding
+    bytes
     else if n == 3 then
-    read_as (λ x. operand.ByMemory x.0 x.1.0 x.1.1.0 x.1.1.1) by_memory_coding bytes
+    read_as
+    (λ x. operand.ByMemory x.0 (second_value x) (third_value x) (behind_third x))
+    by_memory_coding
+    bytes
     else if n == 4 then
-    read_as (λ x. operand.ByRegister x.0 x.1.0 x.1.1.0 x.1.1.1) register_coding bytes
+    read_as
+    (λ x. operand.ByRegister x.0 (second_value x) (third_value x) (behind_third x))
+    register_coding
+    bytes
     else if n == 5 then read_as (λ x. operand.Parameter x.0 x.1) parameter_coding bytes
     else if n == 6 then read_as (λ x. operand.Numbered x.0 x.1) numbered_coding bytes
-    else if n == 7 then read_as (λ x. operand.NumberedBy x.0 x.1.0 x.1.1) numbered_by_coding bytes
+    else if n == 7 then
+    read_as
+    (λ x. operand.NumberedBy x.0 (second_value x) (behind_second x))
+    numbered_by_coding
+    bytes
     else if n == 8 then read_as (λ x. operand.Jump x.0 x.1) jump_coding bytes
     else if n == 9 then read_as operand.OfStatus of_status_coding bytes
     else if n == 10 then read_as operand.UseDb use_db_coding bytes
     else if n == 11 then read_as (λ x. operand.Pass x.0 x.1) pass_coding bytes
-    else if n == 13 then read_as (λ x. operand.Called x.0 x.1.0 x.1.1) called_coding bytes
+    else if n == 13 then
+    read_as (λ x. operand.Called x.0 (second_value x) (behind_second x)) called_coding bytes
     else if n == 14 then read_as (λ x. operand.OpenBlock x.0 x.1) open_block_coding bytes
-    else if n == 15 then read_as (λ x. operand.OpenBy x.0 x.1.0 x.1.1) open_by_coding bytes
+    else if n == 15 then
+    read_as (λ x. operand.OpenBy x.0 (second_value x) (behind_second x)) open_by_coding bytes
     else None

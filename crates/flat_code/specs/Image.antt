@@ -9,7 +9,7 @@ use Rattle.plc_base.specs.declared.places.Area.TheVariants as area
 use Rattle.flat_code.specs.declared.programs.Param.{Param}
 use Rattle.flat_code.specs.declared.image_fields.ParameterRecord.{ParameterRecord}
 use Rattle.flat_code.specs.declared.image_fields.Field.TheVariants as field_of
-use Rattle.flat_code.specs.Coding.{Coding, u8, u16, u32}
+use Rattle.flat_code.specs.Coding.{Coding, u8, u16, u32, behind_fifth, behind_fourth, behind_seventh, behind_third, fifth_value, fourth_value, second_value, seventh_value, sixth_value, third_value}
 use Rattle.flat_code.specs.Forms.{area_code, area_of_code, kind_of_code, width_of_number}
 use Rattle.flat_code.specs.Ops.{OpData}
 use Rattle.flat_code.specs.Programs.{CodeBlock, DataBlock, NameEntry, Program}
@@ -93,10 +93,10 @@ ParameterRow = ℕ × (ℕ × (ℕ × (ℕ × ℕ)))
 abbrev pub parameter_fields : ParameterRow → ParameterFields
 parameter_fields r = record {
   section = r.0;
-  width = r.1.0;
-  byte = r.1.1.0;
-  bit = r.1.1.1.0;
-  reserved = r.1.1.1.1;
+  width = second_value r;
+  byte = third_value r;
+  bit = fourth_value r;
+  reserved = behind_fourth r;
 }
 
 -- the fields of a parameter as a row in the order of the image
@@ -188,13 +188,13 @@ HeadRow = ℕ × (ℕ × (ℕ × (ℕ × (ℕ × (ℕ × (ℕ × ℕ))))))
 abbrev pub head_of_row : HeadRow → Head
 head_of_row r = record {
   kind = r.0;
-  parameter_count = r.1.0;
-  number = r.1.1.0;
-  local_bytes = r.1.1.1.0;
-  instance_bytes = r.1.1.1.1.0;
-  statement_count = r.1.1.1.1.1.0;
-  reserved = r.1.1.1.1.1.1.0;
-  code_length = r.1.1.1.1.1.1.1;
+  parameter_count = second_value r;
+  number = third_value r;
+  local_bytes = fourth_value r;
+  instance_bytes = fifth_value r;
+  statement_count = sixth_value r;
+  reserved = seventh_value r;
+  code_length = behind_seventh r;
 }
 
 -- the head of a code block as a row of its fields in the order of the image
@@ -289,7 +289,12 @@ BlockRow = Head × (List ParameterRecord × (List OpData × List ℕ))
 
 -- the parts of a code block, by the row of them in the order of the image
 abbrev pub parts_of_block_row : BlockRow → BlockParts
-parts_of_block_row r = record { head = r.0; params = r.1.0; code = r.1.1.0; lines = r.1.1.1 }
+parts_of_block_row r = record {
+  head = r.0;
+  params = second_value r;
+  code = third_value r;
+  lines = behind_third r;
+}
 
 -- the parts of a code block as a row in the order of the image
 abbrev pub row_of_block_parts : BlockParts → BlockRow
@@ -409,10 +414,10 @@ DataRow = ℕ × (ℕ × (ℕ × (ℕ × List ℕ)))
 abbrev pub data_fields : DataRow → DataFields
 data_fields r = record {
   number = r.0;
-  instance = r.1.0;
-  length = r.1.1.0;
-  reserved = r.1.1.1.0;
-  bytes = r.1.1.1.1;
+  instance = second_value r;
+  length = third_value r;
+  reserved = fourth_value r;
+  bytes = behind_fourth r;
 }
 
 -- the fields of a data block as a row in the order of the image
@@ -512,11 +517,11 @@ NameRow = ℕ × (List ℕ × (ℕ × (ℕ × (ℕ × ℕ))))
 abbrev pub name_fields : NameRow → NameFields
 name_fields r = record {
   length = r.0;
-  name = r.1.0;
-  area = r.1.1.0;
-  width = r.1.1.1.0;
-  byte = r.1.1.1.1.0;
-  bit = r.1.1.1.1.1;
+  name = second_value r;
+  area = third_value r;
+  width = fourth_value r;
+  byte = fifth_value r;
+  bit = behind_fifth r;
 }
 
 -- the fields of a name as a row in the order of the image
@@ -590,9 +595,9 @@ CountRow = ℕ × (ℕ × (ℕ × ℕ))
 abbrev pub counts_of_row : CountRow → RecordCounts
 counts_of_row r = record {
   code_blocks = r.0;
-  data_blocks = r.1.0;
-  names = r.1.1.0;
-  reserved = r.1.1.1;
+  data_blocks = second_value r;
+  names = third_value r;
+  reserved = behind_third r;
 }
 
 -- the counts of an image as a row in their order there
@@ -647,9 +652,9 @@ BodyRow = RecordCounts × (List BlockRecord × (List DataBlock × List NameRecor
 abbrev pub parts_of_body_row : BodyRow → BodyParts
 parts_of_body_row r = record {
   counts = r.0;
-  code_blocks = r.1.0;
-  data_blocks = r.1.1.0;
-  names = r.1.1.1;
+  code_blocks = second_value r;
+  data_blocks = third_value r;
+  names = behind_third r;
 }
 
 -- the parts of an image behind the total length as a row in its order
@@ -841,7 +846,12 @@ FrontRow = ℕ × (ℕ × (ℕ × ℕ))
 
 -- the front of an image, by the row of its fields in their order there
 abbrev pub front_of_row : FrontRow → Front
-front_of_row r = record { magic = r.0; version = r.1.0; profile = r.1.1.0; total_length = r.1.1.1 }
+front_of_row r = record {
+  magic = r.0;
+  version = second_value r;
+  profile = third_value r;
+  total_length = behind_third r;
+}
 
 -- the front of an image as a row of its fields in their order there
 abbrev pub row_of_front : Front → FrontRow

@@ -1,7 +1,8 @@
 -- Tables by which statements, data blocks and code blocks are found without a search.
 use Rattle.std.specs.Prelude.{◌≡◌, ℕ, suc, ◌+◌, ◌*◌, ◌<◌, ◌≤◌, nat_lt, ◌==◌, true, ◌&&◌, if◌then◌else◌, List, [], ◌∷◌, length, slice_get, slice_index_or, is_some, Option, Some, None}
 use Rattle.std.specs.Option.{option_map, option_and_then}
-use Rattle.plc_base.specs.Kinds.{kind_order}
+use Rattle.plc_base.specs.Kinds.{kind_number, kind_order}
+use Rattle.plc_base.specs.declared.blocks.BlockKind.TheVariants as kinds
 use Rattle.plc_base.specs.declared.blocks.BlockId.{BlockId}
 use Rattle.flat_code.specs.Codes.{code_bytes}
 use Rattle.flat_code.specs.Blocks.{BlockSignature, CalleeSeen, block_with, length_of_data}
@@ -53,7 +54,10 @@ FindsLens lens table =
 -- the number by which a table finds a block that may be called: twice the block's own number for a
 -- function (kind 2), and one more for a function block (3); other blocks have 131,072, past those
 abbrev pub call_key : BlockSignature → ℕ
-call_key b = if b.kind == 2 then 2 * b.number else if b.kind == 3 then 2 * b.number + 1 else 131072
+call_key b =
+    if b.kind == kind_number kinds.Fc then 2 * b.number
+    else if b.kind == kind_number kinds.Fb then 2 * b.number + 1
+    else 131072
 
 -- a called block as a CALL sees it, without the number by which it was found
 abbrev pub signature_callee : BlockSignature → CalleeSeen
@@ -71,11 +75,11 @@ pub record FindsCallees (blocks : List BlockSignature) (table : List ℕ) : Type
   -- a function is found at twice its number
   pub functions :
       (number : ℕ) → number < 65536
-      → found_callee blocks table (2 * number) ≡ block_with 2 number blocks
+      → found_callee blocks table (2 * number) ≡ block_with (kind_number kinds.Fc) number blocks
   -- a function block is found at twice its number plus 1
   pub function_blocks :
       (number : ℕ) → number < 65536
-      → found_callee blocks table (2 * number + 1) ≡ block_with 3 number blocks
+      → found_callee blocks table (2 * number + 1) ≡ block_with (kind_number kinds.Fb) number blocks
 
 -- the code and lines of a block are short enough for tables by offset and for marks
 pub record HasSmallCode (block : CodeBlock) : Type 0 where
