@@ -314,7 +314,7 @@ is_bad_list p kind target =
     kind == jump_number jump.Jl && not (leads_to_target 255 target (p.at + size_of_op p.op) p.rest)
 
 -- whether other brackets stand open at the target than at the jump; None: more than seven are open,
--- and where that is so at the jump an earlier op has fault 8, and no comparison is needed
+-- and where they are at the jump, an earlier op has fault 8, and no comparison is needed
 abbrev pub are_other_brackets : Option (List ℕ) → Option (List ℕ) → Bool
 are_other_brackets None others = false
 are_other_brackets (Some codes) None = true

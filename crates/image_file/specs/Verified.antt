@@ -57,9 +57,9 @@ pub record IsReaderOp (ops : List OpData) (at : ℕ) (op : OpData) (next : ℕ) 
   pub here : PlacedOp
   -- the code has an op at the offset
   pub place : placed_at at (code_places ops) ≡ Some here
-  -- that op begins at the offset
+  -- the op in its place begins at the offset
   pub offset : here.at ≡ at
-  -- that op is the one that was read
+  -- the op in its place is the one that was read
   pub op_is : here.op ≡ op
   -- the offset that was answered is the one behind the op
   pub next_is : next ≡ at + size_of_op op
@@ -131,7 +131,7 @@ pub record BlockBegins (b : CodeBlock) : Type 0 where
   pub place : placed_at 0 (code_places b.code) ≡ Some first
   -- the op begins at offset 0
   pub offset : first.at ≡ 0
-  -- a statement begins with the op
+  -- the op is the first of its statement
   pub statement : begins_its_statement first ≡ true
   -- no bracket stands open before the op
   pub closed : first.brackets ≡ []
@@ -162,9 +162,9 @@ pub record Lands (b : CodeBlock) (q : PlacedOp) (target : ℕ) : Type 0 where
   pub there : PlacedOp
   -- the code has an op at the target
   pub place : placed_at target (code_places b.code) ≡ Some there
-  -- that op begins at the target
+  -- the op in its place begins at the target
   pub offset : there.at ≡ target
-  -- a statement begins with that op
+  -- the op at the target is the first of its statement
   pub statement : begins_its_statement there ≡ true
   -- the same brackets stand open at the target as at the jump
   pub same : bracket_codes q.brackets ≡ bracket_codes there.brackets
