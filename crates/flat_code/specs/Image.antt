@@ -74,9 +74,9 @@ parameter_bit kind = field_layout u8 (λ n. field_fault (field_of.ParameterBit k
 
 -- the fields of a parameter of a code block, six bytes of an image
 pub record ParameterFields : Type 0 where
-  -- 1 VAR_INPUT, 2 VAR_OUTPUT, 3 VAR_IN_OUT
+  -- the section of its declaration: 1 VAR_INPUT, 2 VAR_OUTPUT, 3 VAR_IN_OUT
   pub section : ℕ
-  -- 1 bit, 2 byte, 3 word, 4 double word
+  -- the width: 1 bit, 2 byte, 3 word, 4 double word
   pub width : ℕ
   -- in an FB the byte of the instance data block at which the parameter lies, else 0
   pub byte : ℕ
@@ -162,7 +162,7 @@ instance_bytes_layout kind = field_layout u16 (λ n. field_fault (field_of.Insta
 
 -- the head of a code block, the first sixteen bytes of it in an image
 pub record Head : Type 0 where
-  -- 1 OB, 2 FC, 3 FB; another number is fault 4
+  -- the kind of the block: 1 OB, 2 FC, 3 FB; another number is fault 4
   pub kind : ℕ
   -- how many parameters stand behind the head
   pub parameter_count : ℕ
@@ -825,17 +825,17 @@ magic_field = field_layout u32 (λ n. field_fault (field_of.Magic n))
 unfoldable pub version_field : Layout ℕ
 version_field = field_layout u16 (λ n. field_fault (field_of.Version n))
 
--- the profile of an image: of version 2 1 Small or 2 Large, of version 1 0, else fault 4
+-- the profile of an image: in version 2 1 for Small or 2 for Large, in version 1 0, else fault 4
 unfoldable pub profile_field : ℕ → Layout ℕ
 profile_field version = field_layout u16 (λ n. field_fault (field_of.Profile version n))
 
 -- the front of an image: the fields of its header up to the total length, twelve bytes
 pub record Front : Type 0 where
-  -- the number of the bytes `S7FB`
+  -- the bytes `S7FB` as a number, else fault 1
   pub magic : ℕ
-  -- 1 or 2
+  -- the version of the image: 1 or 2; another number is fault 2
   pub version : ℕ
-  -- of version 2 1 Small or 2 Large, of version 1 0
+  -- the profile with which the image is run: in version 2 1 for Small or 2 for Large, in version 1 0
   pub profile : ℕ
   -- how many bytes the whole image has
   pub total_length : ℕ

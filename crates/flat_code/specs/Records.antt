@@ -19,7 +19,7 @@ section_in_out = 3
 
 -- a code block as an image has it
 pub record BlockRecord : Type 0 where
-  -- 1 OB, 2 FC, 3 FB; another number is fault 4
+  -- the kind of the block: 1 OB, 2 FC, 3 FB; another number is fault 4
   pub kind : ℕ
   -- the number of the block among those of its kind
   pub number : ℕ
@@ -38,9 +38,9 @@ pub record BlockRecord : Type 0 where
 pub record NameRecord : Type 0 where
   -- the bytes of the name, 1 to 24
   pub name : List ℕ
-  -- 16#81 I, 16#82 Q, 16#83 M; another number is fault 4
+  -- the area of the variable: 16#81 I, 16#82 Q, 16#83 M; another number is fault 4
   pub area : ℕ
-  -- 1 bit, 2 byte, 3 word, 4 double word; another number is fault 4
+  -- the width of the variable: 1 bit, 2 byte, 3 word, 4 double word; another number is fault 4
   pub width : ℕ
   -- the byte of the area at which the variable begins
   pub byte : ℕ
