@@ -7,6 +7,7 @@ use Rattle.plc_base.specs.declared.Width.TheVariants as widths
 use Rattle.plc_mem.specs.Areas.{Areas}
 use Rattle.status_word.specs.declared.Regs.{Regs}
 use Rattle.frames.specs.FrameData.{FrameData}
+use Rattle.flat_code.specs.Kinds.{db_register_number}
 use Rattle.flat_code.specs.declared.operands.Operand.{Operand}
 use Rattle.flat_code.specs.declared.operands.Operand.TheVariants as operand
 use Rattle.machine.specs.ExecState.{Local, then_ok}
@@ -20,7 +21,7 @@ is_block_loaded number m = is_some (map.get m.data_blocks number)
 -- the data block opened in the DB (1) or DI (2) register
 abbrev pub block_opened : (register number : ℕ) → Local → Local
 block_opened register number s =
-    if register == 1 then record s { inner = record s.inner { db = Some number } }
+    if register == db_register_number then record s { inner = record s.inner { db = Some number } }
     else record s { inner = record s.inner { di = Some number } }
 
 -- 3A: the data block isn't loaded

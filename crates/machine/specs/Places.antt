@@ -13,6 +13,7 @@ use Rattle.plc_mem.specs.Number.{number_at_place}
 use Rattle.frames.specs.Locals.{LocalData, local_number}
 use Rattle.frames.specs.declared.bindings.Binding.{Binding}
 use Rattle.frames.specs.declared.bindings.Binding.TheVariants as binding
+use Rattle.flat_code.specs.Kinds.{ar1_number}
 use Rattle.flat_code.specs.declared.operands.Operand.{Operand}
 use Rattle.flat_code.specs.declared.operands.Operand.TheVariants as operand
 use Rattle.machine.specs.declared.places.Access.{Access}
@@ -122,7 +123,7 @@ area_crossing_location access width address n s =
 
 -- what address register 1 or 2 holds
 abbrev pub register_address : ℕ → Local → ℕ
-register_address register s = if register == 1 then s.regs.ar1 else s.regs.ar2
+register_address register s = if register == ar1_number then s.regs.ar1 else s.regs.ar2
 
 -- the offset is added in bits 0 to 18
 abbrev pub address_moved_by : (address bits : ℕ) → ℕ

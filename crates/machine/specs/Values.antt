@@ -14,7 +14,7 @@ use Rattle.timers_counters.specs.Counter.{Counter, is_counting, count_bcd}
 use Rattle.frames.specs.Locals.{LocalData, local_written}
 use Rattle.frames.specs.declared.bindings.Binding.{Binding}
 use Rattle.frames.specs.declared.bindings.Binding.TheVariants as binding
-use Rattle.flat_code.specs.Kinds.{flag_of}
+use Rattle.flat_code.specs.Kinds.{flag_of, timer_kind}
 use Rattle.flat_code.specs.declared.operands.Operand.{Operand}
 use Rattle.flat_code.specs.declared.operands.Operand.TheVariants as operand
 use Rattle.machine.specs.declared.places.Access.TheVariants.{Reading, Writing}
@@ -45,7 +45,7 @@ with_timer_error code (Err BadBcd) = Err errors.bad_bcd
 
 -- timers (kind 1) have the error 26, counters (kind 2) 27
 abbrev pub is_timer_kind : ℕ → Bool
-is_timer_kind kind = kind == 1
+is_timer_kind kind = kind == timer_kind
 
 -- the bit of a timer or counter of a number: of a timer its output, of a counter whether its value
 -- is above 0

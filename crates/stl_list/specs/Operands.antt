@@ -5,7 +5,7 @@ use Rattle.plc_base.specs.declared.blocks.BlockKind.TheVariants as kinds
 use Rattle.plc_base.specs.declared.places.Area.{Area}
 use Rattle.plc_base.specs.declared.places.Area.TheVariants as area
 use Rattle.plc_base.specs.declared.places.Width.{Width}
-use Rattle.flat_code.specs.Kinds.{flag_of}
+use Rattle.flat_code.specs.Kinds.{flag_of, timer_kind, db_register_number, di_register_number}
 use Rattle.flat_code.specs.Operations.{operation_of}
 use Rattle.flat_code.specs.Ops.{OpData}
 use Rattle.flat_code.specs.declared.operands.Operand.{Operand as FlatOperand}
@@ -91,15 +91,17 @@ implied_operand _ = operand.Nothing
 
 -- a timer, of kind 1, or a counter by its number
 abbrev pub timer_or_counter : (kind number : ℕ) → Operand
-timer_or_counter kind number = if kind == 1 then operand.Timer number else operand.Counter number
+timer_or_counter kind number =
+    if kind == timer_kind then operand.Timer number else operand.Counter number
 
 -- what a number in memory is one of
 abbrev pub numbered_by : (kind : ℕ) → Numbered
-numbered_by kind = if kind == 1 then numbered.Timer else numbered.Counter
+numbered_by kind = if kind == timer_kind then numbered.Timer else numbered.Counter
 
 -- the register of a data block, 1 DB or 2 DI, whose number stands in memory
 abbrev pub data_block_register : ℕ → Numbered
-data_block_register register = if register == 1 then numbered.Db else numbered.Di
+data_block_register register =
+    if register == db_register_number then numbered.Db else numbered.Di
 
 -- the instance of a call by its number; 0 is none
 abbrev pub instance_name : ℕ → Option BlockName
@@ -130,7 +132,7 @@ plain_operand opened o (flat.NumberedBy kind from byte) =
 plain_operand opened o (flat.Called kind number instance) =
     operand.Called (block.Number (called_id kind number)) (instance_name instance)
 plain_operand opened o (flat.OpenBlock register number) =
-    operand.OpenBlock (register == 2) (name_of_data_block number)
+    operand.OpenBlock (register == di_register_number) (name_of_data_block number)
 plain_operand opened o (flat.OpenBy register from byte) =
     operand.NumberBy (data_block_register register) (read_letters from) byte
 plain_operand opened o other = condition_operand other
