@@ -36,15 +36,15 @@ use plc_mem::Missing;
 use status_word::Regs;
 use std::marker::Model;
 
-/// How many frames lie below the innermost one at most.
+/// How many frames an activation has below the innermost one at most.
 const BELOW: usize = 23;
 
 /// Why a block can't be entered.
 #[derive(Clone, Copy, Debug, PartialEq, Eq)]
 pub enum FrameFault {
-    /// As many frames stand as the profile has.
+    /// As many frames stand as the profile allows (block nesting depth).
     Depth,
-    /// Its local bytes have no room in the 1,024 of the activation.
+    /// 1,024 bytes of local data don't hold the block's local bytes as well.
     LocalFull,
 }
 
@@ -53,7 +53,9 @@ pub enum FrameFault {
 /// left, and of its bindings only those that there are.
 #[derive(Drop)]
 pub struct Below {
+    /// Room for the frames; those from `count` on mean nothing.
     frames: [Frame; BELOW],
+    /// How many frames there are.
     count: usize,
 }
 
@@ -131,14 +133,19 @@ impl Below {
 /// for a profile, which only `restart` sets anew.
 #[derive(Drop)]
 pub struct Activation {
+    /// The profile of the controller, which limits the block nesting depth.
     pub profile: Profile,
+    /// The priority class of the organization block.
     pub class: u8,
+    /// The number of the organization block.
     pub ob: u16,
-    /// How often interrupts are delayed (SFC 41), 0 to 32,767.
+    /// How often SFC 41 has delayed interrupts and SFC 42 not yet enabled them again, 0 to 32,767.
     pub delay: u16,
+    /// What its statements work on: registers, innermost frame and local bytes.
     pub running: Running,
+    /// The frames below the innermost one.
     pub below: Below,
-    /// The last frame was left: no frame stands.
+    /// Whether the last block was left, so that no frame stands.
     pub left: bool,
 }
 

@@ -7,7 +7,8 @@ use Rattle.timers_counters.specs.Restart.{counters_retained}
 use Rattle.timers_counters.specs.Timer.{Timer, timer_after_ms}
 use Rattle.timers_counters.specs.declared.faults.TimerFault.{TimerFault}
 
--- a call with the outcome of an instruction leaves as many as there were, with a fault as without
+-- a call with the outcome of an instruction on a timer or counter leaves as many as there were,
+-- also where it answers a fault
 abbrev pub InstructionsKeepSize : Type 0 → Type 0
 InstructionsKeepSize A =
     (effect : A → Option A) (old new : List A) (number : ℕ) (result : Result Unit TimerFault)
