@@ -23,54 +23,56 @@ use Rattle.machine.specs.Timing.{logic_string_ended, timer_start, timer_reset, t
 use Rattle.machine.specs.Pointers.{pointer_effect}
 use Rattle.machine.specs.DataBlocks.{is_block_loaded, block_opened, block_opened_by, registers_exchanged, loading_open_block}
 
--- an effect on the registers, on all that an activation has of its own, and on memory besides
+-- all that an instruction works on after an effect on the registers alone
 abbrev pub effect_on_regs : ExecState → Result Regs ℕ → Result ExecState ℕ
 effect_on_regs p (Ok r) = Ok (record p { local = record p.local { regs = r } })
 effect_on_regs p (Err e) = Err e
 
--- an effect on registers, local bytes and what the innermost frame holds; memory, timers and
--- counters stay
+-- all that an instruction works on after an effect on registers, local bytes and what the innermost
+-- frame holds; memory, timers and counters stay
 abbrev pub on_local : ExecState → Result Local ℕ → Result ExecState ℕ
 on_local p (Ok s) = Ok (record p { local = s })
 on_local p (Err e) = Err e
 
--- an effect on registers, local bytes, what the innermost frame holds, and memory; timers and
--- counters stay
+-- all that an instruction works on after an effect on registers, local bytes, what the innermost
+-- frame holds, and memory; timers and counters stay
 abbrev pub on_local_memory : ExecState → Result LocalMemory ℕ → Result ExecState ℕ
 on_local_memory p (Ok c) = Ok (record p { local = c.local; memory = c.memory })
 on_local_memory p (Err e) = Err e
 
--- an effect on timers: the logic string ends (OR 0 and /FC 0), but not after an error
+-- all that an instruction works on after an effect on timers: the logic string ends (OR 0 and /FC
+-- 0), but not after an error
 abbrev pub on_timers : ExecState → Result (List Timer) ℕ → Result ExecState ℕ
 on_timers p (Ok all) =
     Ok (record p { local = record p.local { regs = logic_string_ended p.local.regs }; timers = all })
 on_timers p (Err e) = Err e
 
--- an effect on counters: the logic string ends (OR 0 and /FC 0), but not after an error
+-- all that an instruction works on after an effect on counters: the logic string ends (OR 0 and /FC
+-- 0), but not after an error
 abbrev pub on_counters : ExecState → Result (List Counter) ℕ → Result ExecState ℕ
 on_counters p (Ok all) =
     Ok (record p { local = record p.local { regs = logic_string_ended p.local.regs }; counters = all })
 on_counters p (Err e) = Err e
 
--- the kind of an operand that is a timer (1) or counter (2)
+-- the kind of an operand that is a timer (1) or counter (2); None for another operand
 abbrev pub kind_of_numbered_operand : Operand → Option ℕ
 kind_of_numbered_operand (operand.Numbered kind number) = Some kind
 kind_of_numbered_operand (operand.NumberedBy kind from byte) = Some kind
 kind_of_numbered_operand _ = None
 
--- S of a bit or a counter
+-- S of a bit or a counter, by the kind of the operand
 abbrev pub set_effect : Option ℕ → Operand → ExecState → Result ExecState ℕ
 set_effect None o p = on_local_memory p (bit_set true o p.local p.memory)
 set_effect (Some kind) o p = on_counters p (counter_set o p.local p.memory p.counters)
 
--- R of a bit, a timer or a counter
+-- R of a bit, a timer or a counter, by the kind of the operand
 abbrev pub reset_effect : Option ℕ → Operand → ExecState → Result ExecState ℕ
 reset_effect None o p = on_local_memory p (bit_set false o p.local p.memory)
 reset_effect (Some kind) o p =
     if is_timer_kind kind then on_timers p (timer_reset o p.local p.memory p.timers)
     else on_counters p (counter_reset o p.local p.memory p.counters)
 
--- FR of a timer or a counter
+-- FR of a timer or a counter, by the kind of the operand
 abbrev pub enable_effect : Option ℕ → Operand → ExecState → Result ExecState ℕ
 enable_effect None o p = Err no_operand
 enable_effect (Some kind) o p =
@@ -121,7 +123,7 @@ operation_effect operation.UseDb o p = Err no_operand
 operation_effect operation.Pass o p = Err no_operand
 operation_effect operation.NoOperation o p = Err no_operand
 
--- a statement that opens a data block first: 3A where it isn't loaded; after an error it isn't open
+-- all that an instruction works on after a data block was opened in the DB register
 abbrev pub with_db_opened : ℕ → ExecState → ExecState
 with_db_opened number p = record p { local = block_opened 1 number p.local }
 

@@ -15,16 +15,20 @@ use Rattle.machine.specs.ExecState.{LocalMemory, local_of, local_memory_of, with
 use Rattle.machine.specs.Bindings.{param_bindings}
 use Rattle.machine.specs.Copies.{params_copied_in}
 
--- OS 0, OR 0, STA 1, /FC 0: at each call and return
+-- registers after a call or return: OS 0, OR 0, STA 1, /FC 0
 abbrev pub at_block : Regs → Regs
 at_block r =
     record r { status = record r.status { os = false; or = false; sta = true; fc = false } }
 
 -- a block that is called: its instance, if one is named, its local bytes and its parameters
 pub record CalledBlock : Type 0 where
+  -- the kind and number of the block
   pub block : BlockId
+  -- the number of the instance data block, if the call names one
   pub instance : Option ℕ
+  -- how many local bytes the block has
   pub local_len : ℕ
+  -- the declared parameters of the block, by their index
   pub params : List Param
 
 -- the DI register of the called block: the instance, else the caller's
@@ -54,10 +58,13 @@ activation_continued_at at r a =
 abbrev pub caller_at : (next : ℕ) → Activation → Activation
 caller_at next a = activation_continued_at next (at_block a.running.regs) a
 
--- a call: a synchronous error, a stop, or the called block runs
+-- what comes of a call
 pub data Call : Type 0 where
+  -- a synchronous error with this code; nothing has changed
   Fails : (code : ℕ) → Call
+  -- STOP, since the block can't be entered; nothing has changed
   Stops : (fault : FrameFault) → Call
+  -- the called block runs in this activation, with this memory
   Enters : (a : Activation) (m : Areas) → Call
 
 -- the called block runs, with what copying its parameters left of it and of memory

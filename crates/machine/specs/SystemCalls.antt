@@ -19,12 +19,16 @@ use Rattle.machine.specs.Bindings.{param_bindings}
 abbrev pub system_function : ℕ → Option (List Param)
 system_function number = option_map (map param_of_record) (system_params number)
 
--- a system call: the numbers of its IN parameters, and what RET_VAL is bound to
+-- the arguments of a system function: the numbers of its IN parameters, and what RET_VAL is bound
+-- to
 pub record SystemCallArguments : Type 0 where
+  -- the numbers of the IN parameters, in their order
   pub inputs : List ℕ
+  -- what RET_VAL stands for, if the system function has it
   pub result : Option Binding
 
--- the number that is passed; a place was tested when it was bound
+-- the number of an IN parameter of a system function: the constant, or what stands at the place,
+-- which was tested when it was bound
 abbrev pub input_of : Option Binding → Local → Areas → ℕ
 input_of (Some (binding.Bound place width frame)) s m =
     unwrap_or
@@ -32,7 +36,7 @@ input_of (Some (binding.Bound place width frame)) s m =
 input_of (Some (binding.Constant value)) s m = value
 input_of _ s m = 0
 
--- how many of the parameters are IN
+-- how many of these parameters are IN parameters
 abbrev pub count_inputs : List Param → ℕ
 count_inputs [] = 0
 count_inputs (p ∷ rest) = (if p.section == section_in then 1 else 0) + count_inputs rest

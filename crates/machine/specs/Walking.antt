@@ -16,19 +16,23 @@ use Rattle.machine.specs.ExecState.{Local, then_ok}
 use Rattle.machine.specs.Bindings.{bound_for, no_bindings}
 use Rattle.machine.specs.Flat.{OpRun, use_db_of, use_db_first, list_of, most_ops_of_statement, with_passing, instr_of}
 
--- what a statement opens first, its last op, and the offset behind it
+-- what going along the ops of a statement finds: the data block that the statement opens first, its
+-- last op, and the offset behind it
 pub record Walk : Type 0 where
+  -- the data block that the statement opens first, if any
   pub opens : Option ℕ
+  -- the last op of the statement
   pub last : OpData
+  -- the byte offset behind the last op
   pub next : ℕ
 
--- the first of two numbers that is there
+-- the first of two optional numbers that is there
 abbrev pub first_present : Option ℕ → Option ℕ → Option ℕ
 first_present None more = more
 first_present (Some number) more = Some number
 
--- what a walk over the ops of a run comes to; the data block `opens` that was opened before the run
--- counts first, then the first USEDB in it
+-- what going along a run of ops finds; the data block `opens` that was opened before the run counts
+-- first, then the first USEDB in it
 abbrev pub walk_with : Option ℕ → OpRun → Walk
 walk_with opens r = record {
   opens = first_present opens (use_db_of r.before);
@@ -36,7 +40,7 @@ walk_with opens r = record {
   next = r.next;
 }
 
--- what a walk comes to at the last op of a statement, with the offset behind it
+-- what going along the ops finds at the last op of a statement, with the offset behind it
 abbrev pub walk_by : Option ℕ → OpData × ℕ → Walk
 walk_by opens r = record { opens = opens; last = r.0; next = r.1 }
 
@@ -50,7 +54,7 @@ abbrev pub list_jump : (most : ℕ) → List OpData → (target at number : ℕ)
 list_jump most ops target at number =
     unwrap_or (slice_get (list_of most ops target at) number) target
 
--- an op that passes a parameter sets what it stands for
+-- the bindings after an op: one that passes a parameter sets what the parameter stands for
 abbrev pub binding_by : Operand → List Param → List Binding → Local → Areas → Result (List Binding) ℕ
 binding_by (operand.Pass index actual) params bindings s m =
     then_ok (bound_for (slice_get params index) actual s m) (λ b. Ok (binding_set bindings index b))
@@ -66,7 +70,8 @@ bound_next (Some r) params bindings s m more =
     if r.0.last then Ok bindings
     else then_ok (binding_by r.0.operand params bindings s m) (λ next. more r.1 next)
 
--- at most so many ops from an offset on; it ends at the last op of the statement, which passes none
+-- the bindings after at most so many ops from an offset on; they end at the last op of the
+-- statement, which passes none
 unfoldable pub bound_from :
     (most : ℕ) → List OpData → ℕ → List Param → List Binding → Local → Areas
     → Result (List Binding) ℕ
@@ -79,7 +84,7 @@ bound_from (suc most) ops at params bindings s m =
 abbrev pub bound_all : List OpData → ℕ → List Param → Local → Areas → Result (List Binding) ℕ
 bound_all ops at params s m = bound_from most_ops_of_statement ops at params (no_bindings params) s m
 
--- what a further op passes, and those behind it; the last op of a statement passes nothing
+-- what a further op and the ops behind it pass; the last op of a statement passes nothing
 abbrev pub passings_with : Option (OpData × ℕ) → (ℕ → List Passing) → List Passing
 passings_with None more = []
 passings_with (Some r) more = if r.0.last then [] else with_passing r.0.operand (more r.1)
