@@ -69,7 +69,8 @@ local_byte a frame byte = local_byte_at a.running.locals frame byte
 -- with the number
 abbrev pub with_local_byte : (frame byte value : ℕ) → Activation → Option Activation
 with_local_byte frame byte value a =
-    option_map (λ locals. record a { running = record a.running { locals = locals } }) (local_byte_set a.running.locals frame byte value)
+    option_map (λ locals. record a { running = record a.running { locals = locals } })
+    (local_byte_set a.running.locals frame byte value)
 
 -- an activation in which a block is entered: its frame is the innermost one, and its local bytes
 -- are 0
@@ -90,7 +91,8 @@ entry_fault local_len a =
 
 -- what entering a block does and answers, given the reason against it: without one, the block is
 -- entered; else the answer is the reason, and nothing changes
-abbrev pub EntersBy : Option FrameFault → (old new : Activation) → Frame → Result (Unit {0}) FrameFault → Type 0
+abbrev pub EntersBy :
+    Option FrameFault → (old new : Activation) → Frame → Result (Unit {0}) FrameFault → Type 0
 EntersBy None old new f (Ok answer) = new ≡ block_entered f old
 EntersBy (Some why) old new f (Err fault) = (fault ≡ why) × (new ≡ old)
 EntersBy why old new f answer = ⊥
@@ -107,7 +109,8 @@ abbrev pub LeavesFrameTo : (standing : List Frame) → (old new : Activation) �
 LeavesFrameTo [] old new None = new ≡ old
 LeavesFrameTo (f ∷ rest) old new (Some frame) =
     (frame ≡ f) × (frames_of new ≡ rest) × (new.running.locals ≡ close_locals old.running.locals)
-    × (new.running.regs ≡ old.running.regs) × (new.class ≡ old.class) × (new.ob ≡ old.ob) × (new.delay ≡ old.delay)
+    × (new.running.regs ≡ old.running.regs) × (new.class ≡ old.class) × (new.ob ≡ old.ob)
+    × (new.delay ≡ old.delay)
     × (new.profile ≡ old.profile)
 LeavesFrameTo standing old new answer = ⊥
 
@@ -126,7 +129,8 @@ with_frame f a = record a { running = record a.running { frame = f } }
 abbrev pub LeavesBlock : (below : List Frame) → (old new : Activation) → Bool → Type 0
 LeavesBlock [] old new false =
     (frames_of new ≡ []) × (new.running.locals ≡ close_locals old.running.locals)
-    × (new.running.regs ≡ old.running.regs) × (new.class ≡ old.class) × (new.ob ≡ old.ob) × (new.delay ≡ old.delay)
+    × (new.running.regs ≡ old.running.regs) × (new.class ≡ old.class) × (new.ob ≡ old.ob)
+    × (new.delay ≡ old.delay)
     × (new.profile ≡ old.profile)
 LeavesBlock (caller ∷ rest) old new true = new ≡ record old {
   running = record old.running { frame = caller; locals = close_locals old.running.locals };

@@ -1,4 +1,5 @@
--- Local bytes: those of the frames of an activation stand one behind the other, the outermost frame's first.
+-- Local bytes: those of the frames of an activation stand one behind the other, the outermost
+-- frame's first.
 use Rattle.std.specs.Prelude.{ℕ, ◌+◌, ◌-◌, nat_le, List, [], ◌∷◌, ◌++◌, length, take, replicate, slice_get, Option, Some, None, unwrap_or, if◌then◌else◌}
 use Rattle.std.specs.Option.{option_map, option_and_then}
 use Rattle.plc_base.specs.declared.Width.{Width}
@@ -28,19 +29,28 @@ frame_bytes_end l frame = unwrap_or (slice_get l.starts (frame + 1)) (length l.b
 -- it lies within the bytes of the frame
 abbrev pub local_operand_start : LocalData → (frame at : ℕ) → Width → Option ℕ
 local_operand_start l frame at width =
-    option_and_then (λ start. if nat_le (start + at + byte_count width) (frame_bytes_end l frame) then Some (start + at) else None) (slice_get l.starts frame)
+    option_and_then
+    (λ start.
+    if nat_le (start + at + byte_count width) (frame_bytes_end l frame)
+    then Some (start + at)
+    else None)
+    (slice_get l.starts frame)
 
 -- the unsigned number in the operand from local byte `at` of a frame, if the operand lies within
 -- the bytes of the frame
 unfoldable pub local_number : LocalData → (frame at bit : ℕ) → Width → Option ℕ
 local_number l frame at bit width =
-    option_and_then (λ place. number_over (slice_get l.bytes) place bit width) (local_operand_start l frame at width)
+    option_and_then (λ place. number_over (slice_get l.bytes) place bit width)
+    (local_operand_start l frame at width)
 
 -- local data with a number written to the operand from local byte `at` of a frame, if the operand
 -- lies within the bytes of the frame
 unfoldable pub local_written : LocalData → (frame at bit : ℕ) → Width → ℕ → Option LocalData
 local_written l frame at bit width value =
-    option_and_then (λ place. option_map (λ bytes. record l { bytes = bytes }) (put_number l.bytes place bit width value)) (local_operand_start l frame at width)
+    option_and_then
+    (λ place.
+    option_map (λ bytes. record l { bytes = bytes }) (put_number l.bytes place bit width value))
+    (local_operand_start l frame at width)
 
 -- the local byte with a number of a frame (counted from 0 at the outermost one), if the frame has
 -- it
@@ -54,7 +64,8 @@ local_byte_set l frame at value = local_written l frame at 0 Byte value
 
 -- local data with one frame more, the innermost one, whose local bytes are so many and all 0
 abbrev pub open_locals : ℕ → LocalData → LocalData
-open_locals len l = record { starts = l.starts ++ length l.bytes ∷ []; bytes = l.bytes ++ replicate len 0 }
+open_locals len l =
+    record { starts = l.starts ++ length l.bytes ∷ []; bytes = l.bytes ++ replicate len 0 }
 
 -- the index at which the local bytes of the innermost frame begin; None where there is no frame
 abbrev pub last_start : List ℕ → Option ℕ
@@ -64,7 +75,8 @@ last_start starts = slice_get starts (length starts - 1)
 -- where there is no such index
 abbrev pub close_locals_at : LocalData → Option ℕ → LocalData
 close_locals_at l None = l
-close_locals_at l (Some start) = record { starts = take (length l.starts - 1) l.starts; bytes = take start l.bytes }
+close_locals_at l (Some start) =
+    record { starts = take (length l.starts - 1) l.starts; bytes = take start l.bytes }
 
 -- local data without the innermost frame and its bytes; as before where there is no frame
 abbrev pub close_locals : LocalData → LocalData

@@ -1,5 +1,5 @@
--- The local bytes of each frame by itself. `LocalData` has those of all frames in one list, but area L
--- of a block is those of its frame alone.
+-- The local bytes of each frame by itself. `LocalData` has those of all frames in one list, but
+-- area L of a block is those of its frame alone.
 use Rattle.std.specs.Prelude.{◌≡◌, ◌≢◌, ℕ, ◌≤◌, List, [], ◌∷◌, length, slice_get, slice_range, Option, unwrap_or, option_and_then}
 use Rattle.std.specs.Option.{option_map}
 use Rattle.plc_base.specs.declared.Width.{Width}
@@ -9,7 +9,9 @@ use Rattle.frames.specs.Locals.{LocalData, frame_bytes_end}
 -- the local bytes of one frame alone (counted from 0 at the outermost one), if there is such a
 -- frame
 abbrev pub frame_bytes : LocalData → (frame : ℕ) → Option (List ℕ)
-frame_bytes l frame = option_map (λ start. slice_range l.bytes start (frame_bytes_end l frame)) (slice_get l.starts frame)
+frame_bytes l frame =
+    option_map (λ start. slice_range l.bytes start (frame_bytes_end l frame))
+    (slice_get l.starts frame)
 
 -- a list of bytes cut into pieces at indices: each piece goes from one index to the next, the last
 -- one to the end
@@ -39,9 +41,12 @@ pub record IsLaidOut (l : LocalData) : Type 0 where
 -- Between two local data a number is written to an operand of one frame: the frame's own bytes are
 -- as a write to them alone makes them, those of every other frame as before, and all lie one behind
 -- the other.
-pub record IsOwnWritten (old new : LocalData) (frame at bit : ℕ) (width : Width) (value : ℕ) : Type 0 where
+pub record IsOwnWritten (old new : LocalData) (frame at bit : ℕ) (width : Width) (value : ℕ)
+    : Type 0 where
   -- the frame's own local bytes, with the number written to them alone
-  pub own : frame_bytes new frame ≡ option_and_then (λ bytes. put_number bytes at bit width value) (frame_bytes old frame)
+  pub own :
+      frame_bytes new frame
+      ≡ option_and_then (λ bytes. put_number bytes at bit width value) (frame_bytes old frame)
   -- the local bytes of every other frame are as before
   pub others : (other : ℕ) → other ≢ frame → frame_bytes new other ≡ frame_bytes old other
   -- the frames' local bytes lie one behind the other

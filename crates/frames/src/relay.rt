@@ -117,8 +117,8 @@ impl Relay {
         self.zones.copy_from(&other.zones);
     }
 
-    /// `MCR(`: a zone opens, whose value is RLO and the value of the zone around it. False, with nothing
-    /// changed, where eight are open.
+    /// `MCR(`: a zone opens, whose value is RLO and the value of the zone around it. False, with
+    /// nothing changed, where eight are open.
     pub fn open(&mut self, rlo: bool) -> bool
         ensures full { IsFalse result ↔ (length self.old.zones ≡ 8) }
         ensures open { OnTrue result (self.new ≡ zone_opened rlo self.old) }

@@ -47,7 +47,8 @@ bound_actual access (passed.Direct area width byte bit) s m =
 bound_actual access (passed.Parameter index width) s m =
     binding_of_caller (slice_get s.inner.bindings index)
 bound_actual access (passed.InBlock number area width byte bit) s m =
-    if is_block_loaded number m then bound_place access (location_at areas.Db number byte bit width 0) s m
+    if is_block_loaded number m
+    then bound_place access (location_at areas.Db number byte bit width 0) s m
     else Err errors.no_data_block
 
 -- what is passed, bound for a parameter of the called block; one that the block lacks is passed in

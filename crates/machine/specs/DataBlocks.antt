@@ -26,7 +26,8 @@ block_opened register number s =
 -- a running block with a data block opened in the DB (1) or DI (2) register, if it is loaded; else
 -- error 3A
 abbrev pub opened_if : Bool → (register number : ℕ) → Local → Result Local ℕ
-opened_if loaded register number s = if loaded then Ok (block_opened register number s) else Err errors.no_data_block
+opened_if loaded register number s =
+    if loaded then Ok (block_opened register number s) else Err errors.no_data_block
 
 -- OPN of a number, or of the number in a word of memory
 unfoldable pub block_opened_by : Operand → Local → Areas → Result Local ℕ

@@ -36,8 +36,8 @@ abbrev pub di_of : (instance di : Option ℕ) → Option ℕ
 di_of None di = di
 di_of (Some instance) di = Some instance
 
--- the frame of the called block: it begins with the caller's data blocks, no open bracket, and its own
--- relay, which is inactive
+-- the frame of the called block: it begins with the caller's data blocks, no open bracket, and its
+-- own relay, which is inactive
 abbrev pub called_frame : CalledBlock → List Binding → Frame → Frame
 called_frame called bindings caller =
     record (frame_begun called.block called.local_len) {
@@ -75,7 +75,8 @@ entered_with_parameters a c = Enters (record a { running = with_local a.running 
 abbrev pub instance_supplied : Option ℕ → List Param → Activation → Areas → Call
 instance_supplied None params a m = Enters a m
 instance_supplied (Some instance) params a m =
-    entered_with_parameters a (params_copied_in params 0 a.running.frame.bindings instance (local_memory_of a.running m))
+    entered_with_parameters a
+    (params_copied_in params 0 a.running.frame.bindings instance (local_memory_of a.running m))
 
 -- a stop by depth or local data sets and copies nothing; else the caller stands behind the call
 abbrev pub entry_or_stop :
@@ -86,7 +87,8 @@ entry_or_stop None called bindings next a m =
     (block_entered (called_frame called bindings a.running.frame) (caller_at next a)) m
 
 -- a parameter that can't be bound is a synchronous error, and comes before depth and local data
-abbrev pub call_with_bindings : Result (List Binding) ℕ → CalledBlock → (next : ℕ) → Activation → Areas → Call
+abbrev pub call_with_bindings :
+    Result (List Binding) ℕ → CalledBlock → (next : ℕ) → Activation → Areas → Call
 call_with_bindings (Err code) called next a m = Fails code
 call_with_bindings (Ok bindings) called next a m =
     entry_or_stop (entry_fault called.local_len a) called bindings next a m
@@ -94,7 +96,8 @@ call_with_bindings (Ok bindings) called next a m =
 -- a call of a block; after it the caller goes on at the position `next`
 unfoldable pub block_call : CalledBlock → List Passing → (next : ℕ) → Activation → Areas → Call
 block_call called passings next a m =
-    call_with_bindings (param_bindings called.params passings (local_of a.running) m) called next a m
+    call_with_bindings (param_bindings called.params passings (local_of a.running) m)
+    called next a m
 
 -- a call whose parameters are bound leaves its arguments as that says; after a stop as they were
 abbrev pub LeavesCall :

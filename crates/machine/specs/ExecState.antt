@@ -26,7 +26,8 @@ pub record LocalMemory : Type 0 where
   -- the memory areas but local data
   pub memory : Areas
 
--- all that an instruction may see and change: what the running block has of its own, memory, timers and counters
+-- all that an instruction may see and change: what the running block has of its own, memory, timers
+-- and counters
 pub record ExecState : Type 0 where
   -- what the running block has of its own
   pub local : Local
@@ -52,7 +53,8 @@ exec_state_of s m t n = record { local = local_of s; memory = m; timers = t; cou
 
 -- the running block with these parts; its block and position stay
 abbrev pub with_local : Running → Local → Running
-with_local s o = record s { regs = o.regs; frame = with_frame_data s.frame o.inner; locals = o.locals }
+with_local s o =
+    record s { regs = o.regs; frame = with_frame_data s.frame o.inner; locals = o.locals }
 
 -- what a function makes of a first result, or the error code of that result
 abbrev pub then_ok : {A B : Type 0} → Result A ℕ → (A → Result B ℕ) → Result B ℕ

@@ -29,8 +29,8 @@ use Rattle.flat_code.specs.Records.{section_in}
 use Rattle.machine.specs.declared.places.Location.{Location}
 use Rattle.machine.specs.Code.{Code, BlockHead}
 
--- what stands open in the text: the function codes of the brackets, the innermost first, and how many
--- zones of the master control relay
+-- what stands open in the text: the function codes of the brackets, the innermost first, and how
+-- many zones of the master control relay
 pub record OpenAt : Type 0 where
   -- the function codes of the open brackets, the innermost first
   pub codes : List Check
@@ -160,7 +160,8 @@ pub record LocalsFit (frames : List Frame) (locals : LocalData) : Type 0 where
   pub len : length locals.bytes ≡ bytes_together frames
 
 -- an activation fits: a frame stands, and each frame fits
-pub record ActivationFits (code : Code) (brackets : OpenCodes) (m : Areas) (a : Activation) : Type 0 where
+pub record ActivationFits (code : Code) (brackets : OpenCodes) (m : Areas) (a : Activation)
+    : Type 0 where
   -- a frame stands
   pub stands : a.left ≡ false
   -- each frame fits
@@ -194,7 +195,8 @@ pub record SameSizes (m n : Areas) : Type 0 where
   -- the same data blocks are loaded, each with as many bytes
   pub data_blocks : (number : ℕ) → len_in n number ≡ len_in m number
 
--- a memory of a program: the areas of some profile, and the program's data blocks with their lengths
+-- a memory of a program: the areas of some profile, and the program's data blocks with their
+-- lengths
 pub record IsMemoryOf (code : Code) (m : Areas) : Type 0 where
   -- the profile that gives the areas their sizes
   pub profile : Profile

@@ -110,7 +110,8 @@ instance_named number = if number == 0 then None else Some number
 
 -- a call of a block by the number of its kind; a number that names none is called in no program
 abbrev pub call_by_number :
-    Option BlockKind → CallOperation → (number instance : ℕ) → List Passing → (other : Instr) → Instr
+    Option BlockKind → CallOperation → (number instance : ℕ) → List Passing → (other : Instr)
+    → Instr
 call_by_number None how number instance passings other = other
 call_by_number (Some kind) how number instance passings other =
     Calls how (record { kind = kind; number = number }) (instance_named instance) passings
@@ -130,7 +131,8 @@ instr_of w o use_db passings next ops = Does use_db w o
 -- the statement that a run of ops is; the ops of the whole block give the list of a JL
 abbrev pub fetched_of : List OpData → (line : ℕ) → OpRun → Fetched
 fetched_of ops line r = record {
-  instr = instr_of (operation_of r.last.code) r.last.operand (use_db_of r.before) (passings_of r.before)
+  instr =
+      instr_of (operation_of r.last.code) r.last.operand (use_db_of r.before) (passings_of r.before)
       r.next ops;
   next = r.next;
   line = line;
@@ -139,7 +141,8 @@ fetched_of ops line r = record {
 -- the statement of a block that begins at an offset
 unfoldable pub statement_fetched : CodeBlock → ℕ → Option Fetched
 statement_fetched b at =
-    option_and_then (λ line. option_map (fetched_of b.code line) (op_run_at most_ops_of_statement b.code at))
+    option_and_then
+    (λ line. option_map (fetched_of b.code line) (op_run_at most_ops_of_statement b.code at))
     (line_placed 0 true b.code b.lines at)
 
 -- the head of a code block: all but its kind, number, ops and source lines
@@ -158,7 +161,8 @@ numbered_bytes (d ∷ rest) = (d.number, d.bytes) ∷ numbered_bytes rest
 -- the code of a program
 abbrev pub code_of : Program → Code
 code_of p = record {
-  fetch = λ block at. option_and_then (λ b. statement_fetched b at) (block_by_id block p.code_blocks);
+  fetch =
+      λ block at. option_and_then (λ b. statement_fetched b at) (block_by_id block p.code_blocks);
   head = λ block. option_map block_head_of (block_by_id block p.code_blocks);
   blocks = numbered_bytes p.data_blocks;
 }

@@ -113,7 +113,8 @@ LeavesActivation p m a (outcome.Stop cause) =
 
 -- what a call of a statement leaves fits: no area and no data block becomes longer or shorter, so
 -- activations that wait fit as before, and so does this one
-pub record LeavesFit (p : Program) (old new : Areas) (a : Activation) (answer : Outcome) : Type 0 where
+pub record LeavesFit (p : Program) (old new : Areas) (a : Activation) (answer : Outcome)
+    : Type 0 where
   -- each area and each data block has as many bytes as before
   pub sizes : SameSizes old new
   -- the activation fits again by its answer, and codes, causes and arguments are right

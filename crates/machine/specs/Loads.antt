@@ -24,18 +24,21 @@ regs_after_load o s m t n = then_ok (load_value o s m t n) (λ x. Ok (with_accu_
 
 -- LC: registers with the time or count of the operand, in BCD, in accumulator 1 and its old content
 -- in accumulator 2
-unfoldable pub regs_after_bcd_load : Operand → Local → Areas → List Timer → List Counter → Result Regs ℕ
+unfoldable pub regs_after_bcd_load :
+    Operand → Local → Areas → List Timer → List Counter → Result Regs ℕ
 regs_after_bcd_load o s m t n = then_ok (bcd_loaded o s m t n) (λ x. Ok (with_accu_loaded x s.regs))
 
 -- the lowest bits of a number, as many as the operand is wide, written to the place of the operand
 unfoldable pub number_transferred : ℕ → Operand → Local → Areas → Result LocalMemory ℕ
 number_transferred n o s m =
-    then_ok (operand_location Writing o s m) (λ at. number_written_at at (n % 2 ^ bit_count at.width) s m)
+    then_ok (operand_location Writing o s m)
+    (λ at. number_written_at at (n % 2 ^ bit_count at.width) s m)
 
 -- T: accumulator 1 written to the place of the operand, and 0 while the master control relay is
 -- closed
 abbrev pub local_memory_after_transfer : Operand → Local → Areas → Result LocalMemory ℕ
-local_memory_after_transfer o s m = number_transferred (if is_writing_off s then 0 else s.regs.a1) o s m
+local_memory_after_transfer o s m =
+    number_transferred (if is_writing_off s then 0 else s.regs.a1) o s m
 
 -- L STW: the status word in accumulator 1, with /FC, STA and OR as 0
 unfoldable pub status_loaded : Regs → Regs

@@ -28,7 +28,8 @@ pub record FollowsCode (f : BlockId → ℕ → ℕ) (c d : Code) : Type 0 where
   -- position 0 of each block stays 0
   pub start : (b : BlockId) → f b 0 ≡ 0
   -- at the position of each position is the same statement, moved
-  pub fetch : (b : BlockId) (at : ℕ) → d.fetch b (f b at) ≡ option_map (moved_fetched (f b)) (c.fetch b at)
+  pub fetch :
+      (b : BlockId) (at : ℕ) → d.fetch b (f b at) ≡ option_map (moved_fetched (f b)) (c.fetch b at)
   -- each code block has the same head
   pub head : (b : BlockId) → d.head b ≡ c.head b
   -- the data blocks are the same

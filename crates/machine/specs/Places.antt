@@ -40,14 +40,18 @@ innermost_frame_index s = length s.locals.starts - 1
 
 -- a place in the data block of the DB or DI register; an error where none is open
 abbrev pub open_block_location : Option ℕ → (error byte bit : ℕ) → Width → Result Location ℕ
-open_block_location (Some number) error byte bit width = Ok (location_at areas.Db number byte bit width 0)
+open_block_location (Some number) error byte bit width =
+    Ok (location_at areas.Db number byte bit width 0)
 open_block_location None error byte bit width = Err error
 
 -- a place of an area given by byte and bit; error 32 where no DB is open, 33 where no DI is
 unfoldable pub open_area_location : Area → (byte bit : ℕ) → Width → Local → Result Location ℕ
-open_area_location areas.Db byte bit width s = open_block_location s.inner.db errors.no_db_open byte bit width
-open_area_location areas.Di byte bit width s = open_block_location s.inner.di errors.no_di_open byte bit width
-open_area_location areas.L byte bit width s = Ok (location_at areas.L 0 byte bit width (innermost_frame_index s))
+open_area_location areas.Db byte bit width s =
+    open_block_location s.inner.db errors.no_db_open byte bit width
+open_area_location areas.Di byte bit width s =
+    open_block_location s.inner.di errors.no_di_open byte bit width
+open_area_location areas.L byte bit width s =
+    Ok (location_at areas.L 0 byte bit width (innermost_frame_index s))
 open_area_location area byte bit width s = Ok (location_at area 0 byte bit width 0)
 
 -- the error code of a place that doesn't exist: 22 reading, 23 writing; in the peripheral area 42
@@ -70,11 +74,13 @@ location_number at locals memory =
 
 -- the number read at a place; where the place doesn't exist error 22, in the peripheral area 42
 unfoldable pub number_read_at : Location → Local → Areas → Result ℕ ℕ
-number_read_at at s m = ok_or (location_number at s.locals m) (error_of_absent_place Reading at.place.area)
+number_read_at at s m =
+    ok_or (location_number at s.locals m) (error_of_absent_place Reading at.place.area)
 
 -- the number read at a place of an area given by byte and bit, or the error of the place
 unfoldable pub direct_number : Area → (byte bit : ℕ) → Width → Local → Areas → Result ℕ ℕ
-direct_number area byte bit width s m = then_ok (open_area_location area byte bit width s) (λ at. number_read_at at s m)
+direct_number area byte bit width s m =
+    then_ok (open_area_location area byte bit width s) (λ at. number_read_at at s m)
 
 -- what stands at a pointer's own place: a double word, or a word for a timer, counter or data block
 abbrev pub pointer_number : Area → (byte : ℕ) → Width → Local → Areas → Result ℕ ℕ
@@ -93,12 +99,15 @@ is_aligned _ n = n % 2 ^ 3 == 0
 -- the place to which a pointer points in an area: the bit number is in its bits 0 to 2, the byte
 -- number in bits 3 to 18
 abbrev pub location_at_pointer : Area → Width → ℕ → Local → Result Location ℕ
-location_at_pointer area width n s = open_area_location area (n / 2 ^ 3 % 2 ^ 16) (n % 2 ^ 3) width s
+location_at_pointer area width n s =
+    open_area_location area (n / 2 ^ 3 % 2 ^ 16) (n % 2 ^ 3) width s
 
 -- the place of a pointer within an area; error 28 (reading) or 29 (writing) where it isn't aligned
 unfoldable pub pointer_location : Access → Area → Width → ℕ → Local → Result Location ℕ
 pointer_location access area width n s =
-    if is_aligned width n then location_at_pointer area width n s else Err (error_of access errors.alignment_error)
+    if is_aligned width n
+    then location_at_pointer area width n s
+    else Err (error_of access errors.alignment_error)
 
 -- whether an area is P, read as peripheral inputs and written as peripheral outputs
 abbrev pub is_area_p : Area → Bool
@@ -135,7 +144,8 @@ address_moved_by address bits = (address % 2 ^ 19 + bits % 2 ^ 19) % 2 ^ 19
 
 -- the place of a register-indirect operand: the area is the one named, or without one that of the
 -- address register
-abbrev pub register_location : Access → Option Area → Width → (address bits : ℕ) → Local → Result Location ℕ
+abbrev pub register_location :
+    Access → Option Area → Width → (address bits : ℕ) → Local → Result Location ℕ
 register_location access (Some area) width address bits s =
     pointer_location access area width (address_moved_by address bits) s
 register_location access None width address bits s =
@@ -154,10 +164,13 @@ binding_location _ = Err no_operand
 
 -- the place of an operand that is to be read or written, or the error of the place
 unfoldable pub operand_location : Access → Operand → Local → Areas → Result Location ℕ
-operand_location access (operand.Direct area width byte bit) s m = area_location access area byte bit width s
+operand_location access (operand.Direct area width byte bit) s m =
+    area_location access area byte bit width s
 operand_location access (operand.ByMemory area width from byte) s m =
-    then_ok (pointer_number from byte widths.Dword s m) (λ n. pointer_location access area width n s)
+    then_ok (pointer_number from byte widths.Dword s m)
+    (λ n. pointer_location access area width n s)
 operand_location access (operand.ByRegister area width register bits) s m =
     register_location access area width (register_address register s) bits s
-operand_location access (operand.Parameter index width) s m = binding_location (slice_get s.inner.bindings index)
+operand_location access (operand.Parameter index width) s m =
+    binding_location (slice_get s.inner.bindings index)
 operand_location access _ s m = Err no_operand

@@ -19,7 +19,8 @@ pub record ReturnState : Type 0 where
   -- the memory areas but local data
   pub memory : Areas
 
--- an activation with other local data and registers of its running block, and a memory; the frames below stay
+-- an activation with other local data and registers of its running block, and a memory; the frames
+-- below stay
 abbrev pub return_state_of : Activation → LocalMemory → ReturnState
 return_state_of a c = record {
   activation = record a { running = with_local a.running c.local };
@@ -31,7 +32,8 @@ return_state_of a c = record {
 abbrev pub outputs_copied_back : Option ℕ → List Param → Activation → Areas → ReturnState
 outputs_copied_back None params a m = record { activation = a; memory = m }
 outputs_copied_back (Some instance) params a m =
-    return_state_of a (params_out params 0 a.running.frame.bindings instance (local_memory_of a.running m))
+    return_state_of a
+    (params_out params 0 a.running.frame.bindings instance (local_memory_of a.running m))
 
 -- an activation whose innermost frame is again that of the caller, with the data blocks, brackets
 -- and relay as the caller left them
@@ -74,7 +76,8 @@ return_to_caller (caller ∷ rest) s = GoesOn (activation_of_caller caller rest 
 
 -- the innermost block returns: the parameters of its head are copied out, then its frame is left
 unfoldable pub block_return : List Param → Activation → Areas → Return
-block_return params a m = return_to_caller a.below (outputs_copied_back a.running.frame.instance params a m)
+block_return params a m =
+    return_to_caller a.below (outputs_copied_back a.running.frame.instance params a m)
 
 -- the innermost block is left to the frames that stand below; the answer is whether a caller goes
 -- on, and false where there are none

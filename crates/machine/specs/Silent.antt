@@ -1,5 +1,5 @@
--- Statements one after another that leave the peripheral outputs as they are, and after each of which
--- the activation goes on.
+-- Statements one after another that leave the peripheral outputs as they are, and after each of
+-- which the activation goes on.
 use Rattle.std.specs.Prelude.{◌≡◌, ℕ, zero, suc, Bool, true, false, not, ◌||◌, ◌&&◌, List, [], ◌∷◌, slice_get, Option, Some, None, is_some}
 use Rattle.plc_base.specs.Kinds.{is_system_function}
 use Rattle.plc_base.specs.declared.Area.{Area}
@@ -22,7 +22,9 @@ use Rattle.machine.specs.Places.{is_area_p}
 use Rattle.machine.specs.Statement.{GlobalStore, StatementStep, Went, is_call_made, is_return_made, statement_step}
 
 -- an activation goes on after a statement, with no change of the peripheral outputs
-pub record GoesSilently (step : StatementStep) (w : GlobalStore) (next : Activation) (after : GlobalStore) : Type 0 where
+pub record GoesSilently
+    (step : StatementStep) (w : GlobalStore) (next : Activation) (after : GlobalStore)
+    : Type 0 where
   -- the statement leaves this activation, which goes on
   pub goes : step ≡ Went next after
   -- the peripheral outputs are as before
@@ -107,7 +109,8 @@ has_caller (caller ∷ rest) = true
 -- block and writes no peripheral place; a jump but JL; a call that is made of a function or
 -- function block; a return that is made from a block without an instance to its caller
 abbrev pub is_silent : Instr → Activation → Bool
-is_silent (Does use_db w o) a = not (is_control_transfer w) && keeps_outputs w o a.running.frame.bindings
+is_silent (Does use_db w o) a =
+    not (is_control_transfer w) && keeps_outputs w o a.running.frame.bindings
 is_silent (Jumps w target) a = true
 is_silent (Calls how block instance passings) a =
     is_call_made how a.running.regs.status.rlo && not (is_system_function block.kind)
@@ -130,16 +133,19 @@ is_statement_of_kind kind (Some f) a = kind f.instr a
 
 -- whether the next statement of an activation has an instruction of a kind
 abbrev pub is_next_statement_of_kind : (Instr → Activation → Bool) → Code → Activation → Bool
-is_next_statement_of_kind kind code a = is_statement_of_kind kind (code.fetch a.running.frame.block a.running.frame.at) a
+is_next_statement_of_kind kind code a =
+    is_statement_of_kind kind (code.fetch a.running.frame.block a.running.frame.at) a
 
 -- whether the next statement of an activation has an instruction of a kind, and the activation goes
 -- on after it
 abbrev pub goes_on_by_kind : (Instr → Activation → Bool) → Code → Activation → GlobalStore → Bool
-goes_on_by_kind kind code a w = is_next_statement_of_kind kind code a && is_going_on (statement_step code a w)
+goes_on_by_kind kind code a w =
+    is_next_statement_of_kind kind code a && is_going_on (statement_step code a w)
 
 -- one statement of a kind was executed (true), or nothing was done, since the next one isn't of the
 -- kind or the activation doesn't go on after it
-abbrev pub GoesOrStays : StatementStep → (kind : Bool) → (old new : Activation) (w after : GlobalStore) → Bool → Type 0
+abbrev pub GoesOrStays :
+    StatementStep → (kind : Bool) → (old new : Activation) (w after : GlobalStore) → Bool → Type 0
 GoesOrStays step kind old new w after true = GoesSilently step w new after
 GoesOrStays step kind old new w after false =
     (new ≡ old) × (after ≡ w) × ((kind && is_going_on step) ≡ false)

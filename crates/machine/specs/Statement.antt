@@ -80,7 +80,8 @@ with_memory m w = record w { memory = m }
 -- what comes of an instruction that touches no position: the activation goes on at the next
 -- statement, or has a synchronous error there
 abbrev pub continue_with : Result ExecState ℕ → (next : ℕ) → Activation → StatementStep
-continue_with (Ok p) next a = Went (activation_advanced_to next (with_exec_state p a)) (global_store_of p)
+continue_with (Ok p) next a =
+    Went (activation_advanced_to next (with_exec_state p a)) (global_store_of p)
 continue_with (Err code) next a = SyncError code (activation_advanced_to next a)
 
 -- a jump but JL goes on at its target where it is taken, else at the next statement
@@ -107,14 +108,16 @@ called_block block instance h = record {
 -- what comes of a call of a function or function block, given its head; stuck where the program has
 -- none
 abbrev pub block_called :
-    Option BlockHead → BlockId → Option ℕ → List Passing → (next : ℕ) → Activation → GlobalStore → StatementStep
+    Option BlockHead → BlockId → Option ℕ → List Passing → (next : ℕ) → Activation → GlobalStore
+    → StatementStep
 block_called None block instance passings next a w = Stuck
 block_called (Some h) block instance passings next a w =
     call_step (block_call (called_block block instance h) passings next a w.memory) next a w
 
 -- what comes of a call of a system function, given its arguments or their error; OS, OR, STA and
 -- /FC are set as at each call
-abbrev pub after_system_call : Result SystemCallArguments ℕ → (number next : ℕ) → Activation → StatementStep
+abbrev pub after_system_call :
+    Result SystemCallArguments ℕ → (number next : ℕ) → Activation → StatementStep
 after_system_call (Err code) number next a = SyncError code (activation_advanced_to next a)
 after_system_call (Ok given) number next a =
     SysCall number given (activation_continued_at next (at_block a.running.regs) a)
@@ -122,7 +125,8 @@ after_system_call (Ok given) number next a =
 -- what comes of a call of a system function, given its parameters; stuck where the number is none
 -- of the nine
 abbrev pub system_call_made :
-    Option (List Param) → (number : ℕ) → List Passing → (next : ℕ) → Activation → GlobalStore → StatementStep
+    Option (List Param) → (number : ℕ) → List Passing → (next : ℕ) → Activation → GlobalStore
+    → StatementStep
 system_call_made None number passings next a w = Stuck
 system_call_made (Some params) number passings next a w =
     after_system_call (system_call params passings (local_of a.running) w.memory) number next a
@@ -165,15 +169,20 @@ is_return_made _ rlo = true
 -- what comes of an instruction; `next` is the position behind its statement
 abbrev pub instruction_step : Code → Instr → (next : ℕ) → Activation → GlobalStore → StatementStep
 instruction_step code (Does use_db operation operand) next a w =
-    continue_with (statement_effect use_db operation operand (exec_state_of a.running w.memory w.timers w.counters)) next a
+    continue_with
+    (statement_effect use_db operation operand
+    (exec_state_of a.running w.memory w.timers w.counters))
+    next a
 instruction_step code (Jumps operation target) next a w = jump_step operation target next a w
 instruction_step code (JumpsByList targets otherwise) next a w =
     Went (activation_advanced_to (list_goal targets otherwise a.running.regs) a) w
 instruction_step code (Calls how block instance passings) next a w =
-    if is_call_made how a.running.regs.status.rlo then call_made code block instance passings next a w
+    if is_call_made how a.running.regs.status.rlo
+    then call_made code block instance passings next a w
     else Went (activation_continued_at next (regs_after_call_not_made a.running.regs) a) w
 instruction_step code (Returns how) next a w =
-    if is_return_made how a.running.regs.status.rlo then return_made (code.head a.running.frame.block) a w
+    if is_return_made how a.running.regs.status.rlo
+    then return_made (code.head a.running.frame.block) a w
     else Went (activation_continued_at next (rlo_tested a.running.regs) a) w
 
 -- what comes of the statement that was found; stuck where none begins at the position
@@ -192,14 +201,17 @@ IsNotStuck Stuck = ⊥
 IsNotStuck _ = Unit {0}
 
 -- what a call of a statement answers, and what it leaves
-abbrev pub IsOutcomeOf : StatementStep → (old new : Activation) (w w' : GlobalStore) → Outcome → Type 0
+abbrev pub IsOutcomeOf :
+    StatementStep → (old new : Activation) (w w' : GlobalStore) → Outcome → Type 0
 IsOutcomeOf (Went a after) old new w w' outcome.Went = (new ≡ a) × (w' ≡ after)
-IsOutcomeOf (Ended regs after) old new w w' outcome.Ended = HasReturnedLast old new regs × (w' ≡ after)
+IsOutcomeOf (Ended regs after) old new w w' outcome.Ended =
+    HasReturnedLast old new regs × (w' ≡ after)
 IsOutcomeOf (SyncError code a) old new w w' (outcome.SyncError answer) =
     (answer ≡ code) × (new ≡ a) × (w' ≡ w)
 IsOutcomeOf (SysCall number given a) old new w w' (outcome.SysCall function inputs result) =
     (function ≡ number) × (inputs ≡ given.inputs) × (result ≡ given.result) × (new ≡ a) × (w' ≡ w)
-IsOutcomeOf (Stop cause) old new w w' (outcome.Stop answer) = (answer ≡ cause) × (new ≡ old) × (w' ≡ w)
+IsOutcomeOf (Stop cause) old new w w' (outcome.Stop answer) =
+    (answer ≡ cause) × (new ≡ old) × (w' ≡ w)
 IsOutcomeOf step old new w w' answer = ⊥
 
 -- whether an answer is a synchronous error
@@ -208,10 +220,11 @@ is_sync_error (outcome.SyncError code) = true
 is_sync_error _ = false
 
 -- whether the activation goes on once an instruction was performed, what else came of it, and what
--- that left: a synchronous error nothing at all, so that the next statement is still to be gone to. Of
--- an instruction that lacks what it needs nothing is said
+-- that left: a synchronous error nothing at all, so that the next statement is still to be gone to.
+-- Of an instruction that lacks what it needs nothing is said
 abbrev pub IsPerformed :
-    StatementStep → (next : ℕ) → (old new : Activation) (w w' : GlobalStore) → (goes : Bool) → (other : Outcome) → Type 0
+    StatementStep → (next : ℕ) → (old new : Activation) (w w' : GlobalStore) → (goes : Bool)
+    → (other : Outcome) → Type 0
 IsPerformed Stuck next old new w w' goes other = Unit {0}
 IsPerformed (Went a after) next old new w w' true other = (new ≡ a) × (w' ≡ after)
 IsPerformed (Went a after) next old new w w' false other = ⊥

@@ -53,7 +53,9 @@ inputs_from (p ∷ rest) index bindings s m =
 abbrev pub result_from : List Param → (index : ℕ) → List Binding → Option Binding
 result_from [] index bindings = None
 result_from (p ∷ rest) index bindings =
-    if p.section == section_out then slice_get bindings index else result_from rest (index + 1) bindings
+    if p.section == section_out
+    then slice_get bindings index
+    else result_from rest (index + 1) bindings
 
 -- the arguments of a system call: the numbers of the IN parameters as they are now, and what
 -- RET_VAL stands for
@@ -65,11 +67,15 @@ system_call_arguments params bindings s m = record {
 
 -- the arguments of a system call of an activation: the numbers of the IN parameters as they are
 -- now, and what RET_VAL stands for
-abbrev pub arguments_of_activation : List Param → List Binding → Activation → Areas → SystemCallArguments
-arguments_of_activation params bindings a m = system_call_arguments params bindings (local_of a.running) m
+abbrev pub arguments_of_activation :
+    List Param → List Binding → Activation → Areas → SystemCallArguments
+arguments_of_activation params bindings a m =
+    system_call_arguments params bindings (local_of a.running) m
 
 -- the arguments of a CALL of a system function; its parameters are bound as in each call, and the
 -- error is that of the first that can't be bound
-unfoldable pub system_call : List Param → List Passing → Local → Areas → Result SystemCallArguments ℕ
+unfoldable pub system_call :
+    List Param → List Passing → Local → Areas → Result SystemCallArguments ℕ
 system_call params passings s m =
-    then_ok (param_bindings params passings s m) (λ bindings. Ok (system_call_arguments params bindings s m))
+    then_ok (param_bindings params passings s m)
+    (λ bindings. Ok (system_call_arguments params bindings s m))

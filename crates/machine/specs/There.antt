@@ -11,7 +11,9 @@ use Rattle.machine.specs.SystemCalls.{system_function}
 -- whether a block can be called: it is a system function of the profile, or a block of the program
 abbrev pub is_block_callable : Code → BlockId → Bool
 is_block_callable c block =
-    if is_system_function block.kind then is_some (system_function block.number) else is_some (c.head block)
+    if is_system_function block.kind
+    then is_some (system_function block.number)
+    else is_some (c.head block)
 
 -- whether what an instruction calls is there, and at a return the head of its own block
 abbrev pub is_called_block_there : Code → Instr → (own : BlockId) → Bool

@@ -24,10 +24,12 @@ start_word s = s.regs.a1 % 2 ^ 16
 
 -- SP, SE, SD, SS or SF: the timers afterwards; error 26 where there is none of the number, 21 for a
 -- bad digit
-unfoldable pub timer_start : TimerKind → Operand → Local → Areas → List Timer → Result (List Timer) ℕ
+unfoldable pub timer_start :
+    TimerKind → Operand → Local → Areas → List Timer → Result (List Timer) ℕ
 timer_start how o s m t =
     then_ok (number_named o s m) (λ number.
-    with_timer_error errors.no_timer (change_at_number (start_timer how s.regs.status.rlo (start_word s)) t number))
+    with_timer_error errors.no_timer
+    (change_at_number (start_timer how s.regs.status.rlo (start_word s)) t number))
 
 -- R of a timer: the timers afterwards; error 26 where there is none of the number
 unfoldable pub timer_reset : Operand → Local → Areas → List Timer → Result (List Timer) ℕ
@@ -58,7 +60,8 @@ counting_down o s m n =
 unfoldable pub counter_set : Operand → Local → Areas → List Counter → Result (List Counter) ℕ
 counter_set o s m n =
     then_ok (number_named o s m) (λ number.
-    with_timer_error errors.no_counter (change_at_number (set_counter s.regs.status.rlo (start_word s)) n number))
+    with_timer_error errors.no_counter
+    (change_at_number (set_counter s.regs.status.rlo (start_word s)) n number))
 
 -- R of a counter: the counters afterwards; error 27 where there is none of the number
 unfoldable pub counter_reset : Operand → Local → Areas → List Counter → Result (List Counter) ℕ
@@ -75,7 +78,9 @@ counter_freed o s m n =
 -- what a call leaves by an effect on timers or counters: the logic string has ended; or, with an
 -- error, all as it was
 abbrev pub HasTimerOrCounterEffect :
-    {A : Type 0} → Result (List A) ℕ → (old new : Running) (all all' : List A) → ErrorAnswer → Type 0
+    {A : Type 0} → Result (List A) ℕ → (old new : Running) (all all' : List A) → ErrorAnswer
+    → Type 0
 HasTimerOrCounterEffect effect old new all all' answer =
-    IsDone effect (λ next. (new ≡ record old { regs = logic_string_ended old.regs }) × (all' ≡ next))
+    IsDone effect
+    (λ next. (new ≡ record old { regs = logic_string_ended old.regs }) × (all' ≡ next))
     ((new ≡ old) × (all' ≡ all)) answer

@@ -51,7 +51,9 @@ is_timer_kind kind = kind == 1
 -- is above 0
 unfoldable pub bit_of_numbered : (kind number : ℕ) → List Timer → List Counter → Result Bool ℕ
 bit_of_numbered kind number t n =
-    if is_timer_kind kind then with_timer_error errors.no_timer (read_at_number (λ (timer : Timer). timer.output) t number)
+    if is_timer_kind kind
+    then with_timer_error errors.no_timer
+    (read_at_number (λ (timer : Timer). timer.output) t number)
     else with_timer_error errors.no_counter (read_at_number is_counting n number)
 
 -- the number that L loads of a timer or counter: of a timer the time left in units of its base, of
@@ -59,7 +61,8 @@ bit_of_numbered kind number t n =
 unfoldable pub value_of_numbered : (kind number : ℕ) → List Timer → List Counter → Result ℕ ℕ
 value_of_numbered kind number t n =
     if is_timer_kind kind then with_timer_error errors.no_timer (read_at_number units_left t number)
-    else with_timer_error errors.no_counter (read_at_number (λ (counter : Counter). counter.value) n number)
+    else with_timer_error errors.no_counter
+    (read_at_number (λ (counter : Counter). counter.value) n number)
 
 -- the number that LC loads of a timer or counter, in BCD: of a timer the time left with its base,
 -- of a counter its value
@@ -120,4 +123,5 @@ stored_at at value s m =
 -- a running block and memory with a number written to a place; error 23, in the peripheral area 43,
 -- where it doesn't exist
 unfoldable pub number_written_at : Location → ℕ → Local → Areas → Result LocalMemory ℕ
-number_written_at at value s m = ok_or (stored_at at value s m) (error_of_absent_place Writing at.place.area)
+number_written_at at value s m =
+    ok_or (stored_at at value s m) (error_of_absent_place Writing at.place.area)

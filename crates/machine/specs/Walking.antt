@@ -55,7 +55,8 @@ list_jump most ops target at number =
     unwrap_or (slice_get (list_of most ops target at) number) target
 
 -- the bindings after an op: one that passes a parameter sets what the parameter stands for
-abbrev pub binding_by : Operand → List Param → List Binding → Local → Areas → Result (List Binding) ℕ
+abbrev pub binding_by :
+    Operand → List Param → List Binding → Local → Areas → Result (List Binding) ℕ
 binding_by (operand.Pass index actual) params bindings s m =
     then_ok (bound_for (slice_get params index) actual s m) (λ b. Ok (binding_set bindings index b))
 binding_by _ params bindings s m = Ok bindings
@@ -82,7 +83,8 @@ bound_from (suc most) ops at params bindings s m =
 
 -- what all parameters stand for, by the ops of the statement at an offset
 abbrev pub bound_all : List OpData → ℕ → List Param → Local → Areas → Result (List Binding) ℕ
-bound_all ops at params s m = bound_from most_ops_of_statement ops at params (no_bindings params) s m
+bound_all ops at params s m =
+    bound_from most_ops_of_statement ops at params (no_bindings params) s m
 
 -- what a further op and the ops behind it pass; the last op of a statement passes nothing
 abbrev pub passings_with : Option (OpData × ℕ) → (ℕ → List Passing) → List Passing
@@ -102,7 +104,8 @@ passings_at ops at = passings_up_to most_ops_of_statement ops at
 -- the statement at an offset of a block, by what was found along its ops
 abbrev pub fetched_at : CodeBlock → ℕ → Walk → Fetched
 fetched_at b at walk = record {
-  instr = instr_of (operation_of walk.last.code) walk.last.operand walk.opens (passings_at b.code at)
+  instr =
+      instr_of (operation_of walk.last.code) walk.last.operand walk.opens (passings_at b.code at)
       walk.next b.code;
   next = walk.next;
   line = unwrap_or (line_placed 0 true b.code b.lines at) 0;

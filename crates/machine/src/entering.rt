@@ -109,7 +109,8 @@ pub(crate) fn enter_if_room(
 ) -> Result<(), FrameFault>
     requires depth { length a.old.running.locals.starts ≡ length (frames_of a.old) }
     requires params { length called.now.params ≤ 60 }
-    ensures { LeavesCall (entry_or_stop (entry_fault called.now.local_len a.old) called.now bindings.now next
+    ensures { LeavesCall (entry_or_stop (entry_fault called.now.local_len a.old)
+        called.now bindings.now next
         a.old m.old) a.old a.new m.old m.new result }
 {
     if let Some(fault) = a.refuses(called.local_len) {

@@ -57,7 +57,8 @@ pub(crate) fn opens_after(opens: Option<u16>, operand: &Operand) -> Option<u16>
 #[tactic(auto, using(crate::proofs::Walks::walk_nowhere, crate::proofs::Walks::first_ends, crate::proofs::Walks::first_goes_on))]
 #[inline(always)]
 pub(crate) fn walk_from(code: &LoadedCode<'_>, at: u32) -> Option<Walk>
-    ensures { result ≡ option_map (walk_with None) (op_run_at most_ops_of_statement code.now.code at) }
+    ensures { result ≡ option_map (walk_with None)
+        (op_run_at most_ops_of_statement code.now.code at) }
 {
     let (op, next) = code.op(at)?;
     if op.last {
@@ -70,8 +71,8 @@ pub(crate) fn walk_from(code: &LoadedCode<'_>, at: u32) -> Option<Walk>
     walk_on(code, next, opens_after(None, &op.operand))
 }
 
-// A statement whose last op begins at an offset. It is read once more there, so that of an op on the
-// way nothing is kept but where it ends and what it opens.
+// A statement whose last op begins at an offset. It is read once more there, so that of an op on
+// the way nothing is kept but where it ends and what it opens.
 #[inline(always)]
 fn walk_to(code: &LoadedCode<'_>, at: u32, opens: Option<u16>) -> Option<Walk>
     ensures { result ≡ option_map (walk_by opens) (op_placed 0 code.now.code at) }
@@ -161,7 +162,8 @@ fn bind(
     m: &Memory,
 ) -> Result<(), u8>
     ensures { MatchResult result
-        (λ _. binding_by operand.now params.now bindings.old (local_of s.now) m.now ≡ Ok bindings.new)
+        (λ _. binding_by operand.now params.now bindings.old (local_of s.now) m.now
+        ≡ Ok bindings.new)
         (λ code. binding_by operand.now params.now bindings.old (local_of s.now) m.now ≡ Err code) }
 {
     match *operand {

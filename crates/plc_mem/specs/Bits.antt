@@ -11,7 +11,8 @@ use Rattle.plc_mem.specs.BitPlace.{BitPlace, Region, Inputs, Outputs, BitMemory,
 -- The peripheral byte with a number, if there is one: none between the two parts, bytes 0 to 127
 -- and bytes 256 to 767.
 abbrev pub peripheral_byte : PeripheralBytes → ℕ → Option ℕ
-peripheral_byte p n = if nat_lt n upper_start then slice_get p.low n else slice_get p.high (n - upper_start)
+peripheral_byte p n =
+    if nat_lt n upper_start then slice_get p.low n else slice_get p.high (n - upper_start)
 
 -- The byte with a number in the data block with a number, if the data block is loaded and has the
 -- byte.

@@ -29,7 +29,8 @@ WritingGivesTheOneMemory m other =
     (n : Areas) (place : Place) (width : Width) (value : ℕ)
     → value < 2 ^ bit_count width
     → number_written m place width value ≡ Some n
-    → IsMemory n × IsNumberWritten m n place width value × (IsNumberWritten m other place width value → other ≡ n)
+    → IsMemory n × IsNumberWritten m n place width value
+    × (IsNumberWritten m other place width value → other ≡ n)
 
 -- There is a number at a place and width exactly where each bit of the operand that reading means
 -- exists.
@@ -43,7 +44,8 @@ ReadsWhereEachBitExists m =
 abbrev pub WritesWhereEachBitExists : Areas → Type 0
 WritesWhereEachBitExists m =
     (place : Place) (width : Width) (value : ℕ)
-    → IsSome (number_written m place width value) ↔ EachBitExists m (region_written place) place width
+    → IsSome (number_written m place width value)
+    ↔ EachBitExists m (region_written place) place width
 
 -- A number written is read back from its place, but in area P, where writing means peripheral
 -- outputs and reading peripheral inputs.
@@ -63,7 +65,8 @@ PlacesStay m =
     → value < 2 ^ bit_count width
     → number_written m place width value ≡ Some n
     → SamePlaces m n)
-    × ((n : Areas) (byte value : ℕ) → value < 2 ^ 8 → with_input m byte value ≡ Some n → SamePlaces m n)
+    × ((n : Areas) (byte value : ℕ) → value < 2 ^ 8 → with_input m byte value ≡ Some n
+    → SamePlaces m n)
     × SamePlaces m (outputs_cleared m)
     × SamePlaces m (memory_refreshed m)
 

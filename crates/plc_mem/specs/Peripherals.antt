@@ -41,7 +41,8 @@ pub record AreOutputsCleared (old new : Areas) : Type 0 where
 pub record IsInputSet (old new : Areas) (byte value : ℕ) : Type 0 where
   -- each bit of the byte is the value's
   pub input :
-      (bit : ℕ) → bit < 8 → bit_at new (bit_place PeripheralInputs byte bit) ≡ Some (is_bit_one value bit)
+      (bit : ℕ) → bit < 8
+      → bit_at new (bit_place PeripheralInputs byte bit) ≡ Some (is_bit_one value bit)
   -- every other bit is as before
   pub others :
       (place : BitPlace)

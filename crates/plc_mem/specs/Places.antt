@@ -12,7 +12,9 @@ use Rattle.plc_mem.specs.Bits.{bit_at}
 -- In two memories the same data blocks are loaded, whatever their bytes are.
 abbrev pub SameBlocks : (old new : Areas) → Type 0
 SameBlocks old new =
-    (number : ℕ) → is_some (map.get new.data_blocks number) ≡ is_some (map.get old.data_blocks number)
+    (number : ℕ)
+    → is_some (map.get new.data_blocks number)
+    ≡ is_some (map.get old.data_blocks number)
 
 -- Two memories have the same bit places and the same loaded data blocks, whatever the bits are.
 pub record SamePlaces (old new : Areas) : Type 0 where

@@ -31,7 +31,8 @@ pub record IsRefreshed (old new : Areas) : Type 0 where
   pub upper_outputs :
       (byte bit : ℕ)
       → process_image_size ≤ byte
-      → bit_at new (bit_place PeripheralOutputs byte bit) ≡ bit_at old (bit_place PeripheralOutputs byte bit)
+      → bit_at new (bit_place PeripheralOutputs byte bit)
+      ≡ bit_at old (bit_place PeripheralOutputs byte bit)
   -- every bit outside the process image of the inputs and the peripheral outputs is as before
   pub others :
       (place : BitPlace)

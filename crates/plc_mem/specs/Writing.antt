@@ -26,7 +26,8 @@ is_within bytes at bit width = nat_le (at + byte_count width) (length bytes)
 -- A list of bytes with a number written to the operand from byte `at` on, which lies within it; the
 -- first byte weighs most.
 abbrev pub bytes_with_number : List ℕ → (at bit : ℕ) → Width → ℕ → List ℕ
-bytes_with_number bytes at bit Bit value = slice_set bytes at (byte_with_bit (slice_index bytes at) bit value)
+bytes_with_number bytes at bit Bit value =
+    slice_set bytes at (byte_with_bit (slice_index bytes at) bit value)
 bytes_with_number bytes at bit Byte value = slice_set bytes at value
 bytes_with_number bytes at bit Word value =
     slice_set (slice_set bytes at (value / 2 ^ 8)) (at + 1) (value % 2 ^ 8)
@@ -52,15 +53,18 @@ unfoldable pub put_peripheral :
 put_peripheral p byte bit width value =
     if nat_lt byte upper_start
     then option_map (λ bytes. record p { low = bytes }) (put_number p.low byte bit width value)
-    else option_map (λ bytes. record p { high = bytes }) (put_number p.high (byte - upper_start) bit width value)
+    else option_map (λ bytes. record p { high = bytes })
+    (put_number p.high (byte - upper_start) bit width value)
 
 -- Loaded data blocks with a number written to an operand of one of them, if that is loaded and the
 -- operand lies within it.
 unfoldable pub put_in_block :
-    map.FinMap nat_cmp (List ℕ) → (number byte bit : ℕ) → Width → ℕ → Option (map.FinMap nat_cmp (List ℕ))
+    map.FinMap nat_cmp (List ℕ) → (number byte bit : ℕ) → Width → ℕ
+    → Option (map.FinMap nat_cmp (List ℕ))
 put_in_block blocks number byte bit width value =
     option_and_then
-    (λ bytes. option_map (λ new. map.insert blocks number new) (put_number bytes byte bit width value))
+    (λ bytes.
+    option_map (λ new. map.insert blocks number new) (put_number bytes byte bit width value))
     (map.get blocks number)
 
 -- The memory with a number written to an operand of a region, if the operand lies within the
@@ -72,7 +76,8 @@ number_written_in m Inputs byte bit width value =
 number_written_in m Outputs byte bit width value =
     option_map (λ bytes. record m { outputs = bytes }) (put_number m.outputs byte bit width value)
 number_written_in m BitMemory byte bit width value =
-    option_map (λ bytes. record m { bit_memory = bytes }) (put_number m.bit_memory byte bit width value)
+    option_map (λ bytes. record m { bit_memory = bytes })
+    (put_number m.bit_memory byte bit width value)
 number_written_in m PeripheralInputs byte bit width value =
     option_map
     (λ p. record m { peripheral_inputs = p })

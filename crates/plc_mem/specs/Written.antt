@@ -50,14 +50,16 @@ bit_after_write region at bit width value place before =
 -- Between two memories a number is written to an operand of a region: the operand has the number,
 -- and every other bit is as before. What is written to peripheral outputs (PQ) is written to the
 -- process image of the outputs (Q) as well, as far as that has these bytes.
-pub record IsNumberWrittenIn (old new : Areas) (region : Region) (place : Place) (width : Width) (value : ℕ)
+pub record IsNumberWrittenIn
+    (old new : Areas) (region : Region) (place : Place) (width : Width) (value : ℕ)
     : Type 0 where
   -- the number in the operand is the one written
   pub number : region_number new region place width ≡ Some value
   -- each bit is that of the number, or as before where it is not one of the operand
   pub bits :
       (at : BitPlace)
-      → bit_at new at ≡ option_map (bit_after_write region place.byte place.bit width value at) (bit_at old at)
+      → bit_at new at
+      ≡ option_map (bit_after_write region place.byte place.bit width value at) (bit_at old at)
   -- the same data blocks are loaded
   pub blocks : SameBlocks old new
 
@@ -65,4 +67,5 @@ pub record IsNumberWrittenIn (old new : Areas) (region : Region) (place : Place)
 -- place means.
 abbrev pub IsNumberWritten : (old new : Areas) → Place → Width → ℕ → Type 0
 IsNumberWritten old new place width value =
-    (region : Region) × (region_written place ≡ Some region) × IsNumberWrittenIn old new region place width value
+    (region : Region) × (region_written place ≡ Some region)
+    × IsNumberWrittenIn old new region place width value

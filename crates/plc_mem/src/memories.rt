@@ -337,7 +337,8 @@ impl Memory {
         requires near { at < 2 ^ 16 }
         requires fits { value < 2 ^ bit_count width }
         ensures sizes { HasImage self.old }
-        ensures cases { ChangesOrStays (number_written_in self.old PeripheralOutputs at bit width value)
+        ensures cases { ChangesOrStays
+            (number_written_in self.old PeripheralOutputs at bit width value)
             self.old self.new result }
     {
         self.peripheral_outputs.put(at, bit, width, value)?;

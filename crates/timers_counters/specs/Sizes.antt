@@ -16,7 +16,8 @@ InstructionsKeepSize A =
 
 -- milliseconds that pass, however many, leave as many timers as there were
 abbrev pub TimeKeepsSize : Type 0
-TimeKeepsSize = (n : ℕ) (timers : List Timer) → length (iterate (map timer_after_ms) n timers) ≡ length timers
+TimeKeepsSize =
+    (n : ℕ) (timers : List Timer) → length (iterate (map timer_after_ms) n timers) ≡ length timers
 
 -- a warm restart leaves as many counters as there were
 abbrev pub RestartKeepsSize : Type 0

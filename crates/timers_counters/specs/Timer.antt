@@ -122,7 +122,8 @@ start_effect Sf rlo value timer =
 -- BCD digit of the S5TIME is above 9. The edge bit of the start instructions becomes the RLO
 unfoldable pub start_timer : TimerKind → Bool → ℕ → Timer → Option Timer
 start_timer kind rlo value timer =
-    option_map (λ (next : Timer). record next { start_edge = rlo }) (start_effect kind rlo value timer)
+    option_map (λ (next : Timer). record next { start_edge = rlo })
+    (start_effect kind rlo value timer)
 
 -- reset (R): where the RLO is 1, the timer stands still with output 0 and no time left; its kind
 -- and its edge bits stay

@@ -131,8 +131,8 @@ impl Counters {
     ///
     /// # Errors
     ///
-    /// `NoNumber` exactly for a number that no counter has, else `BadBcd` exactly where the RLO rises
-    /// and a digit is above 9.
+    /// `NoNumber` exactly for a number that no counter has, else `BadBcd` exactly where the RLO
+    /// rises and a digit is above 9.
     pub fn set(&mut self, number: u16, rlo: bool, value: u16) -> Result<(), TimerFault>
         ensures outcome { LeavesTable self.old self.new result
             (change_at_number (set_counter rlo value) self.old number) }

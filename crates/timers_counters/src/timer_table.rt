@@ -90,13 +90,13 @@ impl Timers {
         self.timers.as_mut_slice()[usize::from(number)] = timer;
     }
 
-    /// A start instruction, `SP`, `SE`, `SD`, `SS` or `SF`. `value` is an S5TIME, which is read only
-    /// where the instruction starts the timer.
+    /// A start instruction, `SP`, `SE`, `SD`, `SS` or `SF`. `value` is an S5TIME, which is read
+    /// only where the instruction starts the timer.
     ///
     /// # Errors
     ///
-    /// `NoNumber` exactly for a number that no timer has, else `BadBcd` exactly where the instruction starts
-    /// the timer and a digit of `value` is above 9.
+    /// `NoNumber` exactly for a number that no timer has, else `BadBcd` exactly where the
+    /// instruction starts the timer and a digit of `value` is above 9.
     pub fn start(
         &mut self,
         number: u16,
@@ -153,7 +153,8 @@ impl Timers {
     ///
     /// `NoNumber` exactly for a number that no timer has.
     pub fn output(&self, number: u16) -> Result<bool, TimerFault>
-        ensures value { result ≡ read_at_number (λ (timer : TimerValue). timer.output) self.now number }
+        ensures value { result ≡ read_at_number (λ (timer : TimerValue). timer.output)
+            self.now number }
         ensures no_number { result ≡ Err NoNumber ↔ (length self.now ≤ number) }
     {
         Ok(self.timer(number)?.output())
