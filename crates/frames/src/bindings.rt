@@ -1,4 +1,4 @@
-ghost use Rattle.frames.specs.Bound.{binding_set};
+ghost use Rattle.frames.specs.ParameterBindings.{binding_set};
 ghost use Rattle.std.specs.Prelude.{◌≡◌, ◌+◌, ◌<◌, ◌≤◌, ◌++◌, [], ◌∷◌, length, slice_get};
 
 use arrayvec::ArrayVec;
@@ -13,7 +13,7 @@ const PARAMETERS: usize = 60;
 pub enum Binding {
     /// An operand in memory. For local data (L) `frame` says whose local bytes are meant, by the
     /// place in the list of frames, counted from 0 at the outermost one.
-    Bound {
+    AtPlace {
         place: Place,
         width: Width,
         frame: u8,

@@ -12,7 +12,7 @@ use Rattle.plc_base.specs.declared.blocks.BlockKind.TheVariants as kinds
 use Rattle.plc_base.specs.Widths.{bit_count}
 use Rattle.plc_mem.specs.Areas.{Areas}
 use Rattle.plc_mem.specs.Number.{number_at_place}
-use Rattle.frames.specs.Bound.{binding_set as bound_at_index}
+use Rattle.frames.specs.ParameterBindings.{binding_set as bound_at_index}
 use Rattle.frames.specs.Locals.{LocalData, local_number}
 use Rattle.frames.specs.declared.bindings.Binding.{Binding}
 use Rattle.frames.specs.declared.bindings.Binding.TheVariants as binding
@@ -147,7 +147,7 @@ bound_of kind (q ∷ ps) below m [] i p all found = absurd all
 passed_bound :
     (p q : Param) (g : Frame) (below : List Frame) (m : Areas) (b : Binding) → p.width ≡ q.width
     → (p.section ≡ section_in → q.section ≡ section_in) → IsBound kinds.Fc p below m b → IsBound kinds.Fc q (g ∷ below) m b
-passed_bound p q g below m (binding.Bound at width frame) wide input is =
+passed_bound p q g below m (binding.AtPlace at width frame) wide input is =
     (is.0 ∙ wide, exists_more at.area (record { place = at; width = width; frame = frame }) g below m is.1)
 passed_bound p q g below m (binding.Constant value) wide input is =
     (input is.0, subst (λ (w : Width). value < 2 ^ bit_count w) wide is.1)
@@ -181,7 +181,7 @@ actual_bound kind own q g below access (passed.InBlock number area width byte bi
 
 -- a function's bindings are supplied, so they are those of a function block too
 supplied : (q : Param) (frames : List Frame) (m : Areas) (b : Binding) → IsBound kinds.Fc q frames m b → IsBound kinds.Fb q frames m b
-supplied q frames m (binding.Bound at width frame) is = is
+supplied q frames m (binding.AtPlace at width frame) is = is
 supplied q frames m (binding.Constant value) is = is
 supplied q frames m binding.Unsupplied is = absurd is
 

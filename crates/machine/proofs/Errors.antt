@@ -133,7 +133,7 @@ IsSupplied binding.Unsupplied = ⊥
 IsSupplied b = Unit {0}
 
 abbrev pub IsPlace : Binding → Type 0
-IsPlace (binding.Bound at width frame) = Unit {0}
+IsPlace (binding.AtPlace at width frame) = Unit {0}
 IsPlace b = ⊥
 
 -- a parameter of the function stands for something, where it is written for a place
@@ -152,7 +152,7 @@ HasPlace s (operand.Parameter index width) =
 HasPlace s o = ⊥
 
 binding_known : (b : Binding) → IsPlace b → IfKnownError (binding_location (Some b))
-binding_known (binding.Bound at width frame) is = tt
+binding_known (binding.AtPlace at width frame) is = tt
 binding_known (binding.Constant value) is = absurd is
 binding_known binding.Unsupplied is = absurd is
 
@@ -177,7 +177,7 @@ IsRead s (operand.Parameter index width) =
 IsRead s o = ⊥
 
 number_binding_known : (b : Binding) (s : Local) (m : Areas) → IsSupplied b → IfKnownError (number_of_binding (Some b) s m)
-number_binding_known (binding.Bound at width frame) s m is = read_known (record { place = at; width = width; frame = frame }) s m
+number_binding_known (binding.AtPlace at width frame) s m is = read_known (record { place = at; width = width; frame = frame }) s m
 number_binding_known (binding.Constant value) s m is = tt
 number_binding_known binding.Unsupplied s m is = absurd is
 

@@ -647,12 +647,12 @@ writing_code code v is h =
 
 -- a parameter stands for something
 bound_has : (q : Param) (below : List Frame) (m : Areas) (b : Binding) → IsBound kinds.Fc q below m b → IsSupplied b
-bound_has q below m (binding.Bound at width frame) is = tt
+bound_has q below m (binding.AtPlace at width frame) is = tt
 bound_has q below m (binding.Constant value) is = tt
 bound_has q below m binding.Unsupplied is = is
 
 bound_place_is : (q : Param) (below : List Frame) (m : Areas) (b : Binding) → (q.section ≡ section_in → ⊥) → IsBound kinds.Fc q below m b → IsPlace b
-bound_place_is q below m (binding.Bound at width frame) other is = tt
+bound_place_is q below m (binding.AtPlace at width frame) other is = tt
 bound_place_is q below m (binding.Constant value) other is = absurd (other is.0)
 bound_place_is q below m binding.Unsupplied other is = absurd is
 

@@ -153,7 +153,7 @@ place_fits at l m n is = by (is_area_l at.place.area) is
 given_fits :
     (p : Param) (frames : List Frame) (m : Areas) (b : Binding) (s : Local) → IsBound kinds.Fc p frames m b
     → input_of (Some b) s m < 2 ^ bit_count p.width
-given_fits p frames m (binding.Bound at width frame) s is =
+given_fits p frames m (binding.AtPlace at width frame) s is =
     by (location_number (record { place = at; width = width; frame = frame }) s.locals m) refl
   where
     by : (o : Option ℕ) → location_number (record { place = at; width = width; frame = frame }) s.locals m ≡ o → unwrap_or o 0 < 2 ^ bit_count p.width
@@ -199,7 +199,7 @@ result_taken (p ∷ ps) frames m bs i a fits w each =
     (one.0, ap (slice_get bs) at ∙ one.1, one.2)))
   where
     taken : (b : Binding) → IsBound kinds.Fc p frames m b → p.section ≡ 2 → TakesResult (Some b) a m
-    taken (binding.Bound at width frame) is two =
+    taken (binding.AtPlace at width frame) is two =
         λ value. stored_there frames m (record { place = at; width = width; frame = frame }) value (local_of a.running) fits w is.1
     taken (binding.Constant value) is two = let one = is.0 in absurd (omega (arith, one, two))
     taken binding.Unsupplied is two = absurd is

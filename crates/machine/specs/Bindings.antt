@@ -3,7 +3,7 @@ use Rattle.std.specs.Prelude.{ℕ, ◌==◌, List, [], ◌∷◌, length, replic
 use Rattle.plc_base.specs.ErrorCodes as errors
 use Rattle.plc_base.specs.declared.Area.TheVariants as areas
 use Rattle.plc_mem.specs.Areas.{Areas}
-use Rattle.frames.specs.Bound.{binding_set}
+use Rattle.frames.specs.ParameterBindings.{binding_set}
 use Rattle.frames.specs.declared.bindings.Binding.{Binding}
 use Rattle.frames.specs.declared.bindings.Binding.TheVariants as binding
 use Rattle.flat_code.specs.declared.operands.Passed.{Passed}
@@ -26,7 +26,7 @@ param_access p = if p.section == section_out then Writing else Reading
 -- a parameter bound to a place if the place exists; else the error of the place
 abbrev pub bound_if : Access → Location → Option ℕ → Result Binding ℕ
 bound_if access at None = Err (error_of_absent_place access at.place.area)
-bound_if access at (Some n) = Ok (binding.Bound at.place at.width at.frame)
+bound_if access at (Some n) = Ok (binding.AtPlace at.place at.width at.frame)
 
 -- a parameter bound to a place, tested as one that is read, for OUT too; error 22 or 23 where it
 -- doesn't exist, in the peripheral area 42 or 43

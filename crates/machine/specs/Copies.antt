@@ -42,14 +42,14 @@ number_copied from to c =
 -- what was passed for a parameter, copied to a place; where the parameter isn't supplied, the place
 -- keeps its value
 unfoldable pub actual_copied_to : Option Binding → Location → LocalMemory → LocalMemory
-actual_copied_to (Some (binding.Bound place width frame)) to c =
+actual_copied_to (Some (binding.AtPlace place width frame)) to c =
     number_copied (record { place = place; width = width; frame = frame }) to c
 actual_copied_to (Some (binding.Constant value)) to c = number_stored to value c
 actual_copied_to _ to c = c
 
 -- the number at a place, copied to the place that was passed for a parameter
 unfoldable pub copied_to_actual : Location → Option Binding → LocalMemory → LocalMemory
-copied_to_actual from (Some (binding.Bound place width frame)) c =
+copied_to_actual from (Some (binding.AtPlace place width frame)) c =
     number_copied from (record { place = place; width = width; frame = frame }) c
 copied_to_actual from _ c = c
 

@@ -66,7 +66,7 @@ ExistsIn _ at below m = IsSome (number_at_place m at.place at.width)
 -- a binding of a parameter: a place of its width that exists, a constant that fits an IN parameter,
 -- or not supplied in a function block. `below` has the frames below, the innermost one first
 abbrev pub IsBound : BlockKind → Param → (below : List Frame) → Areas → Binding → Type 0
-IsBound kind p below m (binding.Bound at width frame) =
+IsBound kind p below m (binding.AtPlace at width frame) =
     (width ≡ p.width)
     × ExistsIn at.area (record { place = at; width = width; frame = frame }) below m
 IsBound kind p below m (binding.Constant value) =

@@ -60,7 +60,7 @@ pub record GoesOnFitting (p : Program) (old new : Areas) (a : Activation) : Type
 -- the result of a system function can be written where it was bound; some have none
 abbrev pub TakesResult : Option Binding → Activation → Areas → Type 0
 TakesResult None a m = Unit {0}
-TakesResult (Some (binding.Bound place width frame)) a m =
+TakesResult (Some (binding.AtPlace place width frame)) a m =
     (value : ℕ)
     → IsSome (stored_at (record { place = place; width = width; frame = frame }) value
     (local_of a.running) m)

@@ -158,7 +158,7 @@ no_operand = 0
 
 -- the place that a parameter of a function stands for: the one bound to it at the call
 abbrev pub binding_location : Option Binding → Result Location ℕ
-binding_location (Some (binding.Bound place width frame)) =
+binding_location (Some (binding.AtPlace place width frame)) =
     Ok (record { place = place; width = width; frame = frame })
 binding_location _ = Err no_operand
 

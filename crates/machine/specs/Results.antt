@@ -10,7 +10,7 @@ use Rattle.machine.specs.Copies.{number_stored}
 -- a running block and memory with the value of RET_VAL at the place bound to it, in the width of
 -- the place; nothing changes where nothing is bound, or no such place exists
 abbrev pub with_ret_val : Binding → ℕ → LocalMemory → LocalMemory
-with_ret_val (binding.Bound place width frame) value c =
+with_ret_val (binding.AtPlace place width frame) value c =
     number_stored (record { place = place; width = width; frame = frame }) value c
 with_ret_val _ value c = c
 

@@ -61,7 +61,7 @@ is_inside_area area = not (is_area_p area)
 
 -- whether what a parameter stands for is surely no peripheral place; a constant has no place at all
 abbrev pub is_bound_inside : Option Binding → Bool
-is_bound_inside (Some (binding.Bound place width frame)) = is_inside_area place.area
+is_bound_inside (Some (binding.AtPlace place width frame)) = is_inside_area place.area
 is_bound_inside _ = true
 
 -- whether the area that an operand names is surely not the peripheral one; without a name the

@@ -30,7 +30,7 @@ pub record SystemCallArguments : Type 0 where
 -- the number of an IN parameter of a system function: the constant, or what stands at the place,
 -- which was tested when it was bound
 abbrev pub input_of : Option Binding → Local → Areas → ℕ
-input_of (Some (binding.Bound place width frame)) s m =
+input_of (Some (binding.AtPlace place width frame)) s m =
     unwrap_or
     (location_number (record { place = place; width = width; frame = frame }) s.locals m) 0
 input_of (Some (binding.Constant value)) s m = value

@@ -24,7 +24,7 @@ use Rattle.machine.specs.Places.{operand_location, number_read_at, error_of_abse
 
 -- what a parameter of a function reads as: the number at its place, or its constant
 abbrev pub number_of_binding : Option Binding → Local → Areas → Result ℕ ℕ
-number_of_binding (Some (binding.Bound place width frame)) s m =
+number_of_binding (Some (binding.AtPlace place width frame)) s m =
     number_read_at (record { place = place; width = width; frame = frame }) s m
 number_of_binding (Some (binding.Constant value)) s m = Ok value
 number_of_binding _ s m = Err no_operand

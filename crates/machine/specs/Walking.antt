@@ -1,7 +1,7 @@
 -- How the machine goes along the ops of a statement, by their offsets.
 use Rattle.std.specs.Prelude.{ℕ, true, zero, suc, List, [], slice_get, Option, Some, None, unwrap_or, Result, Ok, if◌then◌else◌}
 use Rattle.plc_mem.specs.Areas.{Areas}
-use Rattle.frames.specs.Bound.{binding_set}
+use Rattle.frames.specs.ParameterBindings.{binding_set}
 use Rattle.frames.specs.declared.bindings.Binding.{Binding}
 use Rattle.flat_code.specs.Ops.{OpData}
 use Rattle.flat_code.specs.Placed.{op_placed, line_placed}
@@ -18,7 +18,7 @@ use Rattle.machine.specs.Flat.{OpRun, use_db_of, use_db_first, list_of, most_ops
 
 -- what going along the ops of a statement finds: the data block that the statement opens first, its
 -- last op, and the offset behind it
-pub record Walk : Type 0 where
+pub record StatementWalk : Type 0 where
   -- the data block that the statement opens first, if any
   pub opens : Option ℕ
   -- the last op of the statement
@@ -33,7 +33,7 @@ first_present (Some number) more = Some number
 
 -- what going along a run of ops finds; the data block `opens` that was opened before the run counts
 -- first, then the first USEDB in it
-abbrev pub walk_with : Option ℕ → OpRun → Walk
+abbrev pub walk_with : Option ℕ → OpRun → StatementWalk
 walk_with opens r = record {
   opens = first_present opens (use_db_of r.before);
   last = r.last;
@@ -41,7 +41,7 @@ walk_with opens r = record {
 }
 
 -- what going along the ops finds at the last op of a statement, with the offset behind it
-abbrev pub walk_by : Option ℕ → OpData × ℕ → Walk
+abbrev pub walk_by : Option ℕ → OpData × ℕ → StatementWalk
 walk_by opens r = record { opens = opens; last = r.0; next = r.1 }
 
 -- the data block that a statement opens first, behind a further op: the one so far, or that of a
@@ -102,7 +102,7 @@ abbrev pub passings_at : List OpData → ℕ → List Passing
 passings_at ops at = passings_up_to most_ops_of_statement ops at
 
 -- the statement at an offset of a block, by what was found along its ops
-abbrev pub fetched_at : CodeBlock → ℕ → Walk → Fetched
+abbrev pub fetched_at : CodeBlock → ℕ → StatementWalk → Fetched
 fetched_at b at walk = record {
   instr =
       instr_of (operation_of walk.last.code) walk.last.operand walk.opens (passings_at b.code at)

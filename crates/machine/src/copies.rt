@@ -70,7 +70,7 @@ fn passed_to(binding: Option<Binding>, to: &Location, s: &mut Running, m: &mut M
 {
     match binding {
         Some(
-            Binding::Bound {
+            Binding::AtPlace {
                 place,
                 width,
                 frame,
@@ -95,7 +95,7 @@ fn given_to(from: &Location, binding: Option<Binding>, s: &mut Running, m: &mut 
 {
     match binding {
         Some(
-            Binding::Bound {
+            Binding::AtPlace {
                 place,
                 width,
                 frame,

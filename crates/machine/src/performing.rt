@@ -20,7 +20,7 @@ ghost use Rattle.machine.specs.SystemCalls.{system_function as system_function_o
 ghost use Rattle.machine.specs.Walking.{passings_at};
 ghost use Rattle.machine.specs.declared.outcomes.Outcome.{Outcome as OutcomeOf};
 
-use crate::entering::{Callee, at_block, enter_if_room};
+use crate::entering::{CalledBlock, at_block, enter_if_room};
 use crate::fetching::Fetched;
 use crate::jumps::{goes_to, is_taken, put_jump, test_rlo};
 use crate::outcomes::Outcome;
@@ -174,7 +174,7 @@ fn cause_of(fault: FrameFault) -> u8
 // A call of a function or function block whose parameters are bound.
 #[tactic(auto, using(crate::proofs::Steps::call_performs, crate::proofs::Steps::call_stops))]
 fn call_block(
-    called: &Callee<'_>,
+    called: &CalledBlock<'_>,
     bindings: &Bindings,
     next: u32,
     a: &mut Activation,
@@ -201,7 +201,7 @@ fn call_block(
 
 // A call of a function or function block with these parameters.
 fn call_with(
-    called: &Callee<'_>,
+    called: &CalledBlock<'_>,
     code: &LoadedCode<'_>,
     at: u32,
     next: u32,
@@ -245,7 +245,7 @@ fn call_loaded(
         (passings_at code.now.code at) next a.old m.old) next a.old (global_store m.old t n))
         next a.old a.new (global_store m.old t n) (global_store m.new t n) result other.new }
 {
-    let called = Callee {
+    let called = CalledBlock {
         block,
         instance,
         local_len: callee.local_len(),

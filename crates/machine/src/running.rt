@@ -66,7 +66,7 @@ fn is_bound_inside(binding: Option<Binding>) -> bool
     ensures { result ≡ is_bound_inside_of binding }
 {
     match binding {
-        Some(Binding::Bound { place, .. }) => is_inside(place.area),
+        Some(Binding::AtPlace { place, .. }) => is_inside(place.area),
         _ => true,
     }
 }

@@ -66,7 +66,7 @@ fn input_of(binding: Option<Binding>, s: &Running, m: &Memory) -> u32
 {
     match binding {
         Some(
-            Binding::Bound {
+            Binding::AtPlace {
                 place,
                 width,
                 frame,
