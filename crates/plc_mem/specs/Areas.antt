@@ -43,24 +43,32 @@ peripheral_code =
     (λ p. record { low = p.0; high = p.1 })
     (λ _. refl)
 
--- How the memory areas are coded as data that a Rust value can have as its model: the six areas as
--- nested pairs.
+-- How the memory areas are coded as data that a Rust value can have as its model: as pairs of the
+-- process images, the peripheral areas, and bit memory with the data blocks.
 abbrev pub areas_code : Coded Areas
 areas_code =
     code_by
-    (List ℕ × (List ℕ × (List ℕ × (PeripheralBytes × (PeripheralBytes × map.FinMap nat_cmp (List ℕ))))))
+    ((List ℕ × List ℕ)
+    × ((PeripheralBytes × PeripheralBytes) × (List ℕ × map.FinMap nat_cmp (List ℕ))))
     (coded×
-    (coded_list coded_ℕ)
+    (coded× (coded_list coded_ℕ) (coded_list coded_ℕ))
     (coded×
-    (coded_list coded_ℕ)
-    (coded× (coded_list coded_ℕ) (coded× peripheral_code (coded× peripheral_code data_blocks_code)))))
-    (λ m. (m.inputs, (m.outputs, (m.bit_memory, (m.peripheral_inputs, (m.peripheral_outputs, m.data_blocks))))))
-    (λ p. record {
-      inputs = p.0;
-      outputs = p.1.0;
-      bit_memory = p.1.1.0;
-      peripheral_inputs = p.1.1.1.0;
-      peripheral_outputs = p.1.1.1.1.0;
-      data_blocks = p.1.1.1.1.1;
+    (coded× peripheral_code peripheral_code)
+    (coded× (coded_list coded_ℕ) data_blocks_code)))
+    (λ m. (
+      (m.inputs, m.outputs),
+      ((m.peripheral_inputs, m.peripheral_outputs), (m.bit_memory, m.data_blocks)),
+    ))
+    (λ p.
+    let images = p.0 in
+    let peripheral = p.1.0 in
+    let others = p.1.1 in
+    record {
+      inputs = images.0;
+      outputs = images.1;
+      bit_memory = others.0;
+      peripheral_inputs = peripheral.0;
+      peripheral_outputs = peripheral.1;
+      data_blocks = others.1;
     })
     (λ _. refl)
