@@ -23,3 +23,7 @@ pub mod AloneLemmas
 pub mod OperandLemmas
 pub mod ListedLemmas
 pub mod RebuiltLemmas
+pub mod CommonLemmas
+pub mod RoundLemmas
+pub mod AlignmentLemmas
+pub mod ContainmentLemmas

@@ -36,7 +36,8 @@ use Rattle.stl_list.specs.Signatures.{Signature}
 use Rattle.stl_list.specs.Statements.{body_of, surroundings}
 use Rattle.sem_kept.specs.Accepted.{program_in}
 use Rattle.sem_kept.proofs.accepted.Accepted.{IsSoundTree, right_tree, sound_at}
-use Rattle.sem_kept.proofs.accepted.OperandsCells.{all_there, measured_symbols, origin}
+use Rattle.block_layout.proofs.CommonLemmas.{all_there, origin}
+use Rattle.sem_kept.proofs.accepted.OperandsCells.{measured_symbols}
 use Rattle.sem_kept.proofs.accepted.RecordBlocks.{code_blocks_rise}
 use Rattle.sem_kept.proofs.accepted.RecordData.{id_there}
 use Rattle.sem_kept.proofs.accepted.RecordOrder.{Rise, RiseFrom}

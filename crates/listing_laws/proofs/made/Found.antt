@@ -16,7 +16,8 @@ use Rattle.block_layout.specs.Paths.{if_whole, whole_at, whole_block as whole_la
 use Rattle.block_layout.specs.declared.blocks.BlockLayout.{BlockLayout}
 use Rattle.stl_types.specs.Context.{number_of_block}
 use Rattle.stl_types.specs.Resolution.{id_at}
-use Rattle.sem_kept.proofs.accepted.OperandsCells.{all_there, known_there, measured_symbols, origin}
+use Rattle.block_layout.proofs.CommonLemmas.{all_there, origin}
+use Rattle.sem_kept.proofs.accepted.OperandsCells.{known_there, measured_symbols}
 use Rattle.listing_laws.specs.Again.{listed_again}
 use Rattle.listing_laws.specs.Found.{AreCalledFound, AreDataFound}
 use Rattle.listing_laws.specs.Ids.{data_id}

@@ -19,7 +19,7 @@ use Rattle.plc_base.specs.Gathered.{refusals_along}
 use Rattle.plc_base.specs.Least.{broken_if}
 use Rattle.stl_symbols.specs.Symbol.{Symbol}
 use Rattle.plc_base.proofs.LeastLemmas.{least_none}
-use Rattle.plc_base.proofs.ListLemmas.{all_append, nil_parts}
+use Rattle.plc_base.proofs.ListLemmas.{all_append}
 use Rattle.block_layout.specs.Around.{refusals_in_block}
 use Rattle.block_layout.specs.ByPlace.{by_place}
 use Rattle.block_layout.specs.Heads.{on_heads}
@@ -62,19 +62,10 @@ use Rattle.stl_codegen.specs.Compiled.{StatedBlock}
 use Rattle.stl_codegen.specs.Generated.{code_block, code_block_of, code_blocks_of, generated_data_block, data_block_of, data_blocks_of, each_block}
 use Rattle.stl_codegen.specs.Order.{sorted_insertion, is_code_before, is_data_before, sorted_list}
 use Rattle.flat_code.specs.Programs.{DataBlock}
+use Rattle.block_layout.proofs.CommonLemmas.{none_left, none_right, not_broken}
 use Rattle.sem_kept.specs.Accepted.{IsAccepted}
 
 -- ---- lists of which nothing is left
-
-pub none_left : {A : Type 0} (xs ys : List A) → xs ++ ys ≡ [] → xs ≡ []
-none_left xs ys e = (nil_parts xs ys e).0
-
-pub none_right : {A : Type 0} (xs ys : List A) → xs ++ ys ≡ [] → ys ≡ []
-none_right xs ys e = (nil_parts xs ys e).1
-
-pub not_broken : (breaks : Bool) (line rule : ℕ) → broken_if breaks line rule ≡ [] → breaks ≡ false
-not_broken true line rule e = absurd cc
-not_broken false line rule e = refl
 
 pub each_none : {A B : Type 0} (f : A → List B) (xs : List A) → flat_map f xs ≡ []
     → AllByRecursion (λ x. f x ≡ []) xs

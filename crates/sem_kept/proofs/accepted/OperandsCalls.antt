@@ -88,7 +88,8 @@ use Rattle.sem_kept.proofs.accepted.OperandsMembers.{called_block, instance_foun
 use Rattle.sem_kept.proofs.accepted.OperandsPassed.{IsGoodActual, Passes, passed_from, supplied_passes}
 use Rattle.sem_kept.proofs.accepted.OperandsSymbols.{SymbolFits}
 use Rattle.sem_kept.proofs.accepted.OperandsViews.{EndsBy, IsData, IsThere, Surrounds, block_own, data_block_kind, data_length, data_there, id_there, id_there_is, ids_same, instance_length, layout_id, layout_shape, not_none, operand_seen, whole_is}
-use Rattle.sem_kept.proofs.accepted.Shared.{callable_by, calls_called, or_first, or_second}
+use Rattle.sem_kept.proofs.accepted.Shared.{callable_by, calls_called}
+use Rattle.block_layout.proofs.CommonLemmas.{or_first, or_second}
 
 -- ---- what is passed stands among the ops
 

@@ -1,5 +1,5 @@
 -- The cells of a source that breaks no rule are sound, and its data types take the bits of theirs.
-use Rattle.std.proofs.Common.{ℕ, zero, suc, ◌≡◌, ◌<◌, ◌≤◌, ◌+◌, ◌/◌, ◌%◌, List, [], ◌∷◌, ◌++◌, Option, Some, None, Bool, true, false, ◌&&◌, ◌||◌, not, nat_eq, nat_lt, nat_le, refl, sym, ◌∙◌, ap, subst, arith, length, map, get_or, if◌then◌else◌, eqb-true, ltb-false, le-ltb, le-leb}
+use Rattle.std.proofs.Common.{ℕ, zero, suc, ◌≡◌, ◌<◌, ◌≤◌, ◌+◌, ◌/◌, ◌%◌, List, [], ◌∷◌, ◌++◌, Option, Some, None, Bool, true, false, ◌&&◌, ◌||◌, not, nat_eq, nat_lt, nat_le, refl, sym, ◌∙◌, ap, subst, arith, length, get_or, if◌then◌else◌, eqb-true, ltb-false, le-ltb, le-leb}
 use Rattle.std.specs.List.{AllByRecursion, flat_map, list_all, slice_get}
 use Rattle.std.specs.Option.{option_and_then, option_map}
 use Rattle.plc_base.specs.Kinds.{is_data_type, is_same_block, is_same_kind}
@@ -41,10 +41,11 @@ use Rattle.block_layout.specs.Types.{Types, data_type_place}
 use Rattle.block_layout.specs.declared.blocks.BlockLayout.{BlockLayout}
 use Rattle.block_layout.specs.declared.blocks.Shape.TheVariants as shape
 use Rattle.block_layout.specs.declared.cells.Cell.{Cell}
-use Rattle.sem_kept.proofs.accepted.Accepted.{AreSoundDeclarations, IsSound, IsSoundTree, none_left, none_right, not_broken, sound_at}
-use Rattle.sem_kept.proofs.accepted.OperandsTypes.{type_settled}
-use Rattle.sem_kept.proofs.accepted.OperandsWalks.{AreRight, IsRightCell, IsSettled, structure_even}
-use Rattle.sem_kept.proofs.accepted.Shared.{or_second, same_kind, kind_there}
+use Rattle.block_layout.proofs.CommonLemmas.{all_there, IsOrigin, origin, none_left, none_right, not_broken, or_second}
+use Rattle.sem_kept.proofs.accepted.Accepted.{AreSoundDeclarations, IsSound, IsSoundTree, sound_at}
+use Rattle.block_layout.proofs.RoundLemmas.{type_settled}
+use Rattle.block_layout.proofs.AlignmentLemmas.{AreRight, IsRightCell, IsSettled, structure_even}
+use Rattle.sem_kept.proofs.accepted.Shared.{same_kind, kind_there}
 
 -- ---- declarations of which none breaks a rule
 
@@ -328,20 +329,6 @@ found_there symbols ids kinds name k e = by (named_block symbols name) e
     by None h = absurd cc
     by (Some id) h = whether id (kinds id.kind) refl h
 
--- the element of a list that its image comes from
-pub record IsOrigin {A B : Type 0} (f : A → B) (xs : List A) (k : ℕ) (y : B) : Type 0 where
-  pub of : A
-  pub there : slice_get xs k ≡ Some of
-  pub image : f of ≡ y
-
-pub origin : {A B : Type 0} (f : A → B) (xs : List A) (k : ℕ) (y : B)
-    → slice_get (map f xs) k ≡ Some y → IsOrigin f xs k y
-origin f [] k y e = absurd cc
-origin f (x ∷ xs) zero y e = record { of = x; there = refl; image = cc }
-origin f (x ∷ xs) (suc k) y e =
-    let more = origin f xs k y e in
-    record { of = more.of; there = more.there; image = more.image }
-
 -- ---- the layouts of the blocks
 
 pub measured_ids : (symbols : List Symbol) (blocks : List Block)
@@ -563,12 +550,6 @@ settles symbols t h (element.Udt name) few = by (data_type_place (types_of_sourc
         subst (λ (o : Option ℕ). (is_oversized (types_of_source symbols t.blocks).bits o ≡ false)
         × IsSettled (layouts_of t symbols) (udt_element (types_of_source symbols t.blocks).bits o)) (sym e)
         (at v e (subst (λ (o : Option ℕ). udt_depth (types_of_source symbols t.blocks).depths o ≤ 8) e few))
-
-pub all_there : {A : Type 0} (P : A → Type 0) (xs : List A) (k : ℕ) (x : A) → AllByRecursion P xs
-    → slice_get xs k ≡ Some x → P x
-all_there P [] k x h e = absurd cc
-all_there P (y ∷ ys) zero x h e = subst P (let same : y ≡ x = cc in same) h.0
-all_there P (y ∷ ys) (suc k) x h e = all_there P ys k x h.1 e
 
 -- each cell of the source
 pub are_right : (symbols : List Symbol) (t : Tree) → IsSoundTree symbols t

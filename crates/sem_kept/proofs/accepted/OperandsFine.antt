@@ -27,7 +27,7 @@ use Rattle.sem_kept.specs.Operands.{BlockHasNoOperandFault, InstrFits, OperandsA
 use Rattle.sem_kept.proofs.accepted.Accepted.{IsSound, IsSoundStatement, IsSoundTree, context_at, right_tree, sound_code_blocks}
 use Rattle.sem_kept.proofs.accepted.CodedBytes.{tree_has}
 use Rattle.sem_kept.proofs.accepted.OperandsCalls.{call_fits}
-use Rattle.sem_kept.proofs.accepted.OperandsCells.{all_there}
+use Rattle.block_layout.proofs.CommonLemmas.{all_there}
 use Rattle.sem_kept.proofs.accepted.OperandsInstr.{instr_fits}
 use Rattle.sem_kept.proofs.accepted.OperandsPlaced.{code_fine}
 use Rattle.sem_kept.proofs.accepted.OperandsSymbols.{SymbolFits, symbols_fit}

@@ -1,9 +1,8 @@
--- What several parts need: truth values, kinds of blocks, writes, counts of statements, and what the
--- rules leave of an operand.
-use Rattle.std.proofs.Common.{◌≡◌, ℕ, suc, ◌+◌, Bool, true, false, cond, not, ◌||◌, List, [], ◌∷◌, length, length-set, set, get_or, Option, Some, None, refl, sym, ap, ◌∙◌, arith}
+-- What several parts need: kinds of blocks, writes, counts of statements, and what the rules leave of
+-- an operand.
+use Rattle.std.proofs.Common.{◌≡◌, ℕ, suc, ◌+◌, Bool, true, false, cond, not, List, [], ◌∷◌, length, length-set, set, get_or, Option, Some, None, refl, sym, ap, ◌∙◌, arith}
 use Rattle.std.specs.Prelude.{◌/◌, ◌%◌, nat_eq, if◌then◌else◌}
 use Rattle.std.specs.List.{count_by, fold}
-use Rattle.std.proofs.lemmas.Bool.{or_parts}
 use Rattle.std.proofs.lemmas.List.Sums.{sum_by-cons}
 use Rattle.plc_base.specs.Kinds.{is_callable, is_function_block, is_same_kind}
 use Rattle.plc_base.specs.declared.blocks.BlockId.{BlockId}
@@ -38,14 +37,6 @@ use Rattle.stl_codegen.specs.Instruction.{instruction}
 use Rattle.stl_codegen.specs.Operations.{call_operation_of, jump_operation_of}
 use Rattle.sem_kept.proofs.accepted.OperandsOperations.{allowed}
 use Rattle.stl_symbols.specs.Symbol.{Symbol}
-
--- ---- truth values
-
-pub or_first : (a b : Bool) → (a || b) ≡ false → a ≡ false
-or_first a b h = (or_parts a b h).0
-
-pub or_second : (a b : Bool) → (a || b) ≡ false → b ≡ false
-or_second a b h = (or_parts a b h).1
 
 -- ---- kinds of blocks
 
