@@ -1,8 +1,9 @@
--- Truth values and lists in general: of a test that fails, of lists of which nothing is left, and of
--- what stands at a place.
-use Rattle.std.proofs.Common.{◌≡◌, ℕ, suc, Bool, true, false, ◌||◌, List, [], ◌∷◌, Some, refl, zero, ◌++◌, map, subst}
+-- Truth values, lists and sums in general: of a test that fails, of lists of which nothing is left, and
+-- of what stands at a place.
+use Rattle.std.proofs.Common.{◌≡◌, ℕ, suc, Bool, true, false, ◌||◌, List, [], ◌∷◌, Some, refl, zero, ◌++◌, map, subst, ◌+◌, arith}
 use Rattle.std.proofs.lemmas.Bool.{or_parts}
-use Rattle.std.specs.List.{AllByRecursion, slice_get}
+use Rattle.std.specs.List.{AllByRecursion, slice_get, sum_by}
+use Rattle.std.proofs.lemmas.List.Sums.{sum_by-cons}
 use Rattle.plc_base.specs.Least.{broken_if}
 use Rattle.plc_base.proofs.ListLemmas.{nil_parts}
 
@@ -47,3 +48,17 @@ origin f (x ∷ xs) zero y e = record { of = x; there = refl; image = cc }
 origin f (x ∷ xs) (suc k) y e =
     let more = origin f xs k y e in
     record { of = more.of; there = more.there; image = more.image }
+
+-- ---- sums
+
+pub summed_two : {X : Type 0} (f g : X → ℕ) (xs : List X)
+    → sum_by (λ x. f x + g x) xs ≡ sum_by f xs + sum_by g xs
+summed_two f g [] = refl
+summed_two {X = X} f g (x ∷ xs) =
+    omega (
+      arith,
+      sum_by-cons (λ (x : X). f x + g x) x xs,
+      sum_by-cons f x xs,
+      sum_by-cons g x xs,
+      summed_two f g xs,
+    )

@@ -27,3 +27,7 @@ pub mod CommonLemmas
 pub mod RoundLemmas
 pub mod AlignmentLemmas
 pub mod ContainmentLemmas
+pub mod BlockLemmas
+pub mod SoundnessLemmas
+pub mod DataTypeLemmas
+pub mod CountLemmas

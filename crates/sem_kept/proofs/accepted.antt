@@ -38,7 +38,6 @@ pub mod Records
 pub mod Settled
 pub mod Shared
 pub mod Sizes
-pub mod SizesBlocks
 pub mod SizesCalls
 pub mod SizesNames
 pub mod SizesOps
