@@ -43,5 +43,4 @@ pub mod SizesNames
 pub mod SizesOps
 pub mod SizesProgram
 pub mod SizesSums
-pub mod SizesTokens
 pub mod Verified
