@@ -23,3 +23,11 @@ pub mod AloneLemmas
 pub mod OperandLemmas
 pub mod ListedLemmas
 pub mod RebuiltLemmas
+pub mod CommonLemmas
+pub mod RoundLemmas
+pub mod AlignmentLemmas
+pub mod ContainmentLemmas
+pub mod BlockLemmas
+pub mod SoundnessLemmas
+pub mod DataTypeLemmas
+pub mod CountLemmas

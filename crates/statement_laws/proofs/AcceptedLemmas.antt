@@ -50,7 +50,9 @@ use Rattle.flat_code.specs.declared.operations.CallOperation.TheVariants as how_
 use Rattle.sem_kept.specs.Accepted.{IsAccepted}
 use Rattle.sem_kept.specs.Settled.{HasCalled, HasInstruction, HasLabel, HasOperand, NamesWhatIsPassed, IsResolvedStatement, context_of}
 use Rattle.sem_kept.proofs.accepted.Accepted.{IsSound, IsSoundActual, IsSoundStatement, all_mapped, right_tree}
-use Rattle.sem_kept.proofs.accepted.OperandsCells.{all_there, cells_are, layout_of_block, measured_symbols}
+use Rattle.block_layout.proofs.CommonLemmas.{all_there}
+use Rattle.sem_kept.proofs.accepted.OperandsCells.{cells_are, layout_of_block}
+use Rattle.block_layout.proofs.LayoutLemmas.{measured_symbols}
 use Rattle.sem_kept.proofs.accepted.OperandsPlaces.{IsParameterCell, function_components}
 use Rattle.sem_kept.proofs.accepted.OperandsViews.{ids_same}
 use Rattle.sem_kept.proofs.accepted.Settled.{statements_settle}

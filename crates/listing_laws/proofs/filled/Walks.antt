@@ -23,7 +23,7 @@ use Rattle.block_layout.specs.declared.walks.ComponentAt.{ComponentAt}
 use Rattle.block_layout.specs.declared.walks.PathEnd.TheVariants as walk
 use Rattle.stl_types.specs.declared.parameters.Formal.{Formal}
 use Rattle.stl_list.specs.Sections.{static_name}
-use Rattle.sem_kept.proofs.accepted.OperandsWalks.{here_within}
+use Rattle.block_layout.proofs.AlignmentLemmas.{here_within}
 use Rattle.sem_kept.proofs.accepted.RecordParams.{found_here, never_less, not_both, passed_by}
 use Rattle.listing_laws.proofs.declared.Cells.{byte_cell}
 use Rattle.listing_laws.proofs.declared.Kept.{AreCellsOf}

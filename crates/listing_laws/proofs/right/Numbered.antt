@@ -23,7 +23,7 @@ use Rattle.stl_codegen.specs.Instruction.{count_of_statement, target_in}
 use Rattle.stl_codegen.specs.Operations.{jump_operation_of}
 use Rattle.stl_list.specs.Labels.{label_of_number}
 use Rattle.stl_list.specs.Statements.{label_at}
-use Rattle.sem_kept.proofs.accepted.Accepted.{none_left, none_right, not_broken}
+use Rattle.block_layout.proofs.CommonLemmas.{none_left, none_right, not_broken}
 use Rattle.sem_kept.proofs.accepted.JumpsRules.{AreRightFrom, by_33, has_list, target_is, target_past}
 use Rattle.listing_laws.proofs.JumpLemmas.{Others, others_later, others_more}
 use Rattle.listing_laws.proofs.LabelLemmas.{here, not_here, same_label}

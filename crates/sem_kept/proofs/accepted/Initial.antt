@@ -59,12 +59,15 @@ use Rattle.sem_kept.specs.Initial.{HasElements, HasRoom, InitialValuesAreWhole, 
 use Rattle.sem_kept.proofs.accepted.Accepted.{IsSound, IsSoundTree, all_both, each_passes, right_tree}
 use Rattle.sem_kept.proofs.accepted.CodedBits.{value_fits}
 use Rattle.sem_kept.proofs.accepted.CodedBytes.{DeclarationHas, InitsHave, SettingHas, ValuesHaveBytes, values_are_bytes}
-use Rattle.sem_kept.proofs.accepted.OperandsCells.{IsUnbroken, Unbroken, are_right, block_of_layout, block_unbroken, cells_are, unbroken_back, unbroken_front}
-use Rattle.sem_kept.proofs.accepted.OperandsPaths.{data_goes, element_parts, element_plain, element_structure, element_udt, structure_fits, udt_fits}
+use Rattle.block_layout.proofs.SoundnessLemmas.{IsUnbroken, Unbroken, block_unbroken, unbroken_back, unbroken_front}
+use Rattle.sem_kept.proofs.accepted.OperandsCells.{are_right, block_of_layout, cells_are}
+use Rattle.block_layout.proofs.ContainmentLemmas.{data_goes, element_parts, element_plain, element_structure, element_udt, structure_fits, udt_fits}
 use Rattle.sem_kept.proofs.accepted.OperandsPlaces.{reached_place}
 use Rattle.sem_kept.proofs.accepted.OperandsViews.{IsStructured, IsThere, layout_id, structured, whole_is}
-use Rattle.sem_kept.proofs.accepted.OperandsWalks.{AreRight, Goes, IsRightCell, IsSettled, Lies, Meets, MeetsKind, UdtEven, element_within, end_step, here_within, index_meets, settled_even, start_meets, step_grows, structure_ends, structure_even}
-use Rattle.sem_kept.proofs.accepted.Shared.{kind_there, or_first, or_second}
+use Rattle.block_layout.proofs.AlignmentLemmas.{AreRight, Goes, IsRightCell, IsSettled, Lies, Meets, MeetsKind, UdtEven, element_within, here_within, index_meets, settled_even, start_meets, structure_ends, structure_even}
+use Rattle.block_layout.proofs.OffsetLemmas.{end_step, step_grows}
+use Rattle.block_layout.proofs.BlockLemmas.{kind_there}
+use Rattle.block_layout.proofs.CommonLemmas.{or_first, or_second}
 
 -- ---- lists
 

@@ -43,7 +43,8 @@ use Rattle.sem_kept.proofs.compiled.Reading.{aimed_append, aimed_are, aimed_byte
 use Rattle.sem_kept.proofs.compiled.Runs.{Parted, bytes_of, flat as flat_parts, size_aimed, total}
 use Rattle.sem_kept.specs.Jumps.{AllLandRight, LandsRight, jump_fault_of}
 use Rattle.plc_base.proofs.TruthLemmas.{or_met_behind}
-use Rattle.sem_kept.proofs.accepted.JumpsCode.{AreQuiet, IsFound, IsQuiet, codes_after, codes_behind, codes_fault, codes_opened, count_after, count_behind, count_fault, count_is, fault_is, few_codes, few_is, found_by, left_after, no_zones, none_left, open_after, placed_all, spot_there, zone_fault_is}
+use Rattle.sem_kept.proofs.accepted.JumpsCode.{AreQuiet, IsFound, IsQuiet, codes_after, count_after, found_by, left_after, open_after, placed_all, spot_there}
+use Rattle.flat_code.proofs.BracketLemmas.{codes_behind, codes_fault, codes_opened, count_behind, count_fault, count_is, fault_is, few_codes, few_is, no_zones, none_left, zone_fault_is}
 use Rattle.sem_kept.proofs.accepted.JumpsRules.{AreAlike, AreRightFrom, HasList, IsRightAt, IsTarget, behind_more, by_29, by_31, by_47, by_49, few_open, functions, has_list, right_body, same_landings, target_is, target_past, zones_more}
 use Rattle.sem_kept.proofs.accepted.JumpsOperations.{IsLastOf, TakesRight, behind_codes, behind_count, bracket_right, codes_of, front_quiet, jumps_to, last_of, last_op, zone_right}
 

@@ -43,7 +43,8 @@ use Rattle.stl_codegen.specs.Operations.{add_operation, call_operation_of, end_o
 use Rattle.sem_kept.specs.Back.{is_target}
 use Rattle.sem_kept.proofs.compiled.Instructions.{no_target}
 use Rattle.sem_kept.proofs.compiled.Reading.{parted}
-use Rattle.sem_kept.proofs.accepted.JumpsCode.{IsQuiet, codes_behind, codes_fault, count_behind, count_ended, count_fault, count_opened}
+use Rattle.sem_kept.proofs.accepted.JumpsCode.{IsQuiet}
+use Rattle.flat_code.proofs.BracketLemmas.{codes_behind, codes_fault, count_behind, count_ended, count_fault, count_opened}
 
 -- ---- the operands of jumps, of brackets and of zones
 

@@ -23,7 +23,7 @@ use Rattle.stl_types.specs.Zones.{ends_no_zone, is_ninth_zone, with_zones, zones
 use Rattle.stl_types.specs.declared.brackets.SourceBracket.{SourceBracket}
 use Rattle.stl_codegen.specs.Bodies.{count_of_statements}
 use Rattle.stl_codegen.specs.Instruction.{count_of_statement, target_in}
-use Rattle.sem_kept.proofs.accepted.Accepted.{none_left, none_right, not_broken}
+use Rattle.block_layout.proofs.CommonLemmas.{none_left, none_right, not_broken}
 
 -- ---- statements behind others
 
