@@ -224,7 +224,7 @@ put_regs false locals (Some m) error c = refl
 
 bound_regs : (to : Binding) (value : ℕ) (c : LocalMemory) → (with_ret_val to value c).local.regs ≡ c.local.regs
 unfolding number_written_at
-bound_regs (binding.Bound place width frame) value c =
+bound_regs (binding.AtPlace place width frame) value c =
     put_regs (is_area_l place.area)
     (local_written c.local.locals frame place.byte place.bit width (value % 2 ^ bit_count width))
     (number_written c.memory place width (value % 2 ^ bit_count width)) _ c

@@ -31,7 +31,7 @@ use Rattle.stl_codegen.specs.Generated.{code_block, code_block_of, code_blocks_o
 use Rattle.stl_codegen.specs.Order.{is_code_before, is_data_before}
 use Rattle.stl_codegen.proofs.ProgramLemmas.{all_before}
 use Rattle.sem_kept.proofs.accepted.Accepted.{IsSound, IsSoundTree, context_at, sound_code_blocks, sound_data_blocks}
-use Rattle.sem_kept.proofs.accepted.OperandsCells.{measured_ids, measured_symbols}
+use Rattle.block_layout.proofs.LayoutLemmas.{measured_ids, measured_symbols}
 use Rattle.sem_kept.proofs.accepted.OperandsViews.{layout_id}
 
 -- ---- what holds of all blocks holds of each
