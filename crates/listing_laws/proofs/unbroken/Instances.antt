@@ -38,7 +38,7 @@ use Rattle.sem_kept.specs.Accepted.{program_in}
 use Rattle.sem_kept.proofs.accepted.Accepted.{IsSound, IsSoundTree, context_at, sound_at, sound_data_blocks}
 use Rattle.sem_kept.proofs.accepted.RecordData.{id_there, length_there}
 use Rattle.block_layout.proofs.BlockLemmas.{kind_there}
-use Rattle.sem_kept.proofs.accepted.Shared.{written_length}
+use Rattle.block_layout.proofs.FillLemmas.{written_length}
 
 -- ---- what stands in a list
 

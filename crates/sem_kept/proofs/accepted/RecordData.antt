@@ -39,7 +39,7 @@ use Rattle.block_layout.proofs.HeadLemmas.{AllHeads, heads_none}
 use Rattle.sem_kept.proofs.accepted.Accepted.{AllLaid, IsSound, IsSoundTree, context_at, sound_data_blocks}
 use Rattle.sem_kept.proofs.accepted.RecordNames.{IsByte, OfBytes}
 use Rattle.sem_kept.proofs.accepted.RecordOrder.{Rise, RiseFrom, sum_sorted}
-use Rattle.sem_kept.proofs.accepted.Shared.{written_length}
+use Rattle.block_layout.proofs.FillLemmas.{written_length}
 use Rattle.block_layout.proofs.BlockLemmas.{kind_there}
 
 -- ---- bytes

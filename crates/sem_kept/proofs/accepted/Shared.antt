@@ -1,8 +1,8 @@
--- What several parts need: kinds of blocks, writes, counts of statements, and what the rules leave of
+-- What several parts need: counts of statements, the forms of instructions, and what the rules leave of
 -- an operand.
-use Rattle.std.proofs.Common.{◌≡◌, ℕ, suc, ◌+◌, Bool, true, false, cond, not, List, [], ◌∷◌, length, length-set, set, get_or, Option, Some, None, refl, sym, ap, ◌∙◌, arith}
-use Rattle.std.specs.Prelude.{◌/◌, ◌%◌, nat_eq, if◌then◌else◌}
-use Rattle.std.specs.List.{count_by, fold}
+use Rattle.std.proofs.Common.{◌≡◌, ℕ, suc, ◌+◌, Bool, true, false, cond, not, List, [], ◌∷◌, length, Option, Some, None, refl, sym, ap, ◌∙◌, arith}
+use Rattle.std.specs.Prelude.{if◌then◌else◌}
+use Rattle.std.specs.List.{count_by}
 use Rattle.std.proofs.lemmas.List.Sums.{sum_by-cons}
 use Rattle.plc_base.specs.Kinds.{is_callable, is_function_block}
 use Rattle.plc_base.specs.declared.blocks.BlockId.{BlockId}
@@ -17,7 +17,6 @@ use Rattle.stl_ast.specs.declared.mnemonics.Mnemonic.TheVariants as code
 use Rattle.stl_ast.specs.declared.operands.Operand.{Operand}
 use Rattle.stl_ast.specs.declared.operands.Operand.TheVariants as operand
 use Rattle.stl_ast.specs.declared.statements.Statement.{Statement}
-use Rattle.block_layout.specs.InitialBytes.{Write, big_endian_bytes, bytes_with_write, with_bit, with_bytes}
 use Rattle.stl_types.specs.Constants.{takes_constant}
 use Rattle.stl_types.specs.Context.{Context}
 use Rattle.stl_types.specs.Forms.{form_of}
@@ -34,24 +33,6 @@ use Rattle.stl_codegen.specs.Generated.{stated_from}
 use Rattle.stl_codegen.specs.Instruction.{instruction}
 use Rattle.stl_codegen.specs.Operations.{call_operation_of, jump_operation_of}
 use Rattle.sem_kept.proofs.accepted.OperandsOperations.{allowed}
-
--- ---- writes
-
-length_put_bytes : (bytes : List ℕ) (at : ℕ) (new : List ℕ) → length (with_bytes bytes at new) ≡ length bytes
-length_put_bytes bytes at [] = refl
-length_put_bytes bytes at (b ∷ bs) = length_put_bytes (set bytes at b) (at + 1) bs ∙ length-set bytes at b
-
-put_length : (bytes : List ℕ) (w : Write) → length (bytes_with_write bytes w) ≡ length bytes
-put_length bytes w = by (nat_eq w.width 1)
-  where
-    by : (t : Bool) → length (if t then set bytes (w.offset / 8) (with_bit (w.offset % 8) w.value (get_or bytes (w.offset / 8) 0))
-        else with_bytes bytes (w.offset / 8) (big_endian_bytes (w.width / 8) w.value)) ≡ length bytes
-    by true = length-set bytes (w.offset / 8) (with_bit (w.offset % 8) w.value (get_or bytes (w.offset / 8) 0))
-    by false = length_put_bytes bytes (w.offset / 8) (big_endian_bytes (w.width / 8) w.value)
-
-pub written_length : (bytes : List ℕ) (ws : List Write) → length (fold bytes_with_write bytes ws) ≡ length bytes
-written_length bytes [] = refl
-written_length bytes (w ∷ ws) = written_length (bytes_with_write bytes w) ws ∙ put_length bytes w
 
 -- ---- statements
 

@@ -62,7 +62,7 @@ use Rattle.sem_kept.proofs.accepted.SizesOps.{IsTaken, Opens, bytes_in, whole_co
 use Rattle.sem_kept.proofs.accepted.SizesSums.{each_sum, mapped_sum, sorted_length, sorted_sum, summed_22, summed_8, summed_ones}
 use Rattle.block_layout.proofs.CommonLemmas.{summed_two}
 use Rattle.stl_parser.proofs.SizeLemmas.{bounded_by_source, declared_size, element_size, part_size, parts_size, whole_size}
-use Rattle.sem_kept.proofs.accepted.Shared.{written_length}
+use Rattle.block_layout.proofs.FillLemmas.{written_length}
 
 -- ---- parameters
 
