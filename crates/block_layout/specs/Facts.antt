@@ -13,7 +13,8 @@ use Rattle.block_layout.specs.Types.{Types}
 abbrev pub outline_of : Types → Block → Outline
 outline_of y b = record { components = components_of y b; temps = temps_of y b }
 
--- of each block whether it is a data type that contains itself, how long its local data are, and how long its structure
+-- of each block whether it is a data type that contains itself, how long its local data are, and
+-- how long its structure
 pub record AreFacts (y : Types) (blocks : List Block) (f : Facts) : Type 0 where
   pub in_itself : f.in_itself.items ≡ breach_flags (contains_itself y blocks) [] blocks
   pub local_lens : f.local_lens.items ≡ map (local_len y) blocks
@@ -21,7 +22,8 @@ pub record AreFacts (y : Types) (blocks : List Block) (f : Facts) : Type 0 where
 
 -- of one block, before which those in `some` stand, whether it is a data type that contains itself,
 -- how long its local data are, and how long its structure, in bytes
-pub record AreFactsOf (y : Types) (blocks some : List Block) (b : Block) (in_itself : Bool) (local len : ℕ) : Type 0 where
+pub record AreFactsOf (y : Types) (blocks some : List Block) (b : Block) (in_itself : Bool)
+    (local len : ℕ) : Type 0 where
   pub itself : in_itself ≡ contains_itself y blocks some b
   pub locals : local ≡ local_len y b
   pub bytes : len ≡ length_of_block y blocks b

@@ -1,5 +1,5 @@
--- Where components lie, as a relation: the offset of each is the least place at or past the end of its preceding sibling
--- that meets its alignment.
+-- Where components lie, as a relation: the offset of each is the least place at or past the end of
+-- its preceding sibling that meets its alignment.
 use Rattle.std.specs.Prelude.{◌≡◌, ℕ, ◌+◌, ◌%◌, ◌≤◌, nat_lt, nat_eq, Bool, true, false, ◌&&◌, List, [], ◌∷◌, ◌++◌, map, Option, Some, None, if◌then◌else◌, ◌⊎◌}
 use Rattle.std.specs.List.{filter, slice_get}
 use Rattle.block_layout.specs.declared.cells.Cell.{Cell}
@@ -18,7 +18,8 @@ pub record Sibling : Type 0 where
   pub align : ℕ
   pub bits : ℕ
 
--- the sound components at a level, in their order: they stand before the first cell at a lower level
+-- the sound components at a level, in their order: they stand before the first cell at a lower
+-- level
 abbrev pub siblings : ℕ → List Cell → List Sibling
 siblings level [] = []
 siblings level (c ∷ cs) =
@@ -58,5 +59,5 @@ IsOneOf m (n ∷ ns) = (m ≡ n) ⊎ IsOneOf m ns
 abbrev pub FindsSound : Type 0
 FindsSound =
     (level : ℕ) (name : List ℕ) (cells : List Cell) (m : Member)
-    → component_of_name level 0 0 name cells ≡ Some m → is_sound_cell (slice_get cells m.place) ≡ true
-    → IsOneOf m (sound_members level cells)
+    → component_of_name level 0 0 name cells ≡ Some m
+    → is_sound_cell (slice_get cells m.place) ≡ true → IsOneOf m (sound_members level cells)

@@ -1,4 +1,5 @@
--- Rule 22: a block twice: one with its kind and number stands before it. The line is that of its head.
+-- Rule 22: a block twice: one with its kind and number stands before it. The line is that of its
+-- head.
 use Rattle.std.specs.Prelude.{ℕ, nat_lt, length, Bool, false, List, Option, Some, None}
 use Rattle.std.specs.Option.{option_and_then}
 use Rattle.plc_base.specs.declared.refusals.Refusal.{Refusal}

@@ -13,7 +13,7 @@ pub record HasComponents (level : ℕ) (cells : List Cell) (s : NameList) : Type
   pub names : s.names ≡ component_names level cells
   pub members : s.members.items ≡ members_of level 0 0 cells
 
--- the components of the cell c, of which those behind it are
+-- the names and places of the components of the cell `c`, which are among the cells behind it
 abbrev pub IsScope : Cell → List Cell → NameList → Type 0
 IsScope c behind s = HasComponents (c.level + 1) behind s
 
@@ -39,7 +39,8 @@ pub record HaveParameters (cells first : List Cell) : Type 0 where
   pub others : AreOthers rest
 
 -- sizes and components of cells, and how many of them have all parameters
-pub record AreCellTables (cells : List Cell) (elements : List ℕ) (outer : NameList) (scopes : List NameList)
+pub record AreCellTables (cells : List Cell) (elements : List ℕ) (outer : NameList)
+    (scopes : List NameList)
     (bits parameters : ℕ) : Type 0 where
   pub sized : elements ≡ elements_of cells
   pub outermost : HasComponents 0 cells outer

@@ -1,5 +1,5 @@
--- Where a path leads, as a relation: each step goes to the least place that the alignments allow, and the offsets of the
--- steps add up.
+-- Where a path leads, as a relation: each step goes to the least place that the alignments allow,
+-- and the offsets of the steps add up.
 use Rattle.std.specs.Prelude.{◌≡◌, ℕ, zero, suc, ◌+◌, ◌-ℤ◌, ◌*◌, ◌≤◌, nat_eq, ℤ, unsigned_abs, Bool, true, false, ◌&&◌, List, [], ◌∷◌, length, drop, map, Option, Some, None, if◌then◌else◌}
 use Rattle.std.specs.List.{slice_get}
 use Rattle.std.specs.Option.{option_and_then, option_map}
@@ -24,15 +24,16 @@ use Rattle.block_layout.specs.Paths.{cells_at, elementary_at, if_whole, is_beyon
 use Rattle.block_layout.specs.Places.{IsLeastPlace}
 use Rattle.block_layout.specs.Sizes.{alignment, array_bits, cell_bits, element_of}
 
--- where the next component may begin, behind a cell of so many bits: past its end where it is a sound component of these,
--- which lies at the least place; else where it might have begun itself
+-- where the next component may begin, behind a cell of so many bits: past its end where it is a
+-- sound component of these, which lies at the least place; else where it might have begun itself
 abbrev pub EndsAt : (counts : Bool) → (end : ℕ) → Cell → (bits next : ℕ) → Type 0
-EndsAt true end c bits next = (start : ℕ) × IsLeastPlace end (alignment c) start × (next ≡ start + bits)
+EndsAt true end c bits next =
+    (start : ℕ) × IsLeastPlace end (alignment c) start × (next ≡ start + bits)
 EndsAt false end c bits next = next ≡ end
 
--- the component at a place among these cells begins so many bits from the start of its structure: it and each sound
--- component before it at its level lie at the least places, each at or past the end of the one before it, the first at
--- or past `end`
+-- the component at a place among these cells begins so many bits from the start of its structure:
+-- it and each sound component before it at its level lie at the least places, each at or past the
+-- end of the one before it, the first at or past `end`
 abbrev pub LiesAt : (level end : ℕ) → List Cell → (place offset : ℕ) → Type 0
 LiesAt level end [] place offset = ⊥
 LiesAt level end (c ∷ cs) zero offset = (c.level ≡ level) × IsLeastPlace end (alignment c) offset
@@ -41,8 +42,9 @@ LiesAt level end (c ∷ cs) (suc place) offset =
     × EndsAt (c.sound && nat_eq c.level level) end c (cell_bits c cs) next
     × LiesAt level next cs place offset
 
--- a name leads to a sound component of a structure that begins so many bits from the start of the whole: its cells are
--- those of a block from the place `first` on, of which the outermost are at this level
+-- a name leads to a sound component of a structure that begins so many bits from the start of the
+-- whole: its cells are those of a block from the place `first` on, of which the outermost are at
+-- this level
 pub record NamesComponent (l : List BlockLayout) (block : ℕ) (temporary : Bool)
     (first level begin : ℕ) (name : List ℕ) (to : ComponentAt) : Type 0 where
   pub place : ℕ
@@ -61,13 +63,14 @@ pub record NamesComponent (l : List BlockLayout) (block : ℕ) (temporary : Bool
     offset = begin + offset;
   }
 
--- a name behind a component: of a structure one of its own components, of a data type one of those of the block that
--- declares it
+-- a name behind a component: of a structure one of its own components, of a data type one of those
+-- of the block that declares it
 abbrev pub NamesComponentOf : List BlockLayout → ComponentAt → List ℕ → Cell → Element → ComponentAt
     → Type 0
 NamesComponentOf l from name c Structure to =
     NamesComponent l from.block from.temporary (from.place + 1) (c.level + 1) from.offset name to
-NamesComponentOf l from name c (Udt block bits) to = NamesComponent l block false 0 0 from.offset name to
+NamesComponentOf l from name c (Udt block bits) to =
+    NamesComponent l block false 0 0 from.offset name to
 NamesComponentOf l from name c _ to = ⊥
 
 -- a name leads from a component with all its indices to one inside it
@@ -78,7 +81,8 @@ pub record IsInside (l : List BlockLayout) (from : ComponentAt) (name : List ℕ
   pub indexed : from.depth ≡ length cell.bounds
   pub leads : NamesComponentOf l from name cell cell.of to
 
--- an index leads from an array to an element of it, before which all elements with lower indices stand without gap
+-- an index leads from an array to an element of it, before which all elements with lower indices
+-- stand without gap
 pub record IndexesElement (l : List BlockLayout) (from : ComponentAt) (at : ℤ)
     (to : ComponentAt) : Type 0 where
   pub cell : Cell
@@ -108,10 +112,12 @@ LeadsTo l from (s ∷ ss) to = (next : ComponentAt) × StepLeadsTo l from s next
 abbrev pub LeadsFrom : List BlockLayout → (block : ℕ) → (temporary : Bool) → List PathStep
     → ComponentAt → Type 0
 LeadsFrom l block temporary (step.Named name ∷ ss) to =
-    (first : ComponentAt) × NamesComponent l block temporary 0 0 0 name first × LeadsTo l first ss to
+    (first : ComponentAt) × NamesComponent l block temporary 0 0 0 name first
+    × LeadsTo l first ss to
 LeadsFrom l block temporary _ to = ⊥
 
--- the block that declares what a section of a block has: the components of a data block may stand in another one
+-- the block that declares what a section of a block has: the components of a data block may stand
+-- in another one
 abbrev pub declaring_block : List BlockLayout → Section → (block : ℕ) → Option ℕ
 declaring_block l section.Global block = structure_of l block
 declaring_block l section.Instance block = Some block

@@ -6,8 +6,8 @@ use Rattle.stl_ast.specs.declared.names.BlockName.{BlockName}
 use Rattle.stl_symbols.specs.Symbol.{Symbol}
 use Rattle.block_layout.specs.Blocks.{found_block}
 
--- the symbols, the blocks by kind and number, and for each block, as a user-defined data type, how deep its types are
--- nested and how many bits it takes
+-- the symbols, the blocks by kind and number, and for each block, as a user-defined data type, how
+-- deep its types are nested and how many bits it takes
 pub record Types : Type 0 where
   pub symbols : List Symbol
   pub ids : List (Option BlockId)

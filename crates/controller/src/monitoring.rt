@@ -30,7 +30,8 @@ pub(crate) fn statement_record(
     regs: &Regs,
 ) -> Option<MonRecord>
     requires { HasStatement (code_of program.now.program) stand.now.block stand.now.at }
-    ensures { result ≡ record_of_statement (code_of program.now.program) monitored stand.now regs.now }
+    ensures { result
+        ≡ record_of_statement (code_of program.now.program) monitored stand.now regs.now }
 {
     if !is_monitored(monitored, stand.block) {
         return None;

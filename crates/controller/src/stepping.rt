@@ -79,7 +79,8 @@ impl Cpu {
         requires stack { IsActivationStack (mode_after self.old.mode stand.now.ob outcome)
             self.old.activations }
         ensures state { cpu_state self.new
-            ≡ statement_finished (code_of program.now.program) stand.now outcome (cpu_state self.old) }
+            ≡ statement_finished (code_of program.now.program) stand.now outcome
+            (cpu_state self.old) }
         ensures regs { result ≡ regs_finished outcome (scheduler_of self.old.sched)
             self.old.activations stand.now.regs }
         ensures stack { IsActivationStack self.new.mode self.new.activations }

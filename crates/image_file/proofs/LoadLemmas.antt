@@ -72,7 +72,7 @@ later_none (Some l) = refl
 abbrev empty_log : Log
 empty_log = record { least = None; blocks = []; datas = None }
 
--- reading told all that it kept
+-- what one pass keeps is what reading the bytes notes
 record Kept (text : List ℕ) (log : Log) : Type 0 where
   least : log.least ≡ with_faults None (faults_in (read_image text).notes)
   blocks : log.blocks ≡ whole_blocks (read_image text).notes

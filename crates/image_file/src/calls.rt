@@ -86,7 +86,8 @@ fn misfits_index(
     }
 }
 
-/// Whether what is passed doesn't fit the parameter of the block that the statement's last op calls.
+/// Whether what is passed doesn't fit the parameter of the block that the statement's last op
+/// calls.
 pub(crate) fn misfits_call(around: &BlockEnvironment, last: &Op, index: u8, actual: Passed) -> bool
     ensures { result ≡ misfits_call (around_of around.now) last.now.operand index actual }
 {

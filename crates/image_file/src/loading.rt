@@ -239,8 +239,8 @@ fn loaded(alloc: Global, image: ImageRead) -> Result<Loaded, NoMemory>
     Loaded::new(alloc, program, profile)
 }
 
-/// Reads bytes as the image of a program that verifies, of version 1 or 2. An image of version 1 has
-/// the profile Small.
+/// Reads bytes as the image of a program that verifies, of version 1 or 2. An image of version 1
+/// has the profile Small.
 ///
 /// # Errors
 ///

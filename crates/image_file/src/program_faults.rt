@@ -274,8 +274,8 @@ fn program_fault(alloc: Global, program: &Program) -> Result<Option<VerifyFault>
 /// # Errors
 ///
 /// `Fault` exactly where it doesn't, with the least fault by offset, then code, of its first block
-/// that has one: 5 a statement of more than 64 ops, or code that doesn't end with BE; 6 jump targets,
-/// 7 operands and calls, 8 brackets and zones, 9 statement count and lines. `NoMemory`.
+/// that has one: 5 a statement of more than 64 ops, or code that doesn't end with BE; 6 jump
+/// targets, 7 operands and calls, 8 brackets and zones, 9 statement count and lines. `NoMemory`.
 pub fn verify(alloc: Global, program: Program) -> Result<Loaded, VerifyError>
     ensures gives { IfOk result (λ l. l.program ≡ program) }
     ensures small { IfOk result (λ l. l.profile ≡ profiles.Small) }

@@ -9,8 +9,8 @@ ghost use Rattle.image_file.specs.Least.{with_faults};
 
 use crate::calls::{is_bad_call, misfits_call};
 use crate::checking::{
-    Nesting, Statement, bracket_fault, few, lesser_if, mark_fault, prepare, same_codes, seven_if,
-    zone_fault,
+    OpenInCode, StatementStart, bracket_fault, few, lesser_if, mark_fault, prepare, same_codes,
+    seven_if, zone_fault,
 };
 use crate::environments::{BlockEnvironment, DataLens};
 use crate::faults::LoadFault;
@@ -37,7 +37,7 @@ fn ops_from(ops: &[Op], at: usize) -> &[Op]
 /// An op in its place: its offset, what stands open before it, the ops of its statement before it,
 /// and those behind it.
 #[derive(Clone, Copy)]
-pub(crate) struct Place<'a> {
+pub(crate) struct OpPlace<'a> {
     pub at: u32,
     pub brackets: &'a [OpenBracket],
     pub zones: &'a [u32],
@@ -60,13 +60,13 @@ fn are_other(here: &Option<ArrayVec<u8, 7>>, there: &Option<ArrayVec<u8, 7>>) ->
 }
 
 /// Whether other brackets stand open at a statement.
-fn codes_differ(here: &Option<ArrayVec<u8, 7>>, there: &Statement) -> bool
+fn codes_differ(here: &Option<ArrayVec<u8, 7>>, there: &StatementStart) -> bool
     ensures { result ≡ are_other_brackets (option_map (λ v. v.items) here.now) there.now.codes }
 {
     are_other(here, &there.codes)
 }
 
-fn differing(here: &Option<ArrayVec<u8, 7>>, zones: usize, there: &Statement) -> Option<u16>
+fn differing(here: &Option<ArrayVec<u8, 7>>, zones: usize, there: &StatementStart) -> Option<u16>
     ensures { result ≡ nesting_fault (option_map (λ v. v.items) here.now) zones there.now }
 {
     if codes_differ(here, there) || zones != there.zones {
@@ -92,7 +92,13 @@ fn target_fault(
 }
 
 /// The fault of a jump.
-fn jump_fault(statements: &Statements, op: &Op, place: &Place, kind: u8, target: u32) -> Option<u16>
+fn jump_fault(
+    statements: &Statements,
+    op: &Op,
+    place: &OpPlace,
+    kind: u8,
+    target: u32,
+) -> Option<u16>
     requires { place.now.at + size_of_op op.now + length (code_bytes place.now.rest.now) < 2 ^ 32 }
     ensures { result ≡ jump_fault statements.now (placed_of op.now place.now) kind target }
 {
@@ -108,7 +114,7 @@ fn operand_fault(
     around: &BlockEnvironment,
     statements: &Statements,
     op: &Op,
-    place: &Place,
+    place: &OpPlace,
 ) -> Option<u16>
     requires { place.now.at + size_of_op op.now + length (code_bytes place.now.rest.now) < 2 ^ 32 }
     ensures { result ≡ operand_fault (around_of around.now) statements.now
@@ -145,7 +151,7 @@ fn call_fault_among(
     around: &BlockEnvironment,
     lens: &DataLens,
     op: &Op,
-    place: &Place,
+    place: &OpPlace,
 ) -> Option<u16>
     ensures { result ≡ call_fault_among (around_of around.now) lens.now
         (placed_of op.now place.now) op.now.operand }
@@ -165,7 +171,7 @@ fn call_fault_among(
 }
 
 /// The fault of a call, where calls are checked.
-fn call_fault(around: &BlockEnvironment, op: &Op, place: &Place) -> Option<u16>
+fn call_fault(around: &BlockEnvironment, op: &Op, place: &OpPlace) -> Option<u16>
     ensures { result ≡ call_fault (around_of around.now) (around_of around.now).data_lens
         (placed_of op.now place.now) }
 {
@@ -182,7 +188,7 @@ fn check_op(
     statements: &Statements,
     start: u32,
     op: &Op,
-    place: &Place,
+    place: &OpPlace,
     least: Option<LoadFault>,
 ) -> Option<LoadFault>
     requires room { place.now.at + size_of_op op.now + length (code_bytes place.now.rest.now) < 2 ^ 32 }
@@ -237,7 +243,7 @@ fn check_open_zones(
 /// The same of all that stands open at the end.
 fn check_nesting(
     start: u32,
-    nesting: &Nesting,
+    nesting: &OpenInCode,
     limit: u32,
     least: Option<LoadFault>,
 ) -> Option<LoadFault>
@@ -267,11 +273,11 @@ fn check_ops(
         ≡ with_faults least (block_faults (around_of around.now) start ops.now)) }
 {
     let mut least = least;
-    let mut nesting = Nesting::new(alloc);
+    let mut nesting = OpenInCode::new(alloc);
     let mut before = Vec::new(alloc);
     let mut at = 0;
     for (i, op) in ops.iter().enumerate() {
-        let place = Place {
+        let place = OpPlace {
             at,
             brackets: nesting.brackets.as_slice(),
             zones: nesting.zones.as_slice(),

@@ -102,7 +102,8 @@ fn open_block_fact(which: u32, f: &Frame, m: &Memory) -> u32
 #[tactic(auto, unfolding(crate::specs::DataBlocks::loading_open_block))]
 #[inline(never)]
 pub(crate) fn load_open_block(operand: &Operand, s: &mut Running, m: &Memory) -> Result<(), u8>
-    ensures { ChangesRunningRegs (loading_open_block operand.now (local_of s.old) m.now) s.old s.new result }
+    ensures { ChangesRunningRegs (loading_open_block operand.now (local_of s.old) m.now)
+        s.old s.new result }
 {
     match *operand {
         Operand::Literal { value } => {

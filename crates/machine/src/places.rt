@@ -293,7 +293,7 @@ fn of_binding(binding: Option<Binding>) -> Result<Location, u8>
 {
     match binding {
         Some(
-            Binding::Bound {
+            Binding::AtPlace {
                 place,
                 width,
                 frame,

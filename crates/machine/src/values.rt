@@ -18,7 +18,7 @@ fn number_of_binding(binding: Option<Binding>, s: &Running, m: &Memory) -> Resul
 {
     match binding {
         Some(
-            Binding::Bound {
+            Binding::AtPlace {
                 place,
                 width,
                 frame,

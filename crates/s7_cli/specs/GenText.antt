@@ -26,11 +26,11 @@ memory_byte byte =
 
 -- eight bytes of bit memory from this one on, added up
 abbrev pub sum_of_eight : State → (first : ℕ) → ℕ
-sum_of_eight s first = sum (take 8 (drop first s.world.memory.bit_memory))
+sum_of_eight s first = sum (take 8 (drop first s.store.memory.bit_memory))
 
 -- the bytes MB 0 to MB 255, added up
 abbrev pub bit_memory_sum : State → ℕ
-bit_memory_sum s = sum (take 256 s.world.memory.bit_memory)
+bit_memory_sum s = sum (take 256 s.store.memory.bit_memory)
 
 -- the line of `gen NUMBER`: how many entries the history has, the mode behind them, and the sum of
 -- the bytes MB 0 to MB 255

@@ -23,12 +23,14 @@ HasEachBlockOnce (b ∷ rest) = (bound_of b.block rest ≡ None) × HasEachBlock
 -- each block of the list is a code block of the program
 abbrev pub HasLoadedBlocksOnly : Program → List Bound → Type 0
 HasLoadedBlocksOnly p [] = Unit {0}
-HasLoadedBlocksOnly p (b ∷ rest) = IsSome (block_by_id b.block p.code_blocks) × HasLoadedBlocksOnly p rest
+HasLoadedBlocksOnly p (b ∷ rest) =
+    IsSome (block_by_id b.block p.code_blocks) × HasLoadedBlocksOnly p rest
 
 -- a bound that is there, and within the limits of an activation
 abbrev pub IsBoundWithinLimits : Profile → Option Bound → Type 0
 IsBoundWithinLimits profile None = ⊥
-IsBoundWithinLimits profile (Some b) = (b.depth ≤ most_frames profile) × (b.bytes ≤ most_local_bytes)
+IsBoundWithinLimits profile (Some b) =
+    (b.depth ≤ most_frames profile) × (b.bytes ≤ most_local_bytes)
 
 -- a bound counts its block, and the local bytes of it
 abbrev pub CountsItself : (local_len : ℕ) → Option Bound → Type 0

@@ -50,7 +50,7 @@ pub record IsDeepChain (profile : Profile) (p : Program) (chain : List BlockId) 
   pub deep : IsTooDeep profile p chain
   pub front : (n : ℕ) → n < length chain → IsTooDeep profile p (take n chain) → ⊥
 
--- which of the two is found
+-- what is found of a program is right: its least certificate, or a chain that is too deep
 abbrev pub IsFindingFor : Profile → Program → Found → Type 0
 IsFindingFor profile p (Fits list) = IsLeastCertificate profile p list.items
 IsFindingFor profile p (Deep chain) = IsDeepChain profile p chain.items

@@ -36,7 +36,8 @@ abbrev pub mark_called_by : Program → List Bool → List Bound → Bound → L
 mark_called_by p marks list b = mark_called marks list (block_by_id b.block p.code_blocks)
 
 -- what the blocks call that had a mark before
-abbrev pub with_callees_marked : Program → List Bound → List Bool → (before : List Bool) → (left : List Bound) → List Bool
+abbrev pub with_callees_marked :
+    Program → List Bound → List Bool → (before : List Bool) → (left : List Bound) → List Bool
 with_callees_marked p list marks [] left = marks
 with_callees_marked p list marks (m ∷ before) [] = marks
 with_callees_marked p list marks (m ∷ before) (b ∷ left) =
@@ -50,7 +51,8 @@ ob_marks (b ∷ list) = is_organization_block b.block.kind ∷ ob_marks list
 -- the marks of a round: organization blocks, and then what the marked blocks of the round before call
 abbrev pub marks_of_round : ℕ → Program → List Bound → List Bool
 marks_of_round zero p list = ob_marks list
-marks_of_round (suc k) p list = with_callees_marked p list (ob_marks list) (marks_of_round k p list) list
+marks_of_round (suc k) p list =
+    with_callees_marked p list (ob_marks list) (marks_of_round k p list) list
 
 -- the bounds that are marked, each block once: behind those that were seen
 abbrev pub marked_behind : (seen : List Bound) → List Bool → List Bound → List Bound

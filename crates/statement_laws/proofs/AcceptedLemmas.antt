@@ -25,7 +25,7 @@ use Rattle.stl_symbols.specs.Symbol.{Symbol}
 use Rattle.block_layout.specs.Blocks.{found_block, named_block}
 use Rattle.block_layout.specs.Layouts.{layouts_of}
 use Rattle.block_layout.specs.Measures.{types_of_source}
-use Rattle.block_layout.specs.Paths.{folded_path, leaves_judged, plain_kind, structure_of}
+use Rattle.block_layout.specs.Paths.{folded_path, leaves_structure, plain_kind, structure_of}
 use Rattle.block_layout.specs.Rule42.{leaves_found, operand_is_outside}
 use Rattle.block_layout.specs.Cells.{components_of}
 use Rattle.block_layout.specs.declared.blocks.BlockLayout.{BlockLayout}
@@ -50,7 +50,9 @@ use Rattle.flat_code.specs.declared.operations.CallOperation.TheVariants as how_
 use Rattle.sem_kept.specs.Accepted.{IsAccepted}
 use Rattle.sem_kept.specs.Settled.{HasCalled, HasInstruction, HasLabel, HasOperand, NamesWhatIsPassed, IsResolvedStatement, context_of}
 use Rattle.sem_kept.proofs.accepted.Accepted.{IsSound, IsSoundActual, IsSoundStatement, all_mapped, right_tree}
-use Rattle.sem_kept.proofs.accepted.OperandsCells.{all_there, cells_are, layout_of_block, measured_symbols}
+use Rattle.block_layout.proofs.CommonLemmas.{all_there}
+use Rattle.sem_kept.proofs.accepted.OperandsCells.{cells_are, layout_of_block}
+use Rattle.block_layout.proofs.LayoutLemmas.{measured_symbols}
 use Rattle.sem_kept.proofs.accepted.OperandsPlaces.{IsParameterCell, function_components}
 use Rattle.sem_kept.proofs.accepted.OperandsViews.{ids_same}
 use Rattle.sem_kept.proofs.accepted.Settled.{statements_settle}
@@ -102,7 +104,7 @@ found_same symbols t k name =
     (sym (measured_symbols symbols t.blocks))
 
 found_judged : (l : List BlockLayout) (o : Option ℕ) (steps : List PathStep)
-    → leaves_found l o steps ≡ leaves_judged l (option_and_then (structure_of l) o) steps
+    → leaves_found l o steps ≡ leaves_structure l (option_and_then (structure_of l) o) steps
 found_judged l None steps = refl
 found_judged l (Some place) steps = refl
 
@@ -111,7 +113,7 @@ stays : (symbols : List Symbol) (t : Tree) (k : ℕ) (o : Operand)
     → stays_inside (context_of symbols t k) o ≡ true
 stays symbols t k (operand.Named (head.Local name) steps) e = ap not e
 stays symbols t k (operand.Named (head.InBlock name) steps) e =
-    ap not (ap (λ (o : Option ℕ). leaves_judged (layouts_of t symbols)
+    ap not (ap (λ (o : Option ℕ). leaves_structure (layouts_of t symbols)
     (option_and_then (structure_of (layouts_of t symbols)) o) (folded_path steps)) (found_same symbols t k name)
     ∙ sym (found_judged (layouts_of t symbols)
     (found_block (types_of_source symbols t.blocks).symbols (types_of_source symbols t.blocks).ids is_data_block name)

@@ -23,7 +23,7 @@ use Rattle.block_layout.specs.Blocks.{known_block, named_block, of_kind}
 use Rattle.block_layout.specs.Members.{component_of_name}
 use Rattle.block_layout.specs.Offsets as offsets
 use Rattle.block_layout.specs.Offsets.{place_of_path, elementary_place, place_at_path_end, variable_place, width_of}
-use Rattle.block_layout.specs.Paths.{cells_at, elementary_at, folded_path, if_whole, kind_of, leaves_from, leaves_judged, outermost_path_end, plain_kind, structure_of, path_end_behind, path_end_in_data_block, path_end_in_block, walked_local, whole_at}
+use Rattle.block_layout.specs.Paths.{cells_at, elementary_at, folded_path, if_whole, kind_of, leaves_from, leaves_structure, outermost_path_end, plain_kind, structure_of, path_end_behind, path_end_in_data_block, path_end_in_block, walked_local, whole_at}
 use Rattle.block_layout.specs.declared.blocks.Section.TheVariants as section
 use Rattle.block_layout.specs.declared.cells.Cell.{Cell}
 use Rattle.block_layout.specs.declared.members.Member.{Member}
@@ -306,7 +306,7 @@ data_placed c id steps number place v x is e n = by (is_some (whole_at c.layouts
     in_db true h =
         data_end c id.number (path_end_in_data_block c.layouts place steps) v x
         (ap (λ k. data_walked c k (path_end_in_data_block c.layouts place steps)) (sym is) ∙ e)
-        (inside (leaves_judged c.layouts (structure_of c.layouts place) steps)
+        (inside (leaves_structure c.layouts (structure_of c.layouts place) steps)
         (place_at_path_end c.layouts area.Db id.number (path_end_in_data_block c.layouts place steps)) x h)
     in_db false h = absurd cc
 

@@ -34,7 +34,9 @@ pub record AddsEntry (old new : Recording) (e : Entry) : Type 0 where
 
 -- the pass made this entry: the list that it knows ends with it, behind `before`, which all that the pass had seen begins; of the
 -- entries under its own number it is the only new one, and those under its other numbers are as before
-pub record HasMade (old new : PassView Opening Entry) (before : List Entry) (e : Entry) : Type 0 where
+pub record HasMade
+    (old new : PassView Opening Entry) (before : List Entry) (e : Entry)
+    : Type 0 where
   pub ends : new.seen ≡ before ++ e ∷ []
   pub begins : IsPrefix old.seen before
   pub made : new.made ≡ made_more old.made (e ∷ [])

@@ -1,4 +1,5 @@
--- Why code has no image: an op that the table of ops hasn't, or a number that doesn't fit its field.
+-- Why code has no image: an op that the table of ops hasn't, or a number that doesn't fit its
+-- field.
 use Rattle.std.specs.Prelude.{◌≡◌, ◌<◌, ◌≤◌, ◌++◌, ℕ, true, false, List, map, length, Option, Some, None}
 use Rattle.std.specs.List.{AllByRecursion}
 use Rattle.flat_code.specs.Codes.{are_ops}
@@ -30,12 +31,12 @@ AreOpsAppended old new ops (Some done) = new ≡ old ++ ops
 AreOpsAppended old new ops None = HasNoOp ops
 
 -- items that come behind others, or of which one doesn't fit
-abbrev pub AreItemsAppended : {A : Type 0} → (A → Type 0) → (old new items : List A) → Option (Unit {0})
-    → Type 0
+abbrev pub AreItemsAppended : {A : Type 0} → (A → Type 0) → (old new items : List A)
+    → Option (Unit {0}) → Type 0
 AreItemsAppended fits old new items (Some done) = new ≡ old ++ items
 AreItemsAppended fits old new items None = AllByRecursion fits items → ⊥
 
--- a parameter's place fits its field
+-- the place of a parameter fits its field of an image
 abbrev pub ParamFits : Param → Type 0
 ParamFits p = p.byte < 65536
 
@@ -49,7 +50,7 @@ pub record CodeFits (code : List OpData) (lines : List ℕ) : Type 0 where
   pub ops : are_ops code ≡ true
   pub count : length lines < 65536
 
--- all of a code block fits
+-- all of a code block fits the fields of an image
 pub record BlockFits (b : CodeBlock) : Type 0 where
   pub local_len : b.local_len < 65536
   pub instance_len : b.instance_len < 65536

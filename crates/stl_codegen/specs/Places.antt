@@ -17,7 +17,7 @@ abbrev pub extended_starts : List ℕ → (at : ℕ) → (begins : Bool) → Lis
 extended_starts starts at true = starts ++ at ∷ []
 extended_starts starts at false = starts
 
--- an offset, or that it doesn't fit 32 bits
+-- what is found of an offset: the offset itself, or nothing where it doesn't fit 32 bits
 abbrev pub IsOffset : Option ℕ → ℕ → Type 0
 IsOffset (Some at) offset = at ≡ offset
 IsOffset None offset = 4294967296 ≤ offset

@@ -14,8 +14,8 @@ use Rattle.stl_list.specs.Operands.{operand_of_run}
 use Rattle.stl_list.specs.Runs.{Run, runs, statement_starts, target_marks}
 use Rattle.stl_list.specs.Signatures.{Signature, formals_of_block}
 
--- what the statements of a block refer to: the blocks of the program, the block's own parameters, the
--- lines on which its statements stand, their offsets, and of each whether a jump leads to it
+-- what the statements of a block refer to: the blocks of the program, the block's own parameters,
+-- the lines on which its statements stand, their offsets, and of each whether a jump leads to it
 pub record Surroundings : Type 0 where
   pub signatures : List Signature
   -- the parameters of the block itself
@@ -39,9 +39,10 @@ surroundings signatures lines b = record {
 
 -- a statement has a label where a jump leads to it
 abbrev pub label_at : (targets : List Bool) → (n : ℕ) → Option (List ℕ)
-label_at targets n = if unwrap_or (slice_get targets n) false then Some (label_of_number n) else None
+label_at targets n =
+    if unwrap_or (slice_get targets n) false then Some (label_of_number n) else None
 
--- the statement of a number
+-- the statement with this number in its block, made from its ops
 abbrev pub listed_statement : Surroundings → (n : ℕ) → Run → Statement
 listed_statement s n r = record {
   line = line_of_statement s.lines n;
@@ -70,7 +71,8 @@ label_of_end line (Some label) = label_alone line label ∷ []
 -- the END clause; there are as many statements as lines
 unfoldable pub statement_at : Surroundings → (n : ℕ) → Run → List Statement
 statement_at s n r =
-    if suc n == length s.lines then label_of_end (line_of_statement s.lines n) (label_at s.targets n)
+    if suc n == length s.lines
+    then label_of_end (line_of_statement s.lines n) (label_at s.targets n)
     else listed_statement s n r ∷ []
 
 -- what statements add to the body, of which the first has the number n

@@ -100,7 +100,7 @@ impl<'a> Surroundings<'a> {
         }
     }
 
-    /// The statement of a number, by its last op and those before it.
+    /// The statement with this number in its block, by its last op and those before it.
     fn statement(
         &self,
         alloc: Global,
@@ -146,8 +146,8 @@ impl<'a> Surroundings<'a> {
         }
     }
 
-    /// Goes on to an op, and gives the number of the statement behind it. `before` are the ops of its
-    /// statement before it; the statement is added with its last op.
+    /// Goes on to an op, and gives the number of the statement behind it. `before` are the ops of
+    /// its statement before it; the statement is added with its last op.
     fn add_op(
         &self,
         alloc: Global,

@@ -21,7 +21,7 @@ pub record Columns : Type 0 where
   pub address : List ℕ
   pub kind : List ℕ
 
--- the first three of four fields
+-- the columns of a line, the first three of its four fields; none where it has not four
 abbrev pub columns_of : List (List ℕ) → Option Columns
 columns_of (name ∷ address ∷ kind ∷ comment ∷ []) =
     Some (record { name = name; address = address; kind = kind })

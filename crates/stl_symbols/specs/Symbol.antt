@@ -15,7 +15,7 @@ pub record Symbol : Type 0 where
   pub name : List ℕ
   pub target : Target
 
--- the first symbol of a name
+-- the first symbol that has this name, without case
 unfoldable pub symbol_named : List ℕ → List Symbol → Option Symbol
 symbol_named name symbols = find (λ symbol. is_same_name name symbol.name) symbols
 
@@ -32,14 +32,14 @@ abbrev pub IsFirstBit : Width → ℕ → Type 0
 IsFirstBit Bit bit = bit ≤ 7
 IsFirstBit width bit = bit ≡ 0
 
--- a variable that an address names
+-- a variable that an address of a symbols file can name
 pub record IsVariable (place : Place) (width : Width) : Type 0 where
   pub area : has_symbols place.area ≡ true
   pub number : place.number ≡ 0
   pub byte : place.byte ≤ 65535
   pub bit : IsFirstBit width place.bit
 
--- what an address names
+-- what an address of a symbols file can name
 abbrev pub IsSymbolTarget : Target → Type 0
 IsSymbolTarget (Variable place width) = IsVariable place width
 IsSymbolTarget (Timer number) = number ≤ 65535

@@ -85,5 +85,6 @@ fits_seen f Unjudged = true
 
 -- the operand of an actual parameter fits a parameter: a constant an IN parameter by its type
 unfoldable pub fits_operand : Context → Formal → Operand → Bool
-fits_operand c f (operand.Constant value) = is_input_section f.section && fits_elementary_type value f.kind
+fits_operand c f (operand.Constant value) =
+    is_input_section f.section && fits_elementary_type value f.kind
 fits_operand c f o = fits_seen f (resolution_of c o)

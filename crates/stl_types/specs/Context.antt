@@ -11,7 +11,8 @@ use Rattle.block_layout.specs.Blocks.{found_block, known_block}
 use Rattle.block_layout.specs.Paths.{if_whole, whole_at}
 use Rattle.block_layout.specs.declared.blocks.BlockLayout.{BlockLayout}
 
--- the symbols, the blocks of the source with their layouts, and the place of the block that has the body
+-- the symbols, the blocks of the source with their layouts, and the place of the block that has the
+-- body
 pub record Context : Type 0 where
   pub symbols : List Symbol
   pub blocks : List Block

@@ -24,7 +24,8 @@ in_statements broken c blocks = in_contexts (λ c body. flat_map (broken c) body
 -- what a call breaks by the block that is called
 unfoldable pub broken_call : Context → Callee → Statement → List Refusal
 broken_call c callee s =
-    actuals_without_formal callee.formals s.actuals ++ actuals_supplied_twice callee.formals [] s.actuals
+    actuals_without_formal callee.formals s.actuals
+    ++ actuals_supplied_twice callee.formals [] s.actuals
     ++ broken_if (lacks_actual callee s) s.line 36 ++ call_37 c callee s
     ++ broken_if (has_wrong_instance c callee s.operand) s.line 38
     ++ broken_if (is_bare_call callee s) s.line 40

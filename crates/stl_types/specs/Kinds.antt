@@ -59,7 +59,7 @@ abbrev pub is_pointer_constant : ResolvedOperand → Bool
 is_pointer_constant (view.Pointer a byte bit) = true
 is_pointer_constant _ = false
 
--- a label
+-- the operand is a label
 abbrev pub is_label_operand : ResolvedOperand → Bool
 is_label_operand view.Label = true
 is_label_operand _ = false
@@ -92,7 +92,7 @@ is_composite view.Composite = true
 is_composite view.Date = true
 is_composite _ = false
 
--- a DATE_AND_TIME
+-- the operand is a DATE_AND_TIME
 abbrev pub is_date : ResolvedOperand → Bool
 is_date view.Date = true
 is_date _ = false

@@ -97,7 +97,8 @@ resolution_of c (operand.Counter number) = Resolved (view.Counter number)
 resolution_of c (operand.Named path steps) = path_seen c path steps
 resolution_of c (operand.ByMemory a width from byte) =
     Resolved (view.ByMemory (area_for_letters a) width (area_for_letters from) byte)
-resolution_of c (operand.NumberBy what from byte) = Resolved (view.NumberBy what (area_for_letters from) byte)
+resolution_of c (operand.NumberBy what from byte) =
+    Resolved (view.NumberBy what (area_for_letters from) byte)
 resolution_of c (operand.ByRegister a width register bits) =
     Resolved (view.ByRegister (area_left a) width register bits)
 resolution_of c (operand.Pointer a byte bit) = Resolved (view.Pointer (area_left a) byte bit)
@@ -107,4 +108,5 @@ resolution_of c (operand.OfStatus flag) = Resolved (view.OfStatus flag)
 resolution_of c (operand.Other name) = Resolved (view.Register (register_for_word name))
 resolution_of c (operand.OpenBlock di name) = opened_seen di (data_number c name)
 resolution_of c (operand.Called name instance) =
-    called_seen (whole_called_block c (named_block c.symbols name)) instance (instance_number c instance)
+    called_seen (whole_called_block c (named_block c.symbols name)) instance
+    (instance_number c instance)

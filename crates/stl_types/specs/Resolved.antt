@@ -16,4 +16,5 @@ seen_view _ = None
 
 -- what the operand of a statement names, where its instruction takes it
 unfoldable pub resolved_operand : Context → Statement → Option ResolvedOperand
-resolved_operand c s = if is_none (statement_rule c s) then seen_view (resolution_of c s.operand) else None
+resolved_operand c s =
+    if is_none (statement_rule c s) then seen_view (resolution_of c s.operand) else None

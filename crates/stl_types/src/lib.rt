@@ -27,7 +27,7 @@ mod variables;
 mod views;
 mod zones;
 
-pub use brackets::Bracket;
+pub use brackets::SourceBracket;
 pub use checking::{Checked, check};
 pub use contexts::Context;
 pub use forms::OperandRule;

@@ -109,7 +109,8 @@ fn sees_date(seen: Resolution) -> bool
 
 fn date_here(scope: &Context, alloc: Global, actual: &Actual) -> Result<Option<Refusal>, AllocError>
     ensures { IfOk result (λ found. found
-        ≡ least (broken_if (sees_date (resolution_of scope.now actual.now.value)) actual.now.line 24)) }
+        ≡ least
+        (broken_if (sees_date (resolution_of scope.now actual.now.value)) actual.now.line 24)) }
 {
     let date = sees_date(scope.seen(alloc, &actual.value)?);
     Ok(broken_if(date, actual.line, 24))

@@ -72,8 +72,8 @@ fn at_line(line: u32, rule: Option<u16>) -> Option<Refusal>
 }
 
 impl<'a> Context<'a> {
-    /// What the operand of a statement names; none where its instruction doesn't take it, or where it
-    /// can't be resolved.
+    /// What the operand of a statement names; none where its instruction doesn't take it, or where
+    /// it can't be resolved.
     ///
     /// # Errors
     ///

@@ -62,7 +62,7 @@ fn area_left(letters: Option<Letters>) -> Option<Area>
     }
 }
 
-/// An address; `number` is that of the data block before it, else 0.
+/// What an address names; `number` is that of the data block before it, else 0.
 fn address(number: u16, letters: Letters, width: Width, byte: u16, bit: u8) -> ResolvedOperand
     ensures { result ≡ resolved_address number letters width byte bit }
 {

@@ -4,16 +4,16 @@ use Rattle.var_access.specs.declared.entries.Entry.{Entry}
 use Rattle.var_access.specs.declared.runs.Entries.TheInside.{Inside}
 use Rattle.var_access.specs.Runs.{AreRuns, entries_of_runs}
 
--- the entries, and for how many further ones there is room
+-- a history: the entries, and for how many further ones there is room
 pub record History : Type 0 where
   pub entries : List Entry
   pub spare : ℕ
 
--- what the fields stand for
+-- the history that the fields of the code stand for
 abbrev pub history_of : Inside → History
 history_of h = record { entries = entries_of_runs h.runs.items; spare = h.spare }
 
--- the fields belong together; each further entry makes one run more at most
+-- the fields of the code stand for a history; each further entry makes one run more at most
 pub record IsHistory (h : Inside) : Type 0 where
   pub runs_are : AreRuns h.runs.items
   pub len_is : h.len ≡ length (entries_of_runs h.runs.items)

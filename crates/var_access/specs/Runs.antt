@@ -6,7 +6,7 @@ use Rattle.var_access.specs.declared.entries.What.{What}
 use Rattle.var_access.specs.declared.entries.What.TheVariants.{Step}
 use Rattle.var_access.specs.declared.runs.Run.{Run}
 
--- the entries of runs, one run behind the other
+-- the entries that runs stand for, one run behind the other
 abbrev pub entries_of_runs : List Run → List Entry
 entries_of_runs [] = []
 entries_of_runs (r ∷ rest) = replicate r.count r.entry ++ entries_of_runs rest
@@ -16,16 +16,16 @@ abbrev pub FollowFrom : (first : ℕ) → List Run → Type 0
 FollowFrom first [] = Unit {0}
 FollowFrom first (r ∷ rest) = (r.first ≡ first) × FollowFrom (first + r.count) rest
 
--- a step
+-- what an entry does is a step
 abbrev pub is_step_what : What → Bool
 is_step_what Step = true
 is_step_what _ = false
 
--- whoever makes it
+-- the entry is a step, whoever makes it
 abbrev pub is_step : Entry → Bool
 is_step e = is_step_what e.what
 
--- steps of one worker
+-- two entries are steps of the same worker
 abbrev pub are_steps_of_one_worker : (one next : Entry) → Bool
 are_steps_of_one_worker one next = is_step one && is_step next && one.who == next.who
 

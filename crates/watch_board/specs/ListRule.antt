@@ -15,4 +15,5 @@ item_count_word b = record { tracked = true; key = 0; book = b }
 
 -- the word was as expected: the item was added to all that had been seen. Else the list was longer
 abbrev pub AppendsItem : Step Shown → View Shown ℕ → ℕ → View Shown ℕ → Type 0
-AppendsItem s v found w = MatchBool (found == s.old) ((w.0 ≡ v.0 ++ s.ask ∷ []) × HasRisingLengths w.0) (Unit {0})
+AppendsItem s v found w =
+    MatchBool (found == s.old) ((w.0 ≡ v.0 ++ s.ask ∷ []) × HasRisingLengths w.0) (Unit {0})

@@ -13,7 +13,8 @@ AreOfBoard board (k ∷ ks) = (k.board ≡ board) × AreOfBoard board ks
 
 -- the rule of the copies: whatever is known, is of the board
 abbrev pub AreAllOfBoard : Book → List (List KnownBoard) → Type 0
-AreAllOfBoard board views = (seat : ℕ) (v : List KnownBoard) → get_elem? views seat ≡ some v → AreOfBoard board v
+AreAllOfBoard board views =
+    (seat : ℕ) (v : List KnownBoard) → get_elem? views seat ≡ some v → AreOfBoard board v
 
 -- a list was read, of the board that was known, and is known now
 abbrev pub ReadsBoardList : List KnownBoard → KnownBoard → List KnownBoard → Type 0

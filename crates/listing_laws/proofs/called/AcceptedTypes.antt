@@ -49,7 +49,10 @@ use Rattle.stl_codegen.specs.Generated.{code_blocks_of, params_of}
 use Rattle.stl_codegen.specs.Instruction.{in_parameter_order}
 use Rattle.stl_list.specs.Joined.{system_parameters}
 use Rattle.sem_kept.proofs.accepted.Accepted.{AllLaid, IsSound, IsSoundStatement, IsSoundTree, context_at, right_tree}
-use Rattle.sem_kept.proofs.accepted.OperandsCells.{block_unbroken, cells_are, known_there, measured_symbols, place_there}
+use Rattle.block_layout.proofs.SoundnessLemmas.{block_unbroken}
+use Rattle.sem_kept.proofs.accepted.OperandsCells.{cells_are}
+use Rattle.block_layout.proofs.BlockLemmas.{known_there, place_there}
+use Rattle.block_layout.proofs.LayoutLemmas.{measured_symbols}
 use Rattle.sem_kept.proofs.accepted.OperandsFormals.{Distinct, IsFoundIn, Matched, block_formals, found_each, fresh_distinct, return_all, source_matched, system_matched}
 use Rattle.sem_kept.proofs.accepted.OperandsMembers.{code_block_there, one_block}
 use Rattle.sem_kept.proofs.accepted.OperandsOperations.{allowed}

@@ -37,8 +37,7 @@ use Rattle.stl_list.specs.Operands.{implied_operand, letters_for_area, block_ope
 use Rattle.stl_list.specs.Runs.{Run, runs, runs_from}
 use Rattle.stl_list.specs.Signatures.{Signature, called_formals}
 use Rattle.stl_list.specs.Statements.{Surroundings, body_of, label_at, label_of_end, listed_statement, statement_at, statements_from, surroundings}
-use Rattle.sem_kept.proofs.accepted.Accepted.{none_left, none_right}
-use Rattle.sem_kept.proofs.accepted.Shared.{or_second}
+use Rattle.block_layout.proofs.CommonLemmas.{none_left, none_right, or_second}
 use Rattle.listing_laws.proofs.NameLemmas.{either_way}
 
 -- ---- ops

@@ -36,11 +36,12 @@ use Rattle.stl_list.specs.Signatures.{Signature}
 use Rattle.stl_list.specs.Statements.{body_of, surroundings}
 use Rattle.sem_kept.specs.Accepted.{program_in}
 use Rattle.sem_kept.proofs.accepted.Accepted.{IsSoundTree, right_tree, sound_at}
-use Rattle.sem_kept.proofs.accepted.OperandsCells.{all_there, measured_symbols, origin}
+use Rattle.block_layout.proofs.CommonLemmas.{all_there, origin}
+use Rattle.block_layout.proofs.LayoutLemmas.{measured_symbols}
 use Rattle.sem_kept.proofs.accepted.RecordBlocks.{code_blocks_rise}
 use Rattle.sem_kept.proofs.accepted.RecordData.{id_there}
 use Rattle.sem_kept.proofs.accepted.RecordOrder.{Rise, RiseFrom}
-use Rattle.sem_kept.proofs.accepted.Shared.{kind_there}
+use Rattle.block_layout.proofs.BlockLemmas.{kind_there}
 use Rattle.listing_laws.specs.Again.{IsCodeAt, IsMadeOf, again_at, context_at, listed_again}
 use Rattle.listing_laws.specs.AgainBodies.{AreCodeBlocksKept, IsBodyKept, made_block}
 use Rattle.listing_laws.specs.Declared.{IsDeclaredAgain, signatures_in}

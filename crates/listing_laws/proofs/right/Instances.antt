@@ -47,10 +47,11 @@ use Rattle.stl_list.specs.Operands.{name_of_data_block}
 use Rattle.stl_list.specs.Signatures.{Signature}
 use Rattle.sem_kept.specs.Accepted.{program_in}
 use Rattle.sem_kept.proofs.accepted.Accepted.{IsSoundStatement, IsSoundTree, context_at}
-use Rattle.sem_kept.proofs.accepted.OperandsCells.{known_there, measured_symbols, origin}
+use Rattle.block_layout.proofs.BlockLemmas.{known_there}
+use Rattle.block_layout.proofs.LayoutLemmas.{measured_symbols}
+use Rattle.block_layout.proofs.CommonLemmas.{origin, or_second}
 use Rattle.sem_kept.proofs.accepted.OperandsMembers.{data_block_there}
 use Rattle.sem_kept.proofs.accepted.OperandsViews.{IsData, data_there, ids_same, whole_is}
-use Rattle.sem_kept.proofs.accepted.Shared.{or_second}
 use Rattle.listing_laws.specs.Again.{listed_again}
 use Rattle.listing_laws.specs.Calls.{IsInstanceAt}
 use Rattle.listing_laws.specs.Declared.{signatures_in}

@@ -65,11 +65,11 @@ data_block_text block =
 
 -- the lines of the data blocks by rising number
 abbrev pub data_blocks_text : GlobalStore → List ℕ
-data_blocks_text world = flat_map data_block_text (finmap.entries world.memory.data_blocks)
+data_blocks_text store = flat_map data_block_text (finmap.entries store.memory.data_blocks)
 
 -- the end of a run's text: the mode after n entries, and then the data blocks
 abbrev pub closing_text : ℕ → State → List ℕ
-closing_text n s = end_text n s.mode ++ data_blocks_text s.world
+closing_text n s = end_text n s.mode ++ data_blocks_text s.store
 
 -- the text of a program's run along a history, at a profile
 unfoldable pub run_text : Profile → Code → List Entry → List ℕ

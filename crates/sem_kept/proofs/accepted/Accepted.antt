@@ -15,15 +15,14 @@ use Rattle.stl_ast.specs.declared.operands.Operand.{Operand}
 use Rattle.stl_ast.specs.declared.statements.Actual.{Actual}
 use Rattle.stl_ast.specs.declared.statements.Statement.{Statement}
 use Rattle.stl_parser.proofs.SizeLemmas.{well_formed}
-use Rattle.plc_base.specs.Gathered.{refusals_along}
 use Rattle.plc_base.specs.Least.{broken_if}
 use Rattle.stl_symbols.specs.Symbol.{Symbol}
 use Rattle.plc_base.proofs.LeastLemmas.{least_none}
-use Rattle.plc_base.proofs.ListLemmas.{all_append, nil_parts}
+use Rattle.plc_base.proofs.ListLemmas.{all_append}
 use Rattle.block_layout.specs.Around.{refusals_in_block}
 use Rattle.block_layout.specs.ByPlace.{by_place}
 use Rattle.block_layout.specs.Heads.{on_heads}
-use Rattle.block_layout.specs.Layouts.{block_layout, layouts_by, layouts_from, layouts_of}
+use Rattle.block_layout.specs.Layouts.{block_layout, layouts_from, layouts_of}
 use Rattle.block_layout.specs.Measures.{types_of_source}
 use Rattle.block_layout.specs.Operands.{OperandAtLine, in_body, operands_of}
 use Rattle.block_layout.specs.Rule21.{broken_21, rule_21}
@@ -62,19 +61,13 @@ use Rattle.stl_codegen.specs.Compiled.{StatedBlock}
 use Rattle.stl_codegen.specs.Generated.{code_block, code_block_of, code_blocks_of, generated_data_block, data_block_of, data_blocks_of, each_block}
 use Rattle.stl_codegen.specs.Order.{sorted_insertion, is_code_before, is_data_before, sorted_list}
 use Rattle.flat_code.specs.Programs.{DataBlock}
+use Rattle.block_layout.proofs.CommonLemmas.{none_left, none_right, not_broken}
+use Rattle.block_layout.proofs.HeadLemmas.{AllHeads, heads_none}
+use Rattle.block_layout.proofs.SoundnessLemmas.{AreSoundDeclarations}
+use Rattle.block_layout.proofs.LayoutLemmas.{layouts_are}
 use Rattle.sem_kept.specs.Accepted.{IsAccepted}
 
 -- ---- lists of which nothing is left
-
-pub none_left : {A : Type 0} (xs ys : List A) → xs ++ ys ≡ [] → xs ≡ []
-none_left xs ys e = (nil_parts xs ys e).0
-
-pub none_right : {A : Type 0} (xs ys : List A) → xs ++ ys ≡ [] → ys ≡ []
-none_right xs ys e = (nil_parts xs ys e).1
-
-pub not_broken : (breaks : Bool) (line rule : ℕ) → broken_if breaks line rule ≡ [] → breaks ≡ false
-not_broken true line rule e = absurd cc
-not_broken false line rule e = refl
 
 pub each_none : {A B : Type 0} (f : A → List B) (xs : List A) → flat_map f xs ≡ []
     → AllByRecursion (λ x. f x ≡ []) xs
@@ -261,12 +254,7 @@ abbrev pub AllFrom : (ℕ → Block → Type 0) → ℕ → List Block → Type 
 AllFrom P k [] = Unit {0}
 AllFrom P k (b ∷ bs) = P k b × AllFrom P (suc k) bs
 
--- and with the blocks before it
-abbrev pub AllHeads : (List Block → Block → Type 0) → (before : List Block) → List Block → Type 0
-AllHeads P before [] = Unit {0}
-AllHeads P before (b ∷ bs) = P before b × AllHeads P (b ∷ before) bs
-
--- and with its layout
+-- what holds of each block with its place and its layout, from a place on
 abbrev pub AllLaid : (ℕ → Block → BlockLayout → Type 0) → ℕ → List Block → List BlockLayout → Type 0
 AllLaid P k [] ls = Unit {0}
 AllLaid P k (b ∷ bs) [] = ⊥
@@ -286,11 +274,6 @@ pub from_all : (P : Block → Type 0) (k : ℕ) (bs : List Block) → AllByRecur
     → AllFrom (λ k b. P b) k bs
 from_all P k [] h = tt
 from_all P k (b ∷ bs) h = (h.0, from_all P (suc k) bs h.1)
-
-pub heads_both : (P Q : List Block → Block → Type 0) (before bs : List Block) → AllHeads P before bs
-    → AllHeads Q before bs → AllHeads (λ k b. P k b × Q k b) before bs
-heads_both P Q before [] h g = tt
-heads_both P Q before (b ∷ bs) h g = ((h.0, g.0), heads_both P Q (b ∷ before) bs h.1 g.1)
 
 -- a rule in contexts
 pub contexts_none : (broken : Context → List Statement → List Refusal) (symbols : List Symbol)
@@ -313,23 +296,6 @@ places_none broken k (b ∷ bs) e = (
   places_none broken (suc k) bs
       (ap (λ (n : ℕ). by_place broken n bs) (sym (add-one k))
       ∙ none_right (broken k b) (by_place broken (k + 1) bs) e),
-)
-
--- a rule of heads
-pub heads_none : (breaks : List Block → Block → Bool) (rule : ℕ) (before bs : List Block)
-    → refusals_along (λ b. false) (λ before b. broken_if (breaks before b) b.line rule)
-    (λ before b. b ∷ before) before bs ≡ []
-    → AllHeads (λ before b. breaks before b ≡ false) before bs
-heads_none breaks rule before [] e = tt
-heads_none breaks rule before (b ∷ bs) e = (
-  not_broken (breaks before b) b.line rule
-      (none_left (broken_if (breaks before b) b.line rule)
-      (refusals_along (λ b. false) (λ before b. broken_if (breaks before b) b.line rule)
-      (λ before b. b ∷ before) (b ∷ before) bs) e),
-  heads_none breaks rule (b ∷ before) bs
-      (none_right (broken_if (breaks before b) b.line rule)
-      (refusals_along (λ b. false) (λ before b. broken_if (breaks before b) b.line rule)
-      (λ before b. b ∷ before) (b ∷ before) bs) e),
 )
 
 -- ---- what holds of a statement, of the block at its place
@@ -386,14 +352,6 @@ pub record IsSoundHead (y : Types) (blocks before : List Block) (b : Block) : Ty
   pub by_53 : is_one_too_many before b ≡ false
   pub by_54 : exceeds_total y blocks before b ≡ false
   pub by_55 : has_too_many_statements b ≡ false
-
--- its declarations
-pub record AreSoundDeclarations (y : Types) (b : Block) : Type 0 where
-  pub by_21 : refusals_in_block broken_21 b ≡ []
-  pub by_23 : refusals_in_block (broken_23 y) b ≡ []
-  pub by_41 : refusals_in_block broken_41 b ≡ []
-  pub by_42 : refusals_in_block broken_42 b ≡ []
-  pub by_56 : refusals_in_block (broken_56 y) b ≡ []
 
 -- its settings
 pub record AreSoundSettings (l : List BlockLayout) (k : ℕ) (b : Block) : Type 0 where
@@ -940,11 +898,6 @@ blocks_clean symbols t well l s = record {
     calls_none broken e =
         contexts_none (λ c body. flat_map (λ s. by_callee (broken c) s (callee_of c s.operand)) body)
         symbols t 0 t.blocks e
-
-layouts_are : (symbols : List Symbol) (t : Tree)
-    → layouts_of t symbols ≡ layouts_from (types_of_source symbols t.blocks) t.blocks [] t.blocks
-unfolding layouts_of layouts_by
-layouts_are symbols t = refl
 
 tree_sound : (symbols : List Symbol) (t : Tree) → IsWellFormed t
     → LaysOutRight (types_of_source symbols t.blocks) (layouts_of t symbols) t.blocks

@@ -27,12 +27,12 @@ use Rattle.sem_kept.specs.Operands.{BlockHasNoOperandFault, InstrFits, OperandsA
 use Rattle.sem_kept.proofs.accepted.Accepted.{IsSound, IsSoundStatement, IsSoundTree, context_at, right_tree, sound_code_blocks}
 use Rattle.sem_kept.proofs.accepted.CodedBytes.{tree_has}
 use Rattle.sem_kept.proofs.accepted.OperandsCalls.{call_fits}
-use Rattle.sem_kept.proofs.accepted.OperandsCells.{all_there}
+use Rattle.block_layout.proofs.CommonLemmas.{all_there}
 use Rattle.sem_kept.proofs.accepted.OperandsInstr.{instr_fits}
 use Rattle.sem_kept.proofs.accepted.OperandsPlaced.{code_fine}
 use Rattle.sem_kept.proofs.accepted.OperandsSymbols.{SymbolFits, symbols_fit}
 use Rattle.sem_kept.proofs.accepted.OperandsViews.{EndsBy, Surrounds, ends_by, holds_locals, layout_id, operand_seen}
-use Rattle.sem_kept.proofs.accepted.Shared.{kind_there}
+use Rattle.block_layout.proofs.BlockLemmas.{kind_there}
 
 -- ---- a block
 

@@ -50,7 +50,7 @@ use Rattle.sem_kept.proofs.accepted.CodedBits.{constant_taken}
 use Rattle.sem_kept.proofs.accepted.OperandsFormals.{IsFoundIn, IsRecordOf, Matched}
 use Rattle.sem_kept.proofs.accepted.OperandsViews.{IsSeen}
 use Rattle.sem_kept.proofs.accepted.OperandsOperations.{HasWidth, ViewFits}
-use Rattle.sem_kept.proofs.accepted.Shared.{or_first}
+use Rattle.block_layout.proofs.CommonLemmas.{or_first}
 
 -- ---- literals
 

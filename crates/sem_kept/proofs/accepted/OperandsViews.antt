@@ -81,13 +81,15 @@ use Rattle.stl_types.specs.declared.views.ResolvedOperand.TheVariants as view
 use Rattle.stl_codegen.specs.Generated.{param_at_bits, param_here, param_of, params_of, section_number}
 use Rattle.stl_codegen.specs.Instruction.{return_last}
 use Rattle.sem_kept.proofs.accepted.Accepted.{IsSound, IsSoundTree, context_at}
-use Rattle.sem_kept.proofs.accepted.OperandsCells.{IsFoundBlock, IsOrigin, all_there, are_right, cells_are, found_there, layout_of_block, measured_ids, measured_symbols, origin}
-use Rattle.sem_kept.proofs.accepted.OperandsPaths.{Moves, data_goes, local_goes, local_moves}
+use Rattle.block_layout.proofs.BlockLemmas.{IsFoundBlock, found_there, kind_there}
+use Rattle.sem_kept.proofs.accepted.OperandsCells.{are_right, cells_are, layout_of_block}
+use Rattle.block_layout.proofs.LayoutLemmas.{measured_ids, measured_symbols}
+use Rattle.block_layout.proofs.CommonLemmas.{IsOrigin, all_there, origin, or_second}
+use Rattle.block_layout.proofs.ContainmentLemmas.{Moves, data_goes, local_goes, local_moves}
 use Rattle.sem_kept.proofs.accepted.OperandsPlaces.{AreParameters, GivesOne, IsElementary, IsParameterCell, IsPlaced, Stays, count_each, data_fits, elementary, function_components, in_its_order, instance_fits, local_fits, local_stays, one_each, placed_sees, reached_place}
 use Rattle.sem_kept.proofs.accepted.OperandsSymbols.{SymbolFits, TargetFits, named_fits}
-use Rattle.sem_kept.proofs.accepted.OperandsWalks.{AreRight, Goes, Lies, structure_even}
+use Rattle.block_layout.proofs.AlignmentLemmas.{AreRight, Goes, Lies, structure_even}
 use Rattle.sem_kept.proofs.accepted.OperandsOperations.{ViewFits}
-use Rattle.sem_kept.proofs.accepted.Shared.{or_second, kind_there}
 
 -- ---- what surrounds a block
 

@@ -34,7 +34,8 @@ use Rattle.sem_kept.proofs.accepted.JumpsOperands.{takes_right}
 use Rattle.sem_kept.proofs.accepted.JumpsOperations.{TakesRight}
 use Rattle.sem_kept.proofs.accepted.JumpsSettled.{Settle, operands_settle}
 use Rattle.sem_kept.proofs.accepted.OperandsCalls.{actuals_pass, callee_found, called_is}
-use Rattle.sem_kept.proofs.accepted.OperandsCells.{all_there, layout_of_block}
+use Rattle.block_layout.proofs.CommonLemmas.{all_there}
+use Rattle.sem_kept.proofs.accepted.OperandsCells.{layout_of_block}
 use Rattle.sem_kept.proofs.accepted.OperandsInstr.{no_call, resolved_is}
 use Rattle.sem_kept.proofs.accepted.OperandsSymbols.{SymbolFits, symbols_fit}
 use Rattle.sem_kept.proofs.accepted.OperandsViews.{EndsBy, IsSeen, Surrounds, ends_by, holds_locals, not_none, operand_seen}

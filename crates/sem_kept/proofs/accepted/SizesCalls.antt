@@ -50,10 +50,10 @@ use Rattle.stl_types.specs.declared.parameters.Formal.{Formal}
 use Rattle.stl_parser.proofs.OptionLemmas.{both, chained, mapped, none_holds, passed}
 use Rattle.stl_codegen.specs.Instruction.{source_block_at, in_parameter_order, passings_to, return_last}
 use Rattle.stl_codegen.specs.Passed.{passed_actual, passed_seen, passings_from, actual_of_formal, with_index}
-use Rattle.sem_kept.proofs.accepted.Accepted.{none_left, none_right, not_broken}
-use Rattle.sem_kept.proofs.accepted.SizesBlocks.{bit}
+use Rattle.block_layout.proofs.CommonLemmas.{none_left, none_right, not_broken, summed_two}
+use Rattle.block_layout.proofs.CountLemmas.{bit}
 use Rattle.sem_kept.proofs.accepted.SizesOps.{PassesFew}
-use Rattle.sem_kept.proofs.accepted.SizesSums.{every, summed_le, summed_two}
+use Rattle.sem_kept.proofs.accepted.SizesSums.{every, summed_le}
 
 -- ---- of formal parameters with names of their own
 

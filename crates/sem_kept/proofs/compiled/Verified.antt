@@ -33,7 +33,8 @@ use Rattle.stl_symbols.specs.Symbol.{Symbol}
 use Rattle.block_layout.specs.declared.blocks.BlockLayout.{BlockLayout}
 use Rattle.plc_base.specs.declared.blocks.BlockId.{BlockId}
 use Rattle.plc_base.proofs.ListLemmas.{all_append}
-use Rattle.sem_kept.proofs.accepted.Accepted.{all_sorted, none_left, none_right}
+use Rattle.sem_kept.proofs.accepted.Accepted.{all_sorted}
+use Rattle.block_layout.proofs.CommonLemmas.{none_left, none_right}
 use Rattle.plc_base.proofs.TruthLemmas.{and_first, and_second}
 use Rattle.stl_types.specs.Bodies.{first_context}
 use Rattle.stl_types.specs.Context.{Context}

@@ -4,9 +4,9 @@ use Rattle.std.specs.Prelude.{nat_eq, nat_le, nat_lt, if◌then◌else◌}
 use Rattle.std.specs.List.{sum_by}
 use Rattle.std.specs.Option.{option_and_then, option_map}
 use Rattle.std.proofs.lemmas.Bool.Decides.{nat_tests}
-use Rattle.std.proofs.lemmas.List.Sums.{sum_by-cons}
-use Rattle.std.proofs.lemmas.Bool.{and_parts, lt-ltb, not-false}
-use Rattle.plc_base.specs.Kinds.{is_code, is_data_block, is_same_block, is_same_kind}
+use Rattle.std.proofs.lemmas.List.Sums.{sum_by-cons, sum_by-le-sum_by}
+use Rattle.std.proofs.lemmas.Bool.{lt-ltb, not-false}
+use Rattle.plc_base.specs.Kinds.{is_code, is_data_block, is_same_kind}
 use Rattle.plc_base.specs.declared.blocks.BlockId.{BlockId}
 use Rattle.plc_base.specs.declared.blocks.BlockKind.{BlockKind}
 use Rattle.plc_base.specs.declared.blocks.BlockKind.TheVariants as kinds
@@ -19,29 +19,14 @@ use Rattle.block_layout.specs.Rule44.{has_wrong_number, is_number_beyond_limits}
 use Rattle.block_layout.specs.Rule53.{is_one_too_many}
 use Rattle.block_layout.specs.Rule54.{data_length, exceeds_total}
 use Rattle.block_layout.specs.Types.{Types}
-use Rattle.sem_kept.proofs.accepted.Accepted.{AllHeads}
-use Rattle.sem_kept.proofs.accepted.SizesSums.{every, summed_le, summed_two}
-use Rattle.sem_kept.proofs.accepted.Shared.{same_kind}
+use Rattle.block_layout.proofs.BlockLemmas.{same_block}
+use Rattle.block_layout.proofs.CommonLemmas.{summed_two}
+use Rattle.block_layout.proofs.HeadLemmas.{AllHeads}
 
 abbrev pub bit : Bool → ℕ
 bit b = cond b 1 0
 
 -- ---- no kind and number twice
-
-same_number : (m n : ℕ) → nat_eq m n ≡ true → m ≡ n
-same_number m n h = grind (arith, nat_tests)
-
-same_id : (k j : BlockKind) (m n : ℕ) → (is_same_kind k j && nat_eq m n) ≡ true
-    → (k ≡ j) × (m ≡ n)
-same_id k j m n h =
-    let parts = and_parts (is_same_kind k j) (nat_eq m n) h in
-    (same_kind k j parts.0, same_number m n parts.1)
-
-same_block : (a b : BlockId) → is_same_block a b ≡ true → a ≡ b
-same_block a b h =
-    let parts = same_id a.kind b.kind a.number b.number h in
-    ap (λ (k : BlockKind). record { kind = k; number = a.number }) parts.0
-    ∙ ap (λ (n : ℕ). record { kind = b.kind; number = n }) parts.1
 
 -- a block has the id where its head gives it one
 is_there : (id : BlockId) (o : Option BlockId) → is_id id o ≡ true → o ≡ Some id
@@ -183,10 +168,9 @@ few_of_kind symbols k (suc n) bs once =
       few_of_kind symbols k n bs once,
       once id,
       summed_two (limited symbols k n) (with_id symbols id) bs,
-      summed_le (limited symbols k (suc n))
+      sum_by-le-sum_by (limited symbols k (suc n))
           (λ b. limited symbols k n b + with_id symbols id b) bs
-          (every (λ b. limited symbols k (suc n) b ≤ limited symbols k n b + with_id symbols id b)
-          (λ b. one_limit_more k n (id_of symbols b)) bs),
+          (λ b. one_limit_more k n (id_of symbols b)),
     )
 
 -- ---- code blocks

@@ -20,6 +20,7 @@ use Rattle.block_layout.specs.declared.members.Member.{Member}
 use Rattle.block_layout.specs.declared.walks.ComponentAt.{ComponentAt}
 use Rattle.block_layout.specs.declared.walks.PathEnd.{PathEnd}
 use Rattle.block_layout.specs.declared.walks.PathEnd.TheVariants as walk
+use Rattle.block_layout.proofs.OffsetLemmas.{step_grows, end_step, end_grows, at_place}
 
 -- ---- places that meet an alignment
 
@@ -64,42 +65,6 @@ up_8_even n = omega arith
 up_16_behind : (n : ℕ) → n ≤ next_multiple n 16
 unfolding next_multiple
 up_16_behind n = omega arith
-
-up_8_behind : (n : ℕ) → n ≤ next_multiple n 8
-unfolding next_multiple
-up_8_behind n = omega arith
-
-up_1_behind : (n : ℕ) → n ≤ next_multiple n 1
-unfolding next_multiple
-up_1_behind n = omega arith
-
--- the alignment of an element
-kind_behind : (at : ℕ) (kind : Simple) → at ≤ next_multiple at (element_alignment (Plain kind))
-kind_behind at simple.Bool = up_1_behind at
-kind_behind at simple.Byte = up_8_behind at
-kind_behind at simple.Char = up_8_behind at
-kind_behind at simple.Word = up_16_behind at
-kind_behind at simple.Int = up_16_behind at
-kind_behind at simple.S5time = up_16_behind at
-kind_behind at simple.Dword = up_16_behind at
-kind_behind at simple.Dint = up_16_behind at
-kind_behind at simple.Time = up_16_behind at
-
-element_behind : (at : ℕ) (of : Element) → at ≤ next_multiple at (element_alignment of)
-element_behind at (Plain kind) = kind_behind at kind
-element_behind at Structure = up_16_behind at
-element_behind at DateAndTime = up_16_behind at
-element_behind at (Udt block bits) = up_16_behind at
-element_behind at Unknown = up_16_behind at
-
-align_behind : (at : ℕ) (opens one : Bool) (of : Element)
-    → at ≤ next_multiple at (if opens then 16 else if one then element_alignment of else 16)
-align_behind at true one of = up_16_behind at
-align_behind at false true of = element_behind at of
-align_behind at false false of = up_16_behind at
-
-start_behind : (at : ℕ) (c : Cell) → at ≤ next_multiple at (alignment c)
-start_behind at c = align_behind at c.opens (nat_eq (length c.bounds) 0) c.of
 
 kind_meets : (n at : ℕ) (kind : Simple) → n % 16 ≡ 0
     → MeetsKind (n + next_multiple at (element_alignment (Plain kind))) kind
@@ -223,60 +188,7 @@ element_within offset limit k b bs element h near fits = by (k * array_bits bs e
         → (capped_size (offset + capped_size x) ≡ offset + x) × (offset + x + size ≤ limit)
     by x all size whole path_end_in_bounds behind fits = (omega (arith, near, path_end_in_bounds, behind, fits), omega (arith, near, path_end_in_bounds, behind, fits))
 
--- ---- ends of components
-
-pub record Grows (at next : ℕ) : Type 0 where
-  pub above : at ≤ next
-  pub near : next ≤ largest_size
-
-grows_by : (here sound : Bool) (at first bits : ℕ) → at ≤ largest_size → at ≤ first
-    → Grows at (if here then if sound then capped_size (first + bits) else at else at)
-grows_by true true at first bits near behind =
-    record { above = omega (arith, near, behind); near = omega arith }
-grows_by true false at first bits near behind = record { above = omega arith; near = near }
-grows_by false sound at first bits near behind = record { above = omega arith; near = near }
-
-pub step_grows : (level at : ℕ) (c : Cell) (bits : ℕ) → at ≤ largest_size
-    → Grows at (end_behind_cell level at c bits)
-step_grows level at c bits near =
-    grows_by (nat_eq c.level level) c.sound at (next_multiple at (alignment c)) bits near (start_behind at c)
-
-pub end_step : (level at : ℕ) (c : Cell) (cs : List Cell) → nat_lt c.level level ≡ false
-    → components_end level at (c ∷ cs) ≡ components_end level (end_behind_cell level at c (cell_bits c cs)) cs
-unfolding components_end element_of
-end_step level at c cs stays = rw stays refl
-
-end_stop : (level at : ℕ) (c : Cell) (cs : List Cell) → nat_lt c.level level ≡ true
-    → components_end level at (c ∷ cs) ≡ at
-unfolding components_end element_of
-end_stop level at c cs lower = rw lower refl
-
-end_none : (level at : ℕ) → components_end level at [] ≡ at
-unfolding components_end
-end_none level at = refl
-
-end_grows : (level at : ℕ) (cells : List Cell) → at ≤ largest_size → at ≤ components_end level at cells
-end_grows level at [] near = let none = end_none level at in omega (arith, none)
-end_grows level at (c ∷ cs) near =
-    by (end_grows level (end_behind_cell level at c (cell_bits c cs)) cs
-    (step_grows level at c (cell_bits c cs) near).near) (nat_lt c.level level) refl
-  where
-    by : end_behind_cell level at c (cell_bits c cs) ≤ components_end level (end_behind_cell level at c (cell_bits c cs)) cs
-        → (lower : Bool) → nat_lt c.level level ≡ lower → at ≤ components_end level at (c ∷ cs)
-    by later true is = let stop = end_stop level at c cs is in omega (arith, stop)
-    by later false is =
-        let same = end_step level at c cs is in
-        let above = (step_grows level at c (cell_bits c cs) near).above in
-        omega (arith, same, above, later)
-
 -- ---- a component that is found
-
-cell_there : (all : List Cell) (p : ℕ) (c : Cell) (cs : List Cell) → drop p all ≡ c ∷ cs
-    → slice_get all p ≡ Some c
-cell_there [] zero c cs e = absurd cc
-cell_there [] (suc p) c cs e = absurd cc
-cell_there (x ∷ xs) zero c cs e = cc
-cell_there (x ∷ xs) (suc p) c cs e = cell_there xs p c cs e
 
 cells_behind : (all : List Cell) (p : ℕ) (c : Cell) (cs : List Cell) → drop p all ≡ c ∷ cs
     → drop (suc p) all ≡ cs
@@ -357,7 +269,7 @@ component_found all level at p (c ∷ cs) name m e near found =
             let same : record { place = p; offset = next_multiple at (alignment c) } ≡ m = some_same _ m h in
             subst (IsFound all (components_end level at (c ∷ cs))) same (record {
               cell = c;
-              there = cell_there all p c cs e;
+              there = at_place all p c cs e;
               at = at;
               offset = refl;
               within = λ sound short.

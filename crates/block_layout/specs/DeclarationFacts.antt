@@ -1,5 +1,5 @@
--- What the rules of declarations find of each, gathered on one walk. At each moment the structures around the next
--- declaration are open, the outermost list first.
+-- What the rules of declarations find of each, gathered on one walk. At each moment the structures
+-- around the next declaration are open, the outermost list first.
 use Rattle.std.specs.Prelude.{◌≡◌, ◌<◌, ◌||◌, ℕ, ◌+◌, max, nat_le, nat_lt, Bool, ◌&&◌, not, is_some, List, [], ◌∷◌, ◌++◌, take, get_or, length, map, if◌then◌else◌}
 use Rattle.std.specs.List.{list_all}
 use Rattle.stl_ast.specs.declared.blocks.PartKind.{PartKind}
@@ -19,16 +19,17 @@ use Rattle.block_layout.specs.declared.cells.Cell.{Cell}
 use Rattle.block_layout.specs.declared.sections.Declared.{Declared}
 use Rattle.stl_ast.specs.declared.blocks.Block.{Block}
 use Rattle.stl_ast.specs.declared.blocks.Part.{Part}
-use Rattle.block_layout.specs.declared.verdicts.Frame.{Frame}
-use Rattle.block_layout.specs.declared.verdicts.Verdict.{Verdict}
+use Rattle.block_layout.specs.declared.declaration_facts.OpenList.{OpenList}
+use Rattle.block_layout.specs.declared.declaration_facts.DeclarationFacts.{DeclarationFacts}
 
 -- a declaration by itself breaks rule 23, 41 or 42
 abbrev pub breaks_alone : Types → Declaration → Bool
 breaks_alone y d = is_unknown_type y d.of.of || not (init_fits d) || has_upside_down d
 
 -- what the rules find of a declaration by those before it; `reach` is its deepest place, 9 at most
-abbrev pub verdict_of : Types → Outside → List Declaration → Declaration → Verdict
-verdict_of y o before d = record {
+abbrev pub facts_of_declaration : Types → Outside → List Declaration → Declaration
+    → DeclarationFacts
+facts_of_declaration y o before d = record {
   twice = is_twice o before d;
   deep = is_too_deep y o before d;
   breaks = breaks_rule y o before d;
@@ -38,16 +39,19 @@ verdict_of y o before d = record {
 
 -- what the rules find of declarations one behind the other, of which those in `before` stand before
 -- the first
-abbrev pub verdicts_of : Types → Outside → (before : List Declaration) → List Declaration → List Verdict
-verdicts_of y o before [] = []
-verdicts_of y o before (d ∷ ds) = verdict_of y o before d ∷ verdicts_of y o (d ∷ before) ds
+abbrev pub facts_of_declarations : Types → Outside → (before : List Declaration) → List Declaration
+    → List DeclarationFacts
+facts_of_declarations y o before [] = []
+facts_of_declarations y o before (d ∷ ds) =
+    facts_of_declaration y o before d ∷ facts_of_declarations y o (d ∷ before) ds
 
--- the list that a declaration at a level goes on, behind those in `before`
-abbrev pub frame_of : Types → Outside → List Declaration → (level : ℕ) → Frame
-frame_of y o before level = record {
+-- the open list that a declaration at a level goes on, behind those in `before`
+abbrev pub open_list_of : Types → Outside → List Declaration → (level : ℕ) → OpenList
+open_list_of y o before level = record {
   names = names_before o.names level before;
   depth = capped_depth (depth_around y o level before);
-  sound = list_all (λ h. not (breaks_rule y o h.before h.declaration)) (structures_around level before);
+  sound =
+      list_all (λ h. not (breaks_rule y o h.before h.declaration)) (structures_around level before);
 }
 
 -- a declaration opens the ninth structure or array: by how many are around it and are its own
@@ -55,13 +59,14 @@ abbrev pub is_deep_in : ℕ → ℕ → Bool
 is_deep_in around_it own = nat_le around_it 8 && nat_lt 8 (around_it + own)
 
 -- a declaration breaks rule 21, 23, 41, 42 or 56, by the list that it goes on
-abbrev pub breaks_in : Types → Frame → Declaration → Bool
+abbrev pub breaks_in : Types → OpenList → Declaration → Bool
 breaks_in y f d =
-    is_some (name_place (upper_case_name d.name) f.names) || breaks_alone y d || is_deep_in f.depth (capped_depth (own_depth y d))
+    is_some (name_place (upper_case_name d.name) f.names) || breaks_alone y d
+    || is_deep_in f.depth (capped_depth (own_depth y d))
 
 -- what the rules find of a declaration by its list alone, without those before it
-unfoldable pub verdict_in : Types → Frame → Declaration → Verdict
-verdict_in y f d = record {
+unfoldable pub facts_by_list : Types → OpenList → Declaration → DeclarationFacts
+facts_by_list y f d = record {
   twice = is_some (name_place (upper_case_name d.name) f.names);
   deep = is_deep_in f.depth (capped_depth (own_depth y d));
   breaks = breaks_in y f d;
@@ -69,45 +74,49 @@ verdict_in y f d = record {
   reach = capped_depth (f.depth + capped_depth (own_depth y d));
 }
 
--- the list with the name of a declaration, in upper case, behind the others
-abbrev pub with_name : Frame → Declaration → Frame
+-- an open list with the name of a declaration, in upper case, behind the others
+abbrev pub with_name : OpenList → Declaration → OpenList
 with_name f d = record f { names = f.names ++ upper_case_name d.name ∷ [] }
 
--- the list inside a declaration
-abbrev pub inner_frame : Types → Frame → Declaration → Frame
-inner_frame y f d = record {
+-- the open list of the components of a declaration
+abbrev pub inner_list : Types → OpenList → Declaration → OpenList
+inner_list y f d = record {
   names = [];
   depth = capped_depth (f.depth + capped_depth (own_depth y d));
   sound = not (breaks_in y f d) && f.sound;
 }
 
 -- the lists that are open behind a declaration
-unfoldable pub frames_behind : Types → List Frame → Frame → Declaration → List Frame
-frames_behind y open_ f d = take d.level open_ ++ with_name f d ∷ inner_frame y f d ∷ []
+unfoldable pub open_lists_behind : Types → List OpenList → OpenList → Declaration → List OpenList
+open_lists_behind y open_ f d = take d.level open_ ++ with_name f d ∷ inner_list y f d ∷ []
 
 -- these lists, the outermost first, are open behind the declarations in `before`
-pub record AreOpen (y : Types) (o : Outside) (before : List Declaration) (open_ : List Frame) : Type 0 where
-  pub frames : (level : ℕ) (f : Frame) → level < length open_ → get_or open_ level f ≡ frame_of y o before level
+pub record AreOpen (y : Types) (o : Outside) (before : List Declaration)
+    (open_ : List OpenList) : Type 0 where
+  pub lists : (level : ℕ) (f : OpenList) → level < length open_
+      → get_or open_ level f ≡ open_list_of y o before level
 
--- these are the verdicts of declarations that follow those in `before`, and these lists are open
+-- these are the facts of declarations that follow those in `before`, and these lists are open
 -- behind them
-pub record CheckedOnto (y : Types) (o : Outside) (before ds : List Declaration) (vs : List Verdict)
-    (open_ : List Frame) : Type 0 where
-  pub verdicts : vs ≡ verdicts_of y o before ds
+pub record CheckedOnto (y : Types) (o : Outside) (before ds : List Declaration)
+    (vs : List DeclarationFacts)
+    (open_ : List OpenList) : Type 0 where
+  pub facts : vs ≡ facts_of_declarations y o before ds
   pub lists : AreOpen y o (declarations_before_next before ds) open_
 
--- refusals of declarations by their verdicts
-abbrev pub by_verdicts : (Verdict → Declaration → List Refusal) → List Verdict → List Declaration → List Refusal
-by_verdicts broken [] ds = []
-by_verdicts broken (v ∷ vs) [] = []
-by_verdicts broken (v ∷ vs) (d ∷ ds) = broken v d ++ by_verdicts broken vs ds
+-- refusals of declarations by what the rules find of each
+abbrev pub refusals_by_facts : (DeclarationFacts → Declaration → List Refusal)
+    → List DeclarationFacts → List Declaration → List Refusal
+refusals_by_facts broken [] ds = []
+refusals_by_facts broken (v ∷ vs) [] = []
+refusals_by_facts broken (v ∷ vs) (d ∷ ds) = broken v d ++ refusals_by_facts broken vs ds
 
 -- the refusal by rule 21, at the line of a declaration whose name stands twice in its list
-abbrev pub twice_by : Verdict → Declaration → List Refusal
+abbrev pub twice_by : DeclarationFacts → Declaration → List Refusal
 twice_by v d = broken_if v.twice d.line 21
 
 -- the refusal by rule 56, at the line of a declaration that opens the ninth structure or array
-abbrev pub deep_by : Verdict → Declaration → List Refusal
+abbrev pub deep_by : DeclarationFacts → Declaration → List Refusal
 deep_by v d = broken_if v.deep d.line 56
 
 -- the cell of a declaration that is sound or not, and opens its section or not
@@ -123,21 +132,27 @@ cell_with y section sound opens d = record {
   presets = map preset_of d.init;
 }
 
--- cells by verdicts; `begun` says that a sound one of the section stands before them
-abbrev pub cells_by : Types → PartKind → (begun : Bool) → List Verdict → List Declaration → List Cell
+-- cells by the facts of their declarations; `begun` says that a sound one of the section stands
+-- before them
+abbrev pub cells_by : Types → PartKind → (begun : Bool) → List DeclarationFacts → List Declaration
+    → List Cell
 cells_by y section begun [] ds = []
 cells_by y section begun (v ∷ vs) [] = []
 cells_by y section begun (v ∷ vs) (d ∷ ds) =
-    cell_with y section v.sound (not begun && v.sound) d ∷ cells_by y section (begun || v.sound) vs ds
+    cell_with y section v.sound (not begun && v.sound) d
+    ∷ cells_by y section (begun || v.sound) vs ds
 
 -- a section comes to cells, and to the least refusals by rules 21 and 56, behind those before it
-pub record SectionAdded (y : Types) (o : Outside) (before : List Declaration) (p : Part) (old new : Declared)
-    (open_ : List Frame) : Type 0 where
+pub record SectionAdded (y : Types) (o : Outside) (before : List Declaration) (p : Part)
+    (old new : Declared)
+    (open_ : List OpenList) : Type 0 where
   pub lists : AreOpen y o (declarations_before_next before p.items) open_
   pub components : new.components.items ≡ old.components.items
-      ++ (if is_temp p.kind then [] else with_first_cell_opening (cells_of y o p.kind before p.items))
+      ++ (if is_temp p.kind then []
+      else with_first_cell_opening (cells_of y o p.kind before p.items))
   pub temps : new.temps.items ≡ old.temps.items
-      ++ (if is_temp p.kind then with_first_cell_opening (cells_of y o p.kind before p.items) else [])
+      ++ (if is_temp p.kind then with_first_cell_opening (cells_of y o p.kind before p.items)
+      else [])
   pub twice : new.twice ≡ lesser old.twice (least (refusals_in_rest (broken_21 o) before p.items))
   pub deep : new.deep ≡ lesser old.deep (least (refusals_in_rest (broken_56 y o) before p.items))
 
@@ -146,8 +161,10 @@ pub record IsDeclaredBySections (y : Types) (b : Block) (made : Declared) : Type
   pub components : made.components.items ≡ returned_cells b.result
       ++ section_cells y (of_sections b) (λ k. not (is_temp k)) [] b.parts
   pub temps : made.temps.items ≡ temps_of y b
-  pub twice : made.twice ≡ least (refusals_in_list (broken_21 (of_sections b)) (section_declarations b))
-  pub deep : made.deep ≡ least (refusals_in_list (broken_56 y (of_sections b)) (section_declarations b))
+  pub twice : made.twice
+      ≡ least (refusals_in_list (broken_21 (of_sections b)) (section_declarations b))
+  pub deep : made.deep
+      ≡ least (refusals_in_list (broken_56 y (of_sections b)) (section_declarations b))
 
 -- what the declarations of a block come to
 pub record IsDeclaredByBlock (y : Types) (b : Block) (made : Declared) : Type 0 where
@@ -156,7 +173,7 @@ pub record IsDeclaredByBlock (y : Types) (b : Block) (made : Declared) : Type 0 
   pub twice : made.twice ≡ least (refusals_in_block broken_21 b)
   pub deep : made.deep ≡ least (refusals_in_block (broken_56 y) b)
 
--- the deepest place of a structure, by the verdicts on its components
-abbrev pub greatest_reach : List Verdict → ℕ
+-- the deepest place of a structure, by the facts of its components
+abbrev pub greatest_reach : List DeclarationFacts → ℕ
 greatest_reach [] = 1
 greatest_reach (v ∷ vs) = max v.reach (greatest_reach vs)

@@ -7,7 +7,7 @@ use Rattle.stl_ast.specs.declared.declarations.Bounds.{Bounds}
 use Rattle.stl_ast.specs.declared.declarations.Simple.{Simple}
 use Rattle.block_layout.specs.Declarations.{element_count, is_upside_down}
 use Rattle.block_layout.specs.Members.{component_of_name}
-use Rattle.block_layout.specs.Paths.{cells_at, path_end_at_cell, path_end_at_member, holds_where_reached, path_end_and_then, in_sections, path_end_by_index, indexed_behind, is_beyond, is_beyond_in, is_beyond_left, is_judged, leaves_array, leaves_from, leaves_judged, leaves_local, leaves_sections, path_end_by_name, named_behind, named_in, outermost_path_end, step_is_beyond, path_end_by_step, structure_of, path_end_behind, path_end_in_data_block, path_end_in_block, walked_local, path_end_or_rests, whole_at, path_end_in_bounds}
+use Rattle.block_layout.specs.Paths.{cells_at, path_end_at_cell, path_end_at_member, holds_where_reached, path_end_and_then, in_sections, path_end_by_index, indexed_behind, is_beyond, is_beyond_in, is_beyond_left, is_checkable, leaves_array, leaves_from, leaves_structure, leaves_local, leaves_sections, path_end_by_name, named_behind, named_in, outermost_path_end, step_is_beyond, path_end_by_step, structure_of, path_end_behind, path_end_in_data_block, path_end_in_block, walked_local, path_end_or_rests, whole_at, path_end_in_bounds}
 use Rattle.block_layout.specs.Sizes.{array_bits, capped_size, element_bits, element_of, components_end, plain_bits, structure_bits, next_multiple}
 use Rattle.block_layout.specs.declared.blocks.BlockLayout.{BlockLayout}
 use Rattle.block_layout.specs.declared.cells.Cell.{Cell}
@@ -18,8 +18,8 @@ use Rattle.block_layout.specs.declared.members.Member.{Member}
 use Rattle.block_layout.specs.declared.walks.ComponentAt.{ComponentAt}
 use Rattle.block_layout.specs.declared.walks.PathEnd.{PathEnd}
 use Rattle.block_layout.specs.declared.walks.PathEnd.TheVariants as walk
-use Rattle.sem_kept.proofs.accepted.OperandsWalks.{AreRight, Goes, IsSettled, Lies, Meets, element_within, found_lies, index_meets, inner_even, outermost_lies, settled_even, structure_ends}
-use Rattle.sem_kept.proofs.accepted.Shared.{or_first, or_second}
+use Rattle.block_layout.proofs.AlignmentLemmas.{AreRight, Goes, IsSettled, Lies, Meets, element_within, found_lies, index_meets, inner_even, outermost_lies, settled_even, structure_ends}
+use Rattle.block_layout.proofs.CommonLemmas.{or_first, or_second}
 
 -- ---- no path rests
 
@@ -376,27 +376,27 @@ module _ (l : List BlockLayout) (limit : ℕ) (right : AreRight l) (near : limit
   from_goes block temporary (step.Named name ∷ ps) fits inside =
       outer_goes block temporary name ps fits inside
 
-moves_judged : (w : PathEnd) → Moves w → is_judged w ≡ true
-moves_judged (walk.Reaches s) h = refl
-moves_judged walk.Unknown h = refl
-moves_judged walk.Rests h = absurd h
+moves_checkable : (w : PathEnd) → Moves w → is_checkable w ≡ true
+moves_checkable (walk.Reaches s) h = refl
+moves_checkable walk.Unknown h = refl
+moves_checkable walk.Rests h = absurd h
 
-judged_stays : (a b : Bool) → a ≡ true → (a && b) ≡ false → b ≡ false
-judged_stays true b e f = f
-judged_stays false b e f = absurd cc
+checkable_stays : (a b : Bool) → a ≡ true → (a && b) ≡ false → b ≡ false
+checkable_stays true b e f = f
+checkable_stays false b e f = absurd cc
 
 -- a path into the data of a block whose structure is there
 pub data_goes : (l : List BlockLayout) (limit : ℕ) → AreRight l → limit < largest_size
     → (block inside : ℕ) (ps : List PathStep) → structure_of l block ≡ Some inside
     → structure_bits (cells_at l inside false) ≤ limit
-    → leaves_judged l (structure_of l block) ps ≡ false → Goes l limit (path_end_in_data_block l block ps)
+    → leaves_structure l (structure_of l block) ps ≡ false → Goes l limit (path_end_in_data_block l block ps)
 unfolding path_end_in_data_block
 data_goes l limit right near block inside ps is fits stays =
     subst (λ (o : Option ℕ). Goes l limit (path_end_or_rests l o ps)) (sym is)
     (from_goes l limit right near inside false ps fits
-    (judged_stays (is_judged (path_end_in_block l inside false ps)) (leaves_from l inside false ps)
-    (moves_judged (path_end_in_block l inside false ps) (from_moves l right inside false ps))
-    (subst (λ (o : Option ℕ). leaves_judged l o ps ≡ false) is stays)))
+    (checkable_stays (is_checkable (path_end_in_block l inside false ps)) (leaves_from l inside false ps)
+    (moves_checkable (path_end_in_block l inside false ps) (from_moves l right inside false ps))
+    (subst (λ (o : Option ℕ). leaves_structure l o ps ≡ false) is stays)))
 
 -- a path into a block's own variables: temporary ones, or those of its structure
 pub local_goes : (l : List BlockLayout) (limit : ℕ) → AreRight l → limit < largest_size
@@ -411,8 +411,8 @@ local_goes l limit right near block name ps own is fits whole stays =
     else walk.Rests)) (sym whole) (by own is fits inside)
   where
     inside : holds_where_reached (in_sections l block name) (λ s. leaves_array l s ps) ≡ false
-    inside = judged_stays (is_judged (walked_local l block name ps)) (leaves_sections l block name ps)
-        (moves_judged (walked_local l block name ps) (local_moves l right block name ps whole)) stays
+    inside = checkable_stays (is_checkable (walked_local l block name ps)) (leaves_sections l block name ps)
+        (moves_checkable (walked_local l block name ps) (local_moves l right block name ps whole)) stays
 
     by : (t : Bool) → is_some (component_of_name 0 0 0 name (cells_at l block false)) ≡ t
         → structure_bits (cells_at l block (not t)) ≤ limit

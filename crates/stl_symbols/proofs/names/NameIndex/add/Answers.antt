@@ -3,7 +3,7 @@ use Rattle.std.specs.BTreeMap.{get_by}
 use Rattle.std.specs.Cmp.Lexicographic.{slice_cmp}
 use Rattle.std.specs.Ordering.{nat_cmp}
 use Rattle.stl_symbols.proofs.NameLemmas.{known_names, new_names, vec_updates}
-use Rattle.stl_symbols.proofs.names.Names.add.Goals as goal
+use Rattle.stl_symbols.proofs.names.NameIndex.add.Goals as goal
 
 pub invariant_of-self-then-contains_key : goal.invariant_of-self-then-contains_key
 invariant_of-self-then-contains_key c =

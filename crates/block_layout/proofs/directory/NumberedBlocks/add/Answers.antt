@@ -2,7 +2,7 @@ use Rattle.std.proofs.Common.{rules, ◌≡◌, length}
 use Rattle.std.specs.BTreeMap.{get}
 use Rattle.std.specs.Ordering.{nat_cmp}
 use Rattle.block_layout.proofs.DirectoryLemmas.{number_known, number_new}
-use Rattle.block_layout.proofs.directory.Numbered.add.Goals as goal
+use Rattle.block_layout.proofs.directory.NumberedBlocks.add.Goals as goal
 
 pub invariant_of-self-then-contains_key : goal.invariant_of-self-then-contains_key
 invariant_of-self-then-contains_key c =

@@ -2,7 +2,7 @@ use Rattle.std.proofs.Common.{rules}
 use Rattle.std.specs.BTreeMap.{get}
 use Rattle.std.specs.Ordering.{nat_cmp}
 use Rattle.block_layout.proofs.DirectoryLemmas.{skipped}
-use Rattle.block_layout.proofs.directory.Numbered.skip.Goals as goal
+use Rattle.block_layout.proofs.directory.NumberedBlocks.skip.Goals as goal
 
 pub invariant_of-self-2 : goal.invariant_of-self-2
 invariant_of-self-2 c =
