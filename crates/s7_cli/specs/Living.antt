@@ -32,8 +32,8 @@ opened_on loaded = record { program = loaded.program; profile = loaded.profile; 
 
 -- a live history of stimuli, scripts and a number of steps on a program. Worker 1 made steps alone,
 -- at most so many, each but the last of which leaves another mode than STOP at its place, and fewer
--- only where the last one leaves STOP. The entries of worker 2 are the stimuli, those of worker k +
--- 2 script k, each list whole and in its order. There are no other workers
+-- only where the last one leaves STOP. The entries of worker 2 are the stimuli, those of worker
+-- k + 2 script k, each list whole and in its order. There are no other workers
 pub record IsLive
     (loaded : LoadedProgram) (steps : ℕ) (stimuli : List Entry) (scripts : List (List Entry))
     (history : List Entry)
@@ -53,7 +53,7 @@ pub record IsLive
   -- there are no workers but the stepper, the feeder and one for each script
   pub workers : All (λ e. (1 ≤ e.who) × (e.who ≤ 2 + length scripts)) history
 
--- the outcome isn't that the station was full
+-- the outcome of a worker isn't that the station was full
 abbrev pub IsFullNever : Result Unit StationFault → Type 0
 IsFullNever (Err Full) = ⊥
 IsFullNever outcome = Unit {0}
