@@ -49,8 +49,8 @@ fn check<F: Files, K: Sink>(
     check_text(alloc, &text, german, out)
 }
 
-/// Checks the source in the file `src`, with the symbols in the file `symbols` if there is one, both
-/// of which are German where `german` says so, and writes `OK`, or the line of a refusal.
+/// Checks the source in the file `src`, with the symbols in the file `symbols` if there is one,
+/// both of which are German where `german` says so, and writes `OK`, or the line of a refusal.
 pub fn cmd_check<F: Files, K: Sink>(
     alloc: Global,
     src: &str,

@@ -61,7 +61,8 @@ pub struct Output<'a> {
     pub bytes: &'a [u8],
 }
 
-/// Makes texts the whole of a command's two output files, the first one first, and then writes `OK`.
+/// Makes texts the whole of a command's two output files, the first one first, and then writes
+/// `OK`.
 pub fn write_outputs<F: Files, K: Sink>(
     files: &mut F,
     out: &mut K,

@@ -58,9 +58,9 @@ fn list<F: Files, K: Sink>(
 }
 
 /// Loads the image in the file `img`, makes the source that is listed of its program the whole of
-/// the file `src`, and its names the whole of the symbols file `sym`, and then writes `OK`; or writes
-/// the line of a refusal, and no file. Where the status is 0, the two compile to the program of the
-/// image, names and lines with it. Either may be the image's own file.
+/// the file `src`, and its names the whole of the symbols file `sym`, and then writes `OK`; or
+/// writes the line of a refusal, and no file. Where the status is 0, the two compile to the program
+/// of the image, names and lines with it. Either may be the image's own file.
 pub fn cmd_list<F: Files, K: Sink>(
     alloc: Global,
     img: &str,

@@ -1,4 +1,5 @@
-//! A live run: several workers run an image, and the history that they made is written, and its run.
+//! A live run: several workers run an image, and the history that they made is written, and its
+//! run.
 ghost use Rattle.std.specs.Prelude.{◌≡◌, ℕ, ◌^◌, ◌<◌, ◌≤◌, List, ◌++◌, codes, length, map, All, IfOk, Some};
 ghost use Rattle.plc_io.specs.Moments.{FilesAt};
 ghost use Rattle.plc_io.specs.Taken.{WroteText};
@@ -131,7 +132,8 @@ fn live_read<R: Threads + Wait + Sync, K: Sink, G: Gate + Sync>(
     written(write_live(alloc, controller, out))
 }
 
-/// Reads an image, stimuli and scripts, checks all, lets the workers work, and writes what they made.
+/// Reads an image, stimuli and scripts, checks all, lets the workers work, and writes what they
+/// made.
 fn live<R: Threads + Wait + Sync, F: Files, K: Sink, G: Gate + Sync>(
     rt: &R,
     alloc: Global,
@@ -155,10 +157,10 @@ fn live<R: Threads + Wait + Sync, F: Files, K: Sink, G: Gate + Sync>(
 }
 
 /// Lets several workers run the image in the file `img` beside each other: a stepper makes `steps`
-/// steps, or fewer where one of them leaves STOP; a feeder makes the entries of the file `stim`; and an
-/// operator for each file of `ops` asks what that holds, where the names of the image are known. Each
-/// passes `gate` before each of its entries. Then the history that they made is written, a line `---`,
-/// and the text of the history's run; or the line of a refusal.
+/// steps, or fewer where one of them leaves STOP; a feeder makes the entries of the file `stim`;
+/// and an operator for each file of `ops` asks what that holds, where the names of the image are
+/// known. Each passes `gate` before each of its entries. Then the history that they made is
+/// written, a line `---`, and the text of the history's run; or the line of a refusal.
 pub fn cmd_live<R: Threads + Wait + Sync, F: Files, K: Sink, G: Gate + Sync>(
     rt: &R,
     alloc: Global,

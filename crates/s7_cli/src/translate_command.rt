@@ -52,8 +52,8 @@ fn translate<F: Files, K: Sink>(
     translate_text(alloc, language, &source, translation, files, out)
 }
 
-/// Makes the translation of the source in the file `src` to the mnemonics of a language the whole of
-/// the file `translation`, and then writes `OK`; or writes the line of a refusal, and no file.
+/// Makes the translation of the source in the file `src` to the mnemonics of a language the whole
+/// of the file `translation`, and then writes `OK`; or writes the line of a refusal, and no file.
 pub fn cmd_translate<F: Files, K: Sink>(
     alloc: Global,
     language: Language,

@@ -44,9 +44,9 @@ fn upgrade<F: Files, K: Sink>(
     upgrade_image(alloc, &image, img2, files, out)
 }
 
-/// Loads the image in the file `img`, makes the image of version 2 of its program, names and profile
-/// the whole of the file `img2`, and then writes `OK`; or writes the line of a refusal, and no file.
-/// Both may be the same file.
+/// Loads the image in the file `img`, makes the image of version 2 of its program, names and
+/// profile the whole of the file `img2`, and then writes `OK`; or writes the line of a refusal, and
+/// no file. Both may be the same file.
 pub fn cmd_upgrade<F: Files, K: Sink>(
     alloc: Global,
     img: &str,

@@ -146,8 +146,8 @@ fn write_watch<K: Sink>(alloc: Global, watched: Watched, out: &mut K) -> Result<
     write_views(alloc, &vars, &views, out)
 }
 
-/// Checks what the files of a watch hold, lets the workers work and the viewer view, and writes what
-/// they made and saw.
+/// Checks what the files of a watch hold, lets the workers work and the viewer view, and writes
+/// what they made and saw.
 fn watch_read<R: Threads + Wait + Sync, K: Sink, G: Gate + Sync>(
     rt: &R,
     alloc: Global,
