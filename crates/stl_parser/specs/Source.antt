@@ -84,7 +84,9 @@ pub record BreaksClauseRuleBehind (source : List ℕ) (p : ClausePlace) (tokens 
   pub at : ClausePlace
   -- the tokens from that clause on
   pub rest : List Token
+  -- the clauses in front are right and lead from the place `p` to that clause
   pub reads : ReadsClauses source p tokens before at rest
+  -- that clause breaks the rule in this line; without a token left, the open block breaks rule 13
   pub breaks : BreaksClauseRule source at rest last line rule
 
 -- a refusal is right about the tokens from the place `p` on: the first clause that breaks a rule
@@ -110,7 +112,9 @@ pub record ReadsKeptClauses (source : List ℕ) (p : ClausePlace) (tokens : List
     (kept : List Clause) (q : ClausePlace) (rest : List Token) : Type 0 where
   -- all the clauses, also those that no tree keeps
   pub clauses : List Clause
+  -- all the clauses are right and lead from the place `p` to the tokens `rest` at the place `q`
   pub reads : ReadsClauses source p tokens clauses q rest
+  -- the kept clauses are those of all the clauses that a tree keeps
   pub those : kept ≡ filter is_kept_by_tree clauses
 
 -- the clauses of the source are right, and `kept` are those of them that a tree keeps

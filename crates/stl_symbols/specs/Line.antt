@@ -17,8 +17,11 @@ only_record line = lone_record (next_record default_config state.StartRecord [] 
 
 -- what a symbols file says of a symbol; the fourth field is a comment
 pub record Columns : Type 0 where
+  -- the first field: the name of the symbol
   pub name : List ℕ
+  -- the second field: the address that the symbol names
   pub address : List ℕ
+  -- the third field: the type of the address
   pub kind : List ℕ
 
 -- the columns of a line, the first three of its four fields; none where it has not four
