@@ -151,26 +151,26 @@ goes_to at (Returns r) to below new s m' sched serves = rw (serves.0, serves.1, 
 goes_to at (Passes next a) to below new s m' sched serves = rw (serves.0, serves.1, serves.2) refl
 goes_to at (Stops cause a) to below new s m' sched serves = absurd serves
 
-goes_from : (code : Code) (number : ℕ) (inputs : List ℕ) (to : Option Binding) (stand : At)
+goes_from : (code : Code) (number : ℕ) (inputs : List ℕ) (to : Option Binding) (position : At)
     (old new : List Activation) (s : State) (m' : Areas) (sched : Scheduler)
     → s.activations ≡ old
     → ServesRunning number inputs to old new s.store.memory m' s.sched sched None
-    → call_left code number inputs to stand old s
+    → call_left code number inputs to position old s
     ≡ record s { store = with_memory m' s.store; activations = new; sched = sched }
-goes_from code number inputs to stand [] new s m' sched were serves =
+goes_from code number inputs to position [] new s m' sched were serves =
     ap (λ (acts : List Activation). record s { activations = acts }) were
     ∙ rw (serves.0, serves.1, serves.2) refl
-goes_from code number inputs to stand (a ∷ below) new s m' sched were serves =
-    goes_to (statement_spot code stand.block stand.at) (system_function_served number inputs s.sched a) to below new s m'
+goes_from code number inputs to position (a ∷ below) new s m' sched were serves =
+    goes_to (statement_spot code position.block position.at) (system_function_served number inputs s.sched a) to below new s m'
     sched serves
 
 pub call_goes : (code : Code) (number : ℕ) (inputs : List ℕ) (to : Option Binding)
-    (stand : At) (new : List Activation) (s : State) (m' : Areas) (sched : Scheduler)
+    (position : At) (new : List Activation) (s : State) (m' : Areas) (sched : Scheduler)
     → ServesRunning number inputs to s.activations new s.store.memory m' s.sched sched None
-    → call_left code number inputs to stand s.activations s
+    → call_left code number inputs to position s.activations s
     ≡ record s { store = with_memory m' s.store; activations = new; sched = sched }
-call_goes code number inputs to stand new s m' sched serves =
-    goes_from code number inputs to stand s.activations new s m' sched refl serves
+call_goes code number inputs to position new s m' sched serves =
+    goes_from code number inputs to position s.activations new s m' sched refl serves
 
 halts_to : (at : Option Spot) (sv : ServiceResult) (to : Option Binding) (below new : List Activation)
     (s : State) (m' : Areas) (sched : Scheduler) (cause : ℕ)
@@ -182,25 +182,25 @@ halts_to at (Passes next a) to below new s m' sched cause serves = absurd serves
 halts_to at (Stops why a) to below new s m' sched cause serves =
     rw (serves.0, serves.1, serves.2) refl
 
-halts_from : (code : Code) (number : ℕ) (inputs : List ℕ) (to : Option Binding) (stand : At)
+halts_from : (code : Code) (number : ℕ) (inputs : List ℕ) (to : Option Binding) (position : At)
     (old new : List Activation) (s : State) (m' : Areas) (sched : Scheduler) (cause : ℕ)
     → ServesRunning number inputs to old new s.store.memory m' s.sched sched (Some cause)
-    → call_left code number inputs to stand old s
-    ≡ stop_entered_at (statement_spot code stand.block stand.at) cause
+    → call_left code number inputs to position old s
+    ≡ stop_entered_at (statement_spot code position.block position.at) cause
     (record s { store = with_memory m' s.store; activations = new; sched = sched })
-halts_from code number inputs to stand [] new s m' sched cause serves = absurd serves
-halts_from code number inputs to stand (a ∷ below) new s m' sched cause serves =
-    halts_to (statement_spot code stand.block stand.at) (system_function_served number inputs s.sched a) to below new s m'
+halts_from code number inputs to position [] new s m' sched cause serves = absurd serves
+halts_from code number inputs to position (a ∷ below) new s m' sched cause serves =
+    halts_to (statement_spot code position.block position.at) (system_function_served number inputs s.sched a) to below new s m'
     sched cause serves
 
 pub call_halts : (code : Code) (number : ℕ) (inputs : List ℕ) (to : Option Binding)
-    (stand : At) (new : List Activation) (s : State) (m' : Areas) (sched : Scheduler) (cause : ℕ)
+    (position : At) (new : List Activation) (s : State) (m' : Areas) (sched : Scheduler) (cause : ℕ)
     → ServesRunning number inputs to s.activations new s.store.memory m' s.sched sched (Some cause)
-    → call_left code number inputs to stand s.activations s
-    ≡ stop_entered_at (statement_spot code stand.block stand.at) cause
+    → call_left code number inputs to position s.activations s
+    ≡ stop_entered_at (statement_spot code position.block position.at) cause
     (record s { store = with_memory m' s.store; activations = new; sched = sched })
-call_halts code number inputs to stand new s m' sched cause serves =
-    halts_from code number inputs to stand s.activations new s m' sched cause serves
+call_halts code number inputs to position new s m' sched cause serves =
+    halts_from code number inputs to position s.activations new s m' sched cause serves
 
 -- the registers that a call comes to are those of the running activation
 abbrev regs_of : List Activation → Regs → Regs

@@ -31,7 +31,7 @@ recorded_on : (code : Code) (s : State) (old new : List Activation) (w' : Global
 recorded_on code s [] new w' done steps = absurd steps
 recorded_on code s (a ∷ below) new w' done steps =
     ap
-    (λ (stand : At). record_of_statement code s.monitored stand (regs_finished done.1 s.sched new stand.regs))
+    (λ (position : At). record_of_statement code s.monitored position (regs_finished done.1 s.sched new position.regs))
     steps.0
     ∙ ap
     (λ (r : Regs). record_of_statement code s.monitored

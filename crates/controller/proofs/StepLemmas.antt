@@ -115,7 +115,7 @@ running_on code s [] new w' done were steps = absurd steps
 running_on code s (a ∷ below) new w' done were steps =
     step_done code s (statement_step code a s.store) a (regs_before_service (statement_step code a s.store) a) below new
     w' done.1 were steps.1
-    ∙ ap (λ (stand : At). statement_finished code stand done.1 (record s { store = w'; activations = new }))
+    ∙ ap (λ (position : At). statement_finished code position done.1 (record s { store = w'; activations = new }))
     (sym steps.0)
 
 pub stepped_from : (code : Code) (s : State) (new : List Activation) (w' : GlobalStore)
@@ -130,7 +130,7 @@ pub step_there : (code : Code) (old new : List Activation) (w w' : GlobalStore)
     → HasStatement code done.0.block done.0.at
 step_there code [] new w w' done ready steps = absurd steps
 step_there code (a ∷ below) new w w' done ready steps =
-    subst (λ (stand : At). HasStatement code stand.block stand.at) (sym steps.0)
+    subst (λ (position : At). HasStatement code position.block position.at) (sym steps.0)
     (statement_there code a w (ready.there w))
 
 -- ---- those that stand afterwards
@@ -230,6 +230,6 @@ pub step_stands : (mode : Mode) (code : Code) (old new : List Activation) (w w' 
     → IsActivationStack (mode_after mode done.0.ob done.1) new
 step_stands mode code [] new w w' done steps standing = absurd steps
 step_stands mode code (a ∷ below) new w w' done steps standing =
-    subst (λ (stand : At). IsActivationStack (mode_after mode stand.ob done.1) new) (sym steps.0)
+    subst (λ (position : At). IsActivationStack (mode_after mode position.ob done.1) new) (sym steps.0)
     (step_left mode code (statement_step code a w) a below new w w' done.1 (statement_same code a w)
     steps.1 standing)

@@ -94,33 +94,33 @@ abbrev pub mode_after : Mode → (ob : ℕ) → Outcome → Mode
 mode_after mode ob outcome.Ended = if ob == 100 then Run else mode
 mode_after mode ob _ = mode
 
--- what is left to do after a statement with a synchronous error, which stood at `stand`: its OB
+-- what is left to do after a statement with a synchronous error, which stood at `position`: its OB
 -- begins, or it is a stop; nothing where nothing runs
 abbrev pub error_left : Code → (error : ℕ) → At → List Activation → State → State
-error_left code error stand [] s = s
-error_left code error stand (a ∷ below) s =
-    error_raised code error (statement_spot code stand.block stand.at) a below s
+error_left code error position [] s = s
+error_left code error position (a ∷ below) s =
+    error_raised code error (statement_spot code position.block position.at) a below s
 
 -- what is left to do after a call of a system function: it does its work, RET_VAL goes where it is
 -- bound, and a stop has the spot of the call; nothing where nothing runs
 abbrev pub call_left :
     Code → (number : ℕ) → List ℕ → Option Binding → At → List Activation → State → State
-call_left code number inputs to stand [] s = s
-call_left code number inputs to stand (a ∷ below) s =
-    after_service (statement_spot code stand.block stand.at)
+call_left code number inputs to position [] s = s
+call_left code number inputs to position (a ∷ below) s =
+    after_service (statement_spot code position.block position.at)
     (system_function_served number inputs s.sched a) to below s
 
 -- what is left to do after a statement, by what came of it: the end of OB 100 begins RUN, an error
 -- begins its OB, a system function does its work, a stop is STOP with the spot of the statement
 unfoldable pub statement_finished : Code → At → Outcome → State → State
-statement_finished code stand outcome.Went s = s
-statement_finished code stand outcome.Ended s = ob_ended stand.ob s
-statement_finished code stand (outcome.SyncError error) s =
-    error_left code error stand s.activations s
-statement_finished code stand (outcome.SysCall number inputs to) s =
-    call_left code number inputs to stand s.activations s
-statement_finished code stand (outcome.Stop cause) s =
-    stop_entered_at (statement_spot code stand.block stand.at) cause s
+statement_finished code position outcome.Went s = s
+statement_finished code position outcome.Ended s = ob_ended position.ob s
+statement_finished code position (outcome.SyncError error) s =
+    error_left code error position s.activations s
+statement_finished code position (outcome.SysCall number inputs to) s =
+    call_left code number inputs to position s.activations s
+statement_finished code position (outcome.Stop cause) s =
+    stop_entered_at (statement_spot code position.block position.at) cause s
 
 -- the registers after a call of a system function, which had left these; they stay where nothing runs
 abbrev pub regs_called : (number : ℕ) → List ℕ → Scheduler → List Activation → Regs → Regs
@@ -134,10 +134,11 @@ regs_finished (outcome.SysCall number inputs to) s activations regs =
     regs_called number inputs s activations regs
 regs_finished _ s activations regs = regs
 
--- what is recorded of a statement that stood at `stand`, with the registers after it
+-- the monitoring record of a statement by its position and the registers after it; None where its
+-- block isn't monitored
 abbrev pub record_of_statement : Code → (monitored : Option BlockId) → At → Regs → Option MonRecord
-record_of_statement code monitored stand regs =
-    statement_record code monitored stand.block stand.at regs
+record_of_statement code monitored position regs =
+    statement_record code monitored position.block position.at regs
 
 -- what a system function leaves of the scheduler and its activation, and what it answers: RET_VAL,
 -- nothing, or its stop cause, which changes nothing of the scheduler

@@ -22,7 +22,9 @@ entries_read reading = reading_map entries_of_line reading
 
 -- a valid entry that is no step
 pub record IsOtherEntry (entry : Entry) : Type 0 where
+  -- the entry is no step
   pub other : is_step entry ≡ false
+  -- the worker of the entry is numbered from 1, and its numbers are in their ranges
   pub valid : IsValid entry
 
 -- a line stands for one valid entry that is no step

@@ -20,8 +20,8 @@ pub record RunLasts (ms : ℕ) (s : Scheduler) : Type 0 where
   -- many milliseconds at the earliest
   pub cycle : s.cycle.counter + ms ≤ 151
 
--- RunLasts in the operating mode RUN; nothing in STARTUP and STOP, where the periods and the cycle
--- counter stand still
+-- in RUN no period of a cyclic interrupt ends, and the cycle time isn't exceeded, before so many
+-- milliseconds have passed; in STARTUP and STOP, where neither moves, nothing is asked
 abbrev pub RunLastsIn : Mode → ℕ → Scheduler → Type 0
 RunLastsIn Run ms s = RunLasts ms s
 RunLastsIn Startup ms s = Unit {0}
@@ -45,8 +45,8 @@ delays_shortened ms c = record c { delays = map (option_map (λ left. left - ms)
 abbrev pub periods_shortened : ℕ → Countdowns → Countdowns
 periods_shortened ms c = record c { periods = map (λ left. left - ms) c.periods }
 
--- the scheduler after so many milliseconds of what moves in RUN alone: each period has so many
--- less left, and the cycle counter so many more
+-- the scheduler after so many milliseconds in RUN, of what moves in no other mode: each period has
+-- so many less left, and the cycle counter has so many more
 abbrev pub run_shortened : ℕ → Scheduler → Scheduler
 run_shortened ms s =
     record s {
@@ -54,8 +54,8 @@ run_shortened ms s =
       cycle = record s.cycle { counter = s.cycle.counter + ms };
     }
 
--- the scheduler after so many milliseconds of what moves in RUN alone: in STARTUP and STOP it
--- stays as it is
+-- by operating mode: in RUN each period has so many milliseconds less left, and the cycle counter
+-- has so many more; in STARTUP and STOP the scheduler stays as it is
 abbrev pub run_shortened_in : Mode → ℕ → Scheduler → Scheduler
 run_shortened_in Run ms s = run_shortened ms s
 run_shortened_in Startup ms s = s

@@ -1,4 +1,4 @@
--- How a list is judged for a certificate: entry by entry, and in each block op by op.
+-- Whether a list of bounds is a certificate, checked entry by entry, and in each block op by op.
 use Rattle.std.specs.Prelude.{ℕ, ◌+◌, Bool, true, false, ◌&&◌, ◌||◌, not, nat_le, is_none, List, [], ◌∷◌, Option, Some, None}
 use Rattle.plc_base.specs.Kinds.{is_organization_block}
 use Rattle.plc_base.specs.Profiles.{most_frames}

@@ -72,8 +72,12 @@ first_over profile layer (id ∷ ids) =
 pub record IsLoadedObOver
     (profile : Profile) (p : Program) (layer : List Bound) (over : Over)
     : Type 0 where
+  -- the block is an organization block
   pub organization : over.block.kind ≡ Ob
+  -- the block is loaded
   pub loaded : IsSome (block_by_id over.block p.code_blocks)
+  -- in the measure the layer says more of the block than an activation has: its frames, or its local
+  -- bytes
   pub is_over :
       limit_of_measure profile over.measure
       < measure_in_layer over.measure layer (Some over.block)
@@ -96,11 +100,18 @@ pub record LeadsOver
     (profile : Profile) (p : Program) (m : Measure) (layer : List Bound) (chain : List BlockId)
     (block : BlockId) (bytes : ℕ)
     : Type 0 where
+  -- the blocks before and the block behind them are a chain of calls
   pub is_chain : IsCallChain p (chain ++ block ∷ [])
+  -- the block behind the others is loaded
   pub loaded : IsSome (block_by_id block p.code_blocks)
+  -- `bytes` are the local bytes of the blocks before, together
   pub total_is : bytes ≡ bytes_of_chain p chain
+  -- the blocks before are at most as many as an activation has frames
   pub few : length chain ≤ most_frames profile
+  -- the blocks before have at most 1,024 local bytes together
   pub within : bytes ≤ most_local_bytes
+  -- what the blocks before have in the measure, and what the layer says of the block, are together
+  -- more than an activation has
   pub over :
       limit_of_measure profile m
       < measure_of_chain m p chain + measure_in_layer m layer (Some block)

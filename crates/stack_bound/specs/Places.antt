@@ -39,8 +39,12 @@ places_called list (op ∷ ops) =
 
 -- a block, with its local bytes and the places of the blocks that it calls
 pub record CallerData : Type 0 where
+  -- kind and number of the block
   pub block : BlockId
+  -- how many local bytes the block has
   pub local_len : ℕ
+  -- the places among the bounds, counted from 0, of the blocks that the block calls, in the order of
+  -- its code; a block that it calls twice stands there twice
   pub called : List ℕ
 
 -- a code block among those of a list
@@ -64,7 +68,7 @@ callers_of p list (id ∷ ids) = with_caller (caller_in p list id) (callers_of p
 
 -- ---- layers
 
--- what a layer says in a place
+-- the measure that a layer has at a place, from its depth or its bytes; 0 where no bound stands there
 abbrev pub measure_at_place : Measure → List Bound → (place : ℕ) → ℕ
 measure_at_place m layer place = measure_if_bound m (slice_get layer place)
 

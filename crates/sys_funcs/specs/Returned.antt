@@ -21,7 +21,7 @@ with_br br a =
       };
     }
 
--- BR after an INT return value: 0 for the error codes 16#8080 to 16#80FF, else 1 (own)
+-- BR after an INT return value: 0 for the error codes 16#8080 to 16#80FF, else 1
 abbrev pub br_of : ℕ → Bool
 br_of value = not (nat_le 0x8080 value && nat_le value 0x80FF)
 
@@ -38,6 +38,9 @@ with_br_set a = with_br true a
 pub record LeavesSystemFunctionResult
     (r : SystemFunctionResult) (s : Scheduler) (a : Activation) (answer : ℕ)
     : Type 0 where
+  -- the scheduler is the one after the system function
   pub sched : s ≡ r.sched
+  -- the activation is the running one after the system function
   pub activation : a ≡ r.activation
+  -- the answer is the return value RET_VAL
   pub value : answer ≡ r.value

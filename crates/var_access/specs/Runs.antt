@@ -31,7 +31,9 @@ are_steps_of_one_worker one next = is_step one && is_step next && one.who == nex
 
 -- a run has one entry at least; only steps come in runs of more than one
 pub record IsHistoryRun (r : Run) : Type 0 where
+  -- the run has one entry at least
   pub some : 1 ≤ r.count
+  -- a run of an entry that is no step has exactly one entry
   pub one : is_step r.entry ≡ false → r.count ≡ 1
 
 -- a run of steps isn't followed by a run of steps of the same worker
@@ -46,8 +48,11 @@ StandApart (r ∷ rest) = StandsApart r rest × StandApart rest
 
 -- the runs of a history, whose numbers are counted from 0
 pub record AreRuns (runs : List Run) : Type 0 where
+  -- each run has one entry at least, and only steps come in runs of more than one
   pub each : AllByRecursion IsHistoryRun runs
+  -- the first run begins with entry 0, and each other one with the entry behind the run before it
   pub follow : FollowFrom 0 runs
+  -- no two runs side by side are steps of one worker
   pub apart : StandApart runs
 
 -- the last of some further runs that begins at a number or before it; `best` where none of them does

@@ -11,8 +11,11 @@ no_var = record { place = record { number = 0; byte = 0; area = I; bit = 0 }; wi
 
 -- eight places, of which those behind the last variable hold none
 pub record IsFilled (v : Inside) : Type 0 where
+  -- there are eight places
   pub places : length v.list ≡ 8
+  -- the variables are counted by `count`, eight at most
   pub few : v.count ≤ length v.list
+  -- each place behind the last variable holds `no_var`
   pub rest : drop v.count v.list ≡ replicate (8 - v.count) no_var
 
 -- the places that a list of variables fills

@@ -30,5 +30,7 @@ ShorterBegins is_shorter list other =
 
 -- What contracts see of a publisher, a viewer and a note: which board, and a list of what was published on it, the opening item first.
 pub record KnownBoard : Type 0 where
+  -- the book that the board is kept in
   pub board : Book
+  -- the items that are known to be published on the board, the opening item first
   pub list : List Shown

@@ -6,7 +6,9 @@ use Rattle.watch_board.specs.BoardList.{HasRisingLengths}
 
 -- the rule: the first word counts the items of the list, whose lengths rise. The second word, which a book has from the start, stays 0
 pub record KeepsListRule (cells : List Cell) (list : List Shown) : Type 0 where
+  -- the first word counts the items of the list, and the second stays 0
   pub words : cells ≡ (length list, true) ∷ (0, true) ∷ []
+  -- the lengths rise from each item to the next
   pub rising : HasRisingLengths list
 
 -- the word of the board that counts the items

@@ -6,7 +6,7 @@ use Rattle.logbook.specs.Pages.{Book}
 use Rattle.watch_board.specs.declared.last_items.LastItem.{LastItem}
 use Rattle.watch_board.specs.BoardList.{KnownBoard}
 
--- each of these is of the board
+-- each known list is of the board
 abbrev pub AreOfBoard : Book → List KnownBoard → Type 0
 AreOfBoard board [] = Unit {0}
 AreOfBoard board (k ∷ ks) = (k.board ≡ board) × AreOfBoard board ks
