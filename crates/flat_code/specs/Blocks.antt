@@ -129,13 +129,13 @@ is_odd_bit w bit = not (bit == 0)
 
 -- whether a place in L reaches past the local bytes of the block
 abbrev pub is_past_locals : Environment → Area → Width → ℕ → Bool
-is_past_locals around area.L w byte = nat_lt around.local_len (byte + byte_count w)
-is_past_locals around a w byte = false
+is_past_locals environment area.L w byte = nat_lt environment.local_len (byte + byte_count w)
+is_past_locals environment a w byte = false
 
 -- whether a direct place is fault 7 with any instruction: a bit number where no bit is meant, or a
 -- local place past the local bytes
 abbrev pub is_bad_place : Environment → Area → Width → ℕ → ℕ → Bool
-is_bad_place around a w byte bit = is_odd_bit w bit || is_past_locals around a w byte
+is_bad_place environment a w byte bit = is_odd_bit w bit || is_past_locals environment a w byte
 
 -- whether the instruction of an op doesn't have a width in memory
 abbrev pub lacks_width : OpData → Width → Bool
@@ -149,8 +149,8 @@ writes_operand code =
 
 -- the parameter of the block that an operand of form 05 means: only a function has such
 abbrev pub parameter_meant : Environment → ℕ → Option ParameterRecord
-parameter_meant around index =
-    if around.kind == kind_number kinds.Fc then slice_get around.params index else None
+parameter_meant environment index =
+    if environment.kind == kind_number kinds.Fc then slice_get environment.params index else None
 
 -- whether a parameter that an operand means isn't there (None), or has another width
 abbrev pub lacks_own_parameter : Option ParameterRecord → Width → Bool
@@ -201,12 +201,12 @@ is_stray_pass p index =
 -- a parameter of the calling function has it as the operand of an op would; a place in a named data
 -- block must be in the area DB
 abbrev pub is_bad_actual : Environment → Passed → Bool
-is_bad_actual around (passed.Literal value) = false
-is_bad_actual around (passed.Direct a w byte bit) = is_bad_place around a w byte bit
-is_bad_actual around (passed.Parameter index w) =
-    lacks_own_parameter (parameter_meant around index) w
-is_bad_actual around (passed.InBlock number area.Db w byte bit) = is_odd_bit w bit
-is_bad_actual around (passed.InBlock number a w byte bit) = true
+is_bad_actual environment (passed.Literal value) = false
+is_bad_actual environment (passed.Direct a w byte bit) = is_bad_place environment a w byte bit
+is_bad_actual environment (passed.Parameter index w) =
+    lacks_own_parameter (parameter_meant environment index) w
+is_bad_actual environment (passed.InBlock number area.Db w byte bit) = is_odd_bit w bit
+is_bad_actual environment (passed.InBlock number a w byte bit) = true
 
 -- whether a literal fits a width by its number: 1 bit, 2 byte, 3 word, 4 double word
 abbrev pub literal_fits : ℕ → ℕ → Bool
@@ -219,30 +219,32 @@ literal_fits number value =
 -- whether what is passed doesn't fit its parameter `q`: another width, a literal for OUT or IN_OUT
 -- or one too wide, an input of the calling function for OUT or IN_OUT
 abbrev pub misfits_parameter : Environment → ParameterRecord → Passed → Bool
-misfits_parameter around q (passed.Literal value) =
+misfits_parameter environment q (passed.Literal value) =
     not (q.section == section_in) || not (literal_fits q.width value)
-misfits_parameter around q (passed.Direct a w byte bit) = not (q.width == width_number w)
-misfits_parameter around q (passed.Parameter index w) =
+misfits_parameter environment q (passed.Direct a w byte bit) = not (q.width == width_number w)
+misfits_parameter environment q (passed.Parameter index w) =
     not (q.width == width_number w)
-    || not (q.section == section_in) && is_in_parameter (parameter_meant around index)
-misfits_parameter around q (passed.InBlock number a w byte bit) = not (q.width == width_number w)
+    || not (q.section == section_in) && is_in_parameter (parameter_meant environment index)
+misfits_parameter environment q (passed.InBlock number a w byte bit) =
+    not (q.width == width_number w)
 
 -- whether the called block lacks the parameter (None), or what is passed doesn't fit it
 abbrev pub misfits_index : Environment → Option ParameterRecord → Passed → Bool
-misfits_index around None actual = true
-misfits_index around (Some q) actual = misfits_parameter around q actual
+misfits_index environment None actual = true
+misfits_index environment (Some q) actual = misfits_parameter environment q actual
 
 -- whether what is passed doesn't fit the parameter of an index of what is called; where that is
 -- absent (None) the fault is one of the CALL, not of its PASS
 abbrev pub misfits_callee : Environment → Option CalleeSeen → ℕ → Passed → Bool
-misfits_callee around None index actual = false
-misfits_callee around (Some s) index actual = misfits_index around (slice_get s.2 index) actual
+misfits_callee environment None index actual = false
+misfits_callee environment (Some s) index actual =
+    misfits_index environment (slice_get s.2 index) actual
 
 -- whether what is passed for an index doesn't fit the block that the operand of a CALL calls
 abbrev pub misfits_call : Environment → Operand → ℕ → Passed → Bool
-misfits_call around (operand.Called kind number instance) index actual =
-    misfits_callee around (callee_among around.blocks kind number) index actual
-misfits_call around _ index actual = false
+misfits_call environment (operand.Called kind number instance) index actual =
+    misfits_callee environment (callee_among environment.blocks kind number) index actual
+misfits_call environment _ index actual = false
 
 -- ---- CALL, UC, CC
 
@@ -347,35 +349,37 @@ seven_if b = if b then Some 7 else None
 
 -- the fault of an op's operand that needs only its own block: 7, and for a jump 6 or 8
 abbrev pub operand_fault : Environment → List StatementSpot → PlacedOp → Operand → Option ℕ
-operand_fault around statements p (operand.Direct a w byte bit) =
-    seven_if (lacks_width p.op w || is_bad_place around a w byte bit)
-operand_fault around statements p (operand.ByMemory a w from byte) = seven_if (lacks_width p.op w)
-operand_fault around statements p (operand.ByRegister a w register bits) =
+operand_fault environment statements p (operand.Direct a w byte bit) =
+    seven_if (lacks_width p.op w || is_bad_place environment a w byte bit)
+operand_fault environment statements p (operand.ByMemory a w from byte) =
     seven_if (lacks_width p.op w)
-operand_fault around statements p (operand.Parameter index w) =
-    seven_if (lacks_width p.op w || lacks_own_parameter (parameter_meant around index) w
-    || writes_operand p.op.code && is_in_parameter (parameter_meant around index))
-operand_fault around statements p (operand.Jump kind target) = jump_fault statements p kind target
-operand_fault around statements p (operand.UseDb number) = seven_if (is_stray_use_db p)
-operand_fault around statements p (operand.Pass index actual) =
-    seven_if (is_stray_pass p index || is_bad_actual around actual)
-operand_fault around statements p _ = None
+operand_fault environment statements p (operand.ByRegister a w register bits) =
+    seven_if (lacks_width p.op w)
+operand_fault environment statements p (operand.Parameter index w) =
+    seven_if (lacks_width p.op w || lacks_own_parameter (parameter_meant environment index) w
+    || writes_operand p.op.code && is_in_parameter (parameter_meant environment index))
+operand_fault environment statements p (operand.Jump kind target) =
+    jump_fault statements p kind target
+operand_fault environment statements p (operand.UseDb number) = seven_if (is_stray_use_db p)
+operand_fault environment statements p (operand.Pass index actual) =
+    seven_if (is_stray_pass p index || is_bad_actual environment actual)
+operand_fault environment statements p _ = None
 
 -- the fault 7 of an op that needs the other blocks: of what is called, and of what a PASS passes to
 -- it
 abbrev pub call_fault_among : Environment → List (ℕ × ℕ) → PlacedOp → Operand → Option ℕ
-call_fault_among around data_lens p (operand.Called kind number instance) =
-    seven_if (is_bad_call data_lens (callee_among around.blocks kind number) instance p.before)
-call_fault_among around data_lens p (operand.Pass index actual) =
+call_fault_among environment data_lens p (operand.Called kind number instance) =
+    seven_if (is_bad_call data_lens (callee_among environment.blocks kind number) instance p.before)
+call_fault_among environment data_lens p (operand.Pass index actual) =
     seven_if ((last_op p).code == op_code_of (operation.Call calls.Call)
-    && misfits_call around (last_op p).operand index actual)
-call_fault_among around data_lens p _ = None
+    && misfits_call environment (last_op p).operand index actual)
+call_fault_among environment data_lens p _ = None
 
 -- the fault 7 of a call, or of a PASS for it, by the data blocks' numbers and lengths; none where
 -- these are missing (None), since not all blocks were read
 abbrev pub call_fault : Environment → Option (List (ℕ × ℕ)) → PlacedOp → Option ℕ
-call_fault around None p = None
-call_fault around (Some data_lens) p = call_fault_among around data_lens p p.op.operand
+call_fault environment None p = None
+call_fault environment (Some data_lens) p = call_fault_among environment data_lens p p.op.operand
 
 -- whether an op code is one of USEDB and PASS, which prepare a statement and have no end mark;
 -- every other op has it
@@ -412,18 +416,18 @@ at_offset at (Some code) = (at, code) ∷ []
 -- the faults of one op, each at the op's own offset (`start` is where the code begins): of its
 -- operand, of what is called or passed, of its end mark, of its bracket, of its zone
 unfoldable pub op_faults : Environment → List StatementSpot → ℕ → PlacedOp → List (ℕ × ℕ)
-op_faults around statements start p =
-    at_offset (start + p.at) (operand_fault around statements p p.op.operand)
-    ++ at_offset (start + p.at) (call_fault around around.data_lens p)
+op_faults environment statements start p =
+    at_offset (start + p.at) (operand_fault environment statements p p.op.operand)
+    ++ at_offset (start + p.at) (call_fault environment environment.data_lens p)
     ++ at_offset (start + p.at) (mark_fault p.op)
     ++ at_offset (start + p.at) (bracket_fault p.op.code p.brackets)
     ++ at_offset (start + p.at) (zone_fault p.op.code p.zones)
 
 -- the faults of ops one behind the other, in code that begins at the offset `start`
 abbrev pub faults_over : Environment → List StatementSpot → ℕ → List PlacedOp → List (ℕ × ℕ)
-faults_over around statements start [] = []
-faults_over around statements start (p ∷ rest) =
-    op_faults around statements start p ++ faults_over around statements start rest
+faults_over environment statements start [] = []
+faults_over environment statements start (p ∷ rest) =
+    op_faults environment statements start p ++ faults_over environment statements start rest
 
 -- the fault 8 of each bracket that is open behind the last op, at the op that opens it
 abbrev pub open_faults : ℕ → List OpenBracket → List (ℕ × ℕ)
@@ -438,7 +442,7 @@ open_zone_faults start (at ∷ zones) = (start + at, 8) ∷ open_zone_faults sta
 -- the faults 6 to 8 of a block whose code begins at the offset `start`: those of its ops, then
 -- those of brackets and zones that its end leaves open
 unfoldable pub block_faults : Environment → ℕ → List OpData → List (ℕ × ℕ)
-block_faults around start ops =
-    faults_over around (statement_spots ops) start (code_places ops)
+block_faults environment start ops =
+    faults_over environment (statement_spots ops) start (code_places ops)
     ++ open_faults start (open_behind 0 [] ops)
     ++ open_zone_faults start (zones_left 0 [] ops)

@@ -11,7 +11,7 @@ abbrev pub zone_value : List Bool → Bool
 zone_value [] = true
 zone_value (value ∷ around) = value
 
--- MCR(: a zone opens, whose value is the RLO AND the value of the zone around it
+-- a relay after MCR(: a zone has opened, whose value is the RLO AND the value of the zone around it
 abbrev pub zone_opened : (rlo : Bool) → Relay → Relay
 zone_opened rlo r = record r { zones = (rlo && zone_value r.zones) ∷ r.zones }
 
@@ -20,7 +20,7 @@ abbrev pub outer_zones : List Bool → List Bool
 outer_zones [] = []
 outer_zones (value ∷ around) = around
 
--- )MCR: the innermost zone ends
+-- a relay after )MCR: the innermost open zone has ended; where none is open, nothing has changed
 abbrev pub zone_ended : Relay → Relay
 zone_ended r = record r { zones = outer_zones r.zones }
 

@@ -425,13 +425,13 @@ elsewhere : (at other : ℕ) (o : Option ℕ) → at_offset at o ≡ [] → at_o
 elsewhere at other None e = refl
 elsewhere at other (Some code) e = absurd cc
 
-op_moved : (around : Environment) (ps : List StatementSpot) (start other : ℕ) (p : PlacedOp) → op_faults around ps start p ≡ [] → op_faults around ps other p ≡ []
+op_moved : (environment : Environment) (ps : List StatementSpot) (start other : ℕ) (p : PlacedOp) → op_faults environment ps start p ≡ [] → op_faults environment ps other p ≡ []
 unfolding op_faults
-op_moved around ps start other p e =
+op_moved environment ps start other p e =
     let at = start + p.at in
     let to = other + p.at in
-    let a = at_offset at (operand_fault around ps p p.op.operand) in
-    let b = at_offset at (call_fault around around.data_lens p) in
+    let a = at_offset at (operand_fault environment ps p p.op.operand) in
+    let b = at_offset at (call_fault environment environment.data_lens p) in
     let c = at_offset at (mark_fault p.op) in
     let d = at_offset at (bracket_fault p.op.code p.brackets) in
     let f = at_offset at (zone_fault p.op.code p.zones) in
@@ -439,13 +439,13 @@ op_moved around ps start other p e =
     let n = nil_parts ((a ++ b) ++ c) d o.0 in
     let m = nil_parts (a ++ b) c n.0 in
     let l = nil_parts a b m.0 in
-    nil_join (nil_join (nil_join (nil_join (elsewhere at to (operand_fault around ps p p.op.operand) l.0) (elsewhere at to (call_fault around around.data_lens p) l.1)) (elsewhere at to (mark_fault p.op) m.1)) (elsewhere at to (bracket_fault p.op.code p.brackets) n.1)) (elsewhere at to (zone_fault p.op.code p.zones) o.1)
+    nil_join (nil_join (nil_join (nil_join (elsewhere at to (operand_fault environment ps p p.op.operand) l.0) (elsewhere at to (call_fault environment environment.data_lens p) l.1)) (elsewhere at to (mark_fault p.op) m.1)) (elsewhere at to (bracket_fault p.op.code p.brackets) n.1)) (elsewhere at to (zone_fault p.op.code p.zones) o.1)
 
-over_moved : (around : Environment) (ps : List StatementSpot) (start other : ℕ) (rest : List PlacedOp) → faults_over around ps start rest ≡ [] → faults_over around ps other rest ≡ []
-over_moved around ps start other [] e = refl
-over_moved around ps start other (p ∷ rest) e =
-    let n = nil_parts (op_faults around ps start p) (faults_over around ps start rest) e in
-    nil_join (op_moved around ps start other p n.0) (over_moved around ps start other rest n.1)
+over_moved : (environment : Environment) (ps : List StatementSpot) (start other : ℕ) (rest : List PlacedOp) → faults_over environment ps start rest ≡ [] → faults_over environment ps other rest ≡ []
+over_moved environment ps start other [] e = refl
+over_moved environment ps start other (p ∷ rest) e =
+    let n = nil_parts (op_faults environment ps start p) (faults_over environment ps start rest) e in
+    nil_join (op_moved environment ps start other p n.0) (over_moved environment ps start other rest n.1)
 
 open_moved : (start other : ℕ) (bs : List OpenBracket) → open_faults start bs ≡ [] → open_faults other bs ≡ []
 open_moved start other [] e = refl
@@ -456,12 +456,12 @@ open_zones_moved start other [] e = refl
 open_zones_moved start other (at ∷ zones) e = absurd cc
 
 -- where a block begins doesn't matter for whether it has a fault
-pub moved : (around : Environment) (start other : ℕ) (ops : List OpData) → block_faults around start ops ≡ [] → block_faults around other ops ≡ []
+pub moved : (environment : Environment) (start other : ℕ) (ops : List OpData) → block_faults environment start ops ≡ [] → block_faults environment other ops ≡ []
 unfolding block_faults
-moved around start other ops e =
-    let m = nil_parts (faults_over around (statement_spots ops) start (code_places ops) ++ open_faults start (open_behind 0 [] ops)) (open_zone_faults start (zones_left 0 [] ops)) e in
-    let n = nil_parts (faults_over around (statement_spots ops) start (code_places ops)) (open_faults start (open_behind 0 [] ops)) m.0 in
-    nil_join (nil_join (over_moved around (statement_spots ops) start other (code_places ops) n.0) (open_moved start other (open_behind 0 [] ops) n.1)) (open_zones_moved start other (zones_left 0 [] ops) m.1)
+moved environment start other ops e =
+    let m = nil_parts (faults_over environment (statement_spots ops) start (code_places ops) ++ open_faults start (open_behind 0 [] ops)) (open_zone_faults start (zones_left 0 [] ops)) e in
+    let n = nil_parts (faults_over environment (statement_spots ops) start (code_places ops)) (open_faults start (open_behind 0 [] ops)) m.0 in
+    nil_join (nil_join (over_moved environment (statement_spots ops) start other (code_places ops) n.0) (open_moved start other (open_behind 0 [] ops) n.1)) (open_zones_moved start other (zones_left 0 [] ops) m.1)
 
 verified : (lens : List (ℕ × ℕ)) (all : List BlockRecord) (bs : List (ℕ × BlockRecord)) → op_faults_of_blocks (Some lens) all bs ≡ [] → AreVerified lens all (blocks_of bs)
 verified lens all [] e = tt

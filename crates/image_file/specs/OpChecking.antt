@@ -11,8 +11,8 @@ use Rattle.image_file.specs.declared.environments.BlockEnvironment.{BlockEnviron
 use Rattle.image_file.specs.declared.verifying.OpPlace.{OpPlace}
 
 -- what the faults of a block depend on besides its ops, by what the checker has of it
-abbrev pub around_of : BlockEnvironment → Environment
-around_of s = record {
+abbrev pub environment_of : BlockEnvironment → Environment
+environment_of s = record {
   kind = s.kind;
   local_len = s.local_len;
   params = s.params.now;

@@ -339,7 +339,7 @@ PassedFit =
 pub record IsCalledBlock (p : Program) (kind number : ℕ) (called : CalleeSeen) : Type 0 where
   -- the code block that is called
   pub block : CodeBlock
-  -- the program has it, by the kind and number of the call
+  -- the program has the called block, by the kind and number of the call
   pub there :
       block_by_id (record { kind = kind_of_number kind; number = number }) p.code_blocks
       ≡ Some block

@@ -29,13 +29,13 @@ count_faults b =
 -- the faults of a block by the offset of its fault 5: that alone, or where there is none (None) 9,
 -- and those of the ops
 abbrev pub faults_unless : Option ℕ → Environment → BlockRecord → List (ℕ × ℕ)
-faults_unless (Some at) around b = (at, 5) ∷ []
-faults_unless None around b =
-    count_faults b ++ line_faults 0 b.lines ++ block_faults around 0 b.code
+faults_unless (Some at) environment b = (at, 5) ∷ []
+faults_unless None environment b =
+    count_faults b ++ line_faults 0 b.lines ++ block_faults environment 0 b.code
 
 -- the faults of a block: its fault 5 alone, or where its code has none all others
 abbrev pub faults_of_block : Environment → BlockRecord → List (ℕ × ℕ)
-faults_of_block around b = faults_unless (code_fault b.code) around b
+faults_of_block environment b = faults_unless (code_fault b.code) environment b
 
 -- whether no code block has a fault 5 in its code: only then are calls checked
 abbrev pub are_whole : List BlockRecord → Bool

@@ -27,7 +27,8 @@ pub record HasReadOps
   pub last : before ≡ last_place 0 ops
   -- `end` says whether the last op that was read is BE with the end mark
   pub ended : end ≡ ends_by_be ops
-  -- the 65th op of a statement, if there is one, is found from here on with `count` ops before it
+  -- the 65th op of a statement, if there is one, is found from the offset on, with `count` ops of
+  -- its statement before it
   pub few :
       overlong_statement 0 0 (ops_from (length code) code).0
       ≡ overlong_statement count at (ops_from (length code) (drop at code)).0

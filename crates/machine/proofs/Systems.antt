@@ -28,6 +28,7 @@ use Rattle.frames.specs.declared.frame.Frame.{Frame}
 use Rattle.flat_code.specs.declared.programs.Param.{Param}
 use Rattle.flat_code.specs.Instr.{Passing}
 use Rattle.flat_code.specs.Programs.{CodeBlock, Program}
+use Rattle.flat_code.specs.Records.{section_out}
 use Rattle.image_file.specs.Readers.{block_by_id}
 use Rattle.machine.specs.declared.places.Location.{Location}
 use Rattle.machine.specs.Bindings.{param_bindings}
@@ -192,24 +193,24 @@ result_taken :
     → TakesResult (result_from ps i bs) a m
 result_taken [] frames m bs i a fits w each = tt
 result_taken (p ∷ ps) frames m bs i a fits w each =
-    by (eqb p.section 2) refl
+    by (eqb p.section section_out) refl
     (result_taken ps frames m bs (i + 1) a fits w (λ j q found.
     let one = each (suc j) q found in
     let at : i + 1 + j ≡ i + suc j = omega arith in
     (one.0, ap (slice_get bs) at ∙ one.1, one.2)))
   where
-    taken : (b : Binding) → IsBound kinds.Fc p frames m b → p.section ≡ 2 → TakesResult (Some b) a m
+    taken : (b : Binding) → IsBound kinds.Fc p frames m b → p.section ≡ section_out → TakesResult (Some b) a m
     taken (binding.AtPlace at width frame) is two =
         λ value. stored_there frames m (record { place = at; width = width; frame = frame }) value (local_of a.running) fits w is.1
     taken (binding.Constant value) is two = let one = is.0 in absurd (omega (arith, one, two))
     taken binding.Unsupplied is two = absurd is
 
-    by : (t : Bool) → eqb p.section 2 ≡ t → TakesResult (result_from ps (i + 1) bs) a m → TakesResult (cond t (slice_get bs i) (result_from ps (i + 1) bs)) a m
+    by : (t : Bool) → eqb p.section section_out ≡ t → TakesResult (result_from ps (i + 1) bs) a m → TakesResult (cond t (slice_get bs i) (result_from ps (i + 1) bs)) a m
     by true e more =
         let one = each 0 p refl in
         let at : i + 0 ≡ i = omega arith in
         let found : slice_get bs i ≡ Some one.0 = ap (slice_get bs) (sym at) ∙ one.1 in
-        rw found (taken one.0 one.2 (eqb-true p.section 2 e))
+        rw found (taken one.0 one.2 (eqb-true p.section section_out e))
     by false e more = more
 
 system_lasts :

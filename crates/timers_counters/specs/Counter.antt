@@ -7,13 +7,13 @@ use Rattle.plc_base.specs.Bcd.{unsigned_of_bcd, bcd_digits}
 pub record Counter : Type 0 where
   -- the count, 0 to 999
   pub value : ℕ
-  -- the edge bit of count up (CU): the RLO at the last one, or 0 after FR cleared it
+  -- the edge bit of count up (CU): the RLO at the last CU, or 0 after FR cleared it
   pub up_edge : Bool
-  -- the edge bit of count down (CD): the RLO at the last one, or 0 after FR cleared it
+  -- the edge bit of count down (CD): the RLO at the last CD, or 0 after FR cleared it
   pub down_edge : Bool
-  -- the edge bit of set (S): the RLO at the last one, or 0 after FR cleared it
+  -- the edge bit of set (S): the RLO at the last S, or 0 after FR cleared it
   pub set_edge : Bool
-  -- the edge bit of enable (FR): the RLO at the last one
+  -- the edge bit of enable (FR): the RLO at the last FR
   pub free_edge : Bool
 
 -- a counter on which no instruction has acted: value 0 and all edge bits 0

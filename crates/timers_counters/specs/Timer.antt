@@ -20,10 +20,10 @@ pub record Timer : Type 0 where
   pub running : Bool
   -- its output bit, which A, O and X check
   pub output : Bool
-  -- the edge bit of the start instructions (SP, SE, SD, SS and SF): the RLO at the last one, or 0
-  -- after FR cleared it
+  -- the edge bit of the start instructions (SP, SE, SD, SS and SF): the RLO at the last of them, or
+  -- 0 after FR cleared it
   pub start_edge : Bool
-  -- the edge bit of enable (FR): the RLO at the last one
+  -- the edge bit of enable (FR): the RLO at the last FR
   pub free_edge : Bool
 
 -- a timer on which no instruction has acted: it stands still with output 0, no time left and edge
@@ -125,8 +125,8 @@ start_timer kind rlo value timer =
     option_map (λ (next : Timer). record next { start_edge = rlo })
     (start_effect kind rlo value timer)
 
--- reset (R): where the RLO is 1, the timer stands still with output 0 and no time left; its kind
--- and its edge bits stay
+-- reset (R): where the RLO is 1, the timer stands still with output 0, no time left and time base
+-- 10 ms; its kind and its edge bits stay
 unfoldable pub reset_timer : Bool → Timer → Timer
 reset_timer rlo timer =
     if rlo
