@@ -10,7 +10,9 @@ use Rattle.plc_base.specs.Gathered.{refusals_along}
 
 -- a declaration with those before it, the nearest first
 pub record Holder : Type 0 where
+  -- the declaration itself
   pub declaration : Declaration
+  -- the declarations before it, the nearest first
   pub before : List Declaration
 
 -- the structures around a declaration at this level, the innermost first: of those before it the

@@ -90,18 +90,21 @@ inner_list y f d = record {
 unfoldable pub open_lists_behind : Types → List OpenList → OpenList → Declaration → List OpenList
 open_lists_behind y open_ f d = take d.level open_ ++ with_name f d ∷ inner_list y f d ∷ []
 
--- these lists, the outermost first, are open behind the declarations in `before`
+-- the lists `open_`, the outermost first, are open behind the declarations in `before`
 pub record AreOpen (y : Types) (o : Outside) (before : List Declaration)
     (open_ : List OpenList) : Type 0 where
+  -- at each level the open list is the one that a declaration at that level goes on
   pub lists : (level : ℕ) (f : OpenList) → level < length open_
       → get_or open_ level f ≡ open_list_of y o before level
 
--- these are the facts of declarations that follow those in `before`, and these lists are open
--- behind them
+-- `vs` are the facts of the declarations `ds`, which follow those in `before`, and the lists
+-- `open_` are open behind them
 pub record CheckedOnto (y : Types) (o : Outside) (before ds : List Declaration)
     (vs : List DeclarationFacts)
     (open_ : List OpenList) : Type 0 where
+  -- the facts of each of the declarations `ds`, in their order
   pub facts : vs ≡ facts_of_declarations y o before ds
+  -- the lists that are open behind the last of the declarations `ds`
   pub lists : AreOpen y o (declarations_before_next before ds) open_
 
 -- refusals of declarations by what the rules find of each
@@ -146,31 +149,44 @@ cells_by y section begun (v ∷ vs) (d ∷ ds) =
 pub record SectionAdded (y : Types) (o : Outside) (before : List Declaration) (p : Part)
     (old new : Declared)
     (open_ : List OpenList) : Type 0 where
+  -- the lists that are open behind the last declaration of the section
   pub lists : AreOpen y o (declarations_before_next before p.items) open_
+  -- the cells of a section that isn't VAR_TEMP come behind the components
   pub components : new.components.items ≡ old.components.items
       ++ (if is_temp p.kind then []
       else with_first_cell_opening (cells_of y o p.kind before p.items))
+  -- the cells of a VAR_TEMP section come behind the temporary variables
   pub temps : new.temps.items ≡ old.temps.items
       ++ (if is_temp p.kind then with_first_cell_opening (cells_of y o p.kind before p.items)
       else [])
+  -- the least refusal by rule 21, of the sections before it and of its own declarations
   pub twice : new.twice ≡ lesser old.twice (least (refusals_in_rest (broken_21 o) before p.items))
+  -- the least refusal by rule 56, of the sections before it and of its own declarations
   pub deep : new.deep ≡ lesser old.deep (least (refusals_in_rest (broken_56 y o) before p.items))
 
 -- what the sections of a block come to
 pub record IsDeclaredBySections (y : Types) (b : Block) (made : Declared) : Type 0 where
+  -- the return value, if there is one, then the cells of all sections but VAR_TEMP
   pub components : made.components.items ≡ returned_cells b.result
       ++ section_cells y (of_sections b) (λ k. not (is_temp k)) [] b.parts
+  -- the cells of the temporary variables
   pub temps : made.temps.items ≡ temps_of y b
+  -- the least refusal by rule 21 of the declarations in the sections
   pub twice : made.twice
       ≡ least (refusals_in_list (broken_21 (of_sections b)) (section_declarations b))
+  -- the least refusal by rule 56 of the declarations in the sections
   pub deep : made.deep
       ≡ least (refusals_in_list (broken_56 y (of_sections b)) (section_declarations b))
 
 -- what the declarations of a block come to
 pub record IsDeclaredByBlock (y : Types) (b : Block) (made : Declared) : Type 0 where
+  -- the cells of the block but those of temporary variables
   pub components : made.components.items ≡ components_of y b
+  -- the cells of the temporary variables
   pub temps : made.temps.items ≡ temps_of y b
+  -- the least refusal by rule 21 of all declarations of the block
   pub twice : made.twice ≡ least (refusals_in_block broken_21 b)
+  -- the least refusal by rule 56 of all declarations of the block
   pub deep : made.deep ≡ least (refusals_in_block (broken_56 y) b)
 
 -- the deepest place of a structure, by the facts of its components

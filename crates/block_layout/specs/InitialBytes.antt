@@ -22,8 +22,11 @@ use Rattle.block_layout.specs.Sizes.{plain_bits, capped_size, next_multiple, ali
 
 -- a value of `width` bits that is written `offset` bits from the start of a data block
 pub record Write : Type 0 where
+  -- where the write begins, in bits from the start of the data block
   pub offset : ℕ
+  -- how many bits are written
   pub width : ℕ
+  -- the value that is written, as a number
   pub value : ℕ
 
 -- so many offsets in bits from `start` on, each a step behind the one before it, up to the cap

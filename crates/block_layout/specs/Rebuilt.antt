@@ -10,8 +10,10 @@ bit_in bytes byte bit = bit_at (get_or bytes byte 0) bit
 
 -- a write of a single bit, or of whole bytes, that writes what these bytes have there
 pub data IsTrueOf (bytes : List ℕ) (w : Write) : Type 0 where
+  -- a write of one bit, whose byte is there and has that bit
   OfBit : (w.width ≡ 1) → (w.offset / 8 < length bytes)
       → (w.value % 2 ≡ bit_in bytes (w.offset / 8) (w.offset % 8)) → IsTrueOf bytes w
+  -- a write of whole bytes, the high one first, which are all there and equal
   OfBytes : (nat_eq w.width 1 ≡ false) → (w.offset / 8 + w.width / 8 ≤ length bytes)
       → ((k : ℕ) → k < w.width / 8
       → get_or (big_endian_bytes (w.width / 8) w.value) k 0 ≡ get_or bytes (w.offset / 8 + k) 0)
@@ -19,7 +21,9 @@ pub data IsTrueOf (bytes : List ℕ) (w : Write) : Type 0 where
 
 -- a write reaches a bit
 pub data Reaches (w : Write) (byte bit : ℕ) : Type 0 where
+  -- the single bit that is written
   InBit : (w.width ≡ 1) → (byte ≡ w.offset / 8) → (bit ≡ w.offset % 8) → Reaches w byte bit
+  -- a bit of one of the whole bytes that are written
   InBytes : (nat_eq w.width 1 ≡ false) → (w.offset / 8 ≤ byte) → (byte < w.offset / 8 + w.width / 8)
       → Reaches w byte bit
 

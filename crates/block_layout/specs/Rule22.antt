@@ -8,7 +8,7 @@ use Rattle.block_layout.specs.Blocks.{id_of, place_of_block}
 use Rattle.block_layout.specs.Heads.{on_heads}
 use Rattle.block_layout.specs.Types.{Types}
 
--- a place that is found lies before this one
+-- a first place, where there is one, lies before `place`
 abbrev pub is_earlier : Option ℕ → ℕ → Bool
 is_earlier None place = false
 is_earlier (Some first) place = nat_lt first place

@@ -52,6 +52,9 @@ numbers_of_labels n (s ∷ ss) =
 -- the labels of a body with the numbers of their statements, and how many statements it has
 pub record AreTargets (body : List Statement) (names : List (List ℕ)) (places : List ℕ) (total : ℕ)
     : Type 0 where
+  -- the labels of the body, in their order
   pub labels : names ≡ labels_of body
+  -- of each label the number of its statement, from 0
   pub numbers : places ≡ numbers_of_labels 0 body
+  -- how many statements the body has, empty ones left out
   pub count : total ≡ count_of_statements body

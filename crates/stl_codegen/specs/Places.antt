@@ -24,4 +24,5 @@ IsOffset None offset = 4294967296 ≤ offset
 
 -- the starts and the end of ops
 pub record AreStatementOffsets (starts : List ℕ) (end : Option ℕ) (ops : List OpData) : Type 0 where
+  -- of each statement number the table has the offset, or none where it doesn't fit 32 bits
   pub each : (n : ℕ) → IsOffset (offset_in_table starts end n) (offset_of_statement ops n)

@@ -8,7 +8,9 @@ use Rattle.flat_code.specs.declared.operands.Operand.TheVariants as flat
 
 -- a statement: the ops that prepare it, USEDB or PASS, and the op that does it
 pub record Run : Type 0 where
+  -- the ops before the last one, which prepare it: USEDB or PASS
   pub before : List OpData
+  -- the last op, which does what the statement says
   pub op : OpData
 
 -- the statements of ops; `before` are ops that stand in front of them in the first statement

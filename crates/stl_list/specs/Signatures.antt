@@ -13,6 +13,7 @@ use Rattle.stl_list.specs.Parameters.{name_of, section_of}
 -- a block by kind and number, the bytes of its instances, its parameters with their places, and the
 -- same parameters by name, section and type
 pub record Signature : Type 0 where
+  -- kind and number of the block
   pub id : BlockId
   -- how many bytes an instance of the block has
   pub instance_len : ℕ

@@ -115,15 +115,16 @@ unfoldable pub rule_37 : Context → List Block → List Refusal
 rule_37 c blocks = in_calls call_37 c blocks
 
 -- what an operand comes to is a DATE_AND_TIME, which rule 24 forbids as an actual parameter
-abbrev pub sees_date : Resolution → Bool
-sees_date (Resolved v) = is_date v
-sees_date _ = false
+abbrev pub is_resolved_date : Resolution → Bool
+is_resolved_date (Resolved v) = is_date v
+is_resolved_date _ = false
 
 -- rule 24 in a body, for its actual parameters, whatever is called
 abbrev pub dates_in : Context → List Statement → List Refusal
 dates_in c body =
     flat_map
-    (λ s. flat_map (λ a. broken_if (sees_date (resolution_of c a.value)) a.line 24) s.actuals) body
+    (λ s. flat_map (λ a. broken_if (is_resolved_date (resolution_of c a.value)) a.line 24) s.actuals)
+    body
 
 -- rule 24 of actual parameters, in all bodies
 unfoldable pub rule_24_of_actuals : Context → List Block → List Refusal

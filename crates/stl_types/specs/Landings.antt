@@ -21,7 +21,9 @@ use Rattle.stl_types.specs.declared.brackets.SourceBracket.{SourceBracket}
 -- the brackets and the zones that are open before a statement, the outermost first,
 -- a zone by the line of its MCR(
 pub record SourceNesting : Type 0 where
+  -- the open brackets, the outermost first
   pub brackets : List SourceBracket
+  -- the lines of the MCR( of the open zones, the outermost first
   pub zones : List ℕ
 
 -- the brackets and the zones that are open behind a statement
@@ -38,7 +40,9 @@ empty_nesting = record { brackets = []; zones = [] }
 -- what a jump and its label have alike: the function codes of the open brackets, and how many zones
 -- are open
 pub record Landing : Type 0 where
+  -- the function codes of the open brackets, the outermost first, at most 8
   pub functions : List ℕ
+  -- how many zones are open
   pub zones : ℕ
 
 -- the function codes of open brackets. Of more than seven eight are kept: the eighth has broken

@@ -132,14 +132,14 @@ rule_of_resolved_operand f v =
 
 -- the rule that an instruction of a form breaks by what its operand comes to; none where the
 -- operand is unknown or isn't checked
-abbrev pub rule_seen : OperandRule → Resolution → Option ℕ
-rule_seen f (Resolved v) = rule_of_resolved_operand f v
-rule_seen f _ = None
+abbrev pub rule_of_resolution : OperandRule → Resolution → Option ℕ
+rule_of_resolution f (Resolved v) = rule_of_resolved_operand f v
+rule_of_resolution f _ = None
 
 -- the rule that an operand breaks with an instruction of a form
 abbrev pub operand_rule : Context → OperandRule → Operand → Option ℕ
 operand_rule c f (operand.Constant value) = if takes_constant f value then None else Some 25
-operand_rule c f o = rule_seen f (resolution_of c o)
+operand_rule c f o = rule_of_resolution f (resolution_of c o)
 
 -- the refusal of a line by the rule that is broken, if one is
 abbrev pub at_line : (line : ℕ) → Option ℕ → List Refusal

@@ -85,9 +85,11 @@ sound_formals cells = if list_all is_sound_formal cells then Some (formals_of ce
 
 -- a block that is called, with its parameters; `place` is that of a block of the source
 pub record Callee : Type 0 where
+  -- kind and number of the called block
   pub id : BlockId
   -- the place of the called block in the source; none of a system function
   pub place : Option ℕ
+  -- the parameters of the called block, in their order
   pub formals : List Formal
 
 -- a system function as the block that is called, if it is one of the nine

@@ -80,7 +80,7 @@ own_elementary c temporary spot kind =
     else variable_in_area kind (elementary_place area.Di 0 spot.offset (Some kind))
 
 -- what the component at a spot in the block's own variables is; of what isn't elementary no place
--- is seen
+-- is given
 abbrev pub own_at : Context → (temporary : Bool) → ComponentAt → Option Simple → Resolution
 own_at c temporary spot None =
     Resolved
@@ -100,7 +100,8 @@ abbrev pub own_variable : Context → List ℕ → List PathStep → Resolution
 own_variable c name steps =
     own_walked c (is_temporary_variable c name) (walked_local c.layouts c.block name steps)
 
--- what a component of the data block with this number is; of what isn't elementary no place is seen
+-- what a component of the data block with this number is; of what isn't elementary no place is
+-- given
 abbrev pub data_at : Context → (number : ℕ) → ComponentAt → Option Simple → Resolution
 data_at c number spot None =
     Resolved

@@ -46,7 +46,7 @@ use Rattle.block_layout.specs.declared.blocks.BlockLayout.{BlockLayout}
 use Rattle.stl_types.specs.Actuals.{formal_named}
 use Rattle.stl_types.specs.Bodies.{first_context, in_contexts}
 use Rattle.stl_types.specs.Brackets.{closes_no_bracket, is_eighth_bracket, brackets_left_open, rule_29, rule_30, rule_31, with_brackets}
-use Rattle.stl_types.specs.Calls.{by_callee, call_37, calls_unknown, dates_in, has_wrong_instance, is_bare_call, lacks_actual, misfits_formal, names_no_formal, rule_24_of_actuals, rule_34, rule_35, rule_36, rule_37, rule_38, rule_40, rule_46, sees_date, actuals_supplied_twice, actuals_without_formal}
+use Rattle.stl_types.specs.Calls.{by_callee, call_37, calls_unknown, dates_in, has_wrong_instance, is_bare_call, lacks_actual, misfits_formal, names_no_formal, rule_24_of_actuals, rule_34, rule_35, rule_36, rule_37, rule_38, rule_40, rule_46, is_resolved_date, actuals_supplied_twice, actuals_without_formal}
 use Rattle.stl_types.specs.Context.{Context}
 use Rattle.stl_types.specs.Labels.{labels_of, labels_twice, rule_26, rule_27, unknown_labels}
 use Rattle.stl_types.specs.Landings.{crossing_jumps, landings_at_labels, empty_nesting, rule_33}
@@ -305,7 +305,7 @@ pub record IsSoundActual (y : Types) (c : Context) (a : Actual) : Type 0 where
   pub known : is_unknown (resolution_of c a.value) ≡ false  -- 20
   pub there : names_unknown y a.value ≡ false  -- 23
   pub inside : operand_is_outside y c.layouts c.block a.value ≡ false  -- 42
-  pub undated : sees_date (resolution_of c a.value) ≡ false  -- 24
+  pub undated : is_resolved_date (resolution_of c a.value) ≡ false  -- 24
 
 -- a call of a block that is checked
 pub record IsSoundCall (c : Context) (callee : Callee) (s : Statement) : Type 0 where
@@ -418,7 +418,7 @@ actuals_sound : (y : Types) (c : Context) (actuals : List Actual)
     → AllByRecursion (λ (a : Actual). is_unknown (resolution_of c a.value) ≡ false) actuals
     → AllByRecursion (λ (a : Actual). names_unknown y a.value ≡ false) actuals
     → AllByRecursion (λ (a : Actual). operand_is_outside y c.layouts c.block a.value ≡ false) actuals
-    → AllByRecursion (λ (a : Actual). sees_date (resolution_of c a.value) ≡ false) actuals
+    → AllByRecursion (λ (a : Actual). is_resolved_date (resolution_of c a.value) ≡ false) actuals
     → AllByRecursion (IsSoundActual y c) actuals
 actuals_sound y c [] h20 h23 h42 h24 = tt
 actuals_sound y c (a ∷ more) h20 h23 h42 h24 = (
@@ -457,7 +457,7 @@ record IsClean (y : Types) (c : Context) (s : Statement) : Type 0 where
   by_23 : flat_map (operand_23 y) (operands_of s) ≡ []
   by_42 : flat_map (operand_42 y c.layouts c.block) (operands_of s) ≡ []
   by_24 : at_line s.line (statement_rule c s) ≡ []
-  by_dates : flat_map (λ (a : Actual). broken_if (sees_date (resolution_of c a.value)) a.line 24) s.actuals ≡ []
+  by_dates : flat_map (λ (a : Actual). broken_if (is_resolved_date (resolution_of c a.value)) a.line 24) s.actuals ≡ []
   by_34 : CallsRight calls_34 c s
   by_35 : CallsRight calls_35 c s
   by_36 : CallsRight calls_36 c s
@@ -491,7 +491,7 @@ statement_sound y c s h = record {
   allowed = no_rule s.line (statement_rule c s) h.by_24;
   one_of_nine = not_broken (calls_unknown c s.operand) s.line 46 h.by_46;
   actuals = actuals_sound y c s.actuals pass_20.actuals pass_23.actuals pass_42.actuals
-      (each_passes (λ a. sees_date (resolution_of c a.value)) (λ a. a.line) 24 s.actuals h.by_dates);
+      (each_passes (λ a. is_resolved_date (resolution_of c a.value)) (λ a. a.line) 24 s.actuals h.by_dates);
   calls = call_sound y c s h;
 }
   where

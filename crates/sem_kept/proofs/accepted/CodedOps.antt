@@ -43,9 +43,9 @@ use Rattle.plc_base.specs.Kinds.{is_callable as is_callable_kind, kind_number}
 use Rattle.stl_types.specs.Constants.{takes_constant}
 use Rattle.stl_types.specs.Context.{Context}
 use Rattle.stl_types.specs.Forms.{form_of}
-use Rattle.stl_types.specs.Operands.{is_on_wrong_side, operand_rule, rule_of_resolved_operand, rule_seen, statement_rule, takes_operand as form_takes}
+use Rattle.stl_types.specs.Operands.{is_on_wrong_side, operand_rule, rule_of_resolved_operand, rule_of_resolution, statement_rule, takes_operand as form_takes}
 use Rattle.stl_types.specs.Parameters.{Callee, callee_of}
-use Rattle.stl_types.specs.Resolved.{resolved_operand, seen_view}
+use Rattle.stl_types.specs.Resolved.{resolved_operand, resolved_view}
 use Rattle.stl_types.specs.Resolution.{resolution_of}
 use Rattle.stl_types.specs.declared.forms.OperandRule.{OperandRule}
 use Rattle.stl_types.specs.declared.forms.OperandRule.TheVariants as form
@@ -60,7 +60,7 @@ use Rattle.stl_codegen.specs.Compiled.{operand_with_target}
 use Rattle.stl_codegen.specs.Emitted.{call_op, end_op, op_with_end_mark, instance_number_or_zero, jump_op, use_db_ops, ops_of, pass_ops, preparing_op}
 use Rattle.stl_codegen.specs.Instruction.{source_block_at, call_instr, end_instr, filler_instruction, in_parameter_order, instr_by, instruction, jump_instr, passings_to, resolved_instr, return_last, target_of, view_instr}
 use Rattle.stl_codegen.specs.Operands.{constant_bits, is_in_named_block, block_opened_by_operand, flat_operand_of}
-use Rattle.stl_codegen.specs.Passed.{passed_actual, passed_place, passed_seen, passed_view, passings_from, actual_of_formal, with_index}
+use Rattle.stl_codegen.specs.Passed.{passed_actual, passed_place, passed_resolution, passed_view, passings_from, actual_of_formal, with_index}
 use Rattle.stl_codegen.specs.Operations.{call_operation_of, end_operation_of, jump_operation_of, operation_for}
 use Rattle.sem_kept.proofs.accepted.CodedBits.{bits_small, constant_taken}
 use Rattle.sem_kept.proofs.accepted.CodedTables.{taken, operation_is_op}
@@ -197,8 +197,8 @@ is_taken m (operand.Called name instance) v j c e n is has fits allowed =
     by_rule m (operand.Called name instance) v j c e n fits allowed
 
 -- what stands in the source
-seen_rule : (f : OperandRule) (s : Resolution) (v : ResolvedOperand) → s ≡ Resolved v → rule_seen f s ≡ None → rule_of_resolved_operand f v ≡ None
-seen_rule f s v e h = subst (λ (x : Resolution). rule_seen f x ≡ None) e h
+seen_rule : (f : OperandRule) (s : Resolution) (v : ResolvedOperand) → s ≡ Resolved v → rule_of_resolution f s ≡ None → rule_of_resolved_operand f v ≡ None
+seen_rule f s v e h = subst (λ (x : Resolution). rule_of_resolution f x ≡ None) e h
 
 abbrev constant_by : Bool → Option ℕ
 constant_by b = if b then None else Some 25
@@ -324,7 +324,7 @@ view_passed o view.Constant fits =
 view_passed o _ fits = tt
 
 seen_passed : (o : Operand) (s : Resolution) → SeenFits o s
-    → IfSome (passed_seen o s) (λ p. actual_fits p ≡ true)
+    → IfSome (passed_resolution o s) (λ p. actual_fits p ≡ true)
 seen_passed o (Resolved v) fits = view_passed o v fits
 seen_passed o Unknown fits = tt
 seen_passed o Unjudged fits = tt
@@ -354,7 +354,7 @@ passed_one : (c : Context) (index : ℕ) (a : Option Actual) (ps : List Passing)
     → IsGoodPassing (suc n) (passed_actual c index a ++ ps)
 passed_one c index None ps n lt h more = record { parts = more.parts; few = omega (arith, more.few) }
 passed_one c index (Some a) ps n lt h more =
-    by (passed_seen a.value (resolution_of c a.value)) (seen_passed a.value (resolution_of c a.value) h)
+    by (passed_resolution a.value (resolution_of c a.value)) (seen_passed a.value (resolution_of c a.value) h)
   where
     by : (p : Option Passed) → IfSome p (λ p. actual_fits p ≡ true)
         → IsGoodPassing (suc n) (with_index index p ++ ps)
@@ -517,7 +517,7 @@ unfolding resolved_operand
 resolved_parts c s v e = by (statement_rule c s) (resolution_of c s.operand) refl refl e
   where
     by : (rule : Option ℕ) (what : Resolution) → statement_rule c s ≡ rule → resolution_of c s.operand ≡ what
-        → (if is_none rule then seen_view what else None) ≡ Some v → IsResolved c s v
+        → (if is_none rule then resolved_view what else None) ≡ Some v → IsResolved c s v
     by None (Resolved x) r k h = record { rule = r; seen = k ∙ ap Resolved (ap (view_or x) h) }
       where
         view_or : ResolvedOperand → Option ResolvedOperand → ResolvedOperand

@@ -46,7 +46,7 @@ use Rattle.block_layout.specs.declared.walks.PathEnd.TheVariants as walk
 use Rattle.stl_types.specs.Addresses.{address_in_block, area_for_letters}
 use Rattle.stl_types.specs.Context.{Context, data_number, data_place, in_function, number_of_block, whole_place}
 use Rattle.stl_types.specs.Operands.{is_on_wrong_side}
-use Rattle.stl_types.specs.Resolution.{called_seen, direct_seen, id_at, instance_number, opened_seen, path_seen, resolution_of, symbol_seen, target_view, whole_called_block}
+use Rattle.stl_types.specs.Resolution.{resolution_of_call, resolution_of_address, id_at, instance_number, resolution_of_opened_block, resolution_of_path, resolution_of, resolution_of_symbol, target_view, whole_called_block}
 use Rattle.stl_types.specs.Variables.{behind_others, composite_operand, data_at, data_path, data_variable, data_walked, date_or_composite, variable_in_area, is_temporary_variable, own_at, own_elementary, own_variable, own_walked, parameter_resolution, parameter_at, parameter_index}
 use Rattle.stl_types.specs.declared.forms.OperandRule.{OperandRule}
 use Rattle.stl_types.specs.declared.views.Register.TheVariants as register
@@ -358,13 +358,13 @@ target_fits o (target.Counter n) h = h
 target_fits o (target.Block id) h = tt
 
 path_fits : (c : Context) (o : Operand) (p : PathHead) (steps : List PathStep) → IsFit c
-    → SeenFits o (path_seen c p steps)
+    → SeenFits o (resolution_of_path c p steps)
 path_fits c o (head.Local name) steps fit = own_fits c o (upper_case_name name) (folded_path steps) fit
 path_fits c o (head.InBlock name) steps fit = data_variable_fits c o name (folded_path steps) fit
 path_fits c o (head.Symbol name) steps fit =
     by (symbol_named name c.symbols) (symbol_fits name c.symbols fit.symbols)
   where
-    by : (found : Option Symbol) → IfSome found SymbolFits → SeenFits o (symbol_seen found)
+    by : (found : Option Symbol) → IfSome found SymbolFits → SeenFits o (resolution_of_symbol found)
     by None h = tt
     by (Some s) h = target_fits o s.target h
 
@@ -376,7 +376,7 @@ bit_small width.Dword bit h = omega (arith, h)
 
 direct_seen_fits : (c : Context) (o : Operand) (name : Option BlockName) (a : Letters) (w : Width)
     (byte bit : ℕ) → IsFit c → IsWord byte → IsBitOf w bit
-    → SeenFits o (direct_seen c name a w byte bit)
+    → SeenFits o (resolution_of_address c name a w byte bit)
 direct_seen_fits c o None a w byte bit fit k j = (omega arith, k, bit_small w bit j)
 direct_seen_fits c o (Some name) a w byte bit fit k j =
     by (data_number c name) (data_fits c name fit)
@@ -408,7 +408,7 @@ pointer_holds letters.Pq h = absurd (never h)
     never k = grind arith
 
 opened_fits : (c : Context) (o : Operand) (di : Bool) (n : Option ℕ) → IfSome n IsWord
-    → SeenFits o (opened_seen di n)
+    → SeenFits o (resolution_of_opened_block di n)
 opened_fits c o di None h = tt
 opened_fits c o di (Some n) h = h
 
@@ -433,7 +433,7 @@ instance_fits c (Some name) fit = data_fits c name fit
 
 called_fits : (o : Operand) (id : Option BlockId) (name : Option BlockName) (instance : Option ℕ)
     → IfSome id (λ id. IsWord id.number) → IfSome instance IsWord
-    → SeenFits o (called_seen id name instance)
+    → SeenFits o (resolution_of_call id name instance)
 called_fits o None name instance h k = tt
 called_fits o (Some id) None instance h k = (h, tt)
 called_fits o (Some id) (Some name) None h k = tt

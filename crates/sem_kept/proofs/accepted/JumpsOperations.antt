@@ -28,7 +28,7 @@ use Rattle.stl_types.specs.Brackets.{brackets_behind, is_closing_bracket, closes
 use Rattle.stl_types.specs.Context.{Context}
 use Rattle.stl_types.specs.Forms.{form_of}
 use Rattle.stl_types.specs.Operands.{operand_rule, rule_of_resolved_operand, takes_operand}
-use Rattle.stl_types.specs.Resolved.{resolved_operand, seen_view}
+use Rattle.stl_types.specs.Resolved.{resolved_operand, resolved_view}
 use Rattle.stl_types.specs.Resolution.{resolution_of}
 use Rattle.stl_types.specs.Zones.{ends_no_zone, ends_zone, is_ninth_zone, opens_zone, zones_behind}
 use Rattle.stl_types.specs.declared.brackets.SourceBracket.{SourceBracket}
@@ -240,7 +240,7 @@ nests_form code.McrClose e = refl
 nests_form _ e = absurd cc
 
 abbrev resolved_by : Context → OperandRule → Operand → Option ResolvedOperand
-resolved_by c f o = if is_none (operand_rule c f o) then seen_view (resolution_of c o) else None
+resolved_by c f o = if is_none (operand_rule c f o) then resolved_view (resolution_of c o) else None
 
 bare_resolved : (c : Context) → resolved_by c form.Bare operand.Nothing ≡ Some view.Nothing
 unfolding resolution_of rule_of_resolved_operand takes_operand

@@ -21,7 +21,7 @@ use Rattle.stl_types.specs.Constants.{takes_constant}
 use Rattle.stl_types.specs.Context.{Context}
 use Rattle.stl_types.specs.Forms.{form_of}
 use Rattle.stl_types.specs.Kinds.{is_operand_of_call}
-use Rattle.stl_types.specs.Operands.{operand_rule, rule_of_resolved_operand, rule_seen, takes_operand}
+use Rattle.stl_types.specs.Operands.{operand_rule, rule_of_resolved_operand, rule_of_resolution, takes_operand}
 use Rattle.stl_types.specs.Resolution.{resolution_of}
 use Rattle.stl_types.specs.declared.forms.OperandRule.{OperandRule}
 use Rattle.stl_types.specs.declared.forms.OperandRule.TheVariants as form
@@ -97,7 +97,7 @@ rule_there c f (operand.Constant value) v never h e = by (takes_constant f value
     by : (b : Bool) → b ≡ false → allowed_if b ≡ None → rule_of_resolved_operand f v ≡ None
     by true e h = absurd cc
     by false e h = absurd cc
-rule_there c f _ v never h e = sym (ap (λ (s : Resolution). rule_seen f s) e) ∙ h
+rule_there c f _ v never h e = sym (ap (λ (s : Resolution). rule_of_resolution f s) e) ∙ h
 
 pub no_jump_constant : (value : Literal) → takes_constant form.Jumps value ≡ false
 unfolding takes_constant

@@ -6,14 +6,14 @@ ghost use Rattle.block_layout.specs.Blocks.{named_block};
 ghost use Rattle.stl_types.specs.Addresses.{resolved_address, address_in_block, area_left, area_for_letters, side_of};
 ghost use Rattle.stl_types.specs.Context.{data_number};
 ghost use Rattle.stl_types.specs.Resolution.{
-  called_seen,
-  direct_seen,
   instance_number,
-  opened_seen,
-  path_seen,
   register_for_word,
   resolution_of,
-  symbol_seen,
+  resolution_of_address,
+  resolution_of_call,
+  resolution_of_opened_block,
+  resolution_of_path,
+  resolution_of_symbol,
   target_view,
   whole_called_block,
 };
@@ -137,22 +137,22 @@ fn register_of(alloc: Global, name: &Name) -> Result<Register, AllocError>
     Ok(Register::Ar2)
 }
 
-fn sees(view: ResolvedOperand) -> Resolution
+fn resolved_to(view: ResolvedOperand) -> Resolution
     ensures { result ≡ Resolved view }
 {
     Resolution::Resolved { view }
 }
 
-fn register_seen(alloc: Global, name: &Name) -> Result<Resolution, AllocError>
+fn resolution_of_register(alloc: Global, name: &Name) -> Result<Resolution, AllocError>
     ensures { IfOk result (λ s. s ≡ Resolved (view.Register (register_for_word name.now))) }
 {
     let which = register_of(alloc, name)?;
-    Ok(sees(ResolvedOperand::Register { which }))
+    Ok(resolved_to(ResolvedOperand::Register { which }))
 }
 
 /// A data block that is opened, by its number.
-fn opened_seen(di: bool, number: Option<u16>) -> Resolution
-    ensures { result ≡ opened_seen di number }
+fn resolution_of_opened_block(di: bool, number: Option<u16>) -> Resolution
+    ensures { result ≡ resolution_of_opened_block di number }
 {
     match number {
         None => Resolution::Unjudged,
@@ -164,8 +164,8 @@ fn opened_seen(di: bool, number: Option<u16>) -> Resolution
 
 impl<'a> Context<'a> {
     /// A quoted name that is the whole operand.
-    fn symbol_seen(&self, name: &Name) -> Resolution
-        ensures { result ≡ symbol_seen (symbol_named name.now self.now.symbols) }
+    fn resolution_of_symbol(&self, name: &Name) -> Resolution
+        ensures { result ≡ resolution_of_symbol (symbol_named name.now self.now.symbols) }
     {
         match self.symbols().lookup(name.as_bytes()) {
             None => Resolution::Unknown,
@@ -176,13 +176,13 @@ impl<'a> Context<'a> {
     }
 
     /// A path: into the block's own variables, into a data block, or a symbol.
-    fn path_seen(
+    fn resolution_of_path(
         &self,
         alloc: Global,
         head: &PathHead,
         steps: &[PathStep],
     ) -> Result<Resolution, AllocError>
-        ensures { IfOk result (λ s. s ≡ path_seen self.now head.now steps.now) }
+        ensures { IfOk result (λ s. s ≡ resolution_of_path self.now head.now steps.now) }
     {
         match head {
             PathHead::Local { name } => {
@@ -194,12 +194,12 @@ impl<'a> Context<'a> {
                 let path = Path::new(alloc, steps)?;
                 Ok(self.data_variable(name, &path))
             }
-            PathHead::Symbol { name } => Ok(self.symbol_seen(name)),
+            PathHead::Symbol { name } => Ok(self.resolution_of_symbol(name)),
         }
     }
 
     /// An address, also behind a data block.
-    fn direct_seen(
+    fn resolution_of_address(
         &self,
         block: &Option<BlockName>,
         letters: Letters,
@@ -207,7 +207,7 @@ impl<'a> Context<'a> {
         byte: u16,
         bit: u8,
     ) -> Resolution
-        ensures { result ≡ direct_seen self.now block.now letters width byte bit }
+        ensures { result ≡ resolution_of_address self.now block.now letters width byte bit }
     {
         match block {
             None => Resolution::Resolved {
@@ -232,8 +232,9 @@ impl<'a> Context<'a> {
     }
 
     /// A called block, with the number of its instance.
-    fn called_seen(&self, id: Option<BlockId>, instance: &Option<BlockName>) -> Resolution
-        ensures { result ≡ called_seen id instance.now (instance_number self.now instance.now) }
+    fn resolution_of_call(&self, id: Option<BlockId>, instance: &Option<BlockName>) -> Resolution
+        ensures { result
+            ≡ resolution_of_call id instance.now (instance_number self.now instance.now) }
     {
         let Some(block) = id else {
             return Resolution::Unjudged;
@@ -263,33 +264,41 @@ impl<'a> Context<'a> {
     ///
     /// Want of memory.
     #[tactic(auto, unfolding(crate::specs::Resolution::resolution_of))]
-    pub fn seen(&self, alloc: Global, operand: &Operand) -> Result<Resolution, AllocError>
+    pub fn resolution(&self, alloc: Global, operand: &Operand) -> Result<Resolution, AllocError>
         ensures { IfOk result (λ s. s ≡ resolution_of self.now operand.now) }
     {
         match operand {
-            Operand::Nothing => Ok(sees(ResolvedOperand::Nothing)),
+            Operand::Nothing => Ok(resolved_to(ResolvedOperand::Nothing)),
             Operand::Direct {
                 block,
                 area,
                 width,
                 byte,
                 bit,
-            } => Ok(self.direct_seen(block, *area, *width, *byte, *bit)),
-            Operand::Timer { number } => Ok(sees(ResolvedOperand::Timer { number: *number })),
-            Operand::Counter { number } => Ok(sees(ResolvedOperand::Counter { number: *number })),
-            Operand::Named { head, steps } => self.path_seen(alloc, head, steps.as_slice()),
+            } => Ok(self.resolution_of_address(block, *area, *width, *byte, *bit)),
+            Operand::Timer { number } => Ok(resolved_to(ResolvedOperand::Timer {
+                number: *number,
+            })),
+            Operand::Counter { number } => Ok(resolved_to(ResolvedOperand::Counter {
+                number: *number,
+            })),
+            Operand::Named { head, steps } => self.resolution_of_path(
+                alloc,
+                head,
+                steps.as_slice(),
+            ),
             Operand::ByMemory {
                 area,
                 width,
                 from,
                 byte,
-            } => Ok(sees(ResolvedOperand::ByMemory {
+            } => Ok(resolved_to(ResolvedOperand::ByMemory {
                 area: area_of(*area),
                 width: *width,
                 from: area_of(*from),
                 byte: *byte,
             })),
-            Operand::NumberBy { what, from, byte } => Ok(sees(ResolvedOperand::NumberBy {
+            Operand::NumberBy { what, from, byte } => Ok(resolved_to(ResolvedOperand::NumberBy {
                 what: *what,
                 from: area_of(*from),
                 byte: *byte,
@@ -299,25 +308,30 @@ impl<'a> Context<'a> {
                 width,
                 register,
                 bits,
-            } => Ok(sees(ResolvedOperand::ByRegister {
+            } => Ok(resolved_to(ResolvedOperand::ByRegister {
                 area: area_left(*area),
                 width: *width,
                 register: *register,
                 bits: *bits,
             })),
-            Operand::Pointer { area, byte, bit } => Ok(sees(ResolvedOperand::Pointer {
+            Operand::Pointer { area, byte, bit } => Ok(resolved_to(ResolvedOperand::Pointer {
                 area: area_left(*area),
                 byte: *byte,
                 bit: *bit,
             })),
-            Operand::Constant { .. } => Ok(sees(ResolvedOperand::Constant)),
-            Operand::Label { .. } => Ok(sees(ResolvedOperand::Label)),
-            Operand::OfStatus { flag } => Ok(sees(ResolvedOperand::OfStatus { flag: *flag })),
-            Operand::Other { name } => register_seen(alloc, name),
-            Operand::OpenBlock { di, name } => Ok(opened_seen(*di, self.data_number(name))),
+            Operand::Constant { .. } => Ok(resolved_to(ResolvedOperand::Constant)),
+            Operand::Label { .. } => Ok(resolved_to(ResolvedOperand::Label)),
+            Operand::OfStatus { flag } => Ok(resolved_to(ResolvedOperand::OfStatus {
+                flag: *flag,
+            })),
+            Operand::Other { name } => resolution_of_register(alloc, name),
+            Operand::OpenBlock { di, name } => Ok(resolution_of_opened_block(
+                *di,
+                self.data_number(name),
+            )),
             Operand::Called { name, instance } => {
                 let id = self.whole_block(named_block(self.symbols(), name));
-                Ok(self.called_seen(id, instance))
+                Ok(self.resolution_of_call(id, instance))
             }
         }
     }

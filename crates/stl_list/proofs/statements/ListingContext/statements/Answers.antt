@@ -6,7 +6,7 @@ use Rattle.flat_code.specs.Ops.{OpData}
 use Rattle.stl_ast.specs.declared.statements.Statement.{Statement}
 use Rattle.stl_list.specs.Runs.{runs, runs_from}
 use Rattle.stl_list.specs.Statements.{statements_from}
-use Rattle.stl_list.proofs.statements.Surroundings.statements.Goals as goal
+use Rattle.stl_list.proofs.statements.ListingContext.statements.Goals as goal
 
 pub loop-op-init : goal.loop-op-init
 unfolding runs

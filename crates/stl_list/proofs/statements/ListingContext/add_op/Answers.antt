@@ -4,7 +4,7 @@ use Rattle.stl_ast.specs.declared.statements.Statement.{Statement}
 use Rattle.stl_list.specs.Runs.{Run, runs_from}
 use Rattle.stl_list.specs.Statements.{statement_at, statements_from}
 use Rattle.stl_list.proofs.RunLemmas.{run_ends, run_goes}
-use Rattle.stl_list.proofs.statements.Surroundings.add_op.Goals as goal
+use Rattle.stl_list.proofs.statements.ListingContext.add_op.Goals as goal
 
 pub returns-then-is_last-clause-value : goal.returns-then-is_last-clause-value
 returns-then-is_last-clause-value c = λ rest.

@@ -1,7 +1,7 @@
 use Rattle.std.proofs.Common.{◌≡◌, ◌≤◌, ◌++◌, drop}
 use Rattle.stl_list.specs.Runs.{runs, runs_from}
 use Rattle.stl_list.specs.Statements.{statements_from}
-use Rattle.stl_list.proofs.statements.Surroundings.statements.Given as goal
+use Rattle.stl_list.proofs.statements.ListingContext.statements.Given as goal
 
 abbrev pub invariant-loop-op : goal.invariant-loop-op
 invariant-loop-op l =
