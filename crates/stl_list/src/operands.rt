@@ -35,6 +35,15 @@ use std::alloc::Global;
 use stl_ast::{BlockName, Letters, Name, Numbered, Operand, PathHead, Sequence};
 use stl_types::Formal;
 
+/// The kind of timers in the operand of a timer or counter.
+const TIMER_KIND: u8 = 1;
+
+/// The number of the register DB in the operand of OPN.
+const DB_REGISTER: u8 = 1;
+
+/// The number of the register DI in the operand of OPN.
+const DI_REGISTER: u8 = 2;
+
 /// The letters of an area; those of peripherals say which way they are used.
 pub(crate) fn letters_of(writes: bool, area: Area) -> Letters
     ensures { result ≡ letters_for_area writes area }
@@ -157,7 +166,7 @@ fn implied_operand(alloc: Global, operation: Operation) -> Result<Operand, NoMem
 fn timer_or_counter(kind: u8, number: u16) -> Operand
     ensures { result ≡ timer_or_counter kind number }
 {
-    if kind == 1 {
+    if kind == TIMER_KIND {
         Operand::Timer { number }
     } else {
         Operand::Counter { number }
@@ -167,7 +176,7 @@ fn timer_or_counter(kind: u8, number: u16) -> Operand
 fn numbered_by(kind: u8) -> Numbered
     ensures { result ≡ numbered_by kind }
 {
-    if kind == 1 {
+    if kind == TIMER_KIND {
         Numbered::Timer
     } else {
         Numbered::Counter
@@ -178,7 +187,7 @@ fn numbered_by(kind: u8) -> Numbered
 fn register_of(register: u8) -> Numbered
     ensures { result ≡ data_block_register register }
 {
-    if register == 1 {
+    if register == DB_REGISTER {
         Numbered::Db
     } else {
         Numbered::Di
@@ -298,7 +307,7 @@ fn plain_operand(opened: Option<u16>, op: &Op) -> Operand
             instance: instance_name(instance),
         },
         FlatOperand::OpenBlock { register, number } => Operand::OpenBlock {
-            di: register == 2,
+            di: register == DI_REGISTER,
             name: data_block_name(number),
         },
         FlatOperand::OpenBy {
