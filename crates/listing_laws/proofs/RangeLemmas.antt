@@ -65,9 +65,9 @@ instance_fits : (kind n : ℕ) → (instance_bytes_layout kind).good n ≡ true 
 unfolding instance_bytes_layout
 instance_fits kind n good = ltb-true n 65536 (and_parts (nat_lt n 65536) _ good).0
 
-pub ops_fit : (judged : Bool) (n : ℕ) (ops : List OpData) → (code_layout judged n).good ops ≡ true → are_ops ops ≡ true
+pub ops_fit : (with_code_faults : Bool) (n : ℕ) (ops : List OpData) → (code_layout with_code_faults n).good ops ≡ true → are_ops ops ≡ true
 unfolding code_layout
-ops_fit judged n ops good = (and_parts (are_ops ops) (is_nowhere (stop_at judged ops [])) (and_parts _ _ good).0).0
+ops_fit with_code_faults n ops good = (and_parts (are_ops ops) (is_nowhere (stop_at with_code_faults ops [])) (and_parts _ _ good).0).0
 
 good_code : (before : ℕ × ℕ) (b : CodeBlock) → (code_block_layout false before).good (record_of_block b) ≡ true → IsGoodCode b
 unfolding code_block_layout plain_block

@@ -51,24 +51,31 @@ AreWholeAgain =
 -- a block of a source at a place, with its layout, and with code
 pub record IsCodeAt (symbols : List Symbol) (t : Tree) (place : ℕ) (b : Block) (l : BlockLayout)
     (id : BlockId) : Type 0 where
+  -- the block stands at this place of the source
   pub block : slice_get t.blocks place ≡ Some b
+  -- the layout is that of the block at this place
   pub layout : slice_get (layouts_of t symbols) place ≡ Some l
+  -- the layout has this kind and number for the block
   pub known : l.id ≡ Some id
+  -- the block is an organization block, a function or a function block
   pub code : is_code id.kind ≡ true
 
 -- the block of the listing at a place, `again`, was made of the block of the source at a place, `place`,
 -- and stands on its lines
 pub record IsMadeOf (symbols : List Symbol) (t : Tree) (again place : ℕ) (b : Block)
     (l : BlockLayout) (id : BlockId) : Type 0 where
+  -- the block of the source stands at its place, with its layout, and has code
   pub source : IsCodeAt symbols t place b l id
   -- the code block that was made of it has this place in the order of a listing
   pub ordered : slice_get (in_lines (program_in symbols t).code_blocks) again
       ≡ Some (compiled_block (code_block (context_at symbols t place) b l id))
   -- the line that the listing has reached in front of the block
   pub reached : ℕ
+  -- the block at the place in the listing is the listed code block
   pub listed : slice_get (listed_again symbols t).blocks again
       ≡ Some (listed_block (signatures_in (program_in symbols t)) reached
       (compiled_block (code_block (context_at symbols t place) b l id)))
+  -- the code block stands on its own lines behind the line that is reached
   pub stands : StandsBehind reached (compiled_block (code_block (context_at symbols t place) b l id))
 
 -- each code block of the listing of an accepted source's program was made of one of the source

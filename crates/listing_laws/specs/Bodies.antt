@@ -2,6 +2,8 @@
 use Rattle.std.specs.Prelude.{◌≡◌, ◌⊎◌, ◌<◌, ◌*◌, ℕ, suc, true, false, length, List, [], Option, Some, None, slice_get}
 use Rattle.std.specs.List.{AllByRecursion}
 use Rattle.std.specs.Option.{unwrap_or}
+use Rattle.plc_base.specs.Kinds.{kind_number}
+use Rattle.plc_base.specs.declared.blocks.BlockKind.TheVariants as kinds
 use Rattle.plc_base.specs.declared.places.Area.{Area}
 use Rattle.plc_base.specs.declared.places.Area.TheVariants as area
 use Rattle.plc_base.specs.declared.places.Width.{Width}
@@ -57,10 +59,10 @@ Prepares (flat.Pass index p) = PassesPlace p
 Prepares _ = Unit {0}
 
 -- CALL (`code`) passes parameters by the ops `before`, and has no instance (0) or that of a
--- function block, whose kind number is 3; UC and CC do neither
+-- function block; UC and CC do neither
 abbrev pub IsCallBy : (before : List OpData) → (code kind instance : ℕ) → Type 0
 IsCallBy before code kind instance =
-    ((code ≡ op_code_of (operation.Call calls.Call)) × ((instance ≡ 0) ⊎ (kind ≡ 3)))
+    ((code ≡ op_code_of (operation.Call calls.Call)) × ((instance ≡ 0) ⊎ (kind ≡ kind_number kinds.Fb)))
     ⊎ ((instance ≡ 0) × (before ≡ []))
 
 -- the operand of the last op of a statement, of an op code, behind these ops, is one of a source: a
@@ -73,10 +75,13 @@ IsLastOperandPrinted before code _ = Unit {0}
 
 -- the ops of a statement are such as a statement of a source has
 pub record IsSourceRun (r : Run) : Type 0 where
+  -- each op before the last one is one that the tables have
   pub ops : AllByRecursion IsOp r.before
+  -- the last op is one that the tables have
   pub op : IsOp r.op
   -- what is passed before the last op
   pub prepares : AllByRecursion (λ op. Prepares op.operand) r.before
+  -- the operand of the last op is one that a source writes
   pub shown : IsLastOperandPrinted r.before r.op.code r.op.operand
   -- its instruction word isn't that of an empty statement
   pub word : is_empty_statement (mnemonic_of r.op) ≡ false

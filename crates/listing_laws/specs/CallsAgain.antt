@@ -35,15 +35,20 @@ use Rattle.listing_laws.specs.Statements.{statement_offset, run_of}
 -- listing has, `called`, and what is passed fits there. `own` are the parameters of the block that calls
 pub record IsFoundAgain (c listed : Context) (own called : List Formal) (s : Statement) (id : BlockId)
     (instance : Option ℕ) (callee : Callee) : Type 0 where
+  -- the called block as the rules find it in the listing
   pub found : Callee
+  -- the operand that the listing has for the call finds this block
   pub is : callee_of listed
       (operand.Called (block.Number id) (option_map name_of_data_block instance)) ≡ Some found
+  -- the block found in the listing has the kind and number of the one that the source calls
   pub same : found.id ≡ callee.id
+  -- the block found in the listing has as many parameters as the one that the source calls
   pub size : length found.formals ≡ length callee.formals
   -- the parameters by their index are those that the listing has, with their names in upper case
   pub order : in_parameter_order (source_block_at listed.blocks found.place) found.formals ≡ map in_upper_case called
   -- no two of the parameters have one name, even in upper case
   pub named : AreNamedApart called
+  -- what the call passes is for parameters of the listing, and fits there
   pub passable : AllByRecursion (IsPassable listed own called) (passings_to c s (Some callee))
   -- the passings stand by rising index, none twice
   pub rising : AreRising 0 (passings_to c s (Some callee))
@@ -78,7 +83,9 @@ AreCallsAgain =
 -- the operand of a statement, and those of its actual parameters, are right ones with the symbols
 -- of the source
 pub record IsRightStatement (symbols : List Symbol) (s : Statement) : Type 0 where
+  -- the operand of the statement is a right one
   pub operand : IsRightOperand symbols s.operand
+  -- the operand of each actual parameter is a right one
   pub actuals : AllByRecursion (λ a. IsRightOperand symbols a.value) s.actuals
 
 -- the operands of all statements of an accepted source, and of their actual parameters, are right

@@ -95,9 +95,10 @@ is_listed_type _ = true
 
 -- what a listing says of the types of parameters, beside what a source declared
 pub record AreTypesAsDeclared (blocks : List CodeBlock) (declared : ℕ → Simple) : Type 0 where
-  -- what is INT in the listing was INT, and so with TIME
+  -- a parameter that is INT in the listing was declared INT
   pub ints : (n : ℕ) → n < total_parameter_count blocks → (w : Width)
       → is_int_kind (kind_at (chains_of blocks) n w) ≡ true → declared n ≡ simple.Int
+  -- a parameter that is TIME in the listing was declared TIME
   pub times : (n : ℕ) → n < total_parameter_count blocks → (w : Width)
       → is_time_kind (kind_at (chains_of blocks) n w) ≡ true → declared n ≡ simple.Time
   -- widths stay

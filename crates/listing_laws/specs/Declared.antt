@@ -49,7 +49,9 @@ pub record IsDeclaredAgain (ss : List Signature) (b : CodeBlock) : Type 0 where
   pub params : (y : Types) (reached : ℕ) (l : BlockLayout)
       → l.components ≡ components_of y (listed_block ss reached b)
       → params_of (listed_block ss reached b) l ≡ b.params
+  -- the listed block has as many bytes of local data as the code block
   pub local_len : (y : Types) (reached : ℕ) → local_len y (listed_block ss reached b) ≡ b.local_len
+  -- an instance of a listed function block has as many bytes as one of the code block
   pub instance_len : (y : Types) (blocks : List Block) (reached : ℕ)
       → is_function_block b.id.kind ≡ true
       → length_of_block y blocks (listed_block ss reached b) ≡ b.instance_len

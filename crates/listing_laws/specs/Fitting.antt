@@ -19,8 +19,11 @@ use Rattle.listing_laws.specs.Passings.{FitsListed}
 
 -- a parameter as a listing has it is the one that a record of the code has
 pub record IsListedAs (f : Formal) (r : ParameterRecord) : Type 0 where
+  -- the parameter has the section of the record
   pub section : f.section ≡ section_of r.section
+  -- the record has the width of the parameter's type
   pub width : r.width ≡ width_number (width_of f.kind)
+  -- the type is one that a listing gives
   pub kind : is_listed_type f.kind ≡ true
 
 -- what the rest of the listing owes: a parameter of the block itself is seen as such and has the type that

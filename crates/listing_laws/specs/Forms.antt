@@ -21,14 +21,23 @@ program_signatures p = signatures (chains_of p.code_blocks) p.code_blocks
 
 -- a code block of a form that is read back, but for its statements
 pub record IsPrintedFrame (b : Block) : Type 0 where
+  -- the name of the block is its number, of its kind
   pub name : IsNumberedBlockOf b.kind b.name
+  -- the block is an organization block, a function or a function block
   pub kind : is_code b.kind ≡ true
+  -- only a function has a return value
   pub result : IsResultOf b.kind b.result
+  -- the sections stand in their order, each kind at most once
   pub order : AreSectionsInOrder 0 b.parts
+  -- each section is one of a listing
   pub parts : AllByRecursion (IsPrintedPart b.kind) b.parts
+  -- the block has no type; only data blocks and data types have one
   pub shape : b.shape ≡ None
+  -- the block has no components of a structure
   pub components : b.components ≡ []
+  -- the block isn't an instance data block
   pub instance : b.instance_of ≡ None
+  -- the block has no settings of an instance
   pub settings : b.settings ≡ []
 
 -- the data blocks of a listing are read back

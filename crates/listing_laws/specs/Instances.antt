@@ -28,9 +28,11 @@ data_again symbols t line d =
 
 -- an instance, listed, is as long as it was and not too long (rule 51)
 pub record IsInstanceLong (symbols : List Symbol) (t : Tree) (others : List Symbol) (d : DataBlock) : Type 0 where
+  -- the listed instance has as many bytes as the data block
   pub length : (line : ℕ)
       → length_of_block (types_of_source others (listed_again symbols t).blocks) (listed_again symbols t).blocks
       (data_again symbols t line d) ≡ length d.bytes
+  -- the listed instance has at most 16,384 bytes
   pub by_51 : (line : ℕ)
       → is_too_long (types_of_source others (listed_again symbols t).blocks) (listed_again symbols t).blocks
       (data_again symbols t line d) ≡ false

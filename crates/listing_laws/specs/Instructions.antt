@@ -33,8 +33,10 @@ use Rattle.listing_laws.specs.Statements.{run_of}
 -- the tree of a listing, at a block, has what the statements of the block in the source refer to: the
 -- data blocks, and the parameters of a function
 pub record HasAgain (c listed : Context) (formals : List Formal) : Type 0 where
+  -- each data block that a name means in the source stands in the listing by its number
   pub data_blocks : (name : BlockName) (number : ℕ) → data_number c name ≡ Some number
       → IsOpenedAgain listed (Some number)
+  -- what a body of the source sees as a parameter of its block is there in the listing, at its index
   pub parameter : (name : List ℕ) (steps : List PathStep) (index : ℕ) (section : PartKind)
       (kind : Simple)
       → own_variable c name steps ≡ Resolved (view.Parameter index section kind)
@@ -48,7 +50,9 @@ IsCodedOperand _ = Unit {0}
 
 -- an operand is one that a right source may have, with the symbols of its file
 pub record IsRightOperand (symbols : List Symbol) (o : Operand) : Type 0 where
+  -- the numbers of the operand are in their ranges, and its names are those of the right blocks
   pub written : IsOperand o
+  -- a constant is in the range of its kind, and a pointer doesn't lead to peripherals
   pub coded : IsCodedOperand o
   -- what the symbols of the file stand for is right
   pub targets : (name : List ℕ) (s : Symbol) → symbol_named name symbols ≡ Some s
@@ -58,8 +62,11 @@ pub record IsRightOperand (symbols : List Symbol) (o : Operand) : Type 0 where
 -- comes to the instruction `i` as the statement of number `n` in the listed body
 pub record IsInstructionKept (listed : Context) (body : List Statement) (n : ℕ) (m : Mnemonic) (i : Instr)
     (again : Statement) : Type 0 where
+  -- the listed statement has the instruction word
   pub word : again.code ≡ m
+  -- the listed statement breaks no rule by its operand
   pub right : statement_rule listed again ≡ None
+  -- the listed statement comes to the instruction
   pub instr : instruction listed body n again ≡ i
 
 -- a statement that calls nothing and doesn't jump comes to the instruction of the source

@@ -30,8 +30,11 @@ use Rattle.listing_laws.specs.Statements.{jumps_to, run_of}
 pub record IsStraightLine (m : Mnemonic) : Type 0 where
   -- it isn't the word of an empty statement
   pub some : is_empty_statement m ≡ false
+  -- it isn't the word of a jump
   pub jumps : jump_operation_of m ≡ None
+  -- it isn't the word of a call
   pub calls : call_operation_of m ≡ None
+  -- it isn't the word of a block end
   pub ends : end_operation_of m ≡ None
 
 -- the word of each instruction that goes on is found by its op code, whatever its operand names

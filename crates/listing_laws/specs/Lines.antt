@@ -14,9 +14,11 @@ use Rattle.stl_list.specs.Lines.{first_statement_line, last_statement_line, line
 
 -- behind what reaches to a line, a block's statements and its END clause stand on their own lines
 pub record StandsBehind (reached : ℕ) (b : CodeBlock) : Type 0 where
+  -- each statement keeps its line behind the line `reached`
   pub lines : lines_from reached b.lines ≡ b.lines
   -- its first statement stands on no line before `reached`
   pub head : max reached (first_statement_line b) ≡ first_statement_line b
+  -- the line reached behind the statements is that of the END clause
   pub end : line_behind_statements reached b.lines ≡ last_statement_line b
 
 -- code blocks one behind the other stand on their own lines, the first behind what reaches to a

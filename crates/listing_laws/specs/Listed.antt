@@ -21,9 +21,13 @@ params_in (b ∷ bs) id = if is_same_block b.id id then b.params else params_in 
 
 -- a parameter of a block as a listing has it: the one of its index, of the type that chains give to it
 pub record IsParameterOf (c : Chains) (blocks : List CodeBlock) (id : BlockId) (index : ℕ) (f : Formal) : Type 0 where
+  -- the parameter as the program has it
   pub param : Param
+  -- the parameter of the program has this index in its block
   pub there : slice_get (params_in blocks id) index ≡ Some param
+  -- the section in the listing is that of the program
   pub section : f.section ≡ section_of param.section
+  -- the type in the listing is the one that chains of passings give
   pub kind : f.kind ≡ kind_at c (first_of blocks id + index) param.width
   -- its number, counted over all blocks, is one of a parameter of the program
   pub few : first_of blocks id + index < total_parameter_count blocks

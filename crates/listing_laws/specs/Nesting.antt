@@ -17,7 +17,9 @@ use Rattle.stl_list.specs.Statements.{body_of}
 
 -- the instruction word of a statement, and its line
 pub record NestingMark : Type 0 where
+  -- the instruction word
   pub code : Mnemonic
+  -- the line of the statement
   pub line : ℕ
 
 -- the instruction word and the line of a statement; none of an empty one
@@ -54,6 +56,7 @@ AreNestingsKept = (ss ts : List Statement) → nesting_marks ss ≡ nesting_mark
 
 -- a statement of a right source: its operand is one that its instruction takes
 pub record IsReadable (c : Context) (s : Statement) : Type 0 where
+  -- the statement is of the form of one of a source
   pub statement : IsStatement s
   -- unless it is an empty statement, its operand means something
   pub resolves : is_empty_statement s.code ≡ false → resolved_operand c s ≡ None → ⊥

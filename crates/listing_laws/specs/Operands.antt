@@ -41,18 +41,26 @@ IsOpenedAgain listed (Some number) = data_number listed (name_of_data_block numb
 -- input if it was one
 pub record IsParameterAgain (listed : Context) (formals : List Formal) (index : ℕ)
     (section : PartKind) (kind : Simple) : Type 0 where
+  -- the section that the parameter has in the listing
   pub section_again : PartKind
+  -- the type that the parameter has in the listing
   pub kind_again : Simple
+  -- the name means, in the listing, the parameter of this index
   pub named : own_variable listed (upper_case_name (name_at formals index)) []
       ≡ Resolved (view.Parameter index section_again kind_again)
+  -- the type in the listing has the width of the type in the source
   pub wide : width_of kind_again ≡ width_of kind
+  -- the parameter is an input in the listing exactly where it was one
   pub input : is_input (view.Parameter index section_again kind_again)
       ≡ is_input (view.Parameter index section kind)
 
 -- a pointer has an area that pointers have, and its numbers are in their ranges
 pub record IsPointer (a : Option Area) (byte bit : ℕ) : Type 0 where
+  -- the pointer doesn't lead to peripherals
   pub no_peripherals : a ≡ Some area.P → ⊥
+  -- the number of the byte is at most 65,535
   pub low_byte : byte ≤ 65535
+  -- the number of the bit is at most 7
   pub low_bit : bit ≤ 7
 
 -- what an operand of a source names stands in the tree of a listing; of a pointer, its numbers are
@@ -68,7 +76,9 @@ StandsAgain listed formals _ = Unit {0}
 
 -- a constant is in the range of its kind, and its bits are as many as it says
 pub record IsConstantCoded (value : Literal) : Type 0 where
+  -- the constant is in the range of its kind
   pub literal : IsLiteral value
+  -- a constant that fits WORD has at most 16 bits
   pub word : fits_elementary_type value simple.Word ≡ true → bits_of value ≤ 65535
 
 -- a view is that of a constant exactly where the operand is one
@@ -84,11 +94,13 @@ pub record IsActedAgain (listed : Context) (m : Mnemonic) (o again : Operand) (v
     : Type 0 where
   -- what the listing's operand names
   pub found : ResolvedOperand
+  -- the listing's operand resolves to `found`
   pub sees : resolution_of listed again ≡ Resolved found
   -- the instruction takes the listing's operand
   pub right : operand_rule listed (form_of m) again ≡ None
   -- the same data block is opened before it, if any
   pub opened : block_opened_by_operand found ≡ block_opened_by_operand v
+  -- the operation is the same with both operands
   pub operation : operation_for m again found ≡ operation_for m o v
   -- the operand of the op is the same
   pub operand : flat_operand_of again found ≡ flat_operand_of o v

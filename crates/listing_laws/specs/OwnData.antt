@@ -23,8 +23,10 @@ use Rattle.listing_laws.specs.Declared.{signatures_in}
 -- stands beside it (rule 51); and where it stands in a source and breaks no rule as a whole, the program of
 -- that source has it again, with its number and its bytes
 pub record IsOwnDataAgain (ss : List Signature) (d : DataBlock) : Type 0 where
+  -- the listed block has as many bytes as the data block
   pub length : (y : Types) (blocks : List Block) (line : ℕ)
       → length_of_block y blocks (listed_data ss line d.number d.bytes None) ≡ length d.bytes
+  -- the listed block has at most 16,384 bytes
   pub by_51 : (y : Types) (blocks : List Block) (line : ℕ)
       → is_too_long y blocks (listed_data ss line d.number d.bytes None) ≡ false
   -- where it stands in a source and breaks no rule as a whole, the program of the source has it
@@ -46,7 +48,9 @@ AreOwnDataAgain =
 
 -- a data block that is one of some
 pub record IsOneOfDataBlocks (d : DataBlock) (ds : List DataBlock) : Type 0 where
+  -- the place of the data block among these
   pub place : ℕ
+  -- the data block stands at this place
   pub there : slice_get ds place ≡ Some d
 
 -- each data block with a structure of its own, in an accepted source's program, is among the data

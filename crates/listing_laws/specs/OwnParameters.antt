@@ -15,18 +15,24 @@ use Rattle.stl_types.specs.declared.views.ResolvedOperand.TheVariants as view
 
 -- the block at a context is a function with this layout, which breaks no rule
 pub record IsFunctionAt (c : Context) (b : Block) (l : BlockLayout) : Type 0 where
+  -- the block stands at the place of the context
   pub block : slice_get c.blocks c.block ≡ Some b
+  -- the block is a function
   pub kind : is_function b.kind ≡ true
+  -- the layout is that of the block
   pub layout : slice_get c.layouts c.block ≡ Some l
   -- the function breaks no rule as a whole
   pub whole : l.broken ≡ false
 
 -- a component at a place is of elementary type, and the first of its name
 pub record IsOwnParameterCell (cells : List Cell) (j : ℕ) (cell : Cell) (kind : Simple) : Type 0 where
+  -- the component stands at this place
   pub there : slice_get cells j ≡ Some cell
+  -- the component breaks no rule of declarations
   pub sound : cell.sound ≡ true
   -- the component is no array
   pub bounds : cell.bounds ≡ []
+  -- the component is of this elementary type
   pub of_kind : cell.of ≡ element.Plain kind
   -- no component in front of it has its name
   pub first : AllByRecursion (λ d. bytes_eq cell.name d.name ≡ false) (take j cells)

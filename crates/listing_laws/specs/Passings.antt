@@ -47,8 +47,11 @@ FitsListed c own f (passed.Parameter index width) =
 
 -- a passing is for a parameter that the called block has, and what it passes fits there
 pub record IsPassable (c : Context) (own called : List Formal) (p : Passing) : Type 0 where
+  -- the parameter of the called block
   pub formal : Formal
+  -- the parameter has the index of the passing
   pub there : slice_get called p.index ≡ Some formal
+  -- what is passed fits the parameter
   pub fits : FitsListed c own formal p.actual
 
 -- passings are for parameters of rising indices, none of them below `from`
@@ -72,11 +75,15 @@ in_upper_case f = record f { name = upper_case_name f.name }
 -- called block as the rules find it, `called` are its parameters in the listing, by their index
 pub record IsListedCall (c : Context) (own called : List Formal) (callee : Callee)
     (ps : List Passing) (s : Statement) : Type 0 where
+  -- the actual parameters are made of the ops of these passings
   pub actuals : s.actuals ≡ actuals_before s.line own called (pass_ops ps)
   -- the parameters by their index are those of the listing, with their names in upper case
   pub order : in_parameter_order (source_block_at c.blocks callee.place) callee.formals ≡ map in_upper_case called
+  -- no two of the parameters have one name, even in upper case
   pub named : AreNamedApart called
+  -- each passing is for a parameter of the called block, and fits there
   pub passable : AllByRecursion (IsPassable c own called) ps
+  -- the passings stand by rising index, none twice
   pub rising : AreRising 0 ps
 
 -- a listed CALL passes what the ops before it pass

@@ -37,8 +37,11 @@ pub record AreDeclarationsRight (y : Types) (b : Block) : Type 0 where
 -- a block is no data type that contains itself, has a number that its kind may have, and no more than
 -- 1,024 bytes of local data, whatever blocks and symbols stand beside it
 pub record IsHeadRight (y : Types) (b : Block) : Type 0 where
+  -- the block is no data type that contains itself
   pub by_43 : (blocks before : List Block) → contains_itself y blocks before b ≡ false
+  -- the number of the block is one that its kind may have
   pub by_44 : (symbols : List Symbol) → has_wrong_number symbols b ≡ false
+  -- the block has at most 1,024 bytes of local data
   pub by_50 : has_too_much_local y b ≡ false
 
 -- the heads of the listed blocks of an accepted source's program break no rule, on whichever lines

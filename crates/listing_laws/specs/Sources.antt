@@ -24,9 +24,11 @@ use Rattle.listing_laws.specs.Ranges.{IsWrittenProgram}
 
 -- a block whose statements are those of a source: as many as lines, and none jumps to the END clause
 pub record IsSourceBlock (b : CodeBlock) : Type 0 where
+  -- the ops of each statement are such as a source has
   pub statements : AllByRecursion IsSourceRun (runs b.code)
   -- as many statements as lines
   pub count : length (runs b.code) ≡ length b.lines
+  -- no jump leads to the END clause
   pub end : IsEndFree (length b.lines) b
 
 -- the listing of a program whose statements are all those of a source has tokens, and these have
@@ -57,7 +59,9 @@ ActsOnNamed before code _ = Unit {0}
 
 -- what a statement acts on, calls and passes is named as in a source
 pub record IsRunNamed (r : Run) : Type 0 where
+  -- each place that the statement passes is named as in a source
   pub prepares : AllByRecursion (λ op. PreparesOnNamed op.operand) r.before
+  -- a place that the statement acts on is named as in a source, and a call is one of a source
   pub acts : ActsOnNamed r.before r.op.code r.op.operand
 
 -- what each statement of a program acts on, calls and passes is named as in a source

@@ -15,9 +15,13 @@ use Rattle.listing_laws.specs.Chains.{HasStep, HasTyped}
 -- a statement of a block, `b`, passes the parameter of index `own` of `b` to the block `id`, for
 -- its parameter of an index
 pub record PassesParameterOn (b : StatedBlock) (id : BlockId) (index own : ℕ) : Type 0 where
+  -- how the block is called: by CALL, UC or CC
   pub how : CallOperation
+  -- the number of the instance data block, where the call names one
   pub instance : Option ℕ
+  -- the line of the call
   pub line : ℕ
+  -- the width of the parameter that is passed on
   pub width : Width
   -- the statements of `b` in front of the call
   pub before : List SourceInstruction
@@ -27,7 +31,9 @@ pub record PassesParameterOn (b : StatedBlock) (id : BlockId) (index own : ℕ) 
   pub lower : List Passing
   -- what the call passes behind this parameter
   pub higher : List Passing
+  -- the block that is called is of a kind that can be called
   pub callable : is_callable id.kind ≡ true
+  -- the statements of `b` are those in front, the call, and those behind
   pub statements : b.statements
       ≡ before
       ++ record {

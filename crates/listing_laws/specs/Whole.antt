@@ -80,9 +80,13 @@ AreBlocksRightAgain =
 pub record IsInstanceOf (p : Program) (number size : ℕ) (s : Shape) : Type 0 where
   -- the place of the function block among the listed code blocks
   pub place : ℕ
+  -- the function block
   pub block : CodeBlock
+  -- the function block stands at this place in the order of a listing
   pub there : slice_get (in_lines p.code_blocks) place ≡ Some block
+  -- the function block has the number that the data block names
   pub id : block.id ≡ function_block number
+  -- an instance of the function block has as many bytes as the data block
   pub length : block.instance_len ≡ size
   -- its structure is that of the function block at this place
   pub shape : s ≡ shape.Of place
@@ -95,13 +99,19 @@ HasShapeAgain p d (Some number) s = IsInstanceOf p number (length d.bytes) s
 -- a data block of a program stands at a place in its listing: its number, its length and its shape there
 pub record IsDataAt (p : Program) (blocks : List Block) (layouts : List BlockLayout) (place : ℕ)
     (d : DataBlock) : Type 0 where
+  -- the layout of the data block in the listing
   pub layout : BlockLayout
+  -- the listed data block stands at this place
   pub block : slice_get blocks place
       ≡ Some (listed_data (signatures_in p) (line_reached 1 (in_lines p.code_blocks)) d.number
       d.bytes d.instance_of)
+  -- the layout is the one at this place
   pub laid : slice_get layouts place ≡ Some layout
+  -- the layout has the number of the data block
   pub id : layout.id ≡ Some (data_id d.number)
+  -- the layout has as many bytes as the data block
   pub size : layout.length ≡ length d.bytes
+  -- the layout has the structure of the data block: its own, or that of its function block
   pub shape : HasShapeAgain p d d.instance_of layout.shape
 
 -- each data block of an accepted source's program stands in its listing, in the order of the

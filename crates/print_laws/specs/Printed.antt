@@ -10,7 +10,9 @@ use Rattle.print_laws.specs.Standing.{HasPrintableTokens as IsCut}
 
 -- a tree whose tokens stand where they are printed, and are read as its clauses
 pub record IsPrintable (t : Tree) : Type 0 where
+  -- the text of the tree is cut into the tokens that are printed
   pub cut : IsCut t
+  -- the tokens that are printed are read as the tree
   pub read : IsReadable t
 
 -- the text of a printable tree has tokens, and these have that tree

@@ -54,12 +54,16 @@ use Rattle.stl_print.specs.Trees.{block_clauses, pieces_of_tree}
 
 -- a word that is no keyword, so that a clause may begin with it
 pub record IsNonKeywordName (name : List ℕ) : Type 0 where
+  -- the name is a word
   pub word : is_word name ≡ true
+  -- the name is no keyword
   pub free : look_up keywords name ≡ None
 
 -- a label: a word that is no keyword, of at most four characters
 pub record IsPrintedLabel (name : List ℕ) : Type 0 where
+  -- the label is a word that is no keyword
   pub is_name : IsNonKeywordName name
+  -- the label has at most four characters
   pub short : length name ≤ 4
 
 -- the label of a statement, where it has one
@@ -69,23 +73,28 @@ IsPrintedLabelOf (Some name) = IsPrintedLabel name
 
 -- a register that stands as an operand
 pub record IsRegister (name : List ℕ) : Type 0 where
+  -- the name is a word
   pub word : is_word name ≡ true
+  -- the name is that of a register that an instruction has as its operand
   pub found : look_up registers name ≡ Some true
+  -- the name is no condition of the status word
   pub no_flag : look_up flags name ≡ None
+  -- the name isn't TRUE
   pub no_true : str_eq_ignore_ascii_case name (codes "TRUE") ≡ false
+  -- the name isn't FALSE
   pub no_false : str_eq_ignore_ascii_case name (codes "FALSE") ≡ false
 
--- a block by its number
+-- a block is named by its kind and number, not by a quoted name
 abbrev pub IsBlockByNumber : BlockName → Type 0
 IsBlockByNumber (block.Number id) = IsNumber id.number
 IsBlockByNumber (block.Quoted name) = ⊥
 
--- a data block by its number
+-- a data block is named by its kind and number, not by a quoted name
 abbrev pub IsDataBlock : BlockName → Type 0
 IsDataBlock (block.Number id) = (id.kind ≡ kinds.Db) × IsNumber id.number
 IsDataBlock (block.Quoted name) = ⊥
 
--- a function block by its number
+-- a function block is named by its kind and number, not by a quoted name
 abbrev pub IsFunctionBlock : BlockName → Type 0
 IsFunctionBlock (block.Number id) = (id.kind ≡ kinds.Fb) × IsNumber id.number
 IsFunctionBlock (block.Quoted name) = ⊥
@@ -119,6 +128,10 @@ abbrev pub IsBlockOf : Option BlockName → Letters → Type 0
 IsBlockOf None area = Unit {0}
 IsBlockOf (Some name) area = IsDataBlock name × (area ≡ letters.Db)
 
+-- an address register by its number: 1 is AR1, 2 is AR2
+abbrev pub IsAddressRegister : (register : ℕ) → Type 0
+IsAddressRegister register = (register ≡ 1) ⊎ (register ≡ 2)
+
 -- the operands of a listing that stand behind any instruction but jumps, calls and OPN
 abbrev pub IsPrintedOperand : Operand → Type 0
 IsPrintedOperand operand.Nothing = Unit {0}
@@ -129,7 +142,7 @@ IsPrintedOperand (operand.Named (head.Local name) []) = is_word name ≡ true
 IsPrintedOperand (operand.ByMemory area w from byte) = IsArea area w × (holds_pointer from ≡ true) × IsNumber byte
 IsPrintedOperand (operand.NumberBy what from byte) = (holds_pointer from ≡ true) × IsNumber byte
 IsPrintedOperand (operand.ByRegister area w register bits) =
-    IsAreaOf area w × ((register ≡ 1) ⊎ (register ≡ 2)) × (bits < 8 * 65536)
+    IsAreaOf area w × IsAddressRegister register × (bits < 8 * 65536)
 IsPrintedOperand (operand.Pointer area byte bit) = IsAreaOf area width.Bit × IsNumber byte × (bit ≤ 7)
 IsPrintedOperand (operand.Constant value) = IsPrintedLiteral value
 IsPrintedOperand (operand.OfStatus flag) = Unit {0}
@@ -143,7 +156,7 @@ IsPassedOperand (operand.Named (head.Local name) []) = is_word name ≡ true
 IsPassedOperand (operand.Constant value) = IsPrintedLiteral value
 IsPassedOperand _ = ⊥
 
--- the target of a jump
+-- the target of a jump is a label of at most four characters
 abbrev pub IsJumpOperand : Operand → Type 0
 IsJumpOperand (operand.Label name) = (is_word name ≡ true) × (length name ≤ 4)
 IsJumpOperand _ = ⊥
@@ -222,8 +235,11 @@ syntax_of _ = plain
 
 -- an actual parameter, on the line of its call
 pub record IsPrintedActual (line : ℕ) (a : Actual) : Type 0 where
+  -- the actual parameter stands on the line of its call
   pub line_is : a.line ≡ line
+  -- the name of the parameter is a word
   pub word : is_word a.name ≡ true
+  -- what is passed is an address, a parameter of the caller or a constant
   pub value : IsPassedOperand a.value
 
 -- the operand and the actual parameters of a statement on this line fit what stands behind its
@@ -239,7 +255,9 @@ FitsSyntax line empty o actuals = ⊥
 
 -- a statement of a listing
 pub record IsPrintedStatement (s : Statement) : Type 0 where
+  -- the label, where the statement has one, is no keyword and short
   pub label : IsPrintedLabelOf s.label
+  -- the operand and the actual parameters are such as the instruction word has behind it
   pub fits : FitsSyntax s.line (syntax_of s.code) s.operand s.actuals
 
 -- ---- declarations
@@ -267,20 +285,28 @@ IsPrintedType _ _ init = ⊥
 
 -- a declaration of a listing, which has no structures
 pub record IsPrintedDeclaration (d : Declaration) : Type 0 where
+  -- the name is a word that is no keyword
   pub name : IsNonKeywordName d.name
+  -- the declaration stands in no structure
   pub level : d.level ≡ 0
+  -- the type is an elementary one without initial values, or an array of one with bytes as its values
   pub type : IsPrintedType d.of.arrays d.of.of d.init
 
 -- a declaration of a listing in a section that a block of this kind may have it in; a parameter has
 -- an elementary type
 pub record IsPrintedDeclarationIn (k : BlockKind) (p : PartKind) (d : Declaration) : Type 0 where
+  -- the declaration is one of a listing
   pub printed : IsPrintedDeclaration d
+  -- the declaration may stand in such a section of such a block
   pub allowed : may_declare k p 0 d ≡ true
+  -- a parameter has an elementary type
   pub elementary : is_parameter p ≡ true → is_elementary d ≡ true
 
 -- a section of a listing in a block of this kind
 pub record IsPrintedPart (k : BlockKind) (p : Part) : Type 0 where
+  -- a block of this kind may have such a section
   pub allowed : may_have_section k p.kind ≡ true
+  -- each declaration of the section is one of a listing, and may stand there
   pub items : AllByRecursion (IsPrintedDeclarationIn k p.kind) p.items
 
 -- ---- settings
@@ -293,7 +319,9 @@ IsPrintedPath _ = ⊥
 
 -- a setting of a listing
 pub record IsPrintedSetting (s : Setting) : Type 0 where
+  -- the component is given by its name, or by its name and an index
   pub path : IsPrintedPath s.path
+  -- the value is a constant of a listing
   pub value : IsPrintedLiteral s.value
 
 -- ---- blocks
@@ -305,14 +333,23 @@ IsResultOf _ result = result ≡ None
 
 -- a code block of a listing: an organization block, a function or a function block
 pub record IsCodeBlock (b : Block) : Type 0 where
+  -- the block is an organization block, a function or a function block
   pub kind : is_code b.kind ≡ true
+  -- only a function has a return value
   pub result : IsResultOf b.kind b.result
+  -- the sections stand in their order, each kind at most once
   pub order : AreSectionsInOrder 0 b.parts
+  -- each section is one of a listing
   pub parts : AllByRecursion (IsPrintedPart b.kind) b.parts
+  -- the block has no type; only data blocks and data types have one
   pub shape : b.shape ≡ None
+  -- the block has no components of a structure
   pub components : b.components ≡ []
+  -- the block isn't an instance data block
   pub instance : b.instance_of ≡ None
+  -- the block has no settings of an instance
   pub settings : b.settings ≡ []
+  -- each statement is one of a listing
   pub body : AllByRecursion IsPrintedStatement b.body
 
 -- what a data block holds: a structure with its components, or the instance of a function block
@@ -326,10 +363,15 @@ IsPrintedDataShape _ components instance settings = ⊥
 
 -- a data block of a listing
 pub record IsPrintedData (b : Block) : Type 0 where
+  -- the block is a data block
   pub kind : b.kind ≡ kinds.Db
+  -- the block has no return value
   pub result : b.result ≡ None
+  -- the block has no sections
   pub parts : b.parts ≡ []
+  -- the block holds a structure, or is an instance of a function block
   pub shape : IsPrintedDataShape b.shape b.components b.instance_of b.settings
+  -- the block has no statements
   pub body : b.body ≡ []
 
 -- the name of a block is its number, of this kind
@@ -364,7 +406,9 @@ AreOnLines reached (c ∷ cs) = IsOnLine reached c × AreOnLines (line_behind re
 
 -- a tree of the forms of a listing, whose clauses are printed on the lines that it has for them
 pub record HasPrintedForms (t : Tree) : Type 0 where
+  -- each block is one of a listing
   pub blocks : AllByRecursion IsPrintedBlock t.blocks
+  -- each clause is printed on the line that the tree has for it
   pub lines : AreOnLines 0 (flat_map block_clauses t.blocks)
 
 -- tokens that show the pieces of such a tree are read as it

@@ -37,26 +37,26 @@ use Rattle.stl_print.specs.Trees.{end_of_text, pieces_of_tree, printed_text}
 abbrev pub IsNonTitleName : List ℕ → Type 0
 IsNonTitleName name = (is_word name ≡ true) × (str_eq_ignore_ascii_case (codes "TITLE") name ≡ false)
 
--- a block by its number
+-- a block is given by its number, not by a quoted name
 abbrev pub IsNumberedBlock : BlockName → Type 0
 IsNumberedBlock (block.Number id) = IsNumber id.number
 IsNumberedBlock (block.Quoted name) = ⊥
 
--- a block by its number, or none
+-- a block, where there is one, is given by its number
 abbrev pub IsNumberedOrNone : Option BlockName → Type 0
 IsNumberedOrNone None = Unit {0}
 IsNumberedOrNone (Some name) = IsNumberedBlock name
 
--- a step of a path
+-- a step of a path is a name, or an index that a source can write
 abbrev pub IsPrintableStep : PathStep → Type 0
 IsPrintableStep (step.Named name) = IsNonTitleName name
 IsPrintableStep (step.Index at) = IsDecimal at
 
--- the steps of a path
+-- each step of a path is a name, or an index that a source can write
 abbrev pub ArePrintableSteps : List PathStep → Type 0
 ArePrintableSteps steps = AllByRecursion IsPrintableStep steps
 
--- how a path begins; no symbol
+-- a path begins with a local name or with a data block by its number, not with a symbol
 abbrev pub IsPrintableHead : PathHead → Type 0
 IsPrintableHead (head.Local name) = is_word name ≡ true
 IsPrintableHead (head.InBlock name) = IsNumberedBlock name
@@ -77,7 +77,7 @@ IsPrintableLiteral (literal.S5time ms) = ⊥
 IsPrintableLiteral (literal.Characters bytes) = ⊥
 IsPrintableLiteral (literal.Bytes bytes) = ⊥
 
--- an operand
+-- an operand has no quoted name, and numbers that a source can write
 abbrev pub IsPrintableOperand : Operand → Type 0
 IsPrintableOperand operand.Nothing = Unit {0}
 IsPrintableOperand (operand.Direct name area w byte bit) = IsNumberedOrNone name × IsNumber byte × IsNumber bit
@@ -95,57 +95,64 @@ IsPrintableOperand (operand.Other name) = IsNonTitleName name
 IsPrintableOperand (operand.OpenBlock di name) = IsNumberedBlock name
 IsPrintableOperand (operand.Called name instance) = IsNumberedBlock name × IsNumberedOrNone instance
 
--- an actual parameter
+-- an actual parameter has a name, and what it passes is a printable operand
 abbrev pub IsPrintableActual : Actual → Type 0
 IsPrintableActual a = IsNonTitleName a.name × IsPrintableOperand a.value
 
--- the label of a statement, where it has one
+-- the label of a statement, where it has one, is a word that begins no title
 abbrev pub IsPrintableLabel : Option (List ℕ) → Type 0
 IsPrintableLabel None = Unit {0}
 IsPrintableLabel (Some name) = IsNonTitleName name
 
--- a statement
+-- the label, the operand and the actual parameters of a statement are printable
 abbrev pub IsPrintableStatement : Statement → Type 0
 IsPrintableStatement s = IsPrintableLabel s.label × IsPrintableOperand s.operand × AllByRecursion IsPrintableActual s.actuals
 
--- a type that is no array; a user-defined one by its number
+-- the type of an element is printable: a user-defined one is given by its number
 abbrev pub IsPrintableElement : ElementType → Type 0
 IsPrintableElement (element.Udt name) = IsNumberedBlock name
 IsPrintableElement _ = Unit {0}
 
--- an initial value
+-- an initial value has a count and a constant that a source can write
 abbrev pub IsPrintableInit : Init → Type 0
 IsPrintableInit i = IsCount i.count × IsPrintableLiteral i.value
 
--- a declaration
+-- a declaration has a name, bounds that a source can write, and a printable type and initial values
 abbrev pub IsPrintableDeclaration : Declaration → Type 0
 IsPrintableDeclaration d =
     IsNonTitleName d.name × AllByRecursion AreBounds d.of.arrays × IsPrintableElement d.of.of × AllByRecursion IsPrintableInit d.init
 
--- a section
+-- each declaration of a section is printable
 abbrev pub IsPrintablePart : Part → Type 0
 IsPrintablePart p = AllByRecursion IsPrintableDeclaration p.items
 
--- a setting
+-- the path and the constant of a setting are printable
 abbrev pub IsPrintableSetting : Setting → Type 0
 IsPrintableSetting s = ArePrintableSteps s.path × IsPrintableLiteral s.value
 
--- the type of a block, where it has one
+-- the type of a block, where it has one, is printable
 abbrev pub IsPrintableShape : Option TypeTree → Type 0
 IsPrintableShape None = Unit {0}
 IsPrintableShape (Some t) = IsPrintableElement t.of
 
--- a block
+-- each part of a block is printable, and the block is given by its number
 pub record IsPrintableBlock (b : Block) : Type 0 where
+  -- the block is given by its number
   pub name : IsNumberedBlock b.name
+  -- each declaration of each section is printable
   pub parts : AllByRecursion IsPrintablePart b.parts
+  -- the type, where the block has one, is printable
   pub shape : IsPrintableShape b.shape
+  -- each declaration of a component is printable
   pub components : AllByRecursion IsPrintableDeclaration b.components
+  -- the function block, where the block is an instance of one, is given by its number
   pub instance_of : IsNumberedOrNone b.instance_of
+  -- each setting is printable
   pub settings : AllByRecursion IsPrintableSetting b.settings
+  -- each statement is printable
   pub body : AllByRecursion IsPrintableStatement b.body
 
--- a tree
+-- each block of a tree is printable
 abbrev pub HasPrintableTokens : Tree → Type 0
 HasPrintableTokens t = AllByRecursion IsPrintableBlock t.blocks
 

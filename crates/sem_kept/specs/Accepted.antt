@@ -29,6 +29,7 @@ pub record IsAccepted (source file : List ℕ) (symbols : List Symbol) (t : Tree
   pub language : Language
   -- the symbols are those of the symbols file
   pub named : symbols_in language file ≡ Ok symbols
+  -- the tokens of the source
   pub tokens : List Token
   -- the source has these tokens
   pub lexed : AreTokens source tokens

@@ -62,6 +62,7 @@ pub record KeepsSourceIn (language : Language) (profile : Profile) (source symbo
 pub record ImageKeepsSourceIn (language : Language) (bytes source symbols : List ℕ) : Type 0 where
   -- the version of the image, with its profile
   pub stamp : Stamp
+  -- the program of the image
   pub program : Program
   -- the bytes are the image of this program
   pub spelled : bytes ≡ image stamp program

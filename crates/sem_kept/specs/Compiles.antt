@@ -15,7 +15,9 @@ use Rattle.sem_kept.specs.Meaning.{HasSymbolsIn, HasTokens, HasTreeOrRefusal, re
 pub record CompilesTo (language : Language) (source symbols : List ℕ) (p : Program) : Type 0 where
   -- the symbols of the symbols file
   pub list : List Symbol
+  -- the tokens of the source
   pub tokens : List Token
+  -- the tree of the source
   pub tree : Tree
   -- the symbols file breaks no rule and gives this list
   pub named : HasSymbolsIn language symbols (Ok list)

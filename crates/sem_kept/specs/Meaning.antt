@@ -78,7 +78,9 @@ IsCheckedWith source symbols outcome =
 
 -- a refusal is that of the symbols file or that of the source
 pub data RefusedFile : Type 0 where
+  -- a refusal of the symbols file
   InSymbols : (refusal : Refusal) → RefusedFile
+  -- a refusal of the source
   InSource : (refusal : Refusal) → RefusedFile
 
 -- what a source with a symbols file comes to, whose addresses are those of a language: the

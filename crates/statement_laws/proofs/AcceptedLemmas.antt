@@ -103,10 +103,10 @@ found_same symbols t k name =
     ∙ ap (λ (s : List Symbol). found_block s (types_of_source symbols t.blocks).ids is_data_block name)
     (sym (measured_symbols symbols t.blocks))
 
-found_judged : (l : List BlockLayout) (o : Option ℕ) (steps : List PathStep)
+leaves_same : (l : List BlockLayout) (o : Option ℕ) (steps : List PathStep)
     → leaves_found l o steps ≡ leaves_structure l (option_and_then (structure_of l) o) steps
-found_judged l None steps = refl
-found_judged l (Some place) steps = refl
+leaves_same l None steps = refl
+leaves_same l (Some place) steps = refl
 
 stays : (symbols : List Symbol) (t : Tree) (k : ℕ) (o : Operand)
     → operand_is_outside (types_of_source symbols t.blocks) (layouts_of t symbols) k o ≡ false
@@ -115,7 +115,7 @@ stays symbols t k (operand.Named (head.Local name) steps) e = ap not e
 stays symbols t k (operand.Named (head.InBlock name) steps) e =
     ap not (ap (λ (o : Option ℕ). leaves_structure (layouts_of t symbols)
     (option_and_then (structure_of (layouts_of t symbols)) o) (folded_path steps)) (found_same symbols t k name)
-    ∙ sym (found_judged (layouts_of t symbols)
+    ∙ sym (leaves_same (layouts_of t symbols)
     (found_block (types_of_source symbols t.blocks).symbols (types_of_source symbols t.blocks).ids is_data_block name)
     (folded_path steps))
     ∙ e)

@@ -49,7 +49,7 @@ use Rattle.statement_laws.specs.Operands.{block_id_of_name, cell_width, componen
 use Rattle.statement_laws.specs.Operands as own
 use Rattle.statement_laws.proofs.CoverLemmas.{has_no_name, name_left}
 use Rattle.statement_laws.proofs.SeenLemmas.{block_same, number_known, resolved_parts, resolved_same}
-use Rattle.statement_laws.proofs.VariableLemmas.{function_same, judged}
+use Rattle.statement_laws.proofs.VariableLemmas.{function_same, walked_in_whole}
 
 abbrev There : Option NamedItem → Type 0
 There o = (x : NamedItem) × (o ≡ Some x)
@@ -107,14 +107,14 @@ static_end c (walk.Reaches spot) v r fc e =
 static_end c walk.Unknown v r fc e = absurd cc
 static_end c walk.Rests v r fc e = absurd cc
 
-judged_end : (c : Context) (temporary : Bool) (end : PathEnd) (v : ResolvedOperand)
+end_is_checkable : (c : Context) (temporary : Bool) (end : PathEnd) (v : ResolvedOperand)
     → own_walked c temporary end ≡ Resolved v → is_checkable end ≡ true
-judged_end c temporary (walk.Reaches spot) v e = refl
-judged_end c temporary walk.Unknown v e = absurd cc
-judged_end c temporary walk.Rests v e = absurd cc
+end_is_checkable c temporary (walk.Reaches spot) v e = refl
+end_is_checkable c temporary walk.Unknown v e = absurd cc
+end_is_checkable c temporary walk.Rests v e = absurd cc
 
--- within its arrays a path that is judged leaves none
-stays : (judged left : Bool) → judged ≡ true → not (judged && left) ≡ true → left ≡ false
+-- a path that is checked, and stays within its arrays, leaves none
+stays : (checkable left : Bool) → checkable ≡ true → not (checkable && left) ≡ true → left ≡ false
 stays true true j h = absurd (false≢true h)
 stays true false j h = refl
 stays false left j h = absurd (false≢true j)
@@ -272,9 +272,9 @@ local_there : (c : Context) (name : List ℕ) (steps : List PathStep)
 local_there c name steps None v r plain there e inside =
     kept (leaves_from c.layouts c.block true (step.Named name ∷ steps))
     (place_at_path_end c.layouts area.L 0 (path_end_in_block c.layouts c.block true (step.Named name ∷ steps)))
-    (stays _ _ (judged_end c true _ v e) inside)
+    (stays _ _ (end_is_checkable c true _ v e) inside)
     (temporary_end c (path_end_in_block c.layouts c.block true (step.Named name ∷ steps)) v r
-    (judged c true (is_some (whole_at c.layouts c.block))
+    (walked_in_whole c true (is_some (whole_at c.layouts c.block))
     (path_end_in_block c.layouts c.block true (step.Named name ∷ steps)) v e))
 local_there c name steps (Some m) v r plain there e inside =
     by (is_fc (slice_get c.blocks c.block)) refl
@@ -284,15 +284,15 @@ local_there c name steps (Some m) v r plain there e inside =
         else place_in_layout (variable_place c.layouts area.Di c.block false (step.Named name ∷ steps)))
     by true fc =
         parameter_there c name steps m v (plain fc) there
-        (judged c false (is_some (whole_at c.layouts c.block))
+        (walked_in_whole c false (is_some (whole_at c.layouts c.block))
         (path_end_in_block c.layouts c.block false (step.Named name ∷ steps)) v e)
     by false fc =
         kept (leaves_from c.layouts c.block false (step.Named name ∷ steps))
         (place_at_path_end c.layouts area.Di 0 (path_end_in_block c.layouts c.block false (step.Named name ∷ steps)))
-        (stays _ _ (judged_end c false _ v e) inside)
+        (stays _ _ (end_is_checkable c false _ v e) inside)
         (static_end c (path_end_in_block c.layouts c.block false (step.Named name ∷ steps)) v r
         (sym (function_same (slice_get c.blocks c.block)) ∙ fc)
-        (judged c false (is_some (whole_at c.layouts c.block))
+        (walked_in_whole c false (is_some (whole_at c.layouts c.block))
         (path_end_in_block c.layouts c.block false (step.Named name ∷ steps)) v e))
 
 variable_there : (c : Context) (name : List ℕ) (steps : List PathStep)

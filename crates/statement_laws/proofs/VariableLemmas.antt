@@ -60,12 +60,12 @@ inside : (b : Bool) (o : Option (Place × Width)) (x : NamedItem)
 inside true o x n = absurd cc
 inside false o x n = n
 
--- a block that breaks no rule
-pub judged : (c : Context) (temporary b : Bool) (end : PathEnd) (v : ResolvedOperand)
+-- a path that resolves was walked in a block that breaks no rule as a whole, to this end
+pub walked_in_whole : (c : Context) (temporary b : Bool) (end : PathEnd) (v : ResolvedOperand)
     → own_walked c temporary (if b then end else walk.Rests) ≡ Resolved v
     → own_walked c temporary end ≡ Resolved v
-judged c temporary true end v e = e
-judged c temporary false end v e = absurd cc
+walked_in_whole c temporary true end v e = e
+walked_in_whole c temporary false end v e = absurd cc
 
 -- ---- temporary variables
 
@@ -239,7 +239,7 @@ local_found : (c : Context) (name : List ℕ) (steps : List PathStep) (m : Optio
 local_found c name steps None v x there e n =
     temporary_walked c
     (path_end_in_block c.layouts c.block true (step.Named name ∷ steps)) v x
-    (judged c true (is_some (whole_at c.layouts c.block))
+    (walked_in_whole c true (is_some (whole_at c.layouts c.block))
     (path_end_in_block c.layouts c.block true (step.Named name ∷ steps)) v e)
     (inside (leaves_from c.layouts c.block true (step.Named name ∷ steps))
     (place_at_path_end c.layouts area.L 0 (path_end_in_block c.layouts c.block true (step.Named name ∷ steps))) x n)
@@ -250,7 +250,7 @@ local_found c name steps (Some m) v x there e n = by (is_fc (slice_get c.blocks 
 
     sound : own_walked c false (path_end_in_block c.layouts c.block false (step.Named name ∷ steps))
         ≡ Resolved v
-    sound = judged c false (is_some (whole_at c.layouts c.block))
+    sound = walked_in_whole c false (is_some (whole_at c.layouts c.block))
         (path_end_in_block c.layouts c.block false (step.Named name ∷ steps)) v e
 
     by : (fc : Bool) → is_fc (slice_get c.blocks c.block) ≡ fc

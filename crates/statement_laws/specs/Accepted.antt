@@ -37,15 +37,21 @@ IsNamed c o = (x : NamedItem) × (named_by c o ≡ Some x)
 
 -- a call names the block that it calls, whose parameters are known
 pub record NamesCalled (c : Context) (s : Statement) : Type 0 where
+  -- the name of the called block
   pub name : BlockName
   -- the data block that is its instance, where the call names one
   pub db : Option BlockName
+  -- the operand is a call of the named block, with the data block that is named
   pub is : s.operand ≡ operand.Called name db
-  -- the called block, and the number of its instance
+  -- the called block
   pub id : BlockId
+  -- the number of the data block that is the instance, where the call names one
   pub instance : Option ℕ
+  -- the operand names the called block, with its instance
   pub names : named_by c (operand.Called name db) ≡ Some (named.Called id instance)
+  -- the called block with its parameters
   pub callee : Callee
+  -- the block with its parameters is found by the operand
   pub found : callee_of c (operand.Called name db) ≡ Some callee
   -- the block whose parameters are known is the one that is called
   pub same : callee.id ≡ id
@@ -53,8 +59,11 @@ pub record NamesCalled (c : Context) (s : Statement) : Type 0 where
 -- a statement names what it acts on: by its operand, as a call the called block, and by each actual
 -- parameter what is passed
 pub record IsNamedStatement (c : Context) (s : Statement) : Type 0 where
+  -- the operand names what the statement acts on
   pub operand : IsNamed c s.operand
+  -- a call names the block that it calls
   pub called : is_call_instruction s.code ≡ true → NamesCalled c s
+  -- each actual parameter names what is passed
   pub actuals : AllByRecursion (IsNamedActual c) s.actuals
 
 -- each statement of each block of an accepted source, whose elements are bytes, names what it acts
@@ -83,28 +92,37 @@ Steps i f =
 pub record ActsOnItsOperand (c : Context) (body : List Statement) (n : ℕ) (s : Statement) : Type 0 where
   -- what its operand names
   pub item : NamedItem
+  -- the operand names `item`
   pub names : named_by c s.operand ≡ Some item
+  -- the instruction does with `item` what the mnemonic says
   pub acts : Acts (instruction c body n s) (effect_of_statement s.code item)
 
 -- a jump but JL has a label of its body, and goes to the statement of that label or on, as its
 -- mnemonic says
 pub record JumpsToLabel (c : Context) (body : List Statement) (n : ℕ) (s : Statement) : Type 0 where
+  -- the operand is a label of the body
   pub label : HasLabel body s
+  -- the instruction goes to the statement of the label or on, as the mnemonic says
   pub acts :
       Steps (instruction c body n s)
       (λ program next a w. jumps_to_target s.code (number_of_label label.name body) next a w)
 
 -- JL has a label of its body, and goes by the jumps behind it up to that label
 pub record JumpsByList (c : Context) (body : List Statement) (n : ℕ) (s : Statement) : Type 0 where
+  -- the operand is a label of the body
   pub label : HasLabel body s
+  -- the instruction goes on in the list of jumps behind it, or at the label
   pub acts :
       Steps (instruction c body n s) (λ program next a w. jumps_by_list n (number_of_label label.name body) a w)
 
 -- a call calls the block that it names, and each parameter of that block stands for what is passed
 -- for its name, which is named
 pub record CallsNamed (c : Context) (body : List Statement) (n : ℕ) (s : Statement) : Type 0 where
+  -- the operand names the called block
   pub called : NamesCalled c s
+  -- each actual parameter names what is passed
   pub actuals : AllByRecursion (IsNamedActual c) s.actuals
+  -- the instruction calls this block, each parameter bound to what is passed for its name
   pub acts :
       Steps (instruction c body n s)
       (calls_block s.code called.id called.instance (bindings_of c s.actuals (parameter_names c called.id)))
@@ -112,11 +130,17 @@ pub record CallsNamed (c : Context) (body : List Statement) (n : ℕ) (s : State
 -- the instruction of a statement does what the statement says, by its family, of which it has one; n
 -- is the number of the statement
 pub record DoesAsWritten (c : Context) (body : List Statement) (n : ℕ) (s : Statement) : Type 0 where
+  -- the mnemonic belongs to one of the families
   pub family : is_in_family s.code ≡ true
+  -- a statement that goes on acts on what its operand names
   pub goes_on : is_no_branch s.code ≡ true → ActsOnItsOperand c body n s
+  -- a jump but JL goes to its label or on
   pub jumps : is_plain_jump s.code ≡ true → JumpsToLabel c body n s
+  -- JL goes on in the list of jumps behind it, or at its label
   pub jumps_by_list : is_jump_list s.code ≡ true → JumpsByList c body n s
+  -- an end of a block ends it as its mnemonic says
   pub ends : is_end s.code ≡ true → Steps (instruction c body n s) (ends_block s.code)
+  -- a call calls the block that it names
   pub calls : is_call_instruction s.code ≡ true → CallsNamed c body n s
 
 -- each statement but the empty ones of each block of an accepted source, whose elements are bytes,

@@ -66,7 +66,7 @@ on_regs f p = Ok (with_regs (f (registers_of p)) p)
 abbrev pub with_inner : FrameData → ExecState → ExecState
 with_inner i p = record p { local = record p.local { inner = i } }
 
--- the RLO
+-- the result of logic operation (RLO), as the status word of a state has it
 abbrev pub rlo_of : ExecState → Bool
 rlo_of p = (registers_of p).status.rlo
 

@@ -348,11 +348,13 @@ is_call_instruction _ = false
 
 -- what an actual parameter resolves to is named
 pub record IsNamedActual (c : Context) (a : Actual) : Type 0 where
-  -- what it resolves to
+  -- what the value of the actual parameter resolves to
   pub view : ResolvedOperand
+  -- the value of the actual parameter resolves to `view`
   pub seen : resolution_of c a.value ≡ Resolved view
-  -- what it names
+  -- what the value of the actual parameter names
   pub named : NamedItem
+  -- the value of the actual parameter names `named`
   pub names : named_by c a.value ≡ Some named
 
 -- each call of a block whose parameters are known does what its mnemonic says, where what is

@@ -25,9 +25,13 @@ pub data ItemNumber : Type 0 where
 
 -- what L can tell of the data block in the DB or DI register
 pub data OpenBlock : Type 0 where
+  -- DBLG, the length of the data block in the DB register
   DbLength : OpenBlock
+  -- DBNO, the number of the data block in the DB register
   DbNumber : OpenBlock
+  -- DILG, the length of the data block in the DI register
   DiLength : OpenBlock
+  -- DINO, the number of the data block in the DI register
   DiNumber : OpenBlock
 
 -- what an operand names
@@ -46,7 +50,9 @@ pub data NamedItem : Type 0 where
   Pointer : (bits : ℕ) → NamedItem
   -- a condition of the status word, as OV and ==0
   Condition : (flag : Flag) → NamedItem
+  -- a timer by its number
   Timer : (number : ItemNumber) → NamedItem
+  -- a counter by its number
   Counter : (number : ItemNumber) → NamedItem
   -- a data block to be opened, in the DI register or in the DB register
   DataBlock : (di : Bool) (number : ItemNumber) → NamedItem

@@ -47,7 +47,7 @@ area_by_letters letters.L = area.L
 area_by_letters letters.Pi = area.P
 area_by_letters letters.Pq = area.P
 
--- a fixed place
+-- what an operand names by an area, a width, a byte and a bit, as MW 2 and M 2.3
 abbrev pub named_fixed_place : Area → Width → (byte bit : ℕ) → NamedItem
 named_fixed_place a width byte bit = named.Place (named.Fixed a width byte bit)
 

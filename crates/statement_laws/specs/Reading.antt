@@ -16,6 +16,7 @@ use Rattle.plc_mem.specs.Writing as memory
 use Rattle.status_word.specs.Flags.{flag_value}
 use Rattle.timers_counters.specs.Counter.{Counter, count_bcd, is_counting}
 use Rattle.timers_counters.specs.Timer.{Timer, time_left, units_left}
+use Rattle.flat_code.specs.Kinds.{ar1_number}
 use Rattle.frames.specs.Locals.{LocalData, local_number, local_written}
 use Rattle.frames.specs.declared.bindings.Binding.{Binding}
 use Rattle.frames.specs.declared.bindings.Binding.TheVariants as binding
@@ -165,9 +166,9 @@ place_of_crossing access width address pointer p =
     if is_whole width pointer then in_area_of access (area_of_address address) width pointer p
     else Err (pointer_bit_error access)
 
--- what AR1 or AR2 holds
+-- what the address register of a number holds: 1 is AR1, 2 is AR2
 abbrev pub address_in_register : (register : ℕ) → ExecState → ℕ
-address_in_register register p = if register == 1 then p.local.regs.ar1 else p.local.regs.ar2
+address_in_register register p = if register == ar1_number then p.local.regs.ar1 else p.local.regs.ar2
 
 -- an address so many bits further on, in bits 0 to 18
 abbrev pub address_moved : (address count : ℕ) → ℕ

@@ -51,7 +51,7 @@ static NUMBERS: [Numbers; 5] = [
     ),
 ];
 
-fn are_judged(
+fn check_numbers(
     rt: &impl Abort,
     alloc: Global,
     before: &[u8],
@@ -70,8 +70,8 @@ fn are_judged(
 fn numbers_of_blocks(rt: HostRuntime) -> Result<(), Fail> {
     let alloc = rt.alloc();
     for (before, behind, right, wrong) in &NUMBERS {
-        are_judged(&rt, alloc, before, behind, right, (0, 0))?;
-        are_judged(&rt, alloc, before, behind, wrong, (1, 44))?;
+        check_numbers(&rt, alloc, before, behind, right, (0, 0))?;
+        check_numbers(&rt, alloc, before, behind, wrong, (1, 44))?;
     }
     Ok(())
 }

@@ -64,8 +64,8 @@ T MW 0;
 END_ORGANIZATION_BLOCK
 ";
 
-/// Judges a source: how it begins and ends, and how many bytes it has.
-fn judge_source(rt: &impl Abort, text: &[u8], head: &[u8], end: &[u8], len: usize) {
+/// Checks a source: how it begins and ends, and how many bytes it has.
+fn check_source(rt: &impl Abort, text: &[u8], head: &[u8], end: &[u8], len: usize) {
     same(rt, "head", text.starts_with(head), true);
     same(rt, "end", text.ends_with(end), true);
     same(rt, "length", text.len(), len);
@@ -78,9 +78,9 @@ fn judge_source(rt: &impl Abort, text: &[u8], head: &[u8], end: &[u8], len: usiz
 #[test]
 fn sources(rt: HostRuntime) -> Result<(), Fail> {
     let text = source_text(rt.alloc(), 1)?;
-    judge_source(&rt, text.as_slice(), HEAD_OF_1, END_OF_1, 16_520);
+    check_source(&rt, text.as_slice(), HEAD_OF_1, END_OF_1, 16_520);
     let text = source_text(rt.alloc(), 10_000)?;
-    judge_source(&rt, text.as_slice(), HEAD_OF_10000, END_OF_10000, 16_424);
+    check_source(&rt, text.as_slice(), HEAD_OF_10000, END_OF_10000, 16_424);
     Ok(())
 }
 
@@ -126,7 +126,7 @@ fn read(byte: u16) -> Entry {
 
 /// Compares a round, counted from 0, with the number of its first entry, its steps and what happens
 /// behind them.
-fn judge_round(rt: &impl Abort, runs: &[Run], round: u32, (first, steps, last): (u32, u32, Entry)) {
+fn check_round(rt: &impl Abort, runs: &[Run], round: u32, (first, steps, last): (u32, u32, Entry)) {
     let stepping = Run {
         entry: step(),
         first: u64::from(first),
@@ -159,7 +159,7 @@ fn history_of_1(rt: HostRuntime) -> Result<(), Fail> {
         (998, (199_464, 393, tick())),
         (999, (199_858, 210, input(49, 0xB1))),
     ] {
-        judge_round(&rt, entries.runs(), round, wanted);
+        check_round(&rt, entries.runs(), round, wanted);
     }
     Ok(())
 }
@@ -180,7 +180,7 @@ fn history_of_10000(rt: HostRuntime) -> Result<(), Fail> {
         (998, (201_604, 288, tick())),
         (999, (201_893, 145, input(32, 0x20))),
     ] {
-        judge_round(&rt, entries.runs(), round, wanted);
+        check_round(&rt, entries.runs(), round, wanted);
     }
     Ok(())
 }

@@ -20,23 +20,35 @@ use Rattle.de_mnemonics.specs.Words.{operand_partner}
 
 -- two tokens, each of its source, of the same kind and text on the same line
 pub record IsSameToken (s e : List ℕ) (t u : Token) : Type 0 where
+  -- both tokens are of one kind
   pub kind : t.kind ≡ u.kind
+  -- both tokens stand on one line
   pub line : t.line ≡ u.line
+  -- the bytes of both tokens are the same, each in its source
   pub text : text_of s t ≡ text_of e u
 
 -- two words that are the same but for the case of their letters
 pub record IsSameWordButForCase (s e : List ℕ) (t u : Token) : Type 0 where
+  -- the first token is a word
   pub word : t.kind ≡ kind.Word
+  -- the second token is a word
   pub other : u.kind ≡ kind.Word
+  -- both words stand on one line
   pub line : t.line ≡ u.line
+  -- both words are the same but for the case of their letters
   pub text : str_eq_ignore_ascii_case (text_of s t) (text_of e u) ≡ true
 
 -- a word that is an operand word of one of the languages, and the same with `#` in front, a local name
 pub record IsOperandWordAsLocal (s e : List ℕ) (t u : Token) : Type 0 where
+  -- the first token is a word
   pub word : t.kind ≡ kind.Word
+  -- the second token is a local name
   pub other : u.kind ≡ kind.Local
+  -- both tokens stand on one line
   pub line : t.line ≡ u.line
+  -- the local name is the word with `#` in front
   pub text : text_of e u ≡ hash ∷ text_of s t
+  -- the word is an operand word of English or of German
   pub operand :
       (is_some (operand_partner English (text_of s t)) ≡ true) ⊎ (is_some (operand_partner German (text_of s t)) ≡ true)
 

@@ -59,9 +59,13 @@ ShowRewrittenTexts text _ _ _ = ⊥
 
 -- the tokens of a source that was written anew; a text that is written anew from it is written anew from the source
 pub record RewritesSource (source : List ℕ) (ts : List Token) (words : List (List ℕ)) : Type 0 where
+  -- the tokens of the source that was written anew
   pub us : List Token
+  -- the source that was written anew has these tokens
   pub tokens : AreTokens (rewritten_source source 0 ts words) us
+  -- the tokens of the new source have the new texts, and the lines of the old tokens
   pub shows : ShowRewrittenTexts (rewritten_source source 0 ts words) ts words us
+  -- the new source, written anew with other texts, is the old source written anew with them
   pub again : (others : List (List ℕ)) → length others ≡ length ts → rewritten_source (rewritten_source source 0 ts words) 0 us others ≡ rewritten_source source 0 ts others
 
 -- a source is written anew with the tokens that its texts say

@@ -9,14 +9,20 @@ use Rattle.de_mnemonics.specs.Translation.{IsTranslation}
 
 -- a text has this tree, with its lines
 pub record HasTree (text : List ℕ) (tree : Tree) : Type 0 where
+  -- the tokens of the text
   pub tokens : List Token
+  -- the text has these tokens
   pub are : AreTokens text tokens
+  -- the tokens are read as the tree
   pub is : IsTree text tokens tree
 
 -- a German text has a translation to English with this tree
 pub record ComesBackWithTree (german : List ℕ) (tree : Tree) : Type 0 where
+  -- the English text
   pub english : List ℕ
+  -- the English text is the translation of the German one
   pub translation : IsTranslation English german english
+  -- the English text has the tree
   pub same : HasTree english tree
 
 -- of each source with a tree, whose clauses so break no rule, each translation to German comes back

@@ -83,7 +83,8 @@ abbrev pub is_closing_class : TokenClass → Bool
 is_closing_class class.CloseParen = true
 is_closing_class _ = false
 
--- tokens behind another first token of an instruction, of this class: no path begins behind a number
+-- tokens behind the first one of an instruction, where this is no word; `c` is the class of the
+-- first one. No path begins behind a number
 abbrev pub sign_roles : List ℕ → TokenClass → List Token → List Role
 sign_roles s c ts =
     if is_number_class c then roles_beside s false c ts
@@ -166,9 +167,11 @@ StatementsHaveRoles =
 
 -- between statements all stays, and the word that ends a body leads out of the block
 pub record BodiesHaveRoles : Type 0 where
+  -- a token between statements stays, and a statement may begin behind it
   pub between :
       (s : List ℕ) (before : TokenClass) (t : Token) (rest : List Token) → stands_between_statements (class_in s t) (text_of s t) ≡ true
       → roles_from s place.Start before (t ∷ rest) ≡ role.Stays ∷ roles_from s place.Start (class_in s t) rest
+  -- the word that ends a body stays, and what is behind it stands outside of blocks
   pub ends :
       (s : List ℕ) (before : TokenClass) (t : Token) (rest : List Token) → is_body_end (class_in s t) (text_of s t) ≡ true
       → roles_from s place.Start before (t ∷ rest) ≡ role.Stays ∷ roles_from s place.Outside (class_in s t) rest
@@ -187,10 +190,12 @@ place_in_head before c word =
 
 -- outside of bodies all stays
 pub record OthersStay : Type 0 where
+  -- a token outside of blocks stays; a word that opens a block with statements leads to its head
   pub outside :
       (s : List ℕ) (before : TokenClass) (t : Token) (rest : List Token)
       → roles_from s place.Outside before (t ∷ rest)
       ≡ role.Stays ∷ roles_from s (place_outside before (class_in s t) (text_of s t)) (class_in s t) rest
+  -- a token of a head stays; a word that opens a body or a block of data leads out of the head
   pub head :
       (s : List ℕ) (before : TokenClass) (t : Token) (rest : List Token)
       → roles_from s place.Head before (t ∷ rest)

@@ -124,15 +124,15 @@ each_empty P f by (s ∷ ss) h = empty_both (f s) (flat_map f ss) (by s h.0) (ea
 unbroken : (b : Bool) (line rule : ℕ) → b ≡ false → broken_if b line rule ≡ []
 unbroken b line rule e = ap (λ (t : Bool). broken_if t line rule) e
 
-judged_empty : (breaks : Operand → Bool) (rule : ℕ) (actuals : List Actual) → AllByRecursion (λ (a : Actual). breaks a.value ≡ false) actuals
+actual_operands_empty : (breaks : Operand → Bool) (rule : ℕ) (actuals : List Actual) → AllByRecursion (λ (a : Actual). breaks a.value ≡ false) actuals
     → flat_map (λ (o : OperandAtLine). broken_if (breaks o.operand) o.line rule) (map (λ (a : Actual). record { line = a.line; operand = a.value }) actuals) ≡ []
-judged_empty breaks rule [] h = refl
-judged_empty breaks rule (a ∷ more) h =
-    empty_both (broken_if (breaks a.value) a.line rule) _ (unbroken (breaks a.value) a.line rule h.0) (judged_empty breaks rule more h.1)
+actual_operands_empty breaks rule [] h = refl
+actual_operands_empty breaks rule (a ∷ more) h =
+    empty_both (broken_if (breaks a.value) a.line rule) _ (unbroken (breaks a.value) a.line rule h.0) (actual_operands_empty breaks rule more h.1)
 
 operands_empty : (breaks : Operand → Bool) (rule : ℕ) (s : Statement) → breaks s.operand ≡ false → AllByRecursion (λ (a : Actual). breaks a.value ≡ false) s.actuals
     → flat_map (λ (o : OperandAtLine). broken_if (breaks o.operand) o.line rule) (operands_of s) ≡ []
-operands_empty breaks rule s own more = empty_both (broken_if (breaks s.operand) s.line rule) _ (unbroken (breaks s.operand) s.line rule own) (judged_empty breaks rule s.actuals more)
+operands_empty breaks rule s own more = empty_both (broken_if (breaks s.operand) s.line rule) _ (unbroken (breaks s.operand) s.line rule own) (actual_operands_empty breaks rule s.actuals more)
 
 actuals_empty : (breaks : Actual → Bool) (rule : ℕ) (actuals : List Actual) → AllByRecursion (λ (a : Actual). breaks a ≡ false) actuals → flat_map (λ (a : Actual). broken_if (breaks a) a.line rule) actuals ≡ []
 actuals_empty breaks rule [] h = refl
