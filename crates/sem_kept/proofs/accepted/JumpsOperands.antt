@@ -126,9 +126,7 @@ of_data_path c steps None place = refl
 
 of_target : (t : Target) → is_bare (Resolved (target_view t)) ≡ false
 of_target (target.Variable place width) = refl
-of_target (target.Timer number) = refl
-of_target (target.Counter number) = refl
-of_target (target.Block id) = refl
+of_target _ = refl
 
 of_symbol : (s : Option Symbol) → is_bare (symbol_seen s) ≡ false
 of_symbol None = refl

@@ -180,13 +180,11 @@ no_end _ how e = refl
 
 call_code : (how : CallOperation) → IsOtherCode (op_code_of (operation.Call how))
 call_code calls.Call = ((refl, refl), (refl, refl))
-call_code calls.Uc = ((refl, refl), (refl, refl))
-call_code calls.Cc = ((refl, refl), (refl, refl))
+call_code _ = ((refl, refl), (refl, refl))
 
 end_code : (how : EndOperation) → IsOtherCode (op_code_of (operation.End how))
 end_code ends.Be = ((refl, refl), (refl, refl))
-end_code ends.Bec = ((refl, refl), (refl, refl))
-end_code ends.Beu = ((refl, refl), (refl, refl))
+end_code _ = ((refl, refl), (refl, refl))
 
 -- ---- the last op of a statement
 
@@ -420,7 +418,5 @@ opening_quiet (Some number) =
 
 pub front_quiet : (i : Instr) → AllByRecursion IsQuiet (parted i).front
 front_quiet (Does use_db w o) = opening_quiet use_db
-front_quiet (Jumps how target) = tt
-front_quiet (JumpsByList targets otherwise) = tt
 front_quiet (Calls how block instance passings) = passing_quiet passings
-front_quiet (Returns how) = tt
+front_quiet _ = tt

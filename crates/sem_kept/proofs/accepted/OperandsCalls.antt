@@ -294,11 +294,7 @@ in_order_all b P fs h = return_all P b.result fs h
 
 system_kind : (k : BlockKind) → is_system_function k ≡ true → k ≡ kinds.Sfc
 system_kind kinds.Sfc e = refl
-system_kind kinds.Ob e = absurd cc
-system_kind kinds.Fc e = absurd cc
-system_kind kinds.Fb e = absurd cc
-system_kind kinds.Db e = absurd cc
-system_kind kinds.Udt e = absurd cc
+system_kind _ e = absurd cc
 
 known_function : (n : ℕ) (k : BlockKind) → k ≡ kinds.Sfc
     → (is_system_function k && is_none (system_formals n)) ≡ false
@@ -359,10 +355,7 @@ source_kind : (k : BlockKind) → is_callable k ≡ true → is_system_function 
     → (k ≡ kinds.Fc) ⊎ (k ≡ kinds.Fb)
 source_kind kinds.Fc e f = inl refl
 source_kind kinds.Fb e f = inr refl
-source_kind kinds.Sfc e f = absurd cc
-source_kind kinds.Ob e f = absurd cc
-source_kind kinds.Db e f = absurd cc
-source_kind kinds.Udt e f = absurd cc
+source_kind _ e f = absurd cc
 
 source_code : (k : BlockKind) → (k ≡ kinds.Fc) ⊎ (k ≡ kinds.Fb) → is_code k ≡ true
 source_code k h = ⊎_elim (λ e. ap is_code e) (λ e. ap is_code e) h
@@ -494,11 +487,7 @@ source_called symbols t tree k name inst id p named kind whole = record {
 
     fb_kind : (j : BlockKind) → is_function_block j ≡ true → j ≡ kinds.Fb
     fb_kind kinds.Fb e = refl
-    fb_kind kinds.Ob e = absurd cc
-    fb_kind kinds.Fc e = absurd cc
-    fb_kind kinds.Db e = absurd cc
-    fb_kind kinds.Sfc e = absurd cc
-    fb_kind kinds.Udt e = absurd cc
+    fb_kind _ e = absurd cc
 
 -- ---- a call
 
@@ -512,9 +501,7 @@ call_kind : (k : BlockKind) → is_callable k ≡ true → CallKind k
 call_kind kinds.Sfc e = OfSystem refl refl
 call_kind kinds.Fc e = OfFunction refl
 call_kind kinds.Fb e = OfBlock refl
-call_kind kinds.Ob e = absurd cc
-call_kind kinds.Db e = absurd cc
-call_kind kinds.Udt e = absurd cc
+call_kind _ e = absurd cc
 
 callee_there : (symbols : List Symbol) (t : Tree) → IsSoundTree symbols t → (k : ℕ)
     (name : BlockName) (inst : Option BlockName) (id : BlockId) (instance : Option ℕ)
@@ -675,20 +662,7 @@ instance_long symbols t q p d b there is well of_block =
 operand_called : (o : Operand) → names_called_block o ≡ true
     → (name : BlockName) × (inst : Option BlockName) × (o ≡ operand.Called name inst)
 operand_called (operand.Called name inst) e = (name, inst, refl)
-operand_called operand.Nothing e = absurd cc
-operand_called (operand.Direct n r w y i) e = absurd cc
-operand_called (operand.Timer n) e = absurd cc
-operand_called (operand.Counter n) e = absurd cc
-operand_called (operand.Named p s) e = absurd cc
-operand_called (operand.ByMemory r w f y) e = absurd cc
-operand_called (operand.NumberBy w f y) e = absurd cc
-operand_called (operand.ByRegister r w g b) e = absurd cc
-operand_called (operand.Pointer r y i) e = absurd cc
-operand_called (operand.Constant v) e = absurd cc
-operand_called (operand.Label n) e = absurd cc
-operand_called (operand.OfStatus f) e = absurd cc
-operand_called (operand.Other n) e = absurd cc
-operand_called (operand.OpenBlock d n) e = absurd cc
+operand_called _ e = absurd cc
 
 good_actuals : (symbols : List Symbol) (t : Tree) → IsSoundTree symbols t
     → AllByRecursion SymbolFits symbols → (k : ℕ) (b : Block) (l : BlockLayout)
@@ -742,18 +716,11 @@ other_than_three : (k : BlockKind) → is_callable k ≡ true → is_function_bl
     → (kind_number k == 3) ≡ false
 other_than_three kinds.Fc e f = refl
 other_than_three kinds.Sfc e f = refl
-other_than_three kinds.Fb e f = absurd cc
-other_than_three kinds.Ob e f = absurd cc
-other_than_three kinds.Db e f = absurd cc
-other_than_three kinds.Udt e f = absurd cc
+other_than_three _ e f = absurd cc
 
 block_three : (k : BlockKind) → is_function_block k ≡ true → kind_number k ≡ 3
 block_three kinds.Fb e = refl
-block_three kinds.Ob e = absurd cc
-block_three kinds.Fc e = absurd cc
-block_three kinds.Db e = absurd cc
-block_three kinds.Sfc e = absurd cc
-block_three kinds.Udt e = absurd cc
+block_three _ e = absurd cc
 
 -- ---- a call names what it calls
 
@@ -838,20 +805,7 @@ operand_passed : (c : Context) (f : Formal) (o : Operand) (v : ResolvedOperand) 
     → fits_operand c f o ≡ true → (p : Passed) × (passed_seen o (resolution_of c o) ≡ Some p)
 unfolding fits_operand
 operand_passed c f (operand.Constant value) v is e = constant_passed c value
-operand_passed c f operand.Nothing v is e = other_passed c f operand.Nothing v is e
-operand_passed c f (operand.Direct n g w y i) v is e = other_passed c f (operand.Direct n g w y i) v is e
-operand_passed c f (operand.Timer n) v is e = other_passed c f (operand.Timer n) v is e
-operand_passed c f (operand.Counter n) v is e = other_passed c f (operand.Counter n) v is e
-operand_passed c f (operand.Named p t) v is e = other_passed c f (operand.Named p t) v is e
-operand_passed c f (operand.ByMemory g w m y) v is e = other_passed c f (operand.ByMemory g w m y) v is e
-operand_passed c f (operand.NumberBy w m y) v is e = other_passed c f (operand.NumberBy w m y) v is e
-operand_passed c f (operand.ByRegister g w n b) v is e = other_passed c f (operand.ByRegister g w n b) v is e
-operand_passed c f (operand.Pointer g y i) v is e = other_passed c f (operand.Pointer g y i) v is e
-operand_passed c f (operand.Label n) v is e = other_passed c f (operand.Label n) v is e
-operand_passed c f (operand.OfStatus g) v is e = other_passed c f (operand.OfStatus g) v is e
-operand_passed c f (operand.Other n) v is e = other_passed c f (operand.Other n) v is e
-operand_passed c f (operand.OpenBlock d n) v is e = other_passed c f (operand.OpenBlock d n) v is e
-operand_passed c f (operand.Called n i) v is e = other_passed c f (operand.Called n i) v is e
+operand_passed c f o v is e = other_passed c f o v is e
 
 good_passed : (a : Environment) (c : Context) (formals : List Formal) (x : Actual)
     → IsGoodActual a c formals x → names_no_formal formals x ≡ false → NamesWhatIsPassed c x

@@ -379,10 +379,7 @@ none_here y o section before (d ∷ ds) is =
 
 temp_is_none : (p : PartKind) → not (is_temp p) ≡ false → is_parameter p ≡ false
 temp_is_none part.Temp e = refl
-temp_is_none part.Input e = absurd cc
-temp_is_none part.Output e = absurd cc
-temp_is_none part.InOut e = absurd cc
-temp_is_none part.Static e = absurd cc
+temp_is_none _ e = absurd cc
 
 unbroken_first : (y : Types) (o : Outside) (before xs ys : List Declaration)
     → Unbroken y o before (xs ++ ys) → Unbroken y o before xs

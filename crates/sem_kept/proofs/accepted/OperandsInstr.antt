@@ -74,20 +74,7 @@ right_for : (a : Environment) (c : Context) (m : Mnemonic) (o : Operand) (v : Re
 right_for a c m (operand.Constant value) v e h fits =
     subst (λ (w : ResolvedOperand). IsOperandRightFor a (op_with_end_mark (operation_for m (operand.Constant value) w) (flat_operand_of (operand.Constant value) w)) (flat_operand_of (operand.Constant value) w))
     (sees_same view.Constant v (sym (constant_seen c value) ∙ e)) (constant_right a m value)
-right_for a c m operand.Nothing v e h fits = operand_fits a m operand.Nothing v (allowed (form_of m) v (seen_rule c (form_of m) operand.Nothing v e h)) fits
-right_for a c m (operand.Direct n r w y i) v e h fits = operand_fits a m (operand.Direct n r w y i) v (allowed (form_of m) v (seen_rule c (form_of m) (operand.Direct n r w y i) v e h)) fits
-right_for a c m (operand.Timer n) v e h fits = operand_fits a m (operand.Timer n) v (allowed (form_of m) v (seen_rule c (form_of m) (operand.Timer n) v e h)) fits
-right_for a c m (operand.Counter n) v e h fits = operand_fits a m (operand.Counter n) v (allowed (form_of m) v (seen_rule c (form_of m) (operand.Counter n) v e h)) fits
-right_for a c m (operand.Named p s) v e h fits = operand_fits a m (operand.Named p s) v (allowed (form_of m) v (seen_rule c (form_of m) (operand.Named p s) v e h)) fits
-right_for a c m (operand.ByMemory r w f y) v e h fits = operand_fits a m (operand.ByMemory r w f y) v (allowed (form_of m) v (seen_rule c (form_of m) (operand.ByMemory r w f y) v e h)) fits
-right_for a c m (operand.NumberBy w f y) v e h fits = operand_fits a m (operand.NumberBy w f y) v (allowed (form_of m) v (seen_rule c (form_of m) (operand.NumberBy w f y) v e h)) fits
-right_for a c m (operand.ByRegister r w g b) v e h fits = operand_fits a m (operand.ByRegister r w g b) v (allowed (form_of m) v (seen_rule c (form_of m) (operand.ByRegister r w g b) v e h)) fits
-right_for a c m (operand.Pointer r y i) v e h fits = operand_fits a m (operand.Pointer r y i) v (allowed (form_of m) v (seen_rule c (form_of m) (operand.Pointer r y i) v e h)) fits
-right_for a c m (operand.Label n) v e h fits = operand_fits a m (operand.Label n) v (allowed (form_of m) v (seen_rule c (form_of m) (operand.Label n) v e h)) fits
-right_for a c m (operand.OfStatus f) v e h fits = operand_fits a m (operand.OfStatus f) v (allowed (form_of m) v (seen_rule c (form_of m) (operand.OfStatus f) v e h)) fits
-right_for a c m (operand.Other n) v e h fits = operand_fits a m (operand.Other n) v (allowed (form_of m) v (seen_rule c (form_of m) (operand.Other n) v e h)) fits
-right_for a c m (operand.OpenBlock d n) v e h fits = operand_fits a m (operand.OpenBlock d n) v (allowed (form_of m) v (seen_rule c (form_of m) (operand.OpenBlock d n) v e h)) fits
-right_for a c m (operand.Called n i) v e h fits = operand_fits a m (operand.Called n i) v (allowed (form_of m) v (seen_rule c (form_of m) (operand.Called n i) v e h)) fits
+right_for a c m o v e h fits = operand_fits a m o v (allowed (form_of m) v (seen_rule c (form_of m) o v e h)) fits
 
 does_fits : (a : Environment) (lens : List (ℕ × ℕ)) (c : Context) (s : Statement) (v : ResolvedOperand)
     → resolution_of c s.operand ≡ Resolved v → statement_rule c s ≡ None → ViewFits a v

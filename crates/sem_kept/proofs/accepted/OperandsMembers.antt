@@ -103,11 +103,7 @@ data_block_there symbols t P h k b l id sound is kind =
 
 kind_itself : (k : BlockKind) → is_same_kind k k ≡ true
 kind_itself kinds.Ob = refl
-kind_itself kinds.Fc = refl
-kind_itself kinds.Fb = refl
-kind_itself kinds.Db = refl
-kind_itself kinds.Sfc = refl
-kind_itself kinds.Udt = refl
+kind_itself _ = refl
 
 block_itself : (id : BlockId) → is_same_block id id ≡ true
 block_itself id =
@@ -228,9 +224,6 @@ code_kind_same kinds.Fc kinds.Ob e f g = absurd (omega (arith, g))
 code_kind_same kinds.Fc kinds.Fb e f g = absurd (omega (arith, g))
 code_kind_same kinds.Fb kinds.Ob e f g = absurd (omega (arith, g))
 code_kind_same kinds.Fb kinds.Fc e f g = absurd (omega (arith, g))
-code_kind_same kinds.Db k e f g = absurd cc
-code_kind_same kinds.Sfc k e f g = absurd cc
-code_kind_same kinds.Udt k e f g = absurd cc
 code_kind_same kinds.Ob kinds.Db e f g = absurd cc
 code_kind_same kinds.Ob kinds.Sfc e f g = absurd cc
 code_kind_same kinds.Ob kinds.Udt e f g = absurd cc
@@ -240,6 +233,7 @@ code_kind_same kinds.Fc kinds.Udt e f g = absurd cc
 code_kind_same kinds.Fb kinds.Db e f g = absurd cc
 code_kind_same kinds.Fb kinds.Sfc e f g = absurd cc
 code_kind_same kinds.Fb kinds.Udt e f g = absurd cc
+code_kind_same _ k e f g = absurd cc
 
 id_by : (a b : BlockId) → a.kind ≡ b.kind → a.number ≡ b.number → a ≡ b
 id_by a b e f =

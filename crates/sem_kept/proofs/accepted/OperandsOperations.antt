@@ -283,9 +283,7 @@ ViewFits a _ = Unit {0}
 numbered_fits : (a : Environment) (w : Operation) (what : Numbered) (from : Area) (byte : ℕ)
     → IsOperandRightFor a (op_with_end_mark w (numbered_operand what from byte)) (numbered_operand what from byte)
 numbered_fits a w numbered.Timer from byte = tt
-numbered_fits a w numbered.Counter from byte = tt
-numbered_fits a w numbered.Db from byte = tt
-numbered_fits a w numbered.Di from byte = tt
+numbered_fits a w _ from byte = tt
 
 register_fits : (a : Environment) (w : Operation) (which : Register)
     → IsOperandRightFor a (op_with_end_mark w (register_operand which)) (register_operand which)

@@ -45,20 +45,7 @@ marked w o e = rw e refl
 aimed_still : (f : ℕ → ℕ) (a : Environment) (op : OpData) (o : Operand) → IsOperandRightFor a op o
     → operand_with_target f o ≡ o
 aimed_still f a op (operand.Jump kind target) h = absurd h
-aimed_still f a op operand.Nothing h = refl
-aimed_still f a op (operand.Literal value) h = refl
-aimed_still f a op (operand.Direct area w byte bit) h = refl
-aimed_still f a op (operand.ByMemory area w from byte) h = refl
-aimed_still f a op (operand.ByRegister area w register bits) h = refl
-aimed_still f a op (operand.Parameter index w) h = refl
-aimed_still f a op (operand.Numbered kind number) h = refl
-aimed_still f a op (operand.NumberedBy kind from byte) h = refl
-aimed_still f a op (operand.OfStatus condition) h = refl
-aimed_still f a op (operand.UseDb number) h = refl
-aimed_still f a op (operand.Pass index actual) h = refl
-aimed_still f a op (operand.Called kind number instance) h = refl
-aimed_still f a op (operand.OpenBlock register number) h = refl
-aimed_still f a op (operand.OpenBy register from byte) h = refl
+aimed_still f a op _ h = refl
 
 right_operand : (a : Environment) (ss : List StatementSpot) (p : PlacedOp) (o : Operand) → IsOperandRightFor a p.op o
     → operand_fault a ss p o ≡ None
@@ -73,31 +60,15 @@ right_operand a ss p (operand.Jump kind target) h = absurd h
 right_operand a ss p (operand.UseDb number) h = absurd h
 right_operand a ss p (operand.Pass index actual) h = absurd h
 right_operand a ss p (operand.Called kind number instance) h = absurd h
-right_operand a ss p operand.Nothing h = refl
-right_operand a ss p (operand.Literal value) h = refl
-right_operand a ss p (operand.Numbered kind number) h = refl
-right_operand a ss p (operand.NumberedBy kind from byte) h = refl
-right_operand a ss p (operand.OfStatus condition) h = refl
-right_operand a ss p (operand.OpenBlock register number) h = refl
-right_operand a ss p (operand.OpenBy register from byte) h = refl
+right_operand a ss p _ h = refl
 
 right_call : (a : Environment) (lens : List (ℕ × ℕ)) (p : PlacedOp) (o : Operand) → IsOperandRightFor a p.op o
     → call_fault_among a lens p o ≡ None
-right_call a lens p (operand.Direct area w byte bit) h = refl
-right_call a lens p (operand.ByMemory area w from byte) h = refl
-right_call a lens p (operand.ByRegister area w register bits) h = refl
-right_call a lens p (operand.Parameter index w) h = refl
 right_call a lens p (operand.Jump kind target) h = absurd h
 right_call a lens p (operand.UseDb number) h = absurd h
 right_call a lens p (operand.Pass index actual) h = absurd h
 right_call a lens p (operand.Called kind number instance) h = absurd h
-right_call a lens p operand.Nothing h = refl
-right_call a lens p (operand.Literal value) h = refl
-right_call a lens p (operand.Numbered kind number) h = refl
-right_call a lens p (operand.NumberedBy kind from byte) h = refl
-right_call a lens p (operand.OfStatus condition) h = refl
-right_call a lens p (operand.OpenBlock register number) h = refl
-right_call a lens p (operand.OpenBy register from byte) h = refl
+right_call a lens p _ h = refl
 
 -- the ops behind a statement are fine wherever they stand
 abbrev FineBehind : Environment → List (ℕ × ℕ) → List StatementSpot → List OpData → Type 0

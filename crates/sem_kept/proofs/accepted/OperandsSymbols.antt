@@ -28,15 +28,11 @@ Holds P (Some x) = P x
 
 bit_fits : (w : Width) (bit : ℕ) → IsFirstBit w bit → is_odd_bit w bit ≡ false
 bit_fits Bit bit h = refl
-bit_fits Byte bit h = ap not (eq-eqb bit 0 h)
-bit_fits Word bit h = ap not (eq-eqb bit 0 h)
-bit_fits Dword bit h = ap not (eq-eqb bit 0 h)
+bit_fits _ bit h = ap not (eq-eqb bit 0 h)
 
 target_fits : (t : Target) → IsSymbolTarget t → TargetFits t
 target_fits (target.Variable place w) h = (bit_fits w place.bit h.bit, h.area)
-target_fits (target.Timer n) h = tt
-target_fits (target.Counter n) h = tt
-target_fits (target.Block id) h = tt
+target_fits _ h = tt
 
 -- all symbols of a file
 pub symbols_fit : (language : Language) (file : List ℕ) (symbols : List Symbol)

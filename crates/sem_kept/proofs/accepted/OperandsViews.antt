@@ -199,10 +199,7 @@ short_bits n bits few same even = omega (arith, few, same, even)
 only_temps : (p : PartKind) → may_have_section kinds.Ob p ≡ true → not (is_temp p) ≡ false
 unfolding may_have_section
 only_temps part.Temp e = refl
-only_temps part.Input e = absurd cc
-only_temps part.Output e = absurd cc
-only_temps part.InOut e = absurd cc
-only_temps part.Static e = absurd cc
+only_temps _ e = absurd cc
 
 no_sections : (y : Types) (o : Outside) (before : List Declaration) (ps : List Part)
     → AllByRecursion (IsSection kinds.Ob) ps → section_cells y o (λ k. not (is_temp k)) before ps ≡ []
@@ -295,11 +292,9 @@ param_there b l cells place c kind is same each there plain section =
 
 section_is_input : (p : PartKind) → is_parameter p ≡ true
     → (section_number p == 1) ≡ is_input_section p
-section_is_input part.Input e = refl
-section_is_input part.Output e = refl
-section_is_input part.InOut e = refl
 section_is_input part.Static e = absurd cc
 section_is_input part.Temp e = absurd cc
+section_is_input _ e = refl
 
 own_there : (a : Environment) (index : ℕ) (q : ParameterRecord) → a.kind ≡ 2
     → slice_get a.params index ≡ Some q → parameter_meant a index ≡ Some q
@@ -310,21 +305,13 @@ own_there a index q is there =
 
 no_odd_bit : (w : Width) (bit : ℕ) → IsBitOf w bit → is_odd_bit w bit ≡ false
 no_odd_bit width.Bit bit h = refl
-no_odd_bit width.Byte bit h = ap not (eq-eqb bit 0 h)
-no_odd_bit width.Word bit h = ap not (eq-eqb bit 0 h)
-no_odd_bit width.Dword bit h = ap not (eq-eqb bit 0 h)
+no_odd_bit _ bit h = ap not (eq-eqb bit 0 h)
 
 no_past : (a : Environment) (ar : Letters) (w : Width) (byte : ℕ)
     → (if is_local_data_letter ar then byte + byte_count w else 0) ≤ a.local_len
     → is_past_locals a (area_for_letters ar) w byte ≡ false
 no_past a letters.L w byte h = le-ltb a.local_len (byte + byte_count w) h
-no_past a letters.I w byte h = refl
-no_past a letters.Q w byte h = refl
-no_past a letters.M w byte h = refl
-no_past a letters.Db w byte h = refl
-no_past a letters.Di w byte h = refl
-no_past a letters.Pi w byte h = refl
-no_past a letters.Pq w byte h = refl
+no_past a _ w byte h = refl
 
 address_fits : (a : Environment) (ar : Letters) (w : Width) (byte bit : ℕ) → IsBitOf w bit
     → (if is_local_data_letter ar then byte + byte_count w else 0) ≤ a.local_len
@@ -336,12 +323,7 @@ address_fits a ar w byte bit h ends =
 outside_locals : (a : Environment) (ar : Area) (w : Width) (byte : ℕ) → has_symbols ar ≡ true
     → is_past_locals a ar w byte ≡ false
 outside_locals a area.L w byte h = absurd cc
-outside_locals a area.I w byte h = refl
-outside_locals a area.Q w byte h = refl
-outside_locals a area.M w byte h = refl
-outside_locals a area.P w byte h = refl
-outside_locals a area.Db w byte h = refl
-outside_locals a area.Di w byte h = refl
+outside_locals a _ w byte h = refl
 
 target_fits : (a : Environment) (x : Target) → TargetFits x → ViewFits a (target_view x)
 target_fits a (target.Variable place w) h = (
@@ -350,8 +332,7 @@ target_fits a (target.Variable place w) h = (
   tt,
 )
 target_fits a (target.Timer number) h = tt
-target_fits a (target.Counter number) h = tt
-target_fits a (target.Block id) h = tt
+target_fits a _ h = tt
 
 pub not_none : {A : Type 0} (o : Option A) → is_none o ≡ false → (x : A) × (o ≡ Some x)
 not_none None e = absurd cc
@@ -360,27 +341,15 @@ not_none (Some x) e = (x, refl)
 code_kind : (k : BlockKind) → is_code k ≡ true → is_function k ≡ false → is_function_block k ≡ false
     → k ≡ kinds.Ob
 code_kind kinds.Ob e f g = refl
-code_kind kinds.Fc e f g = absurd cc
-code_kind kinds.Fb e f g = absurd cc
-code_kind kinds.Db e f g = absurd cc
-code_kind kinds.Sfc e f g = absurd cc
-code_kind kinds.Udt e f g = absurd cc
+code_kind _ e f g = absurd cc
 
 function_kind : (k : BlockKind) → is_function k ≡ true → k ≡ kinds.Fc
 function_kind kinds.Fc e = refl
-function_kind kinds.Ob e = absurd cc
-function_kind kinds.Fb e = absurd cc
-function_kind kinds.Db e = absurd cc
-function_kind kinds.Sfc e = absurd cc
-function_kind kinds.Udt e = absurd cc
+function_kind _ e = absurd cc
 
 function_block_kind : (k : BlockKind) → is_function_block k ≡ true → k ≡ kinds.Fb
 function_block_kind kinds.Fb e = refl
-function_block_kind kinds.Ob e = absurd cc
-function_block_kind kinds.Fc e = absurd cc
-function_block_kind kinds.Db e = absurd cc
-function_block_kind kinds.Sfc e = absurd cc
-function_block_kind kinds.Udt e = absurd cc
+function_block_kind _ e = absurd cc
 
 pub data_block_kind : (k : BlockKind) → is_data_block k ≡ true → k ≡ kinds.Db
 data_block_kind kinds.Db e = refl

@@ -35,9 +35,7 @@ pub record AreFine (symbols : List Symbol) : Type 0 where
 
 target_apart : (t : Target) → IsSymbolTarget t → IsApart t
 target_apart (target.Variable place width) h = h.number
-target_apart (target.Timer number) h = tt
-target_apart (target.Counter number) h = tt
-target_apart (target.Block id) h = tt
+target_apart _ h = tt
 
 pub symbols_fine : (language : Language) (file : List ℕ) (symbols : List Symbol)
     → symbols_in language file ≡ Ok symbols
@@ -63,9 +61,7 @@ entry_size name (target.Variable place width) short = by (has_name place.area)
         else []) ≤ 30
     by true = omega (arith, short, length-map name to_ascii_uppercase)
     by false = omega arith
-entry_size name (target.Timer number) short = omega arith
-entry_size name (target.Counter number) short = omega arith
-entry_size name (target.Block id) short = omega arith
+entry_size name _ short = omega arith
 
 entry_count : (name : List ℕ) (t : Target) → length (name_entry name t) ≤ 1
 entry_count name (target.Variable place width) = by (has_name place.area)
@@ -75,9 +71,7 @@ entry_count name (target.Variable place width) = by (has_name place.area)
         else []) ≤ 1
     by true = omega arith
     by false = omega arith
-entry_count name (target.Timer number) = omega arith
-entry_count name (target.Counter number) = omega arith
-entry_count name (target.Block id) = omega arith
+entry_count name _ = omega arith
 
 entries_size : (symbols : List Symbol) → AllByRecursion IsFine symbols
     → sum_by name_size (flat_map (λ s. name_entry s.name s.target) symbols) ≤ 30 * length symbols

@@ -110,27 +110,12 @@ pass_sized : (index : ℕ) (p : Passed)
     → suc (suc (length (payload (flat.Pass index p)))) ≡ flat_size (flat.Pass index p)
 unfolding passed_coding direct_coding
 pass_sized index (passed.Literal value) = refl
-pass_sized index (passed.Direct area width byte bit) = refl
-pass_sized index (passed.Parameter index' width) = refl
-pass_sized index (passed.InBlock number area width byte bit) = refl
+pass_sized index _ = refl
 
 payload_sized : (o : FlatOperand) → suc (suc (length (payload o))) ≡ flat_size o
 unfolding direct_coding
-payload_sized flat.Nothing = refl
-payload_sized (flat.Literal value) = refl
-payload_sized (flat.Direct area width byte bit) = refl
-payload_sized (flat.ByMemory area width from byte) = refl
-payload_sized (flat.ByRegister area width register bits) = refl
-payload_sized (flat.Parameter index width) = refl
-payload_sized (flat.Numbered kind number) = refl
-payload_sized (flat.NumberedBy kind from byte) = refl
-payload_sized (flat.Jump kind target) = refl
-payload_sized (flat.OfStatus condition) = refl
-payload_sized (flat.UseDb number) = refl
 payload_sized (flat.Pass index passed) = pass_sized index passed
-payload_sized (flat.Called kind number instance) = refl
-payload_sized (flat.OpenBlock register number) = refl
-payload_sized (flat.OpenBy register from byte) = refl
+payload_sized _ = refl
 
 op_sized : (op : OpData) → length (op_bytes op) ≡ flat_size op.operand
 unfolding op_bytes
@@ -191,9 +176,7 @@ does_sized (Some number) w o =
 
 passed_few : (index : ℕ) (p : Passed) → flat_size (flat.Pass index p) ≤ 11
 passed_few index (passed.Literal value) = omega arith
-passed_few index (passed.Direct area width byte bit) = omega arith
-passed_few index (passed.Parameter index' width) = omega arith
-passed_few index (passed.InBlock number area width byte bit) = omega arith
+passed_few index _ = omega arith
 
 passing_sized : (ps : List Passing) → bytes_in (pass_ops ps) ≤ 11 * length ps
 passing_sized [] = omega arith
@@ -333,9 +316,7 @@ data_path_fits c o steps None block = tt
 target_fits : (o : Operand) (t : Target) → IsApart t → SeenFits 7 o (Resolved (target_view t))
 unfolding flat_operand_of
 target_fits o (target.Variable place width) h = apart_fits place h
-target_fits o (target.Timer number) h = omega arith
-target_fits o (target.Counter number) h = omega arith
-target_fits o (target.Block id) h = omega arith
+target_fits o _ h = omega arith
 
 symbol_fits : (o : Operand) (s : Option Symbol) → IfSome s IsFine → SeenFits 7 o (symbol_seen s)
 symbol_fits o None h = tt
@@ -380,9 +361,7 @@ direct_fits c o (Some name) a w byte bit = by (data_number c name)
 numbered_fits : (what : Numbered) (from : Area) (byte : ℕ)
     → flat_size (numbered_operand what from byte) ≤ 6
 numbered_fits numbered.Timer from byte = omega arith
-numbered_fits numbered.Counter from byte = omega arith
-numbered_fits numbered.Db from byte = omega arith
-numbered_fits numbered.Di from byte = omega arith
+numbered_fits _ from byte = omega arith
 
 register_fits : (r : Register) → flat_size (register_operand r) ≤ 6
 register_fits register.Dblg = omega arith
@@ -408,49 +387,27 @@ called_fits o (Some id) (Some name) (Some number) = omega arith
 seen_fits : (c : Context) (o : Operand) → AllByRecursion IsFine c.symbols
     → SeenFits (op_size o) o (resolution_of c o)
 unfolding resolution_of flat_operand_of
-seen_fits c operand.Nothing h = omega arith
 seen_fits c (operand.Direct name a w byte bit) h =
     direct_fits c (operand.Direct name a w byte bit) name a w byte bit
-seen_fits c (operand.Timer number) h = omega arith
-seen_fits c (operand.Counter number) h = omega arith
 seen_fits c (operand.Named path steps) h = path_fits c (operand.Named path steps) path steps h
-seen_fits c (operand.ByMemory a w from byte) h = omega arith
 seen_fits c (operand.NumberBy what from byte) h =
     omega (arith, numbered_fits what (area_for_letters from) byte)
-seen_fits c (operand.ByRegister a w register bits) h = omega arith
-seen_fits c (operand.Pointer a byte bit) h = omega arith
-seen_fits c (operand.Constant value) h = omega arith
-seen_fits c (operand.Label name) h = omega arith
-seen_fits c (operand.OfStatus flag) h = omega arith
 seen_fits c (operand.Other name) h = omega (arith, register_fits (register_for_word name))
 seen_fits c (operand.OpenBlock di name) h =
     opened_fits (operand.OpenBlock di name) di (data_number c name)
 seen_fits c (operand.Called name instance) h =
     called_fits (operand.Called name instance) _ instance _
+seen_fits c _ h = omega arith
 
 -- ---- of statements
 
 path_some : (path : PathHead) → 7 ≤ path_size path
 path_some (head.Local name) = omega arith
-path_some (head.InBlock name) = omega arith
-path_some (head.Symbol name) = omega arith
+path_some _ = omega arith
 
 least_op : (o : Operand) → 2 ≤ op_size o
-least_op operand.Nothing = omega arith
-least_op (operand.Direct name a w byte bit) = omega arith
-least_op (operand.Timer number) = omega arith
-least_op (operand.Counter number) = omega arith
 least_op (operand.Named path steps) = omega (arith, path_some path)
-least_op (operand.ByMemory a w from byte) = omega arith
-least_op (operand.NumberBy what from byte) = omega arith
-least_op (operand.ByRegister a w register bits) = omega arith
-least_op (operand.Pointer a byte bit) = omega arith
-least_op (operand.Constant value) = omega arith
-least_op (operand.Label name) = omega arith
-least_op (operand.OfStatus flag) = omega arith
-least_op (operand.Other name) = omega arith
-least_op (operand.OpenBlock di name) = omega arith
-least_op (operand.Called name instance) = omega arith
+least_op _ = omega arith
 
 -- a jump has its label, a call its block: an operand of seven bytes
 abbrev IsWide : ResolvedOperand → Type 0
@@ -473,21 +430,12 @@ opened_wide n di (Some number) = λ wide. absurd wide
 
 seen_wide : (c : Context) (o : Operand) → SeenWide (op_size o) (resolution_of c o)
 unfolding resolution_of
-seen_wide c operand.Nothing = λ wide. absurd wide
 seen_wide c (operand.Direct name a w byte bit) = any_wide _ _ (omega arith)
-seen_wide c (operand.Timer number) = λ wide. absurd wide
-seen_wide c (operand.Counter number) = λ wide. absurd wide
 seen_wide c (operand.Named path steps) = any_wide _ _ (path_some path)
-seen_wide c (operand.ByMemory a w from byte) = λ wide. absurd wide
-seen_wide c (operand.NumberBy what from byte) = λ wide. absurd wide
-seen_wide c (operand.ByRegister a w register bits) = λ wide. absurd wide
-seen_wide c (operand.Pointer a byte bit) = λ wide. absurd wide
-seen_wide c (operand.Constant value) = λ wide. absurd wide
 seen_wide c (operand.Label name) = λ wide. omega arith
-seen_wide c (operand.OfStatus flag) = λ wide. absurd wide
-seen_wide c (operand.Other name) = λ wide. absurd wide
 seen_wide c (operand.OpenBlock di name) = opened_wide _ di (data_number c name)
 seen_wide c (operand.Called name instance) = any_wide _ _ (omega arith)
+seen_wide c _ = λ wide. absurd wide
 
 -- a data block that is opened is there
 abbrev pub Opens : Context → Operand → Type 0
@@ -511,21 +459,11 @@ opened_seen_there n di (Some number) h = tt
 
 seen_or_wide : (c : Context) (o : Operand) → Opens c o → SeenOrWide (op_size o) (resolution_of c o)
 unfolding resolution_of
-seen_or_wide c operand.Nothing h = tt
 seen_or_wide c (operand.Direct name a w byte bit) h = wide_anyway _ _ (omega arith)
-seen_or_wide c (operand.Timer number) h = tt
-seen_or_wide c (operand.Counter number) h = tt
 seen_or_wide c (operand.Named path steps) h = wide_anyway _ _ (path_some path)
-seen_or_wide c (operand.ByMemory a w from byte) h = tt
-seen_or_wide c (operand.NumberBy what from byte) h = tt
-seen_or_wide c (operand.ByRegister a w register bits) h = tt
-seen_or_wide c (operand.Pointer a byte bit) h = tt
-seen_or_wide c (operand.Constant value) h = tt
-seen_or_wide c (operand.Label name) h = tt
-seen_or_wide c (operand.OfStatus flag) h = tt
-seen_or_wide c (operand.Other name) h = tt
 seen_or_wide c (operand.OpenBlock di name) h = opened_seen_there _ di (data_number c name) h
 seen_or_wide c (operand.Called name instance) h = wide_anyway _ _ (omega arith)
+seen_or_wide c _ h = tt
 
 -- what such a form takes
 jumps_wide : (v : ResolvedOperand) → rule_of_resolved_operand form.Jumps v ≡ None → IsWide v
