@@ -8,6 +8,7 @@ use Rattle.std.specs.Bool.{Decides}
 use Rattle.std.proofs.lemmas.Slice.Eq.{bytes_eq-Decides}
 use Rattle.std.proofs.lemmas.Bool.{not-false}
 use Rattle.std.proofs.lemmas.Option.{same_Some}
+use Rattle.plc_base.proofs.TruthLemmas.{and_first, and_second}
 use Rattle.plc_base.specs.Kinds.{kind_number, is_code, is_data_block, is_function, is_function_block, is_system_function, is_callable}
 use Rattle.plc_base.specs.declared.blocks.BlockId.{BlockId}
 use Rattle.plc_base.specs.declared.blocks.BlockKind.{BlockKind}
@@ -45,7 +46,7 @@ use Rattle.stl_symbols.specs.Symbol.{Symbol}
 use Rattle.block_layout.specs.Blocks.{id_of, is_any, is_block_number, known_block, named_block}
 use Rattle.block_layout.specs.Cells.{components_of}
 use Rattle.block_layout.specs.Fits.{bits_of}
-use Rattle.block_layout.specs.Layouts.{block_layout, layouts_of}
+use Rattle.block_layout.specs.Layouts.{layouts_of}
 use Rattle.block_layout.specs.Lengths.{block_bits, length_of_block, local_end, shape_bits}
 use Rattle.block_layout.specs.Measures.{types_of_source}
 use Rattle.block_layout.specs.Offsets.{width_of}
@@ -87,7 +88,7 @@ use Rattle.sem_kept.proofs.accepted.OperandsInstr.{CallFits}
 use Rattle.sem_kept.proofs.accepted.OperandsMembers.{called_block, instance_found}
 use Rattle.sem_kept.proofs.accepted.OperandsPassed.{IsGoodActual, Passes, passed_from, supplied_passes}
 use Rattle.sem_kept.proofs.accepted.OperandsSymbols.{SymbolFits}
-use Rattle.sem_kept.proofs.accepted.OperandsViews.{EndsBy, IsData, IsThere, Surrounds, block_own, data_block_kind, data_length, data_there, id_there, id_there_is, ids_same, instance_length, layout_id, layout_shape, not_none, operand_seen, whole_is}
+use Rattle.sem_kept.proofs.accepted.OperandsViews.{EndsBy, IsData, IsThere, Surrounds, block_own, data_block_kind, data_length, data_there, function_block_kind, id_there, id_there_is, ids_same, instance_length, layout_components, layout_id, layout_length, layout_shape, not_none, operand_seen, whole_is}
 use Rattle.sem_kept.proofs.accepted.Shared.{callable_by, calls_called, or_first, or_second}
 
 -- ---- what is passed stands among the ops
@@ -175,17 +176,9 @@ all_supplied : (actuals : List Actual) (fs : List Formal)
     → list_all (is_supplied (supplied_names actuals)) fs ≡ true → AreSupplied actuals fs
 all_supplied actuals [] e = tt
 all_supplied actuals (f ∷ fs) e = (
-  supplied_there actuals f (first (is_supplied (supplied_names actuals) f) (list_all (is_supplied (supplied_names actuals)) fs) e),
-  all_supplied actuals fs (second (is_supplied (supplied_names actuals) f) (list_all (is_supplied (supplied_names actuals)) fs) e),
+  supplied_there actuals f (and_first (is_supplied (supplied_names actuals) f) (list_all (is_supplied (supplied_names actuals)) fs) e),
+  all_supplied actuals fs (and_second (is_supplied (supplied_names actuals) f) (list_all (is_supplied (supplied_names actuals)) fs) e),
 )
-  where
-    first : (x y : Bool) → (x && y) ≡ true → x ≡ true
-    first true y e = refl
-    first false y e = absurd cc
-
-    second : (x y : Bool) → (x && y) ≡ true → y ≡ true
-    second true y e = e
-    second false y e = absurd cc
 
 -- nothing is passed where nothing is supplied
 pub none_passed : (c : Context) (i : ℕ) (fs : List Formal) → passings_from c [] i fs ≡ []
@@ -409,16 +402,6 @@ whole_known l (Some q) p e = by (is_some (whole_at l q)) e
     by true h = h
     by false h = absurd cc
 
-components_same : (symbols : List Symbol) (t : Tree) (p : ℕ) (b : Block) (l : BlockLayout)
-    → IsSound symbols t p b l → l.components ≡ components_of (types_of_source symbols t.blocks) b
-unfolding block_layout
-components_same symbols t p b l h = ap (λ (z : BlockLayout). z.components) h.layout
-
-length_same : (symbols : List Symbol) (t : Tree) (p : ℕ) (b : Block) (l : BlockLayout)
-    → IsSound symbols t p b l → l.length ≡ length_of_block (types_of_source symbols t.blocks) t.blocks b
-unfolding block_layout
-length_same symbols t p b l h = ap (λ (z : BlockLayout). z.length) h.layout
-
 source_called : (symbols : List Symbol) (t : Tree) → IsSoundTree symbols t → (k : ℕ)
     (name : BlockName) (inst : Option BlockName) (id : BlockId) (p : ℕ)
     → named_block symbols name ≡ Some id → (id.kind ≡ kinds.Fc) ⊎ (id.kind ≡ kinds.Fb)
@@ -440,7 +423,7 @@ source_called symbols t tree k name inst id p named kind whole = record {
   matched = subst (λ (o : Option Block). Matched (in_parameter_order o (formals_of (cells_at (layouts_of t symbols) p false))) (map record_of_param (params_of there.block there.layout)))
       (sym there.sound.block_there)
       (source_matched there.block there.layout (cells_at (layouts_of t symbols) p false)
-      (components_same symbols t p there.block there.layout there.sound ∙ sym cells));
+      (layout_components symbols t p there.block there.layout there.sound ∙ sym cells));
   found = subst (λ (o : Option Block). AllByRecursion (IsFoundIn (formals_of (cells_at (layouts_of t symbols) p false))) (in_parameter_order o (formals_of (cells_at (layouts_of t symbols) p false))))
       (sym there.sound.block_there)
       (in_order_all there.block (IsFoundIn (formals_of (cells_at (layouts_of t symbols) p false))) (formals_of (cells_at (layouts_of t symbols) p false))
@@ -452,9 +435,9 @@ source_called symbols t tree k name inst id p named kind whole = record {
     there.block,
     refl,
     there.sound.block_there,
-    own_kind ∙ fb_kind id.kind e,
+    own_kind ∙ function_block_kind id.kind e,
     ap (λ (t' : Bool). if t' then there.layout.length else 0) (ap is_function_block own_kind ∙ e)
-        ∙ length_same symbols t p there.block there.layout there.sound,
+        ∙ layout_length symbols t p there.block there.layout there.sound,
   );
 }
   where
@@ -484,10 +467,6 @@ source_called symbols t tree k name inst id p named kind whole = record {
         (fresh_distinct [] (formals_of (components_of (types_of_source symbols t.blocks) there.block))
         (block_formals (types_of_source symbols t.blocks) there.block there.sound.well_formed
         (block_unbroken (types_of_source symbols t.blocks) there.block there.sound.declarations)))
-
-    fb_kind : (j : BlockKind) → is_function_block j ≡ true → j ≡ kinds.Fb
-    fb_kind kinds.Fb e = refl
-    fb_kind _ e = absurd cc
 
 -- ---- a call
 
@@ -628,13 +607,9 @@ instance_number_right symbols t q d =
     number = not-false (is_block_number d.id.kind d.id.number)
         (ap is_number_beyond_limits (sym named) ∙ d.sound.head.by_44)
 
-    first : (x y : Bool) → (x && y) ≡ true → x ≡ true
-    first true y e = refl
-    first false y e = absurd cc
-
     some : 1 ≤ d.id.number
     some = leb-true 1 d.id.number
-        (first (nat_le 1 d.id.number) (nat_le d.id.number 2047)
+        (and_first (nat_le 1 d.id.number) (nat_le d.id.number 2047)
         (ap (λ (j : BlockKind). is_block_number j d.id.number) (sym (data_block_kind d.id.kind d.kind)) ∙ number))
 
 shape_is_of : (p : ℕ) (s : Shape) → is_of_block (Some p) s ≡ true → s ≡ shape.Of p
@@ -649,7 +624,7 @@ instance_long : (symbols : List Symbol) (t : Tree) → (q p : ℕ) (d : IsThere 
     → is_of_block (Some p) d.layout.shape ≡ true
     → d.layout.length ≡ length_of_block (types_of_source symbols t.blocks) t.blocks b
 instance_long symbols t q p d b there is well of_block =
-    length_same symbols t q d.block d.layout d.sound
+    layout_length symbols t q d.block d.layout d.sound
     ∙ data_length (types_of_source symbols t.blocks) t.blocks d.block (d.same ∙ data_block_kind d.id.kind d.kind)
     ∙ ap (λ (s : Shape). shape_bits (types_of_source symbols t.blocks) t.blocks d.block s / 8)
     (sym (layout_shape symbols t q d.block d.layout d.sound) ∙ shape_is_of p d.layout.shape of_block)

@@ -3,7 +3,6 @@
 use Rattle.std.proofs.Common.{ℕ, suc, ◌≡◌, List, [], ◌∷◌, ◌++◌, append_assoc, Option, Some, None, is_some, Bool, true, false, ◌&&◌, ◌||◌, not, nat_eq, refl, sym, ◌∙◌, ap, subst, arith, map, find, bytes_eq, if◌then◌else◌, le-ltb, eq-eqb}
 use Rattle.std.specs.List.{AllByRecursion, flat_map}
 use Rattle.std.specs.Option.{option_map}
-use Rattle.std.specs.Bool.{Decides}
 use Rattle.std.proofs.lemmas.List.{map-append}
 use Rattle.std.proofs.lemmas.Grind.{flat_map-append}
 use Rattle.std.proofs.lemmas.Slice.Eq.{bytes_eq-Decides}
@@ -169,12 +168,8 @@ fresh_distinct names [] h = tt
 fresh_distinct names (f ∷ fs) h =
     (fresh_all f.name names [] fs h.1, fresh_distinct (names ++ f.name ∷ []) fs h.1)
 
-same_bytes : (xs ys : List ℕ) → bytes_eq xs ys ≡ true → xs ≡ ys
-same_bytes xs ys e = by (bytes_eq xs ys) (bytes_eq-Decides xs ys) e
-  where
-    by : (t : Bool) → Decides t (xs ≡ ys) → t ≡ true → xs ≡ ys
-    by true d e = d.0 refl
-    by false d e = absurd cc
+pub same_bytes : (xs ys : List ℕ) → bytes_eq xs ys ≡ true → xs ≡ ys
+same_bytes xs ys e = (bytes_eq-Decides xs ys).0 e
 
 bytes_itself : (xs : List ℕ) → bytes_eq xs xs ≡ true
 bytes_itself [] = refl

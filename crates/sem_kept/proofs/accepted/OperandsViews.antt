@@ -347,7 +347,7 @@ function_kind : (k : BlockKind) → is_function k ≡ true → k ≡ kinds.Fc
 function_kind kinds.Fc e = refl
 function_kind _ e = absurd cc
 
-function_block_kind : (k : BlockKind) → is_function_block k ≡ true → k ≡ kinds.Fb
+pub function_block_kind : (k : BlockKind) → is_function_block k ≡ true → k ≡ kinds.Fb
 function_block_kind kinds.Fb e = refl
 function_block_kind _ e = absurd cc
 
@@ -369,6 +369,23 @@ no_component : (name : List ℕ) → is_some (component_of_name 0 0 0 name []) �
 unfolding component_of_name
 no_component name e = absurd cc
 
+-- ---- the layout of a block
+
+pub layout_length : (symbols : List Symbol) (t : Tree) (p : ℕ) (b : Block) (l : BlockLayout)
+    → IsSound symbols t p b l → l.length ≡ length_of_block (types_of_source symbols t.blocks) t.blocks b
+unfolding block_layout
+layout_length symbols t p b l h = ap (λ (z : BlockLayout). z.length) h.layout
+
+pub layout_components : (symbols : List Symbol) (t : Tree) (p : ℕ) (b : Block) (l : BlockLayout)
+    → IsSound symbols t p b l → l.components ≡ components_of (types_of_source symbols t.blocks) b
+unfolding block_layout
+layout_components symbols t p b l h = ap (λ (z : BlockLayout). z.components) h.layout
+
+pub layout_local : (symbols : List Symbol) (t : Tree) (p : ℕ) (b : Block) (l : BlockLayout)
+    → IsSound symbols t p b l → l.local_len ≡ local_len (types_of_source symbols t.blocks) b
+unfolding block_layout
+layout_local symbols t p b l h = ap (λ (z : BlockLayout). z.local_len) h.layout
+
 -- ---- the block's own variables
 
 module _ (symbols : List Symbol) (t : Tree) (tree : IsSoundTree symbols t) (k : ℕ) (b : Block)
@@ -382,14 +399,6 @@ module _ (symbols : List Symbol) (t : Tree) (tree : IsSoundTree symbols t) (k : 
 
   temps_here : cells_at (layouts_of t symbols) k true ≡ temps_of (types_of_source symbols t.blocks) b
   temps_here = cells_are symbols t k b l block true
-
-  local_is : l.local_len ≡ local_len (types_of_source symbols t.blocks) b
-  unfolding block_layout
-  local_is = ap (λ (z : BlockLayout). z.local_len) block.layout
-
-  components_are : l.components ≡ components_of (types_of_source symbols t.blocks) b
-  unfolding block_layout
-  components_are = ap (λ (z : BlockLayout). z.components) block.layout
 
   locals_here : HoldsLocals (types_of_source symbols t.blocks) b (local_len (types_of_source symbols t.blocks) b)
   locals_here = holds_locals (types_of_source symbols t.blocks) b code block.head.by_50
@@ -421,7 +430,7 @@ module _ (symbols : List Symbol) (t : Tree) (tree : IsSoundTree symbols t) (k : 
       at = reached_place (layouts_of t symbols) (structure_bits (cells_at (layouts_of t symbols) k true)) s kind h e
 
       is_local_len : a.local_len ≡ local_len (types_of_source symbols t.blocks) b
-      is_local_len = around.local ∙ local_is
+      is_local_len = around.local ∙ layout_local symbols t k b l block
 
       within : structure_bits (cells_at (layouts_of t symbols) k true) / 8 ≤ a.local_len
       within = subst (λ (n : ℕ). structure_bits (cells_at (layouts_of t symbols) k true) / 8 ≤ n) (sym is_local_len)
@@ -506,7 +515,7 @@ module _ (symbols : List Symbol) (t : Tree) (tree : IsSoundTree symbols t) (k : 
               ∙ mapped_there record_of_param (params_of b l) index (param_at_bits (section_number c.section) (width_of kind) 0)
               (ap (λ (o : Option Block). slice_get (params_of b l) (parameter_index (length (cells_at (layouts_of t symbols) k false)) s.place o)) block.block_there
               ∙ param_there b l (cells_at (layouts_of t symbols) k false) s.place c kind is
-              (components_are ∙ sym components_here) parameters there elem.plain cell.section))
+              (layout_components symbols t k b l block ∙ sym components_here) parameters there elem.plain cell.section))
 
       by : (o : Option Cell) → slice_get (cells_at (layouts_of t symbols) k false) s.place ≡ o
           → kind_of s o ≡ Some kind
@@ -781,11 +790,6 @@ pub layout_shape : (symbols : List Symbol) (t : Tree) (p : ℕ) (b : Block) (l :
     → IsSound symbols t p b l → l.shape ≡ shape_of (types_of_source symbols t.blocks) b
 unfolding block_layout
 layout_shape symbols t p b l h = ap (λ (z : BlockLayout). z.shape) h.layout
-
-layout_length : (symbols : List Symbol) (t : Tree) (p : ℕ) (b : Block) (l : BlockLayout)
-    → IsSound symbols t p b l → l.length ≡ length_of_block (types_of_source symbols t.blocks) t.blocks b
-unfolding block_layout
-layout_length symbols t p b l h = ap (λ (z : BlockLayout). z.length) h.layout
 
 pub structured : (symbols : List Symbol) (t : Tree) → IsSoundTree symbols t → (p : ℕ)
     → IsThere symbols t is_data_block p → IsStructured symbols t p
