@@ -8,13 +8,11 @@ use Rattle.stl_ast.specs.declared.operands.Operand.{Operand}
 use Rattle.stl_ast.specs.declared.operands.Operand.TheVariants as operand
 use Rattle.stl_ast.specs.declared.statements.Statement.{Statement}
 use Rattle.block_layout.specs.Types.{Types}
-use Rattle.stl_types.specs.Brackets.{is_closing_bracket, bracket_function}
 use Rattle.stl_types.specs.Constants.{takes_constant}
 use Rattle.stl_types.specs.Context.{Context, data_number}
 use Rattle.stl_types.specs.Operands.{operand_rule, rule_of_resolved_operand, rule_seen, takes_operand}
 use Rattle.stl_types.specs.Resolution.{direct_seen, opened_seen, path_seen, resolution_of}
 use Rattle.stl_types.specs.Unknown.{is_unknown}
-use Rattle.stl_types.specs.Zones.{ends_zone, opens_zone}
 use Rattle.stl_types.specs.declared.forms.OperandRule.{OperandRule}
 use Rattle.stl_types.specs.declared.forms.OperandRule.TheVariants as form
 use Rattle.stl_types.specs.declared.views.Resolution.{Resolution}
@@ -24,7 +22,7 @@ use Rattle.stl_types.specs.declared.views.ResolvedOperand.TheVariants as view
 use Rattle.stl_codegen.specs.Operations.{jump_operation_of}
 use Rattle.sem_kept.proofs.ReachedLemmas.{AnyNumber, IsReached, direct_reached, path_reached}
 use Rattle.sem_kept.proofs.accepted.Accepted.{IsSoundStatement}
-use Rattle.sem_kept.proofs.accepted.JumpsOperations.{TakesRight, nests, nests_form}
+use Rattle.sem_kept.proofs.accepted.JumpsOperations.{TakesRight, nesting}
 use Rattle.sem_kept.proofs.accepted.Shared.{jump_form}
 
 -- an operand is judged: it stands on nothing that breaks a rule itself or is absent
@@ -113,13 +111,6 @@ jump_calls code.Uc how e = absurd cc
 jump_calls code.Cc how e = absurd cc
 jump_calls _ how e = refl
 
-nests_calls : (m : Mnemonic) → nests m ≡ true → is_call m ≡ false
-unfolding bracket_function is_closing_bracket opens_zone ends_zone
-nests_calls code.Call e = absurd cc
-nests_calls code.Uc e = absurd cc
-nests_calls code.Cc e = absurd cc
-nests_calls _ e = refl
-
 pub takes_right : (y : Types) (c : Context) (s : Statement) → IsSoundStatement y c s
     → (names_called_block s.operand ≡ false → Settles (resolution_of c s.operand)) → TakesRight s
 takes_right y c s sound h = record {
@@ -127,6 +118,6 @@ takes_right y c s sound h = record {
       label_of_jump c s.operand (sound.well_formed.called ∙ jump_calls s.code how is) h sound.known
       (ap (λ (f : OperandRule). operand_rule c f s.operand) (sym (jump_form s.code how is)) ∙ sound.allowed);
   bare = λ is.
-      nothing_of_bare c s.operand (sound.well_formed.called ∙ nests_calls s.code is) h sound.known
-      (ap (λ (f : OperandRule). operand_rule c f s.operand) (sym (nests_form s.code is)) ∙ sound.allowed);
+      nothing_of_bare c s.operand (sound.well_formed.called ∙ (nesting s.code is).no_call) h sound.known
+      (ap (λ (f : OperandRule). operand_rule c f s.operand) (sym (nesting s.code is).form) ∙ sound.allowed);
 }

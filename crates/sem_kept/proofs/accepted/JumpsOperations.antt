@@ -18,6 +18,7 @@ use Rattle.flat_code.specs.declared.operations.CallOperation.TheVariants as call
 use Rattle.flat_code.specs.declared.operations.EndOperation.{EndOperation}
 use Rattle.flat_code.specs.declared.operations.EndOperation.TheVariants as ends
 use Rattle.flat_code.specs.declared.operations.Operation.TheVariants as operation
+use Rattle.stl_ast.specs.Statements.{is_call}
 use Rattle.stl_ast.specs.declared.literals.Literal.TheVariants as literal
 use Rattle.stl_ast.specs.declared.mnemonics.Mnemonic.{Mnemonic}
 use Rattle.stl_ast.specs.declared.mnemonics.Mnemonic.TheVariants as code
@@ -139,44 +140,34 @@ other_code m code none other = by (bracket_function m) (is_closing_bracket m) (o
     by None false false true h = absurd cc
     by None false false false h = other
 
-no_jump : (m : Mnemonic) (how : JumpOperation) → jump_operation_of m ≡ Some how → nests m ≡ false
-unfolding bracket_function is_closing_bracket opens_zone ends_zone
-no_jump code.AOpen how e = absurd cc
-no_jump code.AnOpen how e = absurd cc
-no_jump code.OOpen how e = absurd cc
-no_jump code.OnOpen how e = absurd cc
-no_jump code.XOpen how e = absurd cc
-no_jump code.XnOpen how e = absurd cc
-no_jump code.Close how e = absurd cc
-no_jump code.McrOpen how e = absurd cc
-no_jump code.McrClose how e = absurd cc
-no_jump _ how e = refl
+-- what opens or closes a bracket or a zone takes nothing, and neither jumps nor calls nor ends
+pub record IsNesting (m : Mnemonic) : Type 0 where
+  pub form : form_of m ≡ form.Bare
+  pub jump : jump_operation_of m ≡ None
+  pub call : call_operation_of m ≡ None
+  pub end : end_operation_of m ≡ None
+  pub no_call : is_call m ≡ false
 
-no_call : (m : Mnemonic) (how : CallOperation) → call_operation_of m ≡ Some how → nests m ≡ false
-unfolding bracket_function is_closing_bracket opens_zone ends_zone
-no_call code.AOpen how e = absurd cc
-no_call code.AnOpen how e = absurd cc
-no_call code.OOpen how e = absurd cc
-no_call code.OnOpen how e = absurd cc
-no_call code.XOpen how e = absurd cc
-no_call code.XnOpen how e = absurd cc
-no_call code.Close how e = absurd cc
-no_call code.McrOpen how e = absurd cc
-no_call code.McrClose how e = absurd cc
-no_call _ how e = refl
+pub nesting : (m : Mnemonic) → nests m ≡ true → IsNesting m
+unfolding bracket_function is_closing_bracket opens_zone ends_zone form_of
+nesting code.AOpen e = record { form = refl; jump = refl; call = refl; end = refl; no_call = refl }
+nesting code.AnOpen e = record { form = refl; jump = refl; call = refl; end = refl; no_call = refl }
+nesting code.OOpen e = record { form = refl; jump = refl; call = refl; end = refl; no_call = refl }
+nesting code.OnOpen e = record { form = refl; jump = refl; call = refl; end = refl; no_call = refl }
+nesting code.XOpen e = record { form = refl; jump = refl; call = refl; end = refl; no_call = refl }
+nesting code.XnOpen e = record { form = refl; jump = refl; call = refl; end = refl; no_call = refl }
+nesting code.Close e = record { form = refl; jump = refl; call = refl; end = refl; no_call = refl }
+nesting code.McrOpen e = record { form = refl; jump = refl; call = refl; end = refl; no_call = refl }
+nesting code.McrClose e = record { form = refl; jump = refl; call = refl; end = refl; no_call = refl }
+nesting _ e = absurd cc
 
-no_end : (m : Mnemonic) (how : EndOperation) → end_operation_of m ≡ Some how → nests m ≡ false
-unfolding bracket_function is_closing_bracket opens_zone ends_zone
-no_end code.AOpen how e = absurd cc
-no_end code.AnOpen how e = absurd cc
-no_end code.OOpen how e = absurd cc
-no_end code.OnOpen how e = absurd cc
-no_end code.XOpen how e = absurd cc
-no_end code.XnOpen how e = absurd cc
-no_end code.Close how e = absurd cc
-no_end code.McrOpen how e = absurd cc
-no_end code.McrClose how e = absurd cc
-no_end _ how e = refl
+-- so what does one of these has nothing to do with brackets and zones
+apart : {A : Type 0} (m : Mnemonic) (o : Option A) (how : A) → o ≡ Some how → (IsNesting m → o ≡ None) → nests m ≡ false
+apart m o how e none = by (nests m) refl
+  where
+    by : (t : Bool) → nests m ≡ t → t ≡ false
+    by false is = refl
+    by true is = let never = none (nesting m is) in absurd cc
 
 call_code : (how : CallOperation) → IsOtherCode (op_code_of (operation.Call how))
 call_code calls.Call = ((refl, refl), (refl, refl))
@@ -201,18 +192,18 @@ last_end : (s : Statement) (v : ResolvedOperand) (e : Option EndOperation) → e
 last_end s v None is =
     record { code = operation_code s.code s.operand v; stays = no_target s.operand v }
 last_end s v (Some how) is = record {
-  code = other_code s.code (op_code_of (operation.End how)) (no_end s.code how is) (end_code how);
+  code = other_code s.code (op_code_of (operation.End how)) (apart s.code _ how is (λ n. n.end)) (end_code how);
   stays = refl;
 }
 
 last_call : (c : Context) (s : Statement) (how : CallOperation) (v : ResolvedOperand) → call_operation_of s.code ≡ Some how
     → IsLast s.code (last_op (call_instr c s how v))
 last_call c s how (view.Called id instance) is = record {
-  code = other_code s.code (op_code_of (operation.Call how)) (no_call s.code how is) (call_code how);
+  code = other_code s.code (op_code_of (operation.Call how)) (apart s.code _ how is (λ n. n.call)) (call_code how);
   stays = refl;
 }
 last_call c s how _ is = record {
-  code = other_code s.code (op_code_of operation.Nop) (no_call s.code how is)
+  code = other_code s.code (op_code_of operation.Nop) (apart s.code _ how is (λ n. n.call))
       ((refl, refl), (refl, refl));
   stays = refl;
 }
@@ -221,20 +212,6 @@ last_view : (c : Context) (s : Statement) (v : ResolvedOperand) (call : Option C
     → IsLast s.code (last_op (view_instr c s v call))
 last_view c s v None is = last_end s v (end_operation_of s.code) refl
 last_view c s v (Some how) is = last_call c s how v is
-
--- a bracket or a zone stands with nothing, and is taken
-pub nests_form : (m : Mnemonic) → nests m ≡ true → form_of m ≡ form.Bare
-unfolding bracket_function is_closing_bracket opens_zone ends_zone form_of
-nests_form code.AOpen e = refl
-nests_form code.AnOpen e = refl
-nests_form code.OOpen e = refl
-nests_form code.OnOpen e = refl
-nests_form code.XOpen e = refl
-nests_form code.XnOpen e = refl
-nests_form code.Close e = refl
-nests_form code.McrOpen e = refl
-nests_form code.McrClose e = refl
-nests_form _ e = absurd cc
 
 abbrev resolved_by : Context → OperandRule → Operand → Option ResolvedOperand
 resolved_by c f o = if is_none (operand_rule c f o) then seen_view (resolution_of c o) else None
@@ -247,7 +224,7 @@ nests_resolved : (c : Context) (s : Statement) → TakesRight s → nests s.code
     → resolved_operand c s ≡ Some view.Nothing
 unfolding resolved_operand
 nests_resolved c s h is =
-    ap (λ (f : OperandRule). resolved_by c f s.operand) (nests_form s.code is)
+    ap (λ (f : OperandRule). resolved_by c f s.operand) (nesting s.code is).form
     ∙ ap (resolved_by c form.Bare) (h.bare is) ∙ bare_resolved c
 
 last_resolved : (c : Context) (s : Statement) (v : Option ResolvedOperand) → TakesRight s → resolved_operand c s ≡ v
@@ -293,7 +270,7 @@ last_of c body n s h =
         let r = last_resolved c s (resolved_operand c s) h refl in (r.code, r.stays)
     by (Some how) is = (
       subst (IsCodeOf s.code) (sym (jump_code how n (target_of body s.operand)))
-          (other_code s.code 0x6F (no_jump s.code how is) ((refl, refl), (refl, refl))),
+          (other_code s.code 0x6F (apart s.code _ how is (λ n. n.jump)) ((refl, refl), (refl, refl))),
       jump_operand how n (target_of body s.operand),
     )
 

@@ -4,8 +4,6 @@ use Rattle.std.proofs.Common.{ℕ, suc, ◌≡◌, ◌≤◌, ◌/◌, ◌⊎◌
 use Rattle.std.specs.Prelude.{◌==◌}
 use Rattle.std.specs.List.{AllByRecursion, list_all, list_any, slice_get}
 use Rattle.std.specs.Option.{is_none, option_and_then, option_map}
-use Rattle.std.specs.Bool.{Decides}
-use Rattle.std.proofs.lemmas.Slice.Eq.{bytes_eq-Decides}
 use Rattle.std.proofs.lemmas.Bool.{not-false}
 use Rattle.std.proofs.lemmas.Option.{same_Some}
 use Rattle.plc_base.proofs.TruthLemmas.{and_first, and_second}
@@ -83,7 +81,7 @@ use Rattle.sem_kept.specs.Operands.{ArePassed, InstrFits, PassesAlone}
 use Rattle.sem_kept.specs.Settled.{NamesWhatIsPassed}
 use Rattle.sem_kept.proofs.accepted.Accepted.{IsSound, IsSoundActual, IsSoundCall, IsSoundStatement, IsSoundTree, context_at}
 use Rattle.sem_kept.proofs.accepted.OperandsCells.{are_right, block_unbroken, cells_are, known_there, layout_of_block, measured_symbols}
-use Rattle.sem_kept.proofs.accepted.OperandsFormals.{Distinct, IsFoundIn, IsSystem, Matched, block_formals, found_each, fresh_distinct, return_all, source_matched, system_matched}
+use Rattle.sem_kept.proofs.accepted.OperandsFormals.{Distinct, IsFoundIn, IsSystem, Matched, block_formals, bytes_itself, found_each, fresh_distinct, return_all, same_bytes, source_matched, system_matched}
 use Rattle.sem_kept.proofs.accepted.OperandsInstr.{CallFits}
 use Rattle.sem_kept.proofs.accepted.OperandsMembers.{called_block, instance_found}
 use Rattle.sem_kept.proofs.accepted.OperandsPassed.{IsGoodActual, Passes, passed_from, supplied_passes}
@@ -143,12 +141,7 @@ module _ (a : Environment) (c : Context) (formals : List Formal) (actuals : List
 -- ---- what is supplied
 
 swapped : (xs ys : List ℕ) → bytes_eq xs ys ≡ true → bytes_eq ys xs ≡ true
-swapped xs ys e = by (bytes_eq xs ys) (bytes_eq ys xs) (bytes_eq-Decides xs ys) (bytes_eq-Decides ys xs) e
-  where
-    by : (s t : Bool) → Decides s (xs ≡ ys) → Decides t (ys ≡ xs) → s ≡ true → t ≡ true
-    by true true h k e = refl
-    by true false h k e = sym (sym (k.1 (sym (h.0 refl))))
-    by false t h k e = absurd cc
+swapped xs ys e = ap (λ (zs : List ℕ). bytes_eq zs xs) (sym (same_bytes xs ys e)) ∙ bytes_itself xs
 
 supplied_there : (actuals : List Actual) (f : Formal)
     → is_some (name_place f.name (map (λ (x : Actual). upper_case_name x.name) actuals)) ≡ true

@@ -3,7 +3,7 @@
 use Rattle.std.proofs.Common.{ℕ, suc, ◌≡◌, List, [], ◌∷◌, ◌++◌, append_assoc, Option, Some, None, is_some, Bool, true, false, ◌&&◌, ◌||◌, not, nat_eq, refl, sym, ◌∙◌, ap, subst, arith, map, find, bytes_eq, if◌then◌else◌, le-ltb, eq-eqb}
 use Rattle.std.specs.List.{AllByRecursion, flat_map}
 use Rattle.std.specs.Option.{option_map}
-use Rattle.std.proofs.lemmas.List.{map-append}
+use Rattle.std.proofs.lemmas.List.{append-nil, map-append}
 use Rattle.std.proofs.lemmas.Grind.{flat_map-append}
 use Rattle.std.proofs.lemmas.Slice.Eq.{bytes_eq-Decides}
 use Rattle.plc_base.specs.Kinds.{is_function_block}
@@ -134,6 +134,10 @@ abbrev pub Distinct : List Formal → Type 0
 Distinct [] = Unit {0}
 Distinct (g ∷ gs) = AllByRecursion (λ (h : Formal). bytes_eq h.name g.name ≡ false) gs × Distinct gs
 
+none_suc : (o : Option ℕ) → option_map (λ k. suc k) o ≡ None → o ≡ None
+none_suc None h = refl
+none_suc (Some m) h = absurd cc
+
 absent : (name x : List ℕ) (pre post : List (List ℕ)) → name_place name (pre ++ x ∷ post) ≡ None
     → bytes_eq name x ≡ false
 absent name x [] post e = by (bytes_eq name x) e
@@ -144,15 +148,11 @@ absent name x [] post e = by (bytes_eq name x) e
     by false h = refl
 absent name x (p ∷ pre) post e = by (bytes_eq name p) e (absent name x pre post)
   where
-    none : (o : Option ℕ) → option_map (λ k. suc k) o ≡ None → o ≡ None
-    none None h = refl
-    none (Some m) h = absurd cc
-
     by : (t : Bool)
         → (if t then Some 0 else option_map (λ k. suc k) (name_place name (pre ++ x ∷ post))) ≡ None
         → (name_place name (pre ++ x ∷ post) ≡ None → bytes_eq name x ≡ false) → bytes_eq name x ≡ false
     by true h more = absurd cc
-    by false h more = more (none (name_place name (pre ++ x ∷ post)) h)
+    by false h more = more (none_suc (name_place name (pre ++ x ∷ post)) h)
 
 fresh_all : (x : List ℕ) (pre post : List (List ℕ)) (fs : List Formal) → FreshFrom (pre ++ x ∷ post) fs
     → AllByRecursion (λ (h : Formal). bytes_eq h.name x ≡ false) fs
@@ -171,7 +171,7 @@ fresh_distinct names (f ∷ fs) h =
 pub same_bytes : (xs ys : List ℕ) → bytes_eq xs ys ≡ true → xs ≡ ys
 same_bytes xs ys e = (bytes_eq-Decides xs ys).0 e
 
-bytes_itself : (xs : List ℕ) → bytes_eq xs xs ≡ true
+pub bytes_itself : (xs : List ℕ) → bytes_eq xs xs ≡ true
 bytes_itself [] = refl
 bytes_itself (x ∷ xs) =
     ap (λ (t : Bool). t && bytes_eq xs xs) (eq-eqb x x refl) ∙ bytes_itself xs
@@ -214,10 +214,6 @@ return_all P (Some kind) (f ∷ fs) h = all_append P fs (f ∷ []) h.1 (h.0, tt)
 -- what isn't among the names of the list isn't among the names so far
 abbrev Within : (names outer : List (List ℕ)) → Type 0
 Within names outer = (n : List ℕ) → name_place n outer ≡ None → name_place n names ≡ None
-
-none_suc : (o : Option ℕ) → option_map (λ k. suc k) o ≡ None → o ≡ None
-none_suc None h = refl
-none_suc (Some m) h = absurd cc
 
 absent_front : (n : List ℕ) (xs ys : List (List ℕ)) → name_place n (xs ++ ys) ≡ None
     → name_place n xs ≡ None
@@ -316,11 +312,7 @@ fresh_section : (y : Types) (o : Outside) (k : BlockKind) (section : PartKind)
     → Within names (names_before o.names 0 before)
     → AreFresh names o.names (declarations_before_next before ds) (flat_map formal_here (cells_of y o section before ds))
 fresh_section y o k section names before [] is declared outline h within =
-    record { fresh = tt; behind = names; named = sym (nothing names); within = within }
-  where
-    nothing : (xs : List (List ℕ)) → xs ++ [] ≡ xs
-    nothing [] = refl
-    nothing (x ∷ xs) = ap (λ (zs : List (List ℕ)). x ∷ zs) (nothing xs)
+    record { fresh = tt; behind = names; named = sym (append-nil names); within = within }
 fresh_section y o k section names before (d ∷ ds) is declared outline h within =
     subst (λ (fs : List Formal). AreFresh names o.names (declarations_before_next (d ∷ before) ds) (fs ++ flat_map formal_here (cells_of y o section (d ∷ before) ds)))
     (sym (parameter_formal y o section before d type.0 is type.1))
@@ -395,15 +387,11 @@ part_formals : (y : Types) (o : Outside) (k : BlockKind) (names : List (List ℕ
 part_formals y o k names before p section h within =
     wanted (not (is_temp p.kind)) refl
   where
-    nothing : (xs : List (List ℕ)) → xs ++ [] ≡ xs
-    nothing [] = refl
-    nothing (x ∷ xs) = ap (λ (zs : List (List ℕ)). x ∷ zs) (nothing xs)
-
     empty : AreFresh names o.names (declarations_before_next before p.items) []
     empty = record {
       fresh = tt;
       behind = names;
-      named = sym (nothing names);
+      named = sym (append-nil names);
       within = within_onto names o.names before p.items within;
     }
 
@@ -424,11 +412,7 @@ part_formals y o k names before p section h within =
 
 fresh_append : (names : List (List ℕ)) (fs gs : List Formal) → FreshFrom names fs
     → FreshFrom (names ++ map (λ (f : Formal). f.name) fs) gs → FreshFrom names (fs ++ gs)
-fresh_append names [] gs h k = subst (λ (ns : List (List ℕ)). FreshFrom ns gs) (nothing names) k
-  where
-    nothing : (xs : List (List ℕ)) → xs ++ [] ≡ xs
-    nothing [] = refl
-    nothing (x ∷ xs) = ap (λ (zs : List (List ℕ)). x ∷ zs) (nothing xs)
+fresh_append names [] gs h k = subst (λ (ns : List (List ℕ)). FreshFrom ns gs) (append-nil names) k
 fresh_append names (f ∷ fs) gs h k = (
   h.0,
   fresh_append (names ++ f.name ∷ []) fs gs h.1
@@ -459,10 +443,6 @@ sections_fresh y o k names before (p ∷ ps) sections h within =
     one = part_formals y o k names before p sections.0
         (unbroken_first y o before p.items (flat_map (λ p. p.items) ps) h) within
 
-append_none : (xs : List Formal) → xs ++ [] ≡ xs
-append_none [] = refl
-append_none (x ∷ xs) = ap (λ (zs : List Formal). x ∷ zs) (append_none xs)
-
 returned_fresh : (y : Types) (b : Block) (result : Option Simple) → b.result ≡ result
     → FreshFrom (returned_names result) (flat_map formal_here (section_cells y (of_sections b) (λ k. not (is_temp k)) [] b.parts))
     → FreshFrom [] (flat_map formal_here (returned_cells result ++ section_cells y (of_sections b) (λ k. not (is_temp k)) [] b.parts))
@@ -479,7 +459,7 @@ block_formals y b h unbroken =
     (cells_of y of_structure part.Static [] b.components)
     ∙ ap (λ (fs : List Formal). flat_map formal_here (returned_cells b.result ++ section_cells y (of_sections b) (λ k. not (is_temp k)) [] b.parts) ++ fs)
     (none_here y of_structure part.Static [] b.components refl)
-    ∙ append_none (flat_map formal_here (returned_cells b.result ++ section_cells y (of_sections b) (λ k. not (is_temp k)) [] b.parts))))
+    ∙ append-nil (flat_map formal_here (returned_cells b.result ++ section_cells y (of_sections b) (λ k. not (is_temp k)) [] b.parts))))
     (returned_fresh y b b.result refl
     (sections_fresh y (of_sections b) b.kind (returned_names b.result) [] b.parts h.sections.1
     unbroken.sections (λ n e. e)))

@@ -33,7 +33,7 @@ use Rattle.stl_codegen.specs.Order.{is_code_before, is_data_before}
 use Rattle.stl_codegen.proofs.ProgramLemmas.{all_before}
 use Rattle.sem_kept.proofs.accepted.Accepted.{IsSound, IsSoundTree, context_at, sound_code_blocks, sound_data_blocks}
 use Rattle.sem_kept.proofs.accepted.OperandsCells.{measured_ids, measured_symbols}
-use Rattle.sem_kept.proofs.accepted.OperandsViews.{layout_id}
+use Rattle.sem_kept.proofs.accepted.OperandsViews.{data_block_kind, layout_id}
 use Rattle.sem_kept.proofs.accepted.Shared.{written_length}
 
 -- ---- what holds of all blocks holds of each
@@ -216,22 +216,7 @@ code_kind_same : (j k : BlockKind) → is_code j ≡ true → is_code k ≡ true
 code_kind_same kinds.Ob kinds.Ob e f g = refl
 code_kind_same kinds.Fc kinds.Fc e f g = refl
 code_kind_same kinds.Fb kinds.Fb e f g = refl
-code_kind_same kinds.Ob kinds.Fc e f g = absurd (omega (arith, g))
-code_kind_same kinds.Ob kinds.Fb e f g = absurd (omega (arith, g))
-code_kind_same kinds.Fc kinds.Ob e f g = absurd (omega (arith, g))
-code_kind_same kinds.Fc kinds.Fb e f g = absurd (omega (arith, g))
-code_kind_same kinds.Fb kinds.Ob e f g = absurd (omega (arith, g))
-code_kind_same kinds.Fb kinds.Fc e f g = absurd (omega (arith, g))
-code_kind_same kinds.Ob kinds.Db e f g = absurd cc
-code_kind_same kinds.Ob kinds.Sfc e f g = absurd cc
-code_kind_same kinds.Ob kinds.Udt e f g = absurd cc
-code_kind_same kinds.Fc kinds.Db e f g = absurd cc
-code_kind_same kinds.Fc kinds.Sfc e f g = absurd cc
-code_kind_same kinds.Fc kinds.Udt e f g = absurd cc
-code_kind_same kinds.Fb kinds.Db e f g = absurd cc
-code_kind_same kinds.Fb kinds.Sfc e f g = absurd cc
-code_kind_same kinds.Fb kinds.Udt e f g = absurd cc
-code_kind_same _ k e f g = absurd cc
+code_kind_same _ _ e f g = absurd (first_of (cc, omega (arith, g)))
 
 id_by : (a b : BlockId) → a.kind ≡ b.kind → a.number ≡ b.number → a ≡ b
 id_by a b e f =
@@ -313,19 +298,6 @@ len_finds number len (d ∷ ds) h some = by (d.number == number) refl (len_finds
     by true is more = ap (λ (n : ℕ). Some n) (h.0 is)
     by false is more = more (λ none. some (is, none))
 
-data_kind_same : (j k : BlockKind) → is_data_block j ≡ true → is_data_block k ≡ true → j ≡ k
-data_kind_same kinds.Db kinds.Db e f = refl
-data_kind_same kinds.Ob k e f = absurd cc
-data_kind_same kinds.Fc k e f = absurd cc
-data_kind_same kinds.Fb k e f = absurd cc
-data_kind_same kinds.Sfc k e f = absurd cc
-data_kind_same kinds.Udt k e f = absurd cc
-data_kind_same kinds.Db kinds.Ob e f = absurd cc
-data_kind_same kinds.Db kinds.Fc e f = absurd cc
-data_kind_same kinds.Db kinds.Fb e f = absurd cc
-data_kind_same kinds.Db kinds.Sfc e f = absurd cc
-data_kind_same kinds.Db kinds.Udt e f = absurd cc
-
 pub instance_found : (symbols : List Symbol) (t : Tree) → IsSoundTree symbols t → (q : ℕ)
     (b : Block) (l : BlockLayout) (id : BlockId) → IsSound symbols t q b l → l.id ≡ Some id
     → is_data_block id.kind ≡ true
@@ -348,7 +320,7 @@ instance_found symbols t tree q b l id h is kind =
         ∙ ap (λ (x : BlockLayout). x.length) layouts
       where
         same : other ≡ id
-        same = id_by other id (data_kind_same other.kind id.kind f kind)
+        same = id_by other id (data_block_kind other.kind f ∙ sym (data_block_kind id.kind kind))
             (eqb-true other.number id.number fits)
 
         place : k ≡ q

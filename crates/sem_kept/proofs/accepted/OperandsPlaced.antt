@@ -3,7 +3,7 @@
 use Rattle.std.proofs.Common.{◌≡◌, ℕ, ◌+◌, Bool, true, false, ◌&&◌, ◌||◌, not, List, [], ◌∷◌, ◌++◌, map, append_assoc, Option, Some, None, refl, sym, ap, subst, ◌∙◌}
 use Rattle.std.specs.Prelude.{◌==◌}
 use Rattle.std.specs.List.{AllByRecursion}
-use Rattle.std.proofs.lemmas.List.{map-append}
+use Rattle.std.proofs.lemmas.List.{append-nil, map-append}
 use Rattle.std.proofs.lemmas.Bool.{or_from}
 use Rattle.plc_base.specs.declared.blocks.BlockId.{BlockId}
 use Rattle.plc_base.specs.Kinds.{kind_number}
@@ -228,11 +228,7 @@ calls_fine : (a : Environment) (lens : List (ℕ × ℕ)) (ss : List StatementSp
 calls_fine a lens ss at brackets zones done block instance [] rest passed bad behind =
     call_fine a lens ss at brackets zones done calls.Call block instance rest
     (subst (λ (z : List OpData). is_bad_call lens (callee_among a.blocks (kind_number block.kind) block.number)
-    (instance_number_or_zero instance) z ≡ false) (append_nothing done) bad) behind
-  where
-    append_nothing : (ops : List OpData) → ops ++ [] ≡ ops
-    append_nothing [] = refl
-    append_nothing (op ∷ ops) = ap (λ (z : List OpData). op ∷ z) (append_nothing ops)
+    (instance_number_or_zero instance) z ≡ false) (append-nil done) bad) behind
 calls_fine a lens ss at brackets zones done block instance (p ∷ ps) rest passed bad behind = (
   pass_fine a lens ss at brackets zones done p ps block instance rest passed.0 passed.1 passed.2,
   calls_fine a lens ss (at + size_of_op op) (brackets_after at op.code brackets) (zones_behind_op at op.code zones) (done ++ op ∷ []) block instance ps rest

@@ -47,7 +47,7 @@ use Rattle.stl_types.specs.Parameters.{formals_of}
 use Rattle.stl_codegen.specs.Compiled.{StatedBlock, compiled_block}
 use Rattle.stl_codegen.specs.Generated.{code_block, code_block_of, code_blocks_of, generated_data_block, data_block_of, data_blocks_of, each_block, name_entries_of, param_here, param_of, params_of}
 use Rattle.stl_codegen.specs.Instruction.{return_last}
-use Rattle.stl_codegen.specs.Order.{is_code_before, is_data_before, sorted_list}
+use Rattle.stl_codegen.specs.Order.{is_code_before, is_data_before}
 use Rattle.sem_kept.specs.Sizes.{AcceptedIsSmall, IsSmallBlock}
 use Rattle.sem_kept.proofs.accepted.Accepted.{AllHeads, AllLaid, IsSound, IsSoundStatement, IsSoundTree, context_at, heads_none, right_tree, sound_code_blocks}
 use Rattle.sem_kept.proofs.accepted.OperandsCells.{measured_ids, measured_symbols}
@@ -57,7 +57,7 @@ use Rattle.sem_kept.proofs.accepted.SizesBlocks.{bit, coded, counted_data, few_c
 use Rattle.sem_kept.proofs.accepted.SizesCalls.{AllAreOnce, AreOnce, passes_few, sound_once}
 use Rattle.sem_kept.proofs.accepted.SizesNames.{IsFine, names_count, names_size, symbols_fine}
 use Rattle.sem_kept.proofs.accepted.SizesOps.{IsTaken, Opens, bytes_in, whole_count, whole_fits}
-use Rattle.sem_kept.proofs.accepted.SizesSums.{each_sum, mapped_sum, sorted_length, sorted_sum, summed_22, summed_8, summed_ones, summed_two}
+use Rattle.sem_kept.proofs.accepted.SizesSums.{each_sum, mapped_sum, sorted_sum, summed_22, summed_8, summed_ones, summed_two}
 use Rattle.sem_kept.proofs.accepted.SizesTokens.{bounded_by_source, declared_size, element_size, part_size, parts_size, whole_size}
 use Rattle.sem_kept.proofs.accepted.Shared.{kind_there}
 
@@ -277,67 +277,65 @@ coded_is : (symbols : List Symbol) (t : Tree) (k : ℕ) (b : Block) (l : BlockLa
     → IsSound symbols t k b l → bit (is_code_id l.id) ≡ coded symbols b
 coded_is symbols t k b l sound = ap (λ (o : Option BlockId). bit (is_code_id o)) (layout_id symbols t k b l sound)
 
-code_here : (symbols : List Symbol) (t : Tree) → IsReady symbols t → (k : ℕ) (b : Block)
-    (l : BlockLayout) → IsSound symbols t k b l
-    → sum_by (λ s. records_size (compiled_block s)) (code_block_of (context_at symbols t k) b l l.id)
-    ≤ 22 * coded symbols b + whole_size b
-code_here symbols t ready k b l sound =
-    omega (arith, by l.id refl, coded_is symbols t k b l sound)
-  where
-    by : (o : Option BlockId) → l.id ≡ o
-        → sum_by (λ s. records_size (compiled_block s)) (code_block_of (context_at symbols t k) b l o)
-        ≤ 22 * bit (is_code_id o) + whole_size b
-    by None e = omega arith
-    by (Some id) e = whether (is_code id.kind) refl
-      where
-        whether : (is : Bool) → is_code id.kind ≡ is
-            → sum_by (λ s. records_size (compiled_block s))
-            (if is then code_block (context_at symbols t k) b l id ∷ [] else [])
-            ≤ 22 * bit is + whole_size b
-        whether true g =
-            let one = code_block (context_at symbols t k) b l id in
-            omega (
-              arith,
-              code_size symbols t ready k b l id sound e g,
-              sum_by-cons (λ (s : StatedBlock). records_size (compiled_block s)) one [],
-            )
-        whether false g = omega arith
+coded_one : (symbols : List Symbol) (t : Tree) (k : ℕ) (b : Block) (l : BlockLayout) (id : BlockId)
+    → IsSound symbols t k b l → l.id ≡ Some id → is_code id.kind ≡ true → coded symbols b ≡ 1
+coded_one symbols t k b l id sound e is =
+    sym (coded_is symbols t k b l sound) ∙ ap (λ (o : Option BlockId). bit (is_code_id o)) e ∙ ap bit is
 
-code_count : (symbols : List Symbol) (t : Tree) (k : ℕ) (b : Block) (l : BlockLayout)
-    → IsSound symbols t k b l
-    → sum_by (λ s. 1) (code_block_of (context_at symbols t k) b l l.id) ≤ coded symbols b
-code_count symbols t k b l sound = omega (arith, by l.id, coded_is symbols t k b l sound)
+-- what a block makes is at most so large, if what it makes under its number is
+made_sum : {A : Type 0} (f : A → ℕ) (n : ℕ) (of : Option BlockId → List A) (one : BlockId → A) (test : BlockId → Bool)
+    → of None ≡ [] → ((id : BlockId) → of (Some id) ≡ (if test id then one id ∷ [] else [])) → (o : Option BlockId)
+    → ((id : BlockId) → o ≡ Some id → test id ≡ true → f (one id) ≤ n) → sum_by f (of o) ≤ n
+made_sum f n of one test none some None h = rw none (omega arith)
+made_sum f n of one test none some (Some id) h = rw (some id) (by (test id) (h id refl))
   where
-    by : (o : Option BlockId)
-        → sum_by (λ s. 1) (code_block_of (context_at symbols t k) b l o) ≤ bit (is_code_id o)
-    by None = omega arith
-    by (Some id) = whether (is_code id.kind)
-      where
-        whether : (is : Bool) → sum_by {X = StatedBlock} (λ s. 1)
-            (if is then code_block (context_at symbols t k) b l id ∷ [] else []) ≤ bit is
-        whether true = omega arith
-        whether false = omega arith
+    by : (is : Bool) → (is ≡ true → f (one id) ≤ n) → sum_by f (if is then one id ∷ [] else []) ≤ n
+    by true most = omega (arith, most refl, sum_by-cons f (one id) [])
+    by false most = omega arith
 
-codes_size : (symbols : List Symbol) (t : Tree) → IsReady symbols t → IsSoundTree symbols t
-    → sum_by records_size (map compiled_block (code_blocks_of t symbols (layouts_of t symbols)))
-    ≤ 22 * sum_by (coded symbols) t.blocks + sum_by whole_size t.blocks
+codes_sum : (symbols : List Symbol) (t : Tree) → IsSoundTree symbols t → (f : StatedBlock → ℕ) (g : Block → ℕ)
+    → ((k : ℕ) (b : Block) (l : BlockLayout) (id : BlockId) → IsSound symbols t k b l → l.id ≡ Some id
+    → is_code id.kind ≡ true → f (code_block (context_at symbols t k) b l id) ≤ g b)
+    → sum_by f (code_blocks_of t symbols (layouts_of t symbols)) ≤ sum_by g t.blocks
 unfolding code_blocks_of
-codes_size symbols t ready sound =
-    let of_ : Context → Block → BlockLayout → List StatedBlock =
-    λ c b l. code_block_of c b l l.id in
-    let bytes : StatedBlock → ℕ = λ s. records_size (compiled_block s) in
-    let each = each_block of_ (context_at symbols t 0) t.blocks (layouts_of t symbols) in
-    let each_fits = laid_mapped (IsSound symbols t) (λ k b l. sum_by bytes (of_ (context_at symbols t k) b l)
-    ≤ 22 * coded symbols b + whole_size b) (code_here symbols t ready) 0 t.blocks (layouts_of t symbols)
-    sound.blocks in
+codes_sum symbols t sound f g each =
+    let of_ : Context → Block → BlockLayout → List StatedBlock = λ c b l. code_block_of c b l l.id in
+    let here = laid_mapped (IsSound symbols t) (λ k b l. sum_by f (of_ (context_at symbols t k) b l) ≤ g b)
+    (λ k b l h. made_sum f (g b) (code_block_of (context_at symbols t k) b l) (code_block (context_at symbols t k) b l)
+    (λ id. is_code id.kind) refl (λ id. refl) l.id (λ id. each k b l id h)) 0 t.blocks (layouts_of t symbols) sound.blocks in
     omega (
       arith,
-      mapped_sum compiled_block records_size (sorted_list is_code_before each),
-      sorted_sum is_code_before bytes each,
-      each_sum of_ bytes (λ b. 22 * coded symbols b + whole_size b) symbols t 0 t.blocks
-          (layouts_of t symbols) each_fits,
+      sorted_sum is_code_before f (each_block of_ (context_at symbols t 0) t.blocks (layouts_of t symbols)),
+      each_sum of_ f g symbols t 0 t.blocks (layouts_of t symbols) here,
+    )
+
+codes_size : (symbols : List Symbol) (t : Tree) → IsReady symbols t
+    → sum_by records_size (map compiled_block (code_blocks_of t symbols (layouts_of t symbols)))
+    ≤ 22 * sum_by (coded symbols) t.blocks + sum_by whole_size t.blocks
+codes_size symbols t ready =
+    omega (
+      arith,
+      mapped_sum compiled_block records_size (code_blocks_of t symbols (layouts_of t symbols)),
+      codes_sum symbols t ready.sound (λ s. records_size (compiled_block s)) (λ b. 22 * coded symbols b + whole_size b)
+          (λ k b l id h e is. omega (
+            arith,
+            code_size symbols t ready k b l id h e is,
+            coded_one symbols t k b l id h e is,
+          )),
       summed_two (λ b. 22 * coded symbols b) whole_size t.blocks,
       summed_22 (coded symbols) t.blocks,
+    )
+
+codes_count : (symbols : List Symbol) (t : Tree) → IsSoundTree symbols t
+    → length (map compiled_block (code_blocks_of t symbols (layouts_of t symbols)))
+    ≤ sum_by (coded symbols) t.blocks
+codes_count symbols t sound =
+    omega (
+      arith,
+      length-map (code_blocks_of t symbols (layouts_of t symbols)) compiled_block,
+      summed_ones (code_blocks_of t symbols (layouts_of t symbols)),
+      codes_sum symbols t sound (λ s. 1) (coded symbols)
+          (λ k b l id h e is. omega (arith, coded_one symbols t k b l id h e is)),
     )
 
 -- ---- data blocks
@@ -366,107 +364,44 @@ one_data_size symbols t k b l id sound e is =
       layout_length symbols t k b l sound,
     )
 
-data_here : (symbols : List Symbol) (t : Tree) (k : ℕ) (b : Block) (l : BlockLayout)
-    → IsSound symbols t k b l
-    → sum_by data_size (data_block_of (context_at symbols t k) l l.id)
-    ≤ 8 * counted_data b + data_length (types_of_source symbols t.blocks) t.blocks b
-data_here symbols t k b l sound = by l.id refl
-  where
-    most : ℕ
-    most = 8 * counted_data b + data_length (types_of_source symbols t.blocks) t.blocks b
-
-    by : (o : Option BlockId) → l.id ≡ o
-        → sum_by data_size (data_block_of (context_at symbols t k) l o) ≤ most
-    by None e = omega arith
-    by (Some id) e = whether (is_data_block id.kind) refl
-      where
-        whether : (is : Bool) → is_data_block id.kind ≡ is
-            → sum_by data_size
-            (if is then generated_data_block (context_at symbols t k) l id ∷ [] else []) ≤ most
-        whether true g =
-            omega (
-              arith,
-              one_data_size symbols t k b l id sound e g,
-              sum_by-cons data_size (generated_data_block (context_at symbols t k) l id) [],
-            )
-        whether false g = omega arith
-
-data_count : (symbols : List Symbol) (t : Tree) (k : ℕ) (b : Block) (l : BlockLayout)
-    → IsSound symbols t k b l
-    → sum_by (λ d. 1) (data_block_of (context_at symbols t k) l l.id) ≤ counted_data b
-data_count symbols t k b l sound = by l.id refl
-  where
-    by : (o : Option BlockId) → l.id ≡ o
-        → sum_by (λ d. 1) (data_block_of (context_at symbols t k) l o) ≤ counted_data b
-    by None e = omega arith
-    by (Some id) e = whether (is_data_block id.kind) refl
-      where
-        whether : (is : Bool) → is_data_block id.kind ≡ is
-            → sum_by {X = DataBlock} (λ d. 1)
-            (if is then generated_data_block (context_at symbols t k) l id ∷ [] else []) ≤ counted_data b
-        whether true g = omega (arith, ap bit (sound_data symbols t k b l id sound e g))
-        whether false g = omega arith
+datas_sum : (symbols : List Symbol) (t : Tree) → IsSoundTree symbols t → (f : DataBlock → ℕ) (g : Block → ℕ)
+    → ((k : ℕ) (b : Block) (l : BlockLayout) (id : BlockId) → IsSound symbols t k b l → l.id ≡ Some id
+    → is_data_block id.kind ≡ true → f (generated_data_block (context_at symbols t k) l id) ≤ g b)
+    → sum_by f (data_blocks_of t symbols (layouts_of t symbols)) ≤ sum_by g t.blocks
+unfolding data_blocks_of
+datas_sum symbols t sound f g each =
+    let of_ : Context → Block → BlockLayout → List DataBlock = λ c b l. data_block_of c l l.id in
+    let here = laid_mapped (IsSound symbols t) (λ k b l. sum_by f (of_ (context_at symbols t k) b l) ≤ g b)
+    (λ k b l h. made_sum f (g b) (data_block_of (context_at symbols t k) l) (generated_data_block (context_at symbols t k) l)
+    (λ id. is_data_block id.kind) refl (λ id. refl) l.id (λ id. each k b l id h)) 0 t.blocks (layouts_of t symbols) sound.blocks in
+    omega (
+      arith,
+      sorted_sum is_data_before f (each_block of_ (context_at symbols t 0) t.blocks (layouts_of t symbols)),
+      each_sum of_ f g symbols t 0 t.blocks (layouts_of t symbols) here,
+    )
 
 datas_size : (symbols : List Symbol) (t : Tree) → IsSoundTree symbols t
     → sum_by data_size (data_blocks_of t symbols (layouts_of t symbols))
     ≤ 8 * sum_by counted_data t.blocks
     + sum_by (data_length (types_of_source symbols t.blocks) t.blocks) t.blocks
-unfolding data_blocks_of
 datas_size symbols t sound =
-    let y = types_of_source symbols t.blocks in
-    let of_ : Context → Block → BlockLayout → List DataBlock =
-    λ c b l. data_block_of c l l.id in
-    let each = each_block of_ (context_at symbols t 0) t.blocks (layouts_of t symbols) in
-    let most : Block → ℕ = λ b. 8 * counted_data b + data_length y t.blocks b in
-    let each_fits = laid_mapped (IsSound symbols t)
-    (λ k b l. sum_by data_size (of_ (context_at symbols t k) b l) ≤ most b)
-    (data_here symbols t) 0 t.blocks (layouts_of t symbols) sound.blocks in
+    let long = data_length (types_of_source symbols t.blocks) t.blocks in
     omega (
       arith,
-      sorted_sum is_data_before data_size each,
-      each_sum of_ data_size most symbols t 0 t.blocks (layouts_of t symbols) each_fits,
-      summed_two (λ b. 8 * counted_data b) (data_length y t.blocks) t.blocks,
+      datas_sum symbols t sound data_size (λ b. 8 * counted_data b + long b)
+          (λ k b l id h e is. omega (arith, one_data_size symbols t k b l id h e is)),
+      summed_two (λ b. 8 * counted_data b) long t.blocks,
       summed_8 counted_data t.blocks,
-    )
-
--- ---- counts
-
-codes_count : (symbols : List Symbol) (t : Tree) → IsSoundTree symbols t
-    → length (map compiled_block (code_blocks_of t symbols (layouts_of t symbols)))
-    ≤ sum_by (coded symbols) t.blocks
-unfolding code_blocks_of
-codes_count symbols t sound =
-    let of_ : Context → Block → BlockLayout → List StatedBlock =
-    λ c b l. code_block_of c b l l.id in
-    let one : StatedBlock → ℕ = λ s. 1 in
-    let each = each_block of_ (context_at symbols t 0) t.blocks (layouts_of t symbols) in
-    let each_fits = laid_mapped (IsSound symbols t)
-    (λ k b l. sum_by one (of_ (context_at symbols t k) b l) ≤ coded symbols b)
-    (code_count symbols t) 0 t.blocks (layouts_of t symbols) sound.blocks in
-    omega (
-      arith,
-      length-map (sorted_list is_code_before each) compiled_block,
-      sorted_length is_code_before each,
-      summed_ones each,
-      each_sum of_ one (coded symbols) symbols t 0 t.blocks (layouts_of t symbols) each_fits,
     )
 
 datas_count : (symbols : List Symbol) (t : Tree) → IsSoundTree symbols t
     → length (data_blocks_of t symbols (layouts_of t symbols)) ≤ sum_by counted_data t.blocks
-unfolding data_blocks_of
 datas_count symbols t sound =
-    let of_ : Context → Block → BlockLayout → List DataBlock =
-    λ c b l. data_block_of c l l.id in
-    let one : DataBlock → ℕ = λ d. 1 in
-    let each = each_block of_ (context_at symbols t 0) t.blocks (layouts_of t symbols) in
-    let each_fits = laid_mapped (IsSound symbols t)
-    (λ k b l. sum_by one (of_ (context_at symbols t k) b l) ≤ counted_data b)
-    (data_count symbols t) 0 t.blocks (layouts_of t symbols) sound.blocks in
     omega (
       arith,
-      sorted_length is_data_before each,
-      summed_ones each,
-      each_sum of_ one counted_data symbols t 0 t.blocks (layouts_of t symbols) each_fits,
+      summed_ones (data_blocks_of t symbols (layouts_of t symbols)),
+      datas_sum symbols t sound (λ d. 1) counted_data
+          (λ k b l id h e is. omega (arith, ap bit (sound_data symbols t k b l id h e is))),
     )
 
 counts_good : (codes datas names : ℕ) → codes ≤ 4219 → datas ≤ 256 → names ≤ 65535
@@ -561,7 +496,7 @@ accepted_is_small source file symbols t is =
     let codes = few_codes symbols t sound in
     let datas = few_data_blocks t.blocks (heads_53 t.blocks sound.by_layout.by_53) in
     let bytes = few_data_bytes y t.blocks t.blocks (heads_54 y t.blocks sound.by_layout.by_54) in
-    let code_sum = codes_size symbols t ready sound in
+    let code_sum = codes_size symbols t ready in
     let data_sum = datas_size symbols t sound in
     let name_sum = names_size symbols fine in
     record {
