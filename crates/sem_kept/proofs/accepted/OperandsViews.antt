@@ -107,36 +107,15 @@ EndsBy n s = (local_end s.operand ≤ n) × AllByRecursion (λ (a : Actual). loc
 actuals_by : (n : ℕ) (actuals : List Actual) → farthest_actual_end actuals ≤ n
     → AllByRecursion (λ (a : Actual). local_end a.value ≤ n) actuals
 actuals_by n [] h = tt
-actuals_by n (a ∷ more) h = (
-  first (local_end a.value) (farthest_actual_end more) h,
-  actuals_by n more (rest (local_end a.value) (farthest_actual_end more) h),
-)
-  where
-    first : (x y : ℕ) → max x y ≤ n → x ≤ n
-    first x y h = omega (arith, h)
-
-    rest : (x y : ℕ) → max x y ≤ n → y ≤ n
-    rest x y h = omega (arith, h)
+actuals_by n (a ∷ more) h = (omega (arith, h), actuals_by n more (omega (arith, h)))
 
 pub ends_by : (n : ℕ) (body : List Statement) → farthest_operand_end body ≤ n
     → AllByRecursion (EndsBy n) body
 ends_by n [] h = tt
 ends_by n (s ∷ ss) h = (
-  (
-    own (local_end s.operand) (farthest_actual_end s.actuals) (farthest_operand_end ss) h,
-    actuals_by n s.actuals (given (local_end s.operand) (farthest_actual_end s.actuals) (farthest_operand_end ss) h),
-  ),
-  ends_by n ss (rest (local_end s.operand) (farthest_actual_end s.actuals) (farthest_operand_end ss) h),
+  (omega (arith, h), actuals_by n s.actuals (omega (arith, h))),
+  ends_by n ss (omega (arith, h)),
 )
-  where
-    own : (x y z : ℕ) → max (max x y) z ≤ n → x ≤ n
-    own x y z h = omega (arith, h)
-
-    given : (x y z : ℕ) → max (max x y) z ≤ n → y ≤ n
-    given x y z h = omega (arith, h)
-
-    rest : (x y z : ℕ) → max (max x y) z ≤ n → z ≤ n
-    rest x y z h = omega (arith, h)
 
 -- the local data of a code block hold its temporary variables and its farthest operand
 pub record HoldsLocals (y : Types) (b : Block) (local : ℕ) : Type 0 where
@@ -157,26 +136,14 @@ code_len y b code =
 
 pub holds_locals : (y : Types) (b : Block) → is_code b.kind ≡ true → has_too_much_local y b ≡ false
     → HoldsLocals y b (local_len y b)
-holds_locals y b code few = record {
-  temps = subst (λ (n : ℕ). structure_bits (temps_of y b) / 8 ≤ n) (sym is)
-      (first (least_local b.kind) (structure_bits (temps_of y b) / 8) (farthest_operand_end b.body)
-      (next_multiple (max (structure_bits (temps_of y b) / 8) (farthest_operand_end b.body)) 2)
-      (up_2_behind (max (structure_bits (temps_of y b) / 8) (farthest_operand_end b.body))));
-  operands = subst (λ (n : ℕ). farthest_operand_end b.body ≤ n) (sym is)
-      (second (least_local b.kind) (structure_bits (temps_of y b) / 8) (farthest_operand_end b.body)
-      (next_multiple (max (structure_bits (temps_of y b) / 8) (farthest_operand_end b.body)) 2)
-      (up_2_behind (max (structure_bits (temps_of y b) / 8) (farthest_operand_end b.body))));
-  short = ltb-false 1024 (local_len y b) few;
-}
-  where
-    is : local_len y b ≡ max (least_local b.kind) (next_multiple (max (structure_bits (temps_of y b) / 8) (farthest_operand_end b.body)) 2)
-    is = code_len y b code
-
-    first : (least x z whole : ℕ) → max x z ≤ whole → x ≤ max least whole
-    first least x z whole h = omega (arith, h)
-
-    second : (least x z whole : ℕ) → max x z ≤ whole → z ≤ max least whole
-    second least x z whole h = omega (arith, h)
+holds_locals y b code few =
+    let is = code_len y b code in
+    let long = up_2_behind (max (structure_bits (temps_of y b) / 8) (farthest_operand_end b.body)) in
+    record {
+      temps = omega (arith, is, long);
+      operands = omega (arith, is, long);
+      short = ltb-false 1024 (local_len y b) few;
+    }
 
 -- the structure of a function block is as long as its instances
 pub block_own : (y : Types) (b : Block) → IsBlock b → b.kind ≡ kinds.Fb → shape_of y b ≡ shape.Own
@@ -232,16 +199,16 @@ pub record IsSeen (a : Environment) (s : Resolution) : Type 0 where
   pub is : s ≡ Resolved view
   pub fits : ViewFits a view
 
-composite_fits : (a : Environment) (o : Option Cell) → ViewFits a (composite_operand o)
-composite_fits a None = tt
-composite_fits a (Some c) = by c.of
+view_seen : (a : Environment) (v : ResolvedOperand) → ViewFits a v → IsSeen a (Resolved v)
+view_seen a v fits = record { view = v; is = refl; fits = fits }
+
+composite_seen : (a : Environment) (o : Option Cell) → IsSeen a (Resolved (composite_operand o))
+composite_seen a None = view_seen a view.Composite tt
+composite_seen a (Some c) = by c.of
   where
-    by : (e : Element) → ViewFits a (date_or_composite e)
-    by DateAndTime = tt
-    by Structure = tt
-    by (Plain kind) = tt
-    by (Udt block bits) = tt
-    by cell_element.Unknown = tt
+    by : (e : Element) → IsSeen a (Resolved (date_or_composite e))
+    by DateAndTime = view_seen a view.Date tt
+    by _ = view_seen a view.Composite tt
 
 -- ---- parameters
 
@@ -410,11 +377,7 @@ module _ (symbols : List Symbol) (t : Tree) (tree : IsSoundTree symbols t) (k : 
   temporary_seen : (s : ComponentAt) → Lies (layouts_of t symbols) (structure_bits (cells_at (layouts_of t symbols) k true)) s
       → (o : Option Simple) → elementary_at (layouts_of t symbols) s ≡ o
       → IsSeen a (own_at (context_at symbols t k) true s o)
-  temporary_seen s h None e = record {
-    view = composite_operand (slice_get (cells_at (layouts_of t symbols) s.block s.temporary) s.place);
-    is = refl;
-    fits = composite_fits a (slice_get (cells_at (layouts_of t symbols) s.block s.temporary) s.place);
-  }
+  temporary_seen s h None e = composite_seen a (slice_get (cells_at (layouts_of t symbols) s.block s.temporary) s.place)
   temporary_seen s h (Some kind) e = record {
     view = view.Direct (place_at area.L 0 s.offset) (width_of kind) side.Both (Some kind);
     is = placed_sees area.L 0 s.offset (structure_bits (cells_at (layouts_of t symbols) k true)) kind at
@@ -448,11 +411,7 @@ module _ (symbols : List Symbol) (t : Tree) (tree : IsSoundTree symbols t) (k : 
       → Lies (layouts_of t symbols) limit s
       → (o : Option Simple) → elementary_at (layouts_of t symbols) s ≡ o
       → IsSeen a (own_at (context_at symbols t k) false s o)
-  instance_seen limit few other s h None e = record {
-    view = composite_operand (slice_get (cells_at (layouts_of t symbols) s.block s.temporary) s.place);
-    is = refl;
-    fits = composite_fits a (slice_get (cells_at (layouts_of t symbols) s.block s.temporary) s.place);
-  }
+  instance_seen limit few other s h None e = composite_seen a (slice_get (cells_at (layouts_of t symbols) s.block s.temporary) s.place)
   instance_seen limit few other s h (Some kind) e = record {
     view = view.Direct (place_at area.Di 0 s.offset) (width_of kind) side.Both (Some kind);
     is =
@@ -469,11 +428,7 @@ module _ (symbols : List Symbol) (t : Tree) (tree : IsSoundTree symbols t) (k : 
   parameter_seen : b.kind ≡ kinds.Fc → (s : ComponentAt) → s.block ≡ k → s.temporary ≡ false
       → (o : Option Simple) → elementary_at (layouts_of t symbols) s ≡ o
       → IsSeen a (own_at (context_at symbols t k) false s o)
-  parameter_seen is s at own None e = record {
-    view = composite_operand (slice_get (cells_at (layouts_of t symbols) s.block s.temporary) s.place);
-    is = refl;
-    fits = composite_fits a (slice_get (cells_at (layouts_of t symbols) s.block s.temporary) s.place);
-  }
+  parameter_seen is s at own None e = composite_seen a (slice_get (cells_at (layouts_of t symbols) s.block s.temporary) s.place)
   parameter_seen is s at own (Some kind) e =
       by (slice_get (cells_at (layouts_of t symbols) k false) s.place) refl
       (ap (λ (n : ℕ). kind_of s (slice_get (cells_at (layouts_of t symbols) n false) s.place)) (sym at)
@@ -904,11 +859,7 @@ data_seen symbols t tree k a name steps there known stays =
     at : (w : ComponentAt) → Lies (layouts_of t symbols) (structure_bits (cells_at (layouts_of t symbols) s.inside false)) w
         → (o : Option Simple) → elementary_at (layouts_of t symbols) w ≡ o
         → IsSeen a (data_at (context_at symbols t k) d.block.id.number w o)
-    at w h None e = record {
-      view = composite_operand (slice_get (cells_at (layouts_of t symbols) w.block w.temporary) w.place);
-      is = refl;
-      fits = composite_fits a (slice_get (cells_at (layouts_of t symbols) w.block w.temporary) w.place);
-    }
+    at w h None e = composite_seen a (slice_get (cells_at (layouts_of t symbols) w.block w.temporary) w.place)
     at w h (Some kind) e = record {
       view = view.Direct (place_at area.Db d.block.id.number w.offset) (width_of kind) side.Both (Some kind);
       is = placed_sees area.Db d.block.id.number w.offset
@@ -968,12 +919,8 @@ module _ (symbols : List Symbol) (t : Tree) (tree : IsSoundTree symbols t)
   pub operand_seen : (o : Operand) → IsChecked symbols t k o → names_called_block o ≡ false
       → local_end o ≤ a.local_len → IsSeen a (resolution_of (context_at symbols t k) o)
   unfolding resolution_of
-  operand_seen operand.Nothing h other ends = record { view = view.Nothing; is = refl; fits = tt }
-  operand_seen (operand.Direct None ar w byte bit) h other ends = record {
-    view = resolved_address 0 ar w byte bit;
-    is = refl;
-    fits = (address_fits a ar w byte bit h.well_formed.2 ends, tt);
-  }
+  operand_seen (operand.Direct None ar w byte bit) h other ends =
+      view_seen a _ (address_fits a ar w byte bit h.well_formed.2 ends, tt)
   operand_seen (operand.Direct (Some name) ar w byte bit) h other ends = record {
     view = resolved_address d.block.id.number ar w byte bit;
     is = ap (λ (o : Option ℕ). address_in_block o ar w byte bit) d.number;
@@ -982,26 +929,7 @@ module _ (symbols : List Symbol) (t : Tree) (tree : IsSoundTree symbols t)
     where
       d : IsData symbols t k name
       d = data_there symbols t tree k name h.there
-  operand_seen (operand.Timer number) h other ends =
-      record { view = view.Timer number; is = refl; fits = tt }
-  operand_seen (operand.Counter number) h other ends =
-      record { view = view.Counter number; is = refl; fits = tt }
   operand_seen (operand.Named p steps) h other ends = path_fits p steps h.known h.there h.inside
-  operand_seen (operand.ByMemory ar w from byte) h other ends =
-      record { view = view.ByMemory (area_for_letters ar) w (area_for_letters from) byte; is = refl; fits = tt }
-  operand_seen (operand.NumberBy what from byte) h other ends =
-      record { view = view.NumberBy what (area_for_letters from) byte; is = refl; fits = tt }
-  operand_seen (operand.ByRegister ar w r bits) h other ends =
-      record { view = view.ByRegister (area_left ar) w r bits; is = refl; fits = tt }
-  operand_seen (operand.Pointer ar byte bit) h other ends =
-      record { view = view.Pointer (area_left ar) byte bit; is = refl; fits = tt }
-  operand_seen (operand.Constant value) h other ends =
-      record { view = view.Constant; is = refl; fits = tt }
-  operand_seen (operand.Label name) h other ends = record { view = view.Label; is = refl; fits = tt }
-  operand_seen (operand.OfStatus flag) h other ends =
-      record { view = view.OfStatus flag; is = refl; fits = tt }
-  operand_seen (operand.Other name) h other ends =
-      record { view = view.Register (register_for_word name); is = refl; fits = tt }
   operand_seen (operand.OpenBlock di name) h other ends = record {
     view = view.OpenBlock di d.block.id.number;
     is = ap (λ (o : Option ℕ). opened_seen di o) d.number;
@@ -1011,3 +939,4 @@ module _ (symbols : List Symbol) (t : Tree) (tree : IsSoundTree symbols t)
       d : IsData symbols t k name
       d = data_there symbols t tree k name h.there
   operand_seen (operand.Called name instance) h other ends = absurd cc
+  operand_seen _ h other ends = view_seen a _ tt
