@@ -51,6 +51,7 @@ use Rattle.block_layout.specs.Offsets.{width_of}
 use Rattle.block_layout.specs.Paths.{cells_at, if_whole, whole_at}
 use Rattle.block_layout.specs.Rule23.{is_unknown_called, is_unknown_id, is_unknown_instance, names_unknown}
 use Rattle.block_layout.specs.Rule44.{is_number_beyond_limits}
+use Rattle.block_layout.specs.Types.{Types}
 use Rattle.block_layout.specs.declared.blocks.BlockLayout.{BlockLayout}
 use Rattle.block_layout.specs.declared.blocks.Shape.{Shape}
 use Rattle.block_layout.specs.declared.blocks.Shape.TheVariants as shape
@@ -87,7 +88,7 @@ use Rattle.sem_kept.proofs.accepted.OperandsMembers.{called_block, instance_foun
 use Rattle.sem_kept.proofs.accepted.OperandsPassed.{IsGoodActual, Passes, passed_from, supplied_passes}
 use Rattle.sem_kept.proofs.accepted.OperandsSymbols.{SymbolFits}
 use Rattle.sem_kept.proofs.accepted.OperandsViews.{EndsBy, IsData, IsThere, Surrounds, block_own, data_block_kind, data_length, data_there, function_block_kind, id_there, id_there_is, ids_same, instance_length, layout_components, layout_id, layout_length, layout_shape, not_none, operand_seen, whole_is}
-use Rattle.sem_kept.proofs.accepted.Shared.{callable_by, calls_called, or_first, or_second}
+use Rattle.sem_kept.proofs.accepted.Shared.{call_form, callable_by, calls_called, or_first, or_second}
 
 -- ---- what is passed stands among the ops
 
@@ -191,70 +192,14 @@ record IsCall (c : Context) (name : BlockName) (inst : Option BlockName) (id : B
   named : named_block c.symbols name ≡ Some id
   whole : is_system_function id.kind ≡ false → (p : ℕ) × (whole_place c id ≡ Some p)
   with_instance : IsInstanceOf c inst instance
-
-called_same : (a b : BlockId) (m n : Option ℕ) → Resolved (view.Called a m) ≡ Resolved (view.Called b n) → a ≡ b
-called_same a b m n e = cc
-
-instance_same : (a b : BlockId) (m n : Option ℕ) → Resolved (view.Called a m) ≡ Resolved (view.Called b n)
-    → m ≡ n
-instance_same a b m n e = cc
-
-seen_call : (c : Context) (name : BlockName) (inst : Option BlockName) (id : BlockId)
-    (instance : Option ℕ) → resolution_of c (operand.Called name inst) ≡ Resolved (view.Called id instance)
-    → IsCall c name inst id instance
-unfolding resolution_of
-seen_call c name inst id instance e = by (named_block c.symbols name) refl e
-  where
-    given : (x : BlockId) (inst : Option BlockName)
-        → called_seen (Some x) inst (instance_of_name c inst) ≡ Resolved (view.Called id instance)
-        → (x ≡ id) × IsInstanceOf c inst instance
-    given x None h = (
-      called_same x id None instance h,
-      subst (λ (o : Option ℕ). IsInstanceOf c None o) (instance_same x id None instance h) tt,
-    )
-    given x (Some nm) h = number (data_number c nm) refl h
-      where
-        number : (o : Option ℕ) → data_number c nm ≡ o
-            → called_seen (Some x) (Some nm) o ≡ Resolved (view.Called id instance)
-            → (x ≡ id) × IsInstanceOf c (Some nm) instance
-        number None is h = absurd cc
-        number (Some n) is h = (
-          called_same x id (Some n) instance h,
-          subst (λ (o : Option ℕ). IsInstanceOf c (Some nm) o) (instance_same x id (Some n) instance h) is,
-        )
-
-    made : (x : BlockId) → named_block c.symbols name ≡ Some x
-        → (is_system_function x.kind ≡ false → (p : ℕ) × (whole_place c x ≡ Some p))
-        → called_seen (Some x) inst (instance_of_name c inst) ≡ Resolved (view.Called id instance)
-        → IsCall c name inst id instance
-    made x is whole h =
-        let both = given x inst h in
-        record {
-          named = is ∙ ap (λ (z : BlockId). Some z) both.0;
-          whole = subst (λ (z : BlockId). is_system_function z.kind ≡ false → (p : ℕ) × (whole_place c z ≡ Some p)) both.0 whole;
-          with_instance = both.1;
-        }
-
-    placed : (x : BlockId) → named_block c.symbols name ≡ Some x → is_system_function x.kind ≡ false
-        → (o : Option ℕ) → whole_place c x ≡ o
-        → called_seen (id_at x o) inst (instance_of_name c inst) ≡ Resolved (view.Called id instance)
-        → IsCall c name inst id instance
-    placed x is other None w h = absurd cc
-    placed x is other (Some p) w h = made x is (λ k. (p, w)) h
-
-    whether : (x : BlockId) → named_block c.symbols name ≡ Some x → (t : Bool) → is_system_function x.kind ≡ t
-        → called_seen (if t then Some x else id_at x (whole_place c x)) inst (instance_of_name c inst) ≡ Resolved (view.Called id instance)
-        → IsCall c name inst id instance
-    whether x is true sys h = made x is (λ k. absurd cc) h
-    whether x is false sys h = placed x is sys (whole_place c x) refl h
-
-    by : (o : Option BlockId) → named_block c.symbols name ≡ o
-        → called_seen (whole_called_block c o) inst (instance_of_name c inst) ≡ Resolved (view.Called id instance)
-        → IsCall c name inst id instance
-    by None is h = absurd cc
-    by (Some x) is h = whether x is (is_system_function x.kind) refl h
+  seen : resolution_of c (operand.Called name inst) ≡ Resolved (view.Called id instance)
 
 -- ---- what is called
+
+-- the signatures of the blocks of a program
+abbrev signatures : List Symbol → Tree → List BlockSignature
+signatures symbols t =
+    map signature_of (map record_of_block (map compiled_block (code_blocks_of t symbols (layouts_of t symbols))))
 
 -- a block that is called, as the source and as the code have it
 record IsCallee (symbols : List Symbol) (t : Tree) (k : ℕ) (blocks : List BlockSignature) (o : Operand)
@@ -336,13 +281,6 @@ system_called symbols t k blocks name inst id named sys known = record {
     system : IsSystem id.number formals.0
     system = system_matched id.number formals.0 formals.1
 
--- a function or a function block
-source_kind : (k : BlockKind) → is_callable k ≡ true → is_system_function k ≡ false
-    → (k ≡ kinds.Fc) ⊎ (k ≡ kinds.Fb)
-source_kind kinds.Fc e f = inl refl
-source_kind kinds.Fb e f = inr refl
-source_kind _ e f = absurd cc
-
 source_code : (k : BlockKind) → (k ≡ kinds.Fc) ⊎ (k ≡ kinds.Fb) → is_code k ≡ true
 source_code k h = ⊎_elim (λ e. ap is_code e) (λ e. ap is_code e) h
 
@@ -399,9 +337,7 @@ source_called : (symbols : List Symbol) (t : Tree) → IsSoundTree symbols t →
     (name : BlockName) (inst : Option BlockName) (id : BlockId) (p : ℕ)
     → named_block symbols name ≡ Some id → (id.kind ≡ kinds.Fc) ⊎ (id.kind ≡ kinds.Fb)
     → whole_place (context_at symbols t k) id ≡ Some p
-    → IsCallee symbols t k
-    (map signature_of (map record_of_block (map compiled_block (code_blocks_of t symbols (layouts_of t symbols)))))
-    (operand.Called name inst) id
+    → IsCallee symbols t k (signatures symbols t) (operand.Called name inst) id
 source_called symbols t tree k name inst id p named kind whole = record {
   of_source = record { id = id; place = Some p; formals = formals_of (cells_at (layouts_of t symbols) p false) };
   is = callee_source symbols t k name inst id p named kind whole
@@ -411,7 +347,7 @@ source_called symbols t tree k name inst id p named kind whole = record {
   il = instance_len there.block there.layout;
   params = map record_of_param (params_of there.block there.layout);
   flat =
-      source_flat (map signature_of (map record_of_block (map compiled_block (code_blocks_of t symbols (layouts_of t symbols))))) id.kind id.number kind
+      source_flat (signatures symbols t) id.kind id.number kind
       ∙ called_block symbols t tree p there.block there.layout id there.sound is_there (source_code id.kind kind);
   matched = subst (λ (o : Option Block). Matched (in_parameter_order o (formals_of (cells_at (layouts_of t symbols) p false))) (map record_of_param (params_of there.block there.layout)))
       (sym there.sound.block_there)
@@ -479,37 +415,21 @@ callee_there : (symbols : List Symbol) (t : Tree) → IsSoundTree symbols t → 
     (name : BlockName) (inst : Option BlockName) (id : BlockId) (instance : Option ℕ)
     → IsCall (context_at symbols t k) name inst id instance → is_callable id.kind ≡ true
     → is_unknown_function (named_block symbols name) ≡ false
-    → IsCallee symbols t k
-    (map signature_of (map record_of_block (map compiled_block (code_blocks_of t symbols (layouts_of t symbols)))))
-    (operand.Called name inst) id
+    → IsCallee symbols t k (signatures symbols t) (operand.Called name inst) id
 callee_there symbols t tree k name inst id instance call callable known = by (call_kind id.kind callable)
   where
     source : (id.kind ≡ kinds.Fc) ⊎ (id.kind ≡ kinds.Fb) → is_system_function id.kind ≡ false
-        → IsCallee symbols t k
-        (map signature_of (map record_of_block (map compiled_block (code_blocks_of t symbols (layouts_of t symbols)))))
-        (operand.Called name inst) id
+        → IsCallee symbols t k (signatures symbols t) (operand.Called name inst) id
     source kind other =
         let at = call.whole other in
         source_called symbols t tree k name inst id at.0 call.named kind at.1
 
     by : CallKind id.kind
-        → IsCallee symbols t k
-        (map signature_of (map record_of_block (map compiled_block (code_blocks_of t symbols (layouts_of t symbols)))))
-        (operand.Called name inst) id
+        → IsCallee symbols t k (signatures symbols t) (operand.Called name inst) id
     by (OfSystem sys no_block) =
-        system_called symbols t k
-        (map signature_of (map record_of_block (map compiled_block (code_blocks_of t symbols (layouts_of t symbols)))))
-        name inst id call.named sys known
+        system_called symbols t k (signatures symbols t) name inst id call.named sys known
     by (OfFunction is) = source (inl is) (ap is_system_function is)
     by (OfBlock is) = source (inr is) (ap is_system_function is)
-
--- the words of calls
-calls_form : (m : Mnemonic) (how : CallOperation) → call_operation_of m ≡ Some how → form_of m ≡ form.Calls
-unfolding form_of
-calls_form code.Call how e = refl
-calls_form code.Uc how e = refl
-calls_form code.Cc how e = refl
-calls_form _ how e = absurd cc
 
 calls_alone : (m : Mnemonic) (how : CallOperation) (ps : List Passing) → call_operation_of m ≡ Some how
     → (has_actuals m ≡ false → ps ≡ []) → PassesAlone how ps
@@ -699,17 +619,25 @@ unfolding resolution_of
 seen_called c name inst = refl
 
 -- a block that is known is whole
+record IsWholeBlock (c : Context) (o : Option BlockId) : Type 0 where
+  id : BlockId
+  is : o ≡ Some id
+  whole : is_system_function id.kind ≡ false → (p : ℕ) × (whole_place c id ≡ Some p)
+  seen : whole_called_block c o ≡ Some id
+
 block_whole : (symbols : List Symbol) (t : Tree) → IsSoundTree symbols t → (k : ℕ)
     (o : Option BlockId) → is_unknown_id (types_of_source symbols t.blocks) o ≡ false
-    → (id : BlockId) × (whole_called_block (context_at symbols t k) o ≡ Some id)
+    → IsWholeBlock (context_at symbols t k) o
 block_whole symbols t tree k None e = absurd cc
-block_whole symbols t tree k (Some id) e = by (is_system_function id.kind) e
+block_whole symbols t tree k (Some id) e =
+    let r = by (is_system_function id.kind) refl e in record { id = id; is = refl; whole = r.0; seen = r.1 }
   where
-    by : (sys : Bool)
+    by : (sys : Bool) → is_system_function id.kind ≡ sys
         → (if sys then false else is_none (known_block id (types_of_source symbols t.blocks).ids)) ≡ false
-        → (i : BlockId) × ((if sys then Some id else id_at id (whole_place (context_at symbols t k) id)) ≡ Some i)
-    by true h = (id, refl)
-    by false h = (id, ap (id_at id) place)
+        → (is_system_function id.kind ≡ false → (p : ℕ) × (whole_place (context_at symbols t k) id ≡ Some p))
+        × ((if sys then Some id else id_at id (whole_place (context_at symbols t k) id)) ≡ Some id)
+    by true is h = (λ other. absurd cc, refl)
+    by false is h = (λ other. (found.0, place), ap (id_at id) place)
       where
         found : (p : ℕ) × (known_block id (types_of_source symbols t.blocks).ids ≡ Some p)
         found = not_none (known_block id (types_of_source symbols t.blocks).ids) h
@@ -729,12 +657,54 @@ block_whole symbols t tree k (Some id) e = by (is_system_function id.kind) e
 -- and so is the instance that is named
 instance_known : (symbols : List Symbol) (t : Tree) → IsSoundTree symbols t → (k : ℕ) (id : BlockId)
     (inst : Option BlockName) → is_unknown_instance (types_of_source symbols t.blocks) inst ≡ false
-    → (n : Option ℕ)
+    → (n : Option ℕ) × IsInstanceOf (context_at symbols t k) inst n
     × (called_seen (Some id) inst (instance_of_name (context_at symbols t k) inst) ≡ Resolved (view.Called id n))
-instance_known symbols t tree k id None e = (None, refl)
+instance_known symbols t tree k id None e = (None, tt, refl)
 instance_known symbols t tree k id (Some name) e =
     let d = data_there symbols t tree k name e in
-    (Some d.block.id.number, ap (λ (o : Option ℕ). called_seen (Some id) (Some name) o) d.number)
+    (Some d.block.id.number, d.number, ap (λ (o : Option ℕ). called_seen (Some id) (Some name) o) d.number)
+
+call_there : (symbols : List Symbol) (t : Tree) → IsSoundTree symbols t → (k : ℕ) (name : BlockName)
+    (inst : Option BlockName) → names_unknown (types_of_source symbols t.blocks) (operand.Called name inst) ≡ false
+    → (id : BlockId) × (instance : Option ℕ) × IsCall (context_at symbols t k) name inst id instance
+call_there symbols t tree k name inst there = (
+  block.id,
+  given.0,
+  record {
+    named = block.is;
+    whole = block.whole;
+    with_instance = given.1;
+    seen = seen_called (context_at symbols t k) name inst
+        ∙ ap (λ (z : Option BlockId). called_seen z inst (instance_of_name (context_at symbols t k) inst)) block.seen
+        ∙ given.2;
+  },
+)
+  where
+    y : Types
+    y = types_of_source symbols t.blocks
+
+    block : IsWholeBlock (context_at symbols t k) (named_block symbols name)
+    block = block_whole symbols t tree k (named_block symbols name)
+        (ap (λ (ss : List Symbol). is_unknown_id y (named_block ss name)) (sym (measured_symbols symbols t.blocks))
+        ∙ or_first (is_unknown_called y name) (is_unknown_instance y inst) there)
+
+    given : (n : Option ℕ) × IsInstanceOf (context_at symbols t k) inst n
+        × (called_seen (Some block.id) inst (instance_of_name (context_at symbols t k) inst) ≡ Resolved (view.Called block.id n))
+    given = instance_known symbols t tree k block.id inst (or_second (is_unknown_called y name) (is_unknown_instance y inst) there)
+
+-- a call is one of what it is seen as
+call_of : (c : Context) (name : BlockName) (inst : Option BlockName) (id j : BlockId) (instance i : Option ℕ)
+    → IsCall c name inst j i → resolution_of c (operand.Called name inst) ≡ Resolved (view.Called id instance)
+    → IsCall c name inst id instance
+call_of c name inst id j instance i call e =
+    subst (λ (z : BlockId). IsCall c name inst z instance) one.0
+    (subst (λ (n : Option ℕ). IsCall c name inst j n) one.1 call)
+  where
+    same : Resolved (view.Called j i) ≡ Resolved (view.Called id instance) → (j ≡ id) × (i ≡ instance)
+    same e = (cc, cc)
+
+    one : (j ≡ id) × (i ≡ instance)
+    one = same (sym call.seen ∙ e)
 
 -- ---- an actual parameter names what is passed
 
@@ -795,7 +765,7 @@ module _ (symbols : List Symbol) (t : Tree) (tree : IsSoundTree symbols t)
     (fit : AllByRecursion SymbolFits symbols) (k : ℕ) (b : Block) (l : BlockLayout)
     (block : IsSound symbols t k b l) (code : is_code b.kind ≡ true)
     (a : Environment) (around : Surrounds symbols t b l a)
-    (blocks : a.blocks ≡ map signature_of (map record_of_block (map compiled_block (code_blocks_of t symbols (layouts_of t symbols)))))
+    (blocks : a.blocks ≡ signatures symbols t)
     (s : Statement) (sound : IsSoundStatement (types_of_source symbols t.blocks) (context_at symbols t k) s)
     (ends : EndsBy a.local_len s) (bytes : StatementHasBytes s) where
   -- what is known of the call
@@ -806,8 +776,13 @@ module _ (symbols : List Symbol) (t : Tree) (tree : IsSoundTree symbols t)
     call : IsCall (context_at symbols t k) name inst id instance
     by_view : is_called_view (view.Called id instance) ≡ true
     word : call_operation_of s.code ≡ Some how
-    cal : IsCallee symbols t k (map signature_of (map record_of_block (map compiled_block (code_blocks_of t symbols (layouts_of t symbols))))) (operand.Called name inst) id
+    cal : IsCallee symbols t k (signatures symbols t) (operand.Called name inst) id
     rules : IsSoundCall (context_at symbols t k) cal.of_source s
+
+  call_found : (name : BlockName) (inst : Option BlockName) → s.operand ≡ operand.Called name inst
+      → (id : BlockId) × (instance : Option ℕ) × IsCall (context_at symbols t k) name inst id instance
+  call_found name inst e =
+      call_there symbols t tree k name inst (ap (names_unknown (types_of_source symbols t.blocks)) (sym e) ∙ sound.there)
 
   made : (how : CallOperation) (id : BlockId) (instance : Option ℕ) → call_operation_of s.code ≡ Some how
       → resolution_of (context_at symbols t k) s.operand ≡ Resolved (view.Called id instance)
@@ -829,12 +804,15 @@ module _ (symbols : List Symbol) (t : Tree) (tree : IsSoundTree symbols t)
       seen_is : resolution_of (context_at symbols t k) (operand.Called o.0 o.1) ≡ Resolved (view.Called id instance)
       seen_is = ap (resolution_of (context_at symbols t k)) (sym o.2) ∙ e
 
+      found : (id : BlockId) × (instance : Option ℕ) × IsCall (context_at symbols t k) o.0 o.1 id instance
+      found = call_found o.0 o.1 o.2
+
       call : IsCall (context_at symbols t k) o.0 o.1 id instance
-      call = seen_call (context_at symbols t k) o.0 o.1 id instance seen_is
+      call = call_of (context_at symbols t k) o.0 o.1 id found.0 instance found.1 found.2 seen_is
 
       rule : rule_of_resolved_operand form.Calls (view.Called id instance) ≡ None
       rule =
-          ap (λ (f : OperandRule). rule_of_resolved_operand f (view.Called id instance)) (sym (calls_form s.code how word))
+          ap (λ (f : OperandRule). rule_of_resolved_operand f (view.Called id instance)) (sym (call_form s.code how word))
           ∙ ap (λ (x : Resolution). rule_seen (form_of s.code) x) (sym seen_is)
           ∙ ap (λ (x : Operand). operand_rule (context_at symbols t k) (form_of s.code) x) (sym o.2)
           ∙ sound.allowed
@@ -842,7 +820,7 @@ module _ (symbols : List Symbol) (t : Tree) (tree : IsSoundTree symbols t)
       by_view : is_called_view (view.Called id instance) ≡ true
       by_view = calls_called (view.Called id instance) rule
 
-      cal : IsCallee symbols t k (map signature_of (map record_of_block (map compiled_block (code_blocks_of t symbols (layouts_of t symbols))))) (operand.Called o.0 o.1) id
+      cal : IsCallee symbols t k (signatures symbols t) (operand.Called o.0 o.1) id
       cal = callee_there symbols t tree k o.0 o.1 id instance call (callable_by id instance by_view)
           (ap (calls_unknown (context_at symbols t k)) (sym o.2) ∙ sound.one_of_nine)
 
@@ -1040,32 +1018,10 @@ module _ (symbols : List Symbol) (t : Tree) (tree : IsSoundTree symbols t)
   pub called_is : (how : CallOperation) → call_operation_of s.code ≡ Some how
       → (id : BlockId) × (instance : Option ℕ)
       × (resolution_of (context_at symbols t k) s.operand ≡ Resolved (view.Called id instance))
-  called_is how word = (
-    whole.0,
-    given.0,
-    ap (resolution_of (context_at symbols t k)) o.2 ∙ seen_called (context_at symbols t k) o.0 o.1
-        ∙ ap (λ (z : Option BlockId). called_seen z o.1 (instance_of_name (context_at symbols t k) o.1)) whole.1
-        ∙ given.1,
-  )
-    where
-      o : (name : BlockName) × (inst : Option BlockName) × (s.operand ≡ operand.Called name inst)
-      o = operand_called s.operand (sound.well_formed.called ∙ calls_are s.code how word)
-
-      there : (is_unknown_called (types_of_source symbols t.blocks) o.0 || is_unknown_instance (types_of_source symbols t.blocks) o.1) ≡ false
-      there = ap (names_unknown (types_of_source symbols t.blocks)) (sym o.2) ∙ sound.there
-
-      whole : (id : BlockId) × (whole_called_block (context_at symbols t k) (named_block symbols o.0) ≡ Some id)
-      whole = block_whole symbols t tree k (named_block symbols o.0)
-          (ap (λ (ss : List Symbol). is_unknown_id (types_of_source symbols t.blocks) (named_block ss o.0))
-          (sym (measured_symbols symbols t.blocks))
-          ∙ or_first (is_unknown_called (types_of_source symbols t.blocks) o.0)
-          (is_unknown_instance (types_of_source symbols t.blocks) o.1) there)
-
-      given : (n : Option ℕ)
-          × (called_seen (Some whole.0) o.1 (instance_of_name (context_at symbols t k) o.1) ≡ Resolved (view.Called whole.0 n))
-      given = instance_known symbols t tree k whole.0 o.1
-          (or_second (is_unknown_called (types_of_source symbols t.blocks) o.0)
-          (is_unknown_instance (types_of_source symbols t.blocks) o.1) there)
+  called_is how word =
+      let o = operand_called s.operand (sound.well_formed.called ∙ calls_are s.code how word) in
+      let found = call_found o.0 o.1 o.2 in
+      (found.0, found.1, ap (resolution_of (context_at symbols t k)) o.2 ∙ found.2.seen)
 
   called_made : (how : CallOperation) (word : call_operation_of s.code ≡ Some how)
       → IsMade how (called_is how word).0 (called_is how word).1

@@ -62,15 +62,14 @@ use Rattle.block_layout.specs.declared.blocks.Shape.{Shape}
 use Rattle.block_layout.specs.declared.blocks.Shape.TheVariants as shape
 use Rattle.block_layout.specs.declared.cells.Cell.{Cell}
 use Rattle.block_layout.specs.declared.cells.Element.{Element}
-use Rattle.block_layout.specs.declared.cells.Element.TheVariants.{Plain, Structure, DateAndTime, Udt}
-use Rattle.block_layout.specs.declared.cells.Element.TheVariants as cell_element
+use Rattle.block_layout.specs.declared.cells.Element.TheVariants.{Plain, DateAndTime, Udt}
 use Rattle.block_layout.specs.declared.walks.ComponentAt.{ComponentAt}
 use Rattle.block_layout.specs.declared.walks.PathEnd.{PathEnd}
 use Rattle.block_layout.specs.declared.walks.PathEnd.TheVariants as walk
 use Rattle.stl_types.specs.Actuals.{is_input_section}
-use Rattle.stl_types.specs.Addresses.{resolved_address, address_in_block, area_left, area_for_letters}
+use Rattle.stl_types.specs.Addresses.{resolved_address, address_in_block, area_for_letters}
 use Rattle.stl_types.specs.Context.{data_number, data_place, in_function, is_of_function, number_of_block}
-use Rattle.stl_types.specs.Resolution.{opened_seen, path_seen, register_for_word, resolution_of, symbol_seen, target_view}
+use Rattle.stl_types.specs.Resolution.{opened_seen, path_seen, resolution_of, symbol_seen, target_view}
 use Rattle.stl_types.specs.Unknown.{is_unknown}
 use Rattle.stl_types.specs.Variables.{composite_operand, data_at, date_or_composite, data_path, data_variable, data_walked, variable_in_area, own_at, own_elementary, own_variable, own_walked, parameter_resolution, parameter_at, parameter_index}
 use Rattle.stl_types.specs.declared.views.Resolution.{Resolution}
