@@ -2,7 +2,7 @@
 -- same order, and no two with one name.
 use Rattle.std.proofs.Common.{ℕ, suc, ◌≡◌, List, [], ◌∷◌, ◌++◌, append_assoc, Option, Some, None, is_some, Bool, true, false, ◌&&◌, ◌||◌, not, nat_eq, refl, sym, ◌∙◌, ap, subst, arith, map, find, bytes_eq, if◌then◌else◌, le-ltb, eq-eqb}
 use Rattle.std.specs.List.{AllByRecursion, flat_map}
-use Rattle.std.specs.Option.{option_map}
+use Rattle.std.specs.Option.{IfSome, option_map}
 use Rattle.std.proofs.lemmas.List.{append-nil, map-append}
 use Rattle.std.proofs.lemmas.Grind.{flat_map-append}
 use Rattle.std.proofs.lemmas.Slice.Eq.{bytes_eq-Decides}
@@ -499,47 +499,35 @@ record IsSystemBy (o : Option (List ParameterRecord)) (formals : List Formal) : 
   matched : Matched formals params
   fresh : FreshFrom [] formals
 
-some_list : (fs gs : List Formal) → Some fs ≡ Some gs → fs ≡ gs
-some_list fs gs e = cc
-
-system_by : (a b c d e f g h i : Bool) (formals : List Formal)
-    → formals_by a b c d e f g h i ≡ Some formals
-    → IsSystemBy (params_by a b c d e f g h i) formals
-system_by true b c d e f g h i formals s =
-    subst (λ (fs : List Formal). IsSystemBy (params_by true b c d e f g h i) fs) (some_list (ob_nr_formal ∷ dtime_formal ∷ sign_formal ∷ return_value_formal simple.Int ∷ []) formals s)
-    (record { params = in_record width.Word ∷ in_record width.Dword ∷ in_record width.Word ∷ out_record width.Word ∷ []; is = refl; matched = ((refl, refl, refl), ((refl, refl, refl), ((refl, refl, refl), ((refl, refl, refl), tt)))); fresh = (refl, (refl, (refl, (refl, tt)))) })
-system_by false true c d e f g h i formals s =
-    subst (λ (fs : List Formal). IsSystemBy (params_by false true c d e f g h i) fs) (some_list (ob_nr_formal ∷ return_value_formal simple.Int ∷ []) formals s)
-    (record { params = in_record width.Word ∷ out_record width.Word ∷ []; is = refl; matched = ((refl, refl, refl), ((refl, refl, refl), tt)); fresh = (refl, (refl, tt)) })
-system_by false false true d e f g h i formals s =
-    subst (λ (fs : List Formal). IsSystemBy (params_by false false true d e f g h i) fs) (some_list (mode_formal ∷ ob_nr_formal ∷ return_value_formal simple.Int ∷ []) formals s)
-    (record { params = in_record width.Byte ∷ in_record width.Word ∷ out_record width.Word ∷ []; is = refl; matched = ((refl, refl, refl), ((refl, refl, refl), ((refl, refl, refl), tt))); fresh = (refl, (refl, (refl, tt))) })
-system_by false false false true e f g h i formals s =
-    subst (λ (fs : List Formal). IsSystemBy (params_by false false false true e f g h i) fs) (some_list (mode_formal ∷ ob_nr_formal ∷ return_value_formal simple.Int ∷ []) formals s)
-    (record { params = in_record width.Byte ∷ in_record width.Word ∷ out_record width.Word ∷ []; is = refl; matched = ((refl, refl, refl), ((refl, refl, refl), ((refl, refl, refl), tt))); fresh = (refl, (refl, (refl, tt))) })
-system_by false false false false true f g h i formals s =
-    subst (λ (fs : List Formal). IsSystemBy (params_by false false false false true f g h i) fs) (some_list (return_value_formal simple.Int ∷ []) formals s)
-    (record { params = out_record width.Word ∷ []; is = refl; matched = ((refl, refl, refl), tt); fresh = (refl, tt) })
-system_by false false false false false true g h i formals s =
-    subst (λ (fs : List Formal). IsSystemBy (params_by false false false false false true g h i) fs) (some_list (return_value_formal simple.Int ∷ []) formals s)
-    (record { params = out_record width.Word ∷ []; is = refl; matched = ((refl, refl, refl), tt); fresh = (refl, tt) })
-system_by false false false false false false true h i formals s =
-    subst (λ (fs : List Formal). IsSystemBy (params_by false false false false false false true h i) fs) (some_list [] formals s)
-    (record { params = []; is = refl; matched = tt; fresh = tt })
-system_by false false false false false false false true i formals s =
-    subst (λ (fs : List Formal). IsSystemBy (params_by false false false false false false false true i) fs) (some_list [] formals s)
-    (record { params = []; is = refl; matched = tt; fresh = tt })
-system_by false false false false false false false false true formals s =
-    subst (λ (fs : List Formal). IsSystemBy (params_by false false false false false false false false true) fs) (some_list (return_value_formal simple.Time ∷ []) formals s)
-    (record { params = out_record width.Dword ∷ []; is = refl; matched = ((refl, refl, refl), tt); fresh = (refl, tt) })
-system_by false false false false false false false false false formals s = absurd cc
+system_by : (a b c d e f g h i : Bool)
+    → IfSome (formals_by a b c d e f g h i) (IsSystemBy (params_by a b c d e f g h i))
+system_by true b c d e f g h i =
+    record { params = _; is = refl; matched = ((refl, refl, refl), ((refl, refl, refl), ((refl, refl, refl), ((refl, refl, refl), tt)))); fresh = (refl, (refl, (refl, (refl, tt)))) }
+system_by false true c d e f g h i =
+    record { params = _; is = refl; matched = ((refl, refl, refl), ((refl, refl, refl), tt)); fresh = (refl, (refl, tt)) }
+system_by false false true d e f g h i =
+    record { params = _; is = refl; matched = ((refl, refl, refl), ((refl, refl, refl), ((refl, refl, refl), tt))); fresh = (refl, (refl, (refl, tt))) }
+system_by false false false true e f g h i =
+    record { params = _; is = refl; matched = ((refl, refl, refl), ((refl, refl, refl), ((refl, refl, refl), tt))); fresh = (refl, (refl, (refl, tt))) }
+system_by false false false false true f g h i =
+    record { params = _; is = refl; matched = ((refl, refl, refl), tt); fresh = (refl, tt) }
+system_by false false false false false true g h i =
+    record { params = _; is = refl; matched = ((refl, refl, refl), tt); fresh = (refl, tt) }
+system_by false false false false false false true h i =
+    record { params = _; is = refl; matched = tt; fresh = tt }
+system_by false false false false false false false true i =
+    record { params = _; is = refl; matched = tt; fresh = tt }
+system_by false false false false false false false false true =
+    record { params = _; is = refl; matched = ((refl, refl, refl), tt); fresh = (refl, tt) }
+system_by false false false false false false false false false = tt
 
 pub system_matched : (n : ℕ) (formals : List Formal) → system_formals n ≡ Some formals
     → IsSystem n formals
 unfolding system_formals
-system_matched n formals s = record { params = r.params; is = r.is; matched = r.matched; fresh = r.fresh }
-  where
-    r : IsSystemBy (params_by (nat_eq n 32) (nat_eq n 33) (nat_eq n 39) (nat_eq n 40) (nat_eq n 41)
-        (nat_eq n 42) (nat_eq n 43) (nat_eq n 46) (nat_eq n 64)) formals
-    r = system_by (nat_eq n 32) (nat_eq n 33) (nat_eq n 39) (nat_eq n 40) (nat_eq n 41)
-        (nat_eq n 42) (nat_eq n 43) (nat_eq n 46) (nat_eq n 64) formals s
+system_matched n formals s =
+    let params = params_by (nat_eq n 32) (nat_eq n 33) (nat_eq n 39) (nat_eq n 40) (nat_eq n 41) (nat_eq n 42) (nat_eq n 43)
+    (nat_eq n 46) (nat_eq n 64) in
+    let r : IsSystemBy params formals = subst (λ (o : Option (List Formal)). IfSome o (IsSystemBy params)) s
+    (system_by (nat_eq n 32) (nat_eq n 33) (nat_eq n 39) (nat_eq n 40) (nat_eq n 41) (nat_eq n 42) (nat_eq n 43) (nat_eq n 46)
+    (nat_eq n 64)) in
+    record { params = r.params; is = r.is; matched = r.matched; fresh = r.fresh }

@@ -158,36 +158,19 @@ or_true false false false d h k l e = absurd cc
 memory_form : (f : OperandRule) (v : ResolvedOperand) → is_in_memory v ≡ true → takes_operand f v ≡ true
     → takes_operand f in_memory ≡ true
 unfolding takes_operand
-memory_form f (view.Direct place w s declared) h k = direct f k
-  where
-    direct : (f : OperandRule) → takes_operand f (view.Direct place w s declared) ≡ true → takes_operand f in_memory ≡ true
-    direct form.Bare k = absurd cc
-    direct _ k = k
-memory_form f (view.Parameter index section declared) h k = other f k
-  where
-    other : (f : OperandRule) → takes_operand f (view.Parameter index section declared) ≡ true → takes_operand f in_memory ≡ true
-    other form.LoadsAr1 k = refl
-    other form.LoadsAr2 k = refl
-    other form.StoresAr1 k = refl
-    other form.StoresAr2 k = refl
-    other _ k = k
-memory_form f (view.ByMemory a w from byte) h k = other f k
-  where
-    other : (f : OperandRule) → takes_operand f (view.ByMemory a w from byte) ≡ true → takes_operand f in_memory ≡ true
-    other form.LoadsAr1 k = refl
-    other form.LoadsAr2 k = refl
-    other form.StoresAr1 k = refl
-    other form.StoresAr2 k = refl
-    other _ k = k
-memory_form f (view.ByRegister a w r bits) h k = other f k
-  where
-    other : (f : OperandRule) → takes_operand f (view.ByRegister a w r bits) ≡ true → takes_operand f in_memory ≡ true
-    other form.LoadsAr1 k = refl
-    other form.LoadsAr2 k = refl
-    other form.StoresAr1 k = refl
-    other form.StoresAr2 k = refl
-    other _ k = k
-memory_form f _ h k = absurd cc
+memory_form form.ReadsBit v h k = refl
+memory_form form.ReadsBitOrBare v h k = refl
+memory_form form.WritesBit v h k = refl
+memory_form form.Sets v h k = refl
+memory_form form.Resets v h k = refl
+memory_form form.Loads v h k = refl
+memory_form form.Transfers v h k = refl
+memory_form form.LoadsAr1 v h k = refl
+memory_form form.LoadsAr2 v h k = refl
+memory_form form.StoresAr1 v h k = refl
+memory_form form.StoresAr2 v h k = refl
+memory_form _ view.Nothing h k = absurd cc
+memory_form _ _ h k = absurd cc
 
 bit_only : (t : OperandForms) → has_width_of t width.Bit ≡ true → (w : Width) → is_bit (Some w) ≡ true
     → has_width_of t w ≡ true
