@@ -482,82 +482,70 @@ module _ (symbols : List Symbol) (t : Tree) (tree : IsSoundTree symbols t) (k : 
       → is_unknown (own_variable (context_at symbols t k) name steps) ≡ false
       → leaves_local (layouts_of t symbols) k name steps ≡ false
       → IsSeen a (own_variable (context_at symbols t k) name steps)
-  own_seen name steps known stays =
-      by (is_some (component_of_name 0 0 0 name (cells_at (layouts_of t symbols) k false))) refl known
+  own_seen name steps known stays = by (is_some (component_of_name 0 0 0 name cells)) refl known
     where
-      right : AreRight (layouts_of t symbols)
+      ls : List BlockLayout
+      ls = layouts_of t symbols
+
+      cells : List Cell
+      cells = cells_at ls k false
+
+      temps : List Cell
+      temps = cells_at ls k true
+
+      walked : PathEnd
+      walked = walked_local ls k name steps
+
+      right : AreRight ls
       right = are_right symbols t tree
 
-      reads : (temporary : Bool) (limit : ℕ) (w : PathEnd)
-          → ((s : ComponentAt) → w ≡ walk.Reaches s → IsSeen a (own_at (context_at symbols t k) temporary s (elementary_at (layouts_of t symbols) s)))
+      -- each component that the path reaches is seen
+      IsRead : Bool → Type 0
+      IsRead temporary = (s : ComponentAt) → walked ≡ walk.Reaches s
+          → IsSeen a (own_at (context_at symbols t k) temporary s (elementary_at ls s))
+
+      reads : (temporary : Bool) (w : PathEnd)
+          → ((s : ComponentAt) → w ≡ walk.Reaches s → IsSeen a (own_at (context_at symbols t k) temporary s (elementary_at ls s)))
           → Moves w → is_unknown (own_walked (context_at symbols t k) temporary w) ≡ false
           → IsSeen a (own_walked (context_at symbols t k) temporary w)
-      reads temporary limit (walk.Reaches s) f m known = f s refl
-      reads temporary limit walk.Unknown f m known = absurd cc
-      reads temporary limit walk.Rests f m known = absurd m
+      reads temporary (walk.Reaches s) f m known = f s refl
+      reads temporary walk.Unknown f m known = absurd cc
+      reads temporary walk.Rests f m known = absurd m
 
-      lies : (limit : ℕ) (w : PathEnd) (s : ComponentAt) → w ≡ walk.Reaches s → Goes (layouts_of t symbols) limit w
-          → Lies (layouts_of t symbols) limit s
-      lies limit w s e g = subst (Goes (layouts_of t symbols) limit) e g
-
-      moves : Moves (walked_local (layouts_of t symbols) k name steps)
-      moves = local_moves (layouts_of t symbols) right k name steps whole_here
-
-      temps_small : structure_bits (cells_at (layouts_of t symbols) k true) < 2147483648
-      temps_small =
-          let h = subst (λ (cs : List Cell). structure_bits cs / 8 ≤ local_len (types_of_source symbols t.blocks) b) (sym temps_here) locals_here.temps in
-          let s = locals_here.short in
-          small (structure_bits (cells_at (layouts_of t symbols) k true)) (local_len (types_of_source symbols t.blocks) b) h s
+      temporary : is_some (component_of_name 0 0 0 name cells) ≡ false → IsRead true
+      temporary e s reaches =
+          temporary_seen s (subst (Goes ls (structure_bits temps)) reaches
+          (local_goes ls (structure_bits temps) right small k name steps false e (omega arith) whole_here stays))
+          (elementary_at ls s) refl
         where
-          small : (limit local : ℕ) → limit / 8 ≤ local → local ≤ 1024 → limit < 2147483648
-          small limit local h k = omega (arith, h, k)
+          small : structure_bits temps < 2147483648
+          small =
+              let h = subst (λ (cs : List Cell). structure_bits cs / 8 ≤ local_len (types_of_source symbols t.blocks) b) (sym temps_here) locals_here.temps in
+              let s = locals_here.short in
+              few (structure_bits temps) (local_len (types_of_source symbols t.blocks) b) h s
+            where
+              few : (limit local : ℕ) → limit / 8 ≤ local → local ≤ 1024 → limit < 2147483648
+              few limit local h k = omega (arith, h, k)
 
-      temporary : is_some (component_of_name 0 0 0 name (cells_at (layouts_of t symbols) k false)) ≡ false
-          → is_unknown (own_walked (context_at symbols t k) true (walked_local (layouts_of t symbols) k name steps)) ≡ false
-          → IsSeen a (own_walked (context_at symbols t k) true (walked_local (layouts_of t symbols) k name steps))
-      temporary e known =
-          reads true 0 (walked_local (layouts_of t symbols) k name steps)
-          (λ s is. temporary_seen s
-          (lies (structure_bits (cells_at (layouts_of t symbols) k true)) (walked_local (layouts_of t symbols) k name steps) s is
-          (local_goes (layouts_of t symbols) (structure_bits (cells_at (layouts_of t symbols) k true)) right
-          temps_small k name steps false e (omega arith) whole_here stays))
-          (elementary_at (layouts_of t symbols) s) refl)
-          moves known
-
-      of_function : b.kind ≡ kinds.Fc
-          → is_some (component_of_name 0 0 0 name (cells_at (layouts_of t symbols) k false)) ≡ true
-          → is_unknown (own_walked (context_at symbols t k) false (walked_local (layouts_of t symbols) k name steps)) ≡ false
-          → IsSeen a (own_walked (context_at symbols t k) false (walked_local (layouts_of t symbols) k name steps))
-      of_function is e known =
-          reads false 0 (walked_local (layouts_of t symbols) k name steps)
-          (λ s reaches.
-          let home : Stays k (walk.Reaches s) = subst (Stays k) reaches
-          (local_stays (layouts_of t symbols) k plain name steps e whole_here) in
-          parameter_seen is s home.0 home.1 (elementary_at (layouts_of t symbols) s) refl)
-          moves known
+      of_function : b.kind ≡ kinds.Fc → is_some (component_of_name 0 0 0 name cells) ≡ true → IsRead false
+      of_function is e s reaches =
+          let home : Stays k (walk.Reaches s) = subst (Stays k) reaches (local_stays ls k plain name steps e whole_here) in
+          parameter_seen is s home.0 home.1 (elementary_at ls s) refl
         where
-          plain : (place : ℕ) (c : Cell) → slice_get (cells_at (layouts_of t symbols) k false) place ≡ Some c
-              → IsParameterCell c
+          plain : (place : ℕ) (c : Cell) → slice_get cells place ≡ Some c → IsParameterCell c
           plain place c there =
-              all_there IsParameterCell (cells_at (layouts_of t symbols) k false) place c
+              all_there IsParameterCell cells place c
               (subst AreParameters (sym components_here)
               (function_components (types_of_source symbols t.blocks) b block.well_formed is)) there
 
-      of_block : b.kind ≡ kinds.Fb
-          → is_some (component_of_name 0 0 0 name (cells_at (layouts_of t symbols) k false)) ≡ true
-          → is_unknown (own_walked (context_at symbols t k) false (walked_local (layouts_of t symbols) k name steps)) ≡ false
-          → IsSeen a (own_walked (context_at symbols t k) false (walked_local (layouts_of t symbols) k name steps))
-      of_block is e known =
-          reads false 0 (walked_local (layouts_of t symbols) k name steps)
-          (λ s reaches. instance_seen (structure_bits (cells_at (layouts_of t symbols) k false)) small
-          (ap is_function is) s
-          (lies (structure_bits (cells_at (layouts_of t symbols) k false)) (walked_local (layouts_of t symbols) k name steps) s reaches
-          (local_goes (layouts_of t symbols) (structure_bits (cells_at (layouts_of t symbols) k false)) right
-          (omega (arith, small)) k name steps true e (omega arith) whole_here stays))
-          (elementary_at (layouts_of t symbols) s) refl)
-          moves known
+      of_block : b.kind ≡ kinds.Fb → is_some (component_of_name 0 0 0 name cells) ≡ true → IsRead false
+      of_block is e s reaches =
+          instance_seen (structure_bits cells) small (ap is_function is) s
+          (subst (Goes ls (structure_bits cells)) reaches
+          (local_goes ls (structure_bits cells) right (omega (arith, small)) k name steps true e (omega arith) whole_here stays))
+          (elementary_at ls s) refl
         where
-          small : structure_bits (cells_at (layouts_of t symbols) k false) ≤ 131072
+          small : structure_bits cells ≤ 131072
           small = subst (λ (cs : List Cell). structure_bits cs ≤ 131072) (sym components_here)
               (short_bits (length_of_block (types_of_source symbols t.blocks) t.blocks b)
               (structure_bits (components_of (types_of_source symbols t.blocks) b))
@@ -566,40 +554,25 @@ module _ (symbols : List Symbol) (t : Tree) (tree : IsSoundTree symbols t) (k : 
               (block_own (types_of_source symbols t.blocks) b block.well_formed is))
               (structure_even (components_of (types_of_source symbols t.blocks) b)))
 
-      of_organization : b.kind ≡ kinds.Ob
-          → is_some (component_of_name 0 0 0 name (cells_at (layouts_of t symbols) k false)) ≡ true
-          → IsSeen a (own_walked (context_at symbols t k) false (walked_local (layouts_of t symbols) k name steps))
+      of_organization : b.kind ≡ kinds.Ob → is_some (component_of_name 0 0 0 name cells) ≡ true → IsRead false
       of_organization is e =
-          absurd (never (ap (λ (cs : List Cell). is_some (component_of_name 0 0 0 name cs))
+          absurd (no_component name (ap (λ (cs : List Cell). is_some (component_of_name 0 0 0 name cs))
           (sym (components_here ∙ no_components (types_of_source symbols t.blocks) b block.well_formed is)) ∙ e))
+
+      own : is_some (component_of_name 0 0 0 name cells) ≡ true → IsRead false
+      own e = kind (is_function b.kind) (is_function_block b.kind) refl refl
         where
-          never : is_some (component_of_name 0 0 0 name []) ≡ true → ⊥
-          never e = no_component name e
+          kind : (function instance : Bool) → is_function b.kind ≡ function → is_function_block b.kind ≡ instance
+              → IsRead false
+          kind true instance f g = of_function (function_kind b.kind f) e
+          kind false true f g = of_block (function_block_kind b.kind g) e
+          kind false false f g = of_organization (code_kind b.kind code f g) e
 
-      own : is_some (component_of_name 0 0 0 name (cells_at (layouts_of t symbols) k false)) ≡ true
-          → is_unknown (own_walked (context_at symbols t k) false (walked_local (layouts_of t symbols) k name steps)) ≡ false
-          → IsSeen a (own_walked (context_at symbols t k) false (walked_local (layouts_of t symbols) k name steps))
-      own e known = function (is_function b.kind) refl
-        where
-          instance : (t' : Bool) → is_function_block b.kind ≡ t' → is_function b.kind ≡ false
-              → IsSeen a (own_walked (context_at symbols t k) false (walked_local (layouts_of t symbols) k name steps))
-          instance true f g = of_block (function_block_kind b.kind f) e known
-          instance false f g = of_organization (code_kind b.kind code g f) e
-
-          function : (t' : Bool) → is_function b.kind ≡ t'
-              → IsSeen a (own_walked (context_at symbols t k) false (walked_local (layouts_of t symbols) k name steps))
-          function true f = of_function (function_kind b.kind f) e known
-          function false f = instance (is_function_block b.kind) refl f
-
-      by : (t' : Bool) → is_some (component_of_name 0 0 0 name (cells_at (layouts_of t symbols) k false)) ≡ t'
-          → is_unknown (own_variable (context_at symbols t k) name steps) ≡ false
-          → IsSeen a (own_variable (context_at symbols t k) name steps)
-      by true e known =
-          subst (λ (t' : Bool). IsSeen a (own_walked (context_at symbols t k) (not t') (walked_local (layouts_of t symbols) k name steps)))
-          (sym e) (own e (subst (λ (t' : Bool). is_unknown (own_walked (context_at symbols t k) (not t') (walked_local (layouts_of t symbols) k name steps)) ≡ false) e known))
-      by false e known =
-          subst (λ (t' : Bool). IsSeen a (own_walked (context_at symbols t k) (not t') (walked_local (layouts_of t symbols) k name steps)))
-          (sym e) (temporary e (subst (λ (t' : Bool). is_unknown (own_walked (context_at symbols t k) (not t') (walked_local (layouts_of t symbols) k name steps)) ≡ false) e known))
+      by : (there : Bool) → is_some (component_of_name 0 0 0 name cells) ≡ there
+          → is_unknown (own_walked (context_at symbols t k) (not there) walked) ≡ false
+          → IsSeen a (own_walked (context_at symbols t k) (not there) walked)
+      by true e known = reads false walked (own e) (local_moves ls right k name steps whole_here) known
+      by false e known = reads true walked (temporary e) (local_moves ls right k name steps whole_here) known
 
 -- ---- data blocks
 
