@@ -201,6 +201,10 @@ abbrev signatures : List Symbol → Tree → List BlockSignature
 signatures symbols t =
     map signature_of (map record_of_block (map compiled_block (code_blocks_of t symbols (layouts_of t symbols))))
 
+-- the formal parameters of what is called, in the order of its code
+abbrev ordered_formals : Tree → Callee → List Formal
+ordered_formals t callee = in_parameter_order (source_block_at t.blocks callee.place) callee.formals
+
 -- a block that is called, as the source and as the code have it
 record IsCallee (symbols : List Symbol) (t : Tree) (k : ℕ) (blocks : List BlockSignature) (o : Operand)
     (id : BlockId) : Type 0 where
@@ -210,11 +214,10 @@ record IsCallee (symbols : List Symbol) (t : Tree) (k : ℕ) (blocks : List Bloc
   il : ℕ
   params : List ParameterRecord
   flat : flat_callee blocks (kind_number id.kind) id.number ≡ Some (kind_number id.kind, il, params)
-  matched : Matched (in_parameter_order (source_block_at t.blocks of_source.place) of_source.formals) params
-  found : AllByRecursion (IsFoundIn of_source.formals)
-      (in_parameter_order (source_block_at t.blocks of_source.place) of_source.formals)
+  matched : Matched (ordered_formals t of_source) params
+  found : AllByRecursion (IsFoundIn of_source.formals) (ordered_formals t of_source)
   result : Option Simple
-  order : in_parameter_order (source_block_at t.blocks of_source.place) of_source.formals ≡ return_last result of_source.formals
+  order : ordered_formals t of_source ≡ return_last result of_source.formals
   long : is_function_block id.kind ≡ true → (p : ℕ) × (b : Block) × (of_source.place ≡ Some p)
       × (slice_get t.blocks p ≡ Some b) × (b.kind ≡ kinds.Fb)
       × (il ≡ length_of_block (types_of_source symbols t.blocks) t.blocks b)
@@ -768,6 +771,14 @@ module _ (symbols : List Symbol) (t : Tree) (tree : IsSoundTree symbols t)
     (blocks : a.blocks ≡ signatures symbols t)
     (s : Statement) (sound : IsSoundStatement (types_of_source symbols t.blocks) (context_at symbols t k) s)
     (ends : EndsBy a.local_len s) (bytes : StatementHasBytes s) where
+  -- what the call passes to it
+  abbrev passed_by : Callee → List Passing
+  passed_by callee = passings_from (context_at symbols t k) s.actuals 0 (ordered_formals t callee)
+
+  -- the data blocks of the program
+  abbrev lens : List (ℕ × ℕ)
+  lens = lens_of (data_blocks_of t symbols (layouts_of t symbols))
+
   -- what is known of the call
   record IsMade (how : CallOperation) (id : BlockId) (instance : Option ℕ) : Type 0 where
     name : BlockName
@@ -827,7 +838,7 @@ module _ (symbols : List Symbol) (t : Tree) (tree : IsSoundTree symbols t)
   -- what it passes
   passings_are : (how : CallOperation) (id : BlockId) (instance : Option ℕ) (m : IsMade how id instance)
       → passings_to (context_at symbols t k) s (callee_of (context_at symbols t k) s.operand)
-      ≡ passings_from (context_at symbols t k) s.actuals 0 (in_parameter_order (source_block_at t.blocks m.cal.of_source.place) m.cal.of_source.formals)
+      ≡ passed_by m.cal.of_source
   passings_are how id instance m =
       ap (passings_to (context_at symbols t k) s) (ap (callee_of (context_at symbols t k)) m.operand_is ∙ m.cal.is)
 
@@ -839,18 +850,18 @@ module _ (symbols : List Symbol) (t : Tree) (tree : IsSoundTree symbols t)
 
   passes_right : (how : CallOperation) (id : BlockId) (instance : Option ℕ) (m : IsMade how id instance)
       → ArePassed a (Some (kind_number id.kind, m.cal.il, m.cal.params)) None
-      (passings_from (context_at symbols t k) s.actuals 0 (in_parameter_order (source_block_at t.blocks m.cal.of_source.place) m.cal.of_source.formals))
+      (passed_by m.cal.of_source)
   passes_right how id instance m =
       passed_from a (context_at symbols t k) m.cal.of_source.formals s.actuals (goods how id instance m)
       (kind_number id.kind) m.cal.il m.cal.params None 0
-      (in_parameter_order (source_block_at t.blocks m.cal.of_source.place) m.cal.of_source.formals) [] m.cal.params
+      (ordered_formals t m.cal.of_source) [] m.cal.params
       (λ n e. refl) m.cal.matched m.cal.found refl refl
 
   -- UC and CC call blocks without parameters
   nothing_owed : (how : CallOperation) (id : BlockId) (instance : Option ℕ) (m : IsMade how id instance)
       → has_actuals s.code ≡ false → m.cal.params ≡ []
   nothing_owed how id instance m e =
-      no_params (in_parameter_order (source_block_at t.blocks m.cal.of_source.place) m.cal.of_source.formals) m.cal.params
+      no_params (ordered_formals t m.cal.of_source) m.cal.params
       (m.cal.order ∙ no_order m.cal.result m.cal.of_source.formals
       (no_formals m.cal.of_source.formals
       (none_owed (has_actuals s.code) (has_formals m.cal.of_source.formals) e
@@ -860,20 +871,17 @@ module _ (symbols : List Symbol) (t : Tree) (tree : IsSoundTree symbols t)
 
   all_owed : (how : CallOperation) (id : BlockId) (instance : Option ℕ) (m : IsMade how id instance)
       → is_function_block id.kind ≡ false
-      → are_all_passed 0 m.cal.params (pass_ops (passings_from (context_at symbols t k) s.actuals 0
-      (in_parameter_order (source_block_at t.blocks m.cal.of_source.place) m.cal.of_source.formals))) ≡ true
+      → are_all_passed 0 m.cal.params (pass_ops (passed_by m.cal.of_source)) ≡ true
   all_owed how id instance m other = by (has_actuals s.code) refl
     where
       by : (call : Bool) → has_actuals s.code ≡ call
-          → are_all_passed 0 m.cal.params (pass_ops (passings_from (context_at symbols t k) s.actuals 0
-          (in_parameter_order (source_block_at t.blocks m.cal.of_source.place) m.cal.of_source.formals))) ≡ true
+          → are_all_passed 0 m.cal.params (pass_ops (passed_by m.cal.of_source)) ≡ true
       by false e =
-          ap (λ (ps : List ParameterRecord). are_all_passed 0 ps (pass_ops (passings_from (context_at symbols t k) s.actuals 0
-          (in_parameter_order (source_block_at t.blocks m.cal.of_source.place) m.cal.of_source.formals))))
+          ap (λ (ps : List ParameterRecord). are_all_passed 0 ps (pass_ops (passed_by m.cal.of_source)))
           (nothing_owed how id instance m e)
       by true e =
           all_passed a (context_at symbols t k) m.cal.of_source.formals s.actuals (goods how id instance m) 0
-          (in_parameter_order (source_block_at t.blocks m.cal.of_source.place) m.cal.of_source.formals) m.cal.params []
+          (ordered_formals t m.cal.of_source) m.cal.params []
           m.cal.matched m.cal.found
           (subst (AreSupplied s.actuals) (sym m.cal.order)
           (return_all (λ (f : Formal). (x : Actual) × (actual_of_formal s.actuals f ≡ Some x)) m.cal.result m.cal.of_source.formals
@@ -885,11 +893,11 @@ module _ (symbols : List Symbol) (t : Tree) (tree : IsSoundTree symbols t)
   -- the instance of a function block
   instance_right : (how : CallOperation) (id : BlockId) (n : ℕ) (m : IsMade how id (Some n))
       → is_function_block id.kind ≡ true
-      → is_bad_instance (lens_of (data_blocks_of t symbols (layouts_of t symbols))) (3, m.cal.il, m.cal.params) n ≡ false
+      → is_bad_instance lens (3, m.cal.il, m.cal.params) n ≡ false
   instance_right how id n m fb =
-      given_right (lens_of (data_blocks_of t symbols (layouts_of t symbols))) m.cal.il n d.block.layout.length m.cal.params
+      given_right lens m.cal.il n d.block.layout.length m.cal.params
       (ap (λ (i : ℕ). i == 0) number ∙ instance_number_right symbols t d.place d.block)
-      (ap (λ (i : ℕ). length_of_data i (lens_of (data_blocks_of t symbols (layouts_of t symbols)))) number
+      (ap (λ (i : ℕ). length_of_data i lens) number
       ∙ instance_found symbols t tree d.place d.block.block d.block.layout d.block.id d.block.sound d.block.is d.block.kind)
       (le-ltb d.block.layout.length m.cal.il (omega (arith, long)))
     where
@@ -958,44 +966,30 @@ module _ (symbols : List Symbol) (t : Tree) (tree : IsSoundTree symbols t)
           (instance_none (context_at symbols t k) m.inst m.call.with_instance))))
 
   call_bad : (how : CallOperation) (id : BlockId) (instance : Option ℕ) (m : IsMade how id instance)
-      → is_bad_call (lens_of (data_blocks_of t symbols (layouts_of t symbols)))
-      (Some (kind_number id.kind, m.cal.il, m.cal.params)) (instance_number_or_zero instance)
-      (pass_ops (passings_from (context_at symbols t k) s.actuals 0
-      (in_parameter_order (source_block_at t.blocks m.cal.of_source.place) m.cal.of_source.formals))) ≡ false
+      → is_bad_call lens (Some (kind_number id.kind, m.cal.il, m.cal.params)) (instance_number_or_zero instance) (pass_ops (passed_by m.cal.of_source)) ≡ false
   call_bad how id instance m = by instance m (is_function_block id.kind) refl
     where
       by : (instance : Option ℕ) (m : IsMade how id instance) (fb : Bool) → is_function_block id.kind ≡ fb
-          → is_bad_call (lens_of (data_blocks_of t symbols (layouts_of t symbols)))
-          (Some (kind_number id.kind, m.cal.il, m.cal.params)) (instance_number_or_zero instance)
-          (pass_ops (passings_from (context_at symbols t k) s.actuals 0
-          (in_parameter_order (source_block_at t.blocks m.cal.of_source.place) m.cal.of_source.formals))) ≡ false
+          → is_bad_call lens (Some (kind_number id.kind, m.cal.il, m.cal.params)) (instance_number_or_zero instance) (pass_ops (passed_by m.cal.of_source)) ≡ false
       by None m false e =
-          call_right (lens_of (data_blocks_of t symbols (layouts_of t symbols))) (kind_number id.kind) m.cal.il m.cal.params
-          (pass_ops (passings_from (context_at symbols t k) s.actuals 0
-          (in_parameter_order (source_block_at t.blocks m.cal.of_source.place) m.cal.of_source.formals)))
+          call_right lens (kind_number id.kind) m.cal.il m.cal.params (pass_ops (passed_by m.cal.of_source))
           (other_than_three id.kind (callable_by id None m.by_view) e) (all_owed how id None m e)
       by (Some n) m false e = let given = m.by_view in absurd cc
       by None m true e =
-          subst (λ (n : ℕ). is_bad_call (lens_of (data_blocks_of t symbols (layouts_of t symbols)))
-          (Some (n, m.cal.il, m.cal.params)) 0
-          (pass_ops (passings_from (context_at symbols t k) s.actuals 0
-          (in_parameter_order (source_block_at t.blocks m.cal.of_source.place) m.cal.of_source.formals))) ≡ false)
+          subst (λ (n : ℕ). is_bad_call lens (Some (n, m.cal.il, m.cal.params)) 0 (pass_ops (passed_by m.cal.of_source)) ≡ false)
           (sym (block_three id.kind e))
-          (bare_right (lens_of (data_blocks_of t symbols (layouts_of t symbols))) m.cal.il m.cal.params (bare_owed how id m e))
+          (bare_right lens m.cal.il m.cal.params (bare_owed how id m e))
       by (Some n) m true e =
-          subst (λ (i : ℕ). is_bad_call (lens_of (data_blocks_of t symbols (layouts_of t symbols)))
-          (Some (i, m.cal.il, m.cal.params)) n
-          (pass_ops (passings_from (context_at symbols t k) s.actuals 0
-          (in_parameter_order (source_block_at t.blocks m.cal.of_source.place) m.cal.of_source.formals))) ≡ false)
+          subst (λ (i : ℕ). is_bad_call lens (Some (i, m.cal.il, m.cal.params)) n (pass_ops (passed_by m.cal.of_source)) ≡ false)
           (sym (block_three id.kind e)) (instance_right how id n m e)
 
   pub call_fits : CallFits a (lens_of (data_blocks_of t symbols (layouts_of t symbols))) (context_at symbols t k) s
   call_fits how id instance word e =
-      subst (λ (ps : List Passing). InstrFits a (lens_of (data_blocks_of t symbols (layouts_of t symbols))) (Calls how id instance ps))
+      subst (λ (ps : List Passing). InstrFits a lens (Calls how id instance ps))
       (sym (passings_are how id instance m)) (
         alone,
         subst (λ (o : Option FlatCallee). ArePassed a o None ps) (sym flat_is) (passes_right how id instance m),
-        subst (λ (o : Option FlatCallee). is_bad_call (lens_of (data_blocks_of t symbols (layouts_of t symbols))) o (instance_number_or_zero instance) (pass_ops ps) ≡ false)
+        subst (λ (o : Option FlatCallee). is_bad_call lens o (instance_number_or_zero instance) (pass_ops ps) ≡ false)
             (sym flat_is) (call_bad how id instance m),
       )
     where
@@ -1003,13 +997,13 @@ module _ (symbols : List Symbol) (t : Tree) (tree : IsSoundTree symbols t)
       m = made how id instance word e
 
       ps : List Passing
-      ps = passings_from (context_at symbols t k) s.actuals 0 (in_parameter_order (source_block_at t.blocks m.cal.of_source.place) m.cal.of_source.formals)
+      ps = passed_by m.cal.of_source
 
       alone : PassesAlone how ps
       alone = calls_alone s.code how ps word
-          (λ none. ap (λ (xs : List Actual). passings_from (context_at symbols t k) xs 0 (in_parameter_order (source_block_at t.blocks m.cal.of_source.place) m.cal.of_source.formals))
+          (λ none. ap (λ (xs : List Actual). passings_from (context_at symbols t k) xs 0 (ordered_formals t m.cal.of_source))
           (sound.well_formed.no_actuals none)
-          ∙ none_passed (context_at symbols t k) 0 (in_parameter_order (source_block_at t.blocks m.cal.of_source.place) m.cal.of_source.formals))
+          ∙ none_passed (context_at symbols t k) 0 (ordered_formals t m.cal.of_source))
 
       flat_is : flat_callee a.blocks (kind_number id.kind) id.number ≡ Some (kind_number id.kind, m.cal.il, m.cal.params)
       flat_is = ap (λ (sg : List BlockSignature). flat_callee sg (kind_number id.kind) id.number) blocks ∙ m.cal.flat
