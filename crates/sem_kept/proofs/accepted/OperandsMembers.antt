@@ -61,25 +61,32 @@ each_of symbols t P of k (x ∷ bs) (z ∷ ls) h (suc i) b l e f =
     (all_back P (of (context_at symbols t k) x z) (each_block of (context_at symbols t (suc k)) bs ls) h)
     i b l e f)
 
+-- what holds of all that a block makes holds of what it makes under its number
+made_there : {A : Type 0} (P : A → Type 0) (of : Option BlockId → List A) (one : BlockId → A) (test : BlockId → Bool)
+    (id : BlockId) → of (Some id) ≡ (if test id then one id ∷ [] else []) → (o : Option BlockId) → o ≡ Some id
+    → test id ≡ true → AllByRecursion P (of o) → P (one id)
+made_there P of one test id some o is right h =
+    (subst (λ (t : Bool). AllByRecursion P (if t then one id ∷ [] else [])) right
+    (subst (AllByRecursion P) some (subst (λ (o : Option BlockId). AllByRecursion P (of o)) is h))).0
+
+each_there : {A : Type 0} (symbols : List Symbol) (t : Tree) (P : A → Type 0) (of : Context → Block → BlockLayout → List A)
+    → AllByRecursion P (each_block of (context_at symbols t 0) t.blocks (layouts_of t symbols))
+    → (k : ℕ) (b : Block) (l : BlockLayout) → IsSound symbols t k b l → AllByRecursion P (of (context_at symbols t k) b l)
+each_there symbols t P of h k b l sound =
+    let from : 0 + k ≡ k = omega arith in
+    subst (λ (n : ℕ). AllByRecursion P (of (context_at symbols t n) b l)) from
+    (each_of symbols t P of 0 t.blocks (layouts_of t symbols) h k b l sound.block_there sound.layout_there)
+
 pub code_block_there : (symbols : List Symbol) (t : Tree) (P : StatedBlock → Type 0)
     → AllByRecursion P (code_blocks_of t symbols (layouts_of t symbols))
     → (k : ℕ) (b : Block) (l : BlockLayout) (id : BlockId) → IsSound symbols t k b l
     → l.id ≡ Some id → is_code id.kind ≡ true → P (code_block (context_at symbols t k) b l id)
 unfolding code_blocks_of
 code_block_there symbols t P h k b l id sound is code =
-    one (subst (λ (n : ℕ). AllByRecursion P (code_block_of (context_at symbols t n) b l l.id))
-    (let from : 0 + k ≡ k = omega arith in from)
-    (each_of symbols t P (λ c b l. code_block_of c b l l.id) 0 t.blocks (layouts_of t symbols)
-    (all_before P is_code_before
-    (each_block (λ c b l. code_block_of c b l l.id) (context_at symbols t 0) t.blocks (layouts_of t symbols)) h)
-    k b l sound.block_there sound.layout_there))
-  where
-    one : AllByRecursion P (code_block_of (context_at symbols t k) b l l.id)
-        → P (code_block (context_at symbols t k) b l id)
-    one h =
-        (subst (λ (t' : Bool). AllByRecursion P (if t' then code_block (context_at symbols t k) b l id ∷ [] else []))
-        code
-        (subst (λ (o : Option BlockId). AllByRecursion P (code_block_of (context_at symbols t k) b l o)) is h)).0
+    let of_ : Context → Block → BlockLayout → List StatedBlock = λ c b l. code_block_of c b l l.id in
+    made_there P (code_block_of (context_at symbols t k) b l) (code_block (context_at symbols t k) b l)
+    (λ id. is_code id.kind) id refl l.id is code (each_there symbols t P of_
+    (all_before P is_code_before (each_block of_ (context_at symbols t 0) t.blocks (layouts_of t symbols)) h) k b l sound)
 
 pub data_block_there : (symbols : List Symbol) (t : Tree) (P : DataBlock → Type 0)
     → AllByRecursion P (data_blocks_of t symbols (layouts_of t symbols))
@@ -87,19 +94,10 @@ pub data_block_there : (symbols : List Symbol) (t : Tree) (P : DataBlock → Typ
     → l.id ≡ Some id → is_data_block id.kind ≡ true → P (generated_data_block (context_at symbols t k) l id)
 unfolding data_blocks_of
 data_block_there symbols t P h k b l id sound is kind =
-    one (subst (λ (n : ℕ). AllByRecursion P (data_block_of (context_at symbols t n) l l.id))
-    (let from : 0 + k ≡ k = omega arith in from)
-    (each_of symbols t P (λ c b l. data_block_of c l l.id) 0 t.blocks (layouts_of t symbols)
-    (all_before P is_data_before
-    (each_block (λ c b l. data_block_of c l l.id) (context_at symbols t 0) t.blocks (layouts_of t symbols)) h)
-    k b l sound.block_there sound.layout_there))
-  where
-    one : AllByRecursion P (data_block_of (context_at symbols t k) l l.id)
-        → P (generated_data_block (context_at symbols t k) l id)
-    one h =
-        (subst (λ (t' : Bool). AllByRecursion P (if t' then generated_data_block (context_at symbols t k) l id ∷ [] else []))
-        kind
-        (subst (λ (o : Option BlockId). AllByRecursion P (data_block_of (context_at symbols t k) l o)) is h)).0
+    let of_ : Context → Block → BlockLayout → List DataBlock = λ c b l. data_block_of c l l.id in
+    made_there P (data_block_of (context_at symbols t k) l) (generated_data_block (context_at symbols t k) l)
+    (λ id. is_data_block id.kind) id refl l.id is kind (each_there symbols t P of_
+    (all_before P is_data_before (each_block of_ (context_at symbols t 0) t.blocks (layouts_of t symbols)) h) k b l sound)
 
 -- ---- no two blocks have one number
 

@@ -148,15 +148,7 @@ same_types a b e = by a b (eqb-true (type_number a) (type_number b) e)
     by simple.Dword simple.Dword e = refl
     by simple.Dint simple.Dint e = refl
     by simple.Time simple.Time e = refl
-    by simple.Bool _ e = absurd (omega (arith, e))
-    by simple.Byte _ e = absurd (omega (arith, e))
-    by simple.Char _ e = absurd (omega (arith, e))
-    by simple.Word _ e = absurd (omega (arith, e))
-    by simple.Int _ e = absurd (omega (arith, e))
-    by simple.S5time _ e = absurd (omega (arith, e))
-    by simple.Dword _ e = absurd (omega (arith, e))
-    by simple.Dint _ e = absurd (omega (arith, e))
-    by simple.Time _ e = absurd (omega (arith, e))
+    by _ _ e = absurd (omega (arith, e))
 
 typed_width : (f : Formal) (w : Width) (declared : Option Simple) → fits_type f w declared ≡ true
     → HasWidth w declared → w ≡ width_of f.kind

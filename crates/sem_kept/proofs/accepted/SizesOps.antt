@@ -3,6 +3,7 @@ use Rattle.std.proofs.Common.{◌≡◌, ℕ, suc, ◌+◌, ◌*◌, ◌≤◌, 
 use Rattle.std.specs.Prelude.{find, is_some, nat_eq, if◌then◌else◌}
 use Rattle.std.specs.List.{AllByRecursion, count_by, sum_by}
 use Rattle.std.specs.Option.{IfSome}
+use Rattle.std.proofs.lemmas.Grind.{flat_map-append}
 use Rattle.std.proofs.lemmas.List.{length-map}
 use Rattle.std.proofs.lemmas.List.Sums.{sum_by-cons}
 use Rattle.plc_base.specs.Kinds.{is_code}
@@ -502,18 +503,6 @@ body_fits c body n (s ∷ ss) fine h =
         )
 
 -- with the statement that returns
-ops_both : (xs ys : List SourceInstruction) → bytes_in (ops_in (xs ++ ys)) ≡ bytes_in (ops_in xs ++ ops_in ys)
-ops_both [] ys = refl
-ops_both (x ∷ xs) ys =
-    omega (
-      arith,
-      bytes_both (ops_of x.instr) (ops_in (xs ++ ys)),
-      ops_both xs ys,
-      bytes_both (ops_in xs) (ops_in ys),
-      bytes_both (ops_of x.instr) (ops_in xs),
-      bytes_both (ops_in (x ∷ xs)) (ops_in ys),
-    )
-
 one_returns : (b : Block) → bytes_in (ops_in (return_statement b ∷ [])) ≡ 2
 one_returns b = omega (arith, returns_sized ends.Be, bytes_both (ops_of (Returns ends.Be)) [])
 
@@ -528,7 +517,7 @@ whole_fits c b fine h has =
     omega (
       arith,
       placed_bytes (ops_in all),
-      ops_both ss (return_statement b ∷ []),
+      ap bytes_in (flat_map-append (λ (s : SourceInstruction). ops_of s.instr) ss (return_statement b ∷ [])),
       bytes_both (ops_in ss) (ops_in (return_statement b ∷ [])),
       one_returns b,
       length-map all (λ s. s.line),
