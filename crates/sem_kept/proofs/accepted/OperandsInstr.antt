@@ -23,11 +23,11 @@ use Rattle.stl_types.specs.Resolved.{resolved_operand, seen_view}
 use Rattle.stl_types.specs.Resolution.{resolution_of}
 use Rattle.stl_types.specs.declared.forms.OperandRule.{OperandRule}
 use Rattle.stl_types.specs.declared.views.Resolution.{Resolution}
-use Rattle.stl_types.specs.declared.views.Resolution.TheVariants.{Resolved, Unknown, Unjudged}
+use Rattle.stl_types.specs.declared.views.Resolution.TheVariants.{Resolved}
 use Rattle.stl_types.specs.declared.views.ResolvedOperand.{ResolvedOperand}
 use Rattle.stl_types.specs.declared.views.ResolvedOperand.TheVariants as view
 use Rattle.stl_codegen.specs.Emitted.{op_with_end_mark}
-use Rattle.stl_codegen.specs.Instruction.{call_instr, end_instr, filler_instruction, instr_by, instruction, jump_instr, passings_to, resolved_instr, target_of, view_instr}
+use Rattle.stl_codegen.specs.Instruction.{call_instr, end_instr, filler_instruction, instr_by, instruction, jump_instr, passings_to, resolved_instr, target_of}
 use Rattle.stl_codegen.specs.Operands.{flat_operand_of}
 use Rattle.stl_codegen.specs.Operations.{call_operation_of, end_operation_of, jump_operation_of, operation_for}
 use Rattle.sem_kept.specs.Operands.{InstrFits, IsOperandRightFor}
@@ -114,25 +114,16 @@ instr_fits a lens c body n s allowed seen_fits calls = by (jump_operation_of s.c
   where
     called : (how : CallOperation) → call_operation_of s.code ≡ Some how → (x : Resolution) → resolution_of c s.operand ≡ x
         → InstrFits a lens (resolved_instr c s (seen_view x))
-    called how is (Resolved v) e =
-        subst (λ (o : Option CallOperation). InstrFits a lens (view_instr c s v o)) (sym is)
-        (call_view_fits a lens c s how calls is v e)
-    called how is Unknown e = filler_fits a lens
-    called how is Unjudged e = filler_fits a lens
+    called how is (Resolved v) e = rw is (call_view_fits a lens c s how calls is v e)
+    called how is _ e = filler_fits a lens
 
     whether : (o : Option CallOperation) → call_operation_of s.code ≡ o
         → InstrFits a lens (resolved_instr c s (seen_view (resolution_of c s.operand)))
     whether None is =
-        subst (λ (x : Resolution). InstrFits a lens (resolved_instr c s (seen_view x))) (sym found.is)
-        (subst (λ (o : Option CallOperation). InstrFits a lens (view_instr c s found.view o)) (sym is)
-        (does_fits a lens c s found.view found.is allowed found.fits (end_operation_of s.code)))
-      where
-        found : IsSeen a (resolution_of c s.operand)
-        found = seen_fits (no_call s.code is)
+        let found : IsSeen a (resolution_of c s.operand) = seen_fits (no_call s.code is) in
+        rw (found.is, is) (does_fits a lens c s found.view found.is allowed found.fits (end_operation_of s.code))
     whether (Some how) is = called how is (resolution_of c s.operand) refl
 
     by : (o : Option JumpOperation) → InstrFits a lens (instr_by c body n s o)
     by (Some how) = jump_fits a lens how n (target_of body s.operand)
-    by None =
-        subst (λ (o : Option ResolvedOperand). InstrFits a lens (resolved_instr c s o)) (sym (resolved_is c s allowed))
-        (whether (call_operation_of s.code) refl)
+    by None = rw (resolved_is c s allowed) (whether (call_operation_of s.code) refl)

@@ -68,7 +68,7 @@ use Rattle.block_layout.specs.declared.walks.PathEnd.{PathEnd}
 use Rattle.block_layout.specs.declared.walks.PathEnd.TheVariants as walk
 use Rattle.stl_types.specs.Actuals.{is_input_section}
 use Rattle.stl_types.specs.Addresses.{resolved_address, address_in_block, area_for_letters}
-use Rattle.stl_types.specs.Context.{data_number, data_place, in_function, is_of_function, number_of_block}
+use Rattle.stl_types.specs.Context.{Context, data_number, data_place, in_function, is_of_function, number_of_block}
 use Rattle.stl_types.specs.Resolution.{opened_seen, path_seen, resolution_of, symbol_seen, target_view}
 use Rattle.stl_types.specs.Unknown.{is_unknown}
 use Rattle.stl_types.specs.Variables.{composite_operand, data_at, date_or_composite, data_path, data_variable, data_walked, variable_in_area, own_at, own_elementary, own_variable, own_walked, parameter_resolution, parameter_at, parameter_index}
@@ -720,80 +720,58 @@ layout_shape symbols t p b l h = ap (λ (z : BlockLayout). z.shape) h.layout
 
 pub structured : (symbols : List Symbol) (t : Tree) → IsSoundTree symbols t → (p : ℕ)
     → IsThere symbols t is_data_block p → IsStructured symbols t p
-structured symbols t tree p d = by (shape_of (types_of_source symbols t.blocks) d.block) refl
+structured symbols t tree p d = by (shape_of y d.block) refl
   where
+    y : Types
+    y = types_of_source symbols t.blocks
+
+    ls : List BlockLayout
+    ls = layouts_of t symbols
+
     kind : d.block.kind ≡ kinds.Db
     kind = d.same ∙ data_block_kind d.id.kind d.kind
 
-    whole : whole_at (layouts_of t symbols) p ≡ Some d.layout
-    whole = whole_is (layouts_of t symbols) p d.layout d.laid d.sound.whole
-
-    shape_is : d.layout.shape ≡ shape_of (types_of_source symbols t.blocks) d.block
-    shape_is = layout_shape symbols t p d.block d.layout d.sound
-
-    structure : (sh : Shape) → shape_of (types_of_source symbols t.blocks) d.block ≡ sh
-        → structure_of (layouts_of t symbols) p ≡ shape_block (layouts_of t symbols) p sh
-    structure sh e =
-        ap (λ (o : Option BlockLayout). option_and_then (λ (b : BlockLayout). shape_block (layouts_of t symbols) p b.shape) o) whole
-        ∙ ap (λ (s : Shape). shape_block (layouts_of t symbols) p s) (shape_is ∙ e)
-
-    short : (sh : Shape) → shape_of (types_of_source symbols t.blocks) d.block ≡ sh
-        → shape_bits (types_of_source symbols t.blocks) t.blocks d.block sh / 8 ≤ 16384
-    short sh e =
-        subst (λ (s : Shape). shape_bits (types_of_source symbols t.blocks) t.blocks d.block s / 8 ≤ 16384) e
-        (subst (λ (n : ℕ). n ≤ 16384) (data_length (types_of_source symbols t.blocks) t.blocks d.block kind)
-        (ltb-false 16384 (length_of_block (types_of_source symbols t.blocks) t.blocks d.block) d.sound.head.by_51))
-
-    long : (sh : Shape) → shape_of (types_of_source symbols t.blocks) d.block ≡ sh
-        → length_at (slice_get (layouts_of t symbols) p)
-        ≡ shape_bits (types_of_source symbols t.blocks) t.blocks d.block sh / 8
-    long sh e =
-        ap (λ (o : Option BlockLayout). length_at o) d.laid
-        ∙ layout_length symbols t p d.block d.layout d.sound
-        ∙ data_length (types_of_source symbols t.blocks) t.blocks d.block kind
-        ∙ ap (λ (s : Shape). shape_bits (types_of_source symbols t.blocks) t.blocks d.block s / 8) e
-
-    by : (sh : Shape) → shape_of (types_of_source symbols t.blocks) d.block ≡ sh → IsStructured symbols t p
-    by shape.Own e = record {
-      inside = p;
-      is = structure shape.Own e;
-      small = subst (λ (cs : List Cell). structure_bits cs ≤ 131072)
-          (sym (cells_are symbols t p d.block d.layout d.sound false))
-          (short_bits (structure_bits (components_of (types_of_source symbols t.blocks) d.block) / 8)
-          (structure_bits (components_of (types_of_source symbols t.blocks) d.block)) (short shape.Own e) refl
-          (structure_even (components_of (types_of_source symbols t.blocks) d.block)));
-      long = long shape.Own e
-          ∙ ap (λ (cs : List Cell). structure_bits cs / 8)
-          (sym (cells_are symbols t p d.block d.layout d.sound false));
-    }
-    by (shape.Of other) e = record {
-      inside = other;
-      is = structure (shape.Of other) e
-          ∙ ap (λ (t' : Bool). if t' then Some other else None)
-          (ap is_some (whole_is (layouts_of t symbols) other there.layout there.laid there.sound.whole));
-      small = subst (λ (cs : List Cell). structure_bits cs ≤ 131072)
-          (sym (cells_are symbols t other there.block there.layout there.sound false))
-          (short_bits (structure_bits (components_of (types_of_source symbols t.blocks) there.block) / 8)
-          (structure_bits (components_of (types_of_source symbols t.blocks) there.block))
-          (subst (λ (o : Option Block). block_bits (types_of_source symbols t.blocks) o / 8 ≤ 16384)
-          there.sound.block_there (short (shape.Of other) e)) refl
-          (structure_even (components_of (types_of_source symbols t.blocks) there.block)));
-      long = long (shape.Of other) e
-          ∙ ap (λ (o : Option Block). block_bits (types_of_source symbols t.blocks) o / 8) there.sound.block_there
-          ∙ ap (λ (cs : List Cell). structure_bits cs / 8)
-          (sym (cells_are symbols t other there.block there.layout there.sound false));
+    -- the structure is that of this block
+    made : (inside : ℕ) (b : Block) (l : BlockLayout) → IsSound symbols t inside b l → (sh : Shape)
+        → shape_of y d.block ≡ sh → shape_block ls p sh ≡ Some inside
+        → shape_bits y t.blocks d.block sh ≡ structure_bits (components_of y b) → IsStructured symbols t p
+    made inside b l sound sh e is bits = record {
+      inside = inside;
+      is = ap (λ (o : Option BlockLayout). option_and_then (λ (b : BlockLayout). shape_block ls p b.shape) o)
+          (whole_is ls p d.layout d.laid d.sound.whole)
+          ∙ ap (λ (s : Shape). shape_block ls p s) (layout_shape symbols t p d.block d.layout d.sound ∙ e) ∙ is;
+      small = subst (λ (cs : List Cell). structure_bits cs ≤ 131072) (sym cells)
+          (short_bits (structure_bits (components_of y b) / 8) (structure_bits (components_of y b))
+          (subst (λ (n : ℕ). n ≤ 16384) long (ltb-false 16384 (length_of_block y t.blocks d.block) d.sound.head.by_51)) refl
+          (structure_even (components_of y b)));
+      long = ap length_at d.laid ∙ layout_length symbols t p d.block d.layout d.sound ∙ long
+          ∙ ap (λ (cs : List Cell). structure_bits cs / 8) (sym cells);
     }
       where
-        found : (n : BlockName) × (found_block (types_of_source symbols t.blocks).symbols (types_of_source symbols t.blocks).ids has_structure n ≡ Some other)
-        found = shape_found (types_of_source symbols t.blocks) (structure_block_name d.block.instance_of d.block.shape) other e
+        cells : cells_at ls inside false ≡ components_of y b
+        cells = cells_are symbols t inside b l sound false
+
+        long : length_of_block y t.blocks d.block ≡ structure_bits (components_of y b) / 8
+        long =
+            data_length y t.blocks d.block kind ∙ ap (λ (s : Shape). shape_bits y t.blocks d.block s / 8) e
+            ∙ ap (λ (n : ℕ). n / 8) bits
+
+    by : (sh : Shape) → shape_of y d.block ≡ sh → IsStructured symbols t p
+    by shape.Own e = made p d.block d.layout d.sound shape.Own e refl refl
+    by (shape.Of other) e =
+        made other there.block there.layout there.sound (shape.Of other) e
+        (ap (λ (t' : Bool). if t' then Some other else None)
+        (ap is_some (whole_is ls other there.layout there.laid there.sound.whole)))
+        (ap (λ (o : Option Block). block_bits y o) there.sound.block_there)
+      where
+        found : (n : BlockName) × (found_block y.symbols y.ids has_structure n ≡ Some other)
+        found = shape_found y (structure_block_name d.block.instance_of d.block.shape) other e
 
         there : IsThere symbols t has_structure other
         there = block_there symbols t tree has_structure found.0 other found.1
     by shape.Unknown e =
-        let known = or_second (is_none (id_of (types_of_source symbols t.blocks).symbols d.block))
-        (is_unknown_shape (shape_of (types_of_source symbols t.blocks) d.block)) d.sound.head.by_23 in
-        let never : is_unknown_shape shape.Unknown ≡ false
-        = ap is_unknown_shape (sym e) ∙ known in
+        let known = or_second (is_none (id_of y.symbols d.block)) (is_unknown_shape (shape_of y d.block)) d.sound.head.by_23 in
+        let never : is_unknown_shape shape.Unknown ≡ false = ap is_unknown_shape (sym e) ∙ known in
         absurd cc
 
 -- a component of a data block
@@ -805,54 +783,50 @@ pub data_seen : (symbols : List Symbol) (t : Tree) → IsSoundTree symbols t →
     (found_block (types_of_source symbols t.blocks).symbols (types_of_source symbols t.blocks).ids is_data_block name) steps ≡ false
     → IsSeen a (data_variable (context_at symbols t k) name steps)
 data_seen symbols t tree k a name steps there known stays =
-    subst (IsSeen a) (sym whole)
-    (reads (path_end_in_data_block (layouts_of t symbols) d.place steps) refl goes
+    subst (IsSeen a) (sym whole) (reads (path_end_in_data_block ls d.place steps) goes
     (subst (λ (s : Resolution). is_unknown s ≡ false) whole known))
   where
+    ls : List BlockLayout
+    ls = layouts_of t symbols
+
+    c : Context
+    c = context_at symbols t k
+
     d : IsData symbols t k name
     d = data_there symbols t tree k name there
 
     s : IsStructured symbols t d.place
     s = structured symbols t tree d.place d.block
 
-    whole : data_variable (context_at symbols t k) name steps
-        ≡ data_walked (context_at symbols t k) d.block.id.number (path_end_in_data_block (layouts_of t symbols) d.place steps)
+    limit : ℕ
+    limit = structure_bits (cells_at ls s.inside false)
+
+    whole : data_variable c name steps ≡ data_walked c d.block.id.number (path_end_in_data_block ls d.place steps)
     whole =
-        ap (λ (o : Option ℕ). data_path (context_at symbols t k) steps o (data_place (context_at symbols t k) name)) d.number
-        ∙ ap (λ (o : Option ℕ). data_path (context_at symbols t k) steps (Some d.block.id.number) o) d.found
+        ap (λ (o : Option ℕ). data_path c steps o (data_place c name)) d.number
+        ∙ ap (λ (o : Option ℕ). data_path c steps (Some d.block.id.number) o) d.found
 
-    goes : Goes (layouts_of t symbols) (structure_bits (cells_at (layouts_of t symbols) s.inside false))
-        (path_end_in_data_block (layouts_of t symbols) d.place steps)
-    goes = data_goes (layouts_of t symbols) (structure_bits (cells_at (layouts_of t symbols) s.inside false))
-        (are_right symbols t tree) (let small = s.small in omega (arith, small)) d.place s.inside steps s.is
-        (omega arith)
-        (subst (λ (o : Option ℕ). leaves_found (layouts_of t symbols) o steps ≡ false) d.listed stays)
+    goes : Goes ls limit (path_end_in_data_block ls d.place steps)
+    goes = data_goes ls limit (are_right symbols t tree) (let small = s.small in omega (arith, small)) d.place s.inside steps s.is
+        (omega arith) (subst (λ (o : Option ℕ). leaves_found ls o steps ≡ false) d.listed stays)
 
-    at : (w : ComponentAt) → Lies (layouts_of t symbols) (structure_bits (cells_at (layouts_of t symbols) s.inside false)) w
-        → (o : Option Simple) → elementary_at (layouts_of t symbols) w ≡ o
-        → IsSeen a (data_at (context_at symbols t k) d.block.id.number w o)
-    at w h None e = composite_seen a (slice_get (cells_at (layouts_of t symbols) w.block w.temporary) w.place)
+    at : (w : ComponentAt) → Lies ls limit w → (o : Option Simple) → elementary_at ls w ≡ o
+        → IsSeen a (data_at c d.block.id.number w o)
+    at w h None e = composite_seen a (slice_get (cells_at ls w.block w.temporary) w.place)
     at w h (Some kind) e = record {
       view = view.Direct (place_at area.Db d.block.id.number w.offset) (width_of kind) side.Both (Some kind);
-      is = placed_sees area.Db d.block.id.number w.offset
-          (structure_bits (cells_at (layouts_of t symbols) s.inside false)) kind place
-          (let small = s.small in omega (arith, small));
-      fits = (
-        data_fits a w.offset (structure_bits (cells_at (layouts_of t symbols) s.inside false)) kind place,
-        refl,
-      );
+      is = placed_sees area.Db d.block.id.number w.offset limit kind place (let small = s.small in omega (arith, small));
+      fits = (data_fits a w.offset limit kind place, refl);
     }
       where
-        place : IsPlaced (structure_bits (cells_at (layouts_of t symbols) s.inside false)) w.offset kind
-        place = reached_place (layouts_of t symbols) (structure_bits (cells_at (layouts_of t symbols) s.inside false)) w kind h e
+        place : IsPlaced limit w.offset kind
+        place = reached_place ls limit w kind h e
 
-    reads : (w : PathEnd) → w ≡ path_end_in_data_block (layouts_of t symbols) d.place steps
-        → Goes (layouts_of t symbols) (structure_bits (cells_at (layouts_of t symbols) s.inside false)) w
-        → is_unknown (data_walked (context_at symbols t k) d.block.id.number w) ≡ false
-        → IsSeen a (data_walked (context_at symbols t k) d.block.id.number w)
-    reads (walk.Reaches w) e g u = at w g (elementary_at (layouts_of t symbols) w) refl
-    reads walk.Unknown e g u = absurd cc
-    reads walk.Rests e g u = absurd g
+    reads : (w : PathEnd) → Goes ls limit w → is_unknown (data_walked c d.block.id.number w) ≡ false
+        → IsSeen a (data_walked c d.block.id.number w)
+    reads (walk.Reaches w) g u = at w g (elementary_at ls w) refl
+    reads walk.Unknown g u = absurd cc
+    reads walk.Rests g u = absurd g
 
 -- ---- operands
 
