@@ -222,10 +222,6 @@ record IsCallee (symbols : List Symbol) (t : Tree) (k : ℕ) (blocks : List Bloc
       × (slice_get t.blocks p ≡ Some b) × (b.kind ≡ kinds.Fb)
       × (il ≡ length_of_block (types_of_source symbols t.blocks) t.blocks b)
 
-in_order_all : (b : Block) (P : Formal → Type 0) (fs : List Formal) → AllByRecursion P fs
-    → AllByRecursion P (in_parameter_order (Some b) fs)
-in_order_all b P fs h = return_all P b.result fs h
-
 system_kind : (k : BlockKind) → is_system_function k ≡ true → k ≡ kinds.Sfc
 system_kind kinds.Sfc e = refl
 system_kind _ e = absurd cc
@@ -342,26 +338,22 @@ source_called : (symbols : List Symbol) (t : Tree) → IsSoundTree symbols t →
     → whole_place (context_at symbols t k) id ≡ Some p
     → IsCallee symbols t k (signatures symbols t) (operand.Called name inst) id
 source_called symbols t tree k name inst id p named kind whole = record {
-  of_source = record { id = id; place = Some p; formals = formals_of (cells_at (layouts_of t symbols) p false) };
+  of_source = record { id = id; place = Some p; formals = formals };
   is = callee_source symbols t k name inst id p named kind whole
-      (sound_all (cells_at (layouts_of t symbols) p false)
-      (λ place c e. (are_right symbols t tree p place false c e).sound));
+      (sound_all cells (λ place c e. (are_right symbols t tree p place false c e).sound));
   same = refl;
   il = instance_len there.block there.layout;
   params = map record_of_param (params_of there.block there.layout);
-  flat =
-      source_flat (signatures symbols t) id.kind id.number kind
+  flat = source_flat (signatures symbols t) id.kind id.number kind
       ∙ called_block symbols t tree p there.block there.layout id there.sound is_there (source_code id.kind kind);
-  matched = subst (λ (o : Option Block). Matched (in_parameter_order o (formals_of (cells_at (layouts_of t symbols) p false))) (map record_of_param (params_of there.block there.layout)))
+  matched = subst (λ (o : Option Block). Matched (in_parameter_order o formals) (map record_of_param (params_of there.block there.layout)))
       (sym there.sound.block_there)
-      (source_matched there.block there.layout (cells_at (layouts_of t symbols) p false)
-      (layout_components symbols t p there.block there.layout there.sound ∙ sym cells));
-  found = subst (λ (o : Option Block). AllByRecursion (IsFoundIn (formals_of (cells_at (layouts_of t symbols) p false))) (in_parameter_order o (formals_of (cells_at (layouts_of t symbols) p false))))
+      (source_matched there.block there.layout cells (layout_components symbols t p there.block there.layout there.sound ∙ sym cells_here));
+  found = subst (λ (o : Option Block). AllByRecursion (IsFoundIn formals) (in_parameter_order o formals))
       (sym there.sound.block_there)
-      (in_order_all there.block (IsFoundIn (formals_of (cells_at (layouts_of t symbols) p false))) (formals_of (cells_at (layouts_of t symbols) p false))
-      (found_each (formals_of (cells_at (layouts_of t symbols) p false)) distinct));
+      (return_all (IsFoundIn formals) there.block.result formals (found_each formals distinct));
   result = there.block.result;
-  order = ap (λ (o : Option Block). in_parameter_order o (formals_of (cells_at (layouts_of t symbols) p false))) there.sound.block_there;
+  order = ap (λ (o : Option Block). in_parameter_order o formals) there.sound.block_there;
   long = λ e. (
     p,
     there.block,
@@ -373,7 +365,16 @@ source_called symbols t tree k name inst id p named kind whole = record {
   );
 }
   where
-    listed : slice_get (types_of_source symbols t.blocks).ids p ≡ Some (Some id)
+    y : Types
+    y = types_of_source symbols t.blocks
+
+    cells : List Cell
+    cells = cells_at (layouts_of t symbols) p false
+
+    formals : List Formal
+    formals = formals_of cells
+
+    listed : slice_get y.ids p ≡ Some (Some id)
     listed =
         ap (λ (is : List (Option BlockId)). slice_get is p) (sym (ids_same symbols t))
         ∙ known_there id (source_block_ids (context_at symbols t k)) p
@@ -391,14 +392,13 @@ source_called symbols t tree k name inst id p named kind whole = record {
     own_kind : there.block.kind ≡ id.kind
     own_kind = there.same ∙ ap (λ (z : BlockId). z.kind) one
 
-    cells : cells_at (layouts_of t symbols) p false ≡ components_of (types_of_source symbols t.blocks) there.block
-    cells = cells_are symbols t p there.block there.layout there.sound false
+    cells_here : cells ≡ components_of y there.block
+    cells_here = cells_are symbols t p there.block there.layout there.sound false
 
-    distinct : Distinct (formals_of (cells_at (layouts_of t symbols) p false))
-    distinct = subst (λ (cs : List Cell). Distinct (formals_of cs)) (sym cells)
-        (fresh_distinct [] (formals_of (components_of (types_of_source symbols t.blocks) there.block))
-        (block_formals (types_of_source symbols t.blocks) there.block there.sound.well_formed
-        (block_unbroken (types_of_source symbols t.blocks) there.block there.sound.declarations)))
+    distinct : Distinct formals
+    distinct = subst (λ (cs : List Cell). Distinct (formals_of cs)) (sym cells_here)
+        (fresh_distinct [] (formals_of (components_of y there.block))
+        (block_formals y there.block there.sound.well_formed (block_unbroken y there.block there.sound.declarations)))
 
 -- ---- a call
 
@@ -501,11 +501,6 @@ call_right lens kind il params ops e f =
     ap (λ (t' : Bool). (not (kind == 3) && not t') || is_bad_instance lens (kind, il, params) 0) f
     ∙ ap (λ (t' : Bool). (not t' && false) || is_bad_instance lens (kind, il, params) 0) e
     ∙ no_instance_right lens kind il params e
-
-block_call_right : (lens : List (ℕ × ℕ)) (il n : ℕ) (params : List ParameterRecord) (ops : List OpData)
-    → is_bad_instance lens (3, il, params) n ≡ false
-    → is_bad_call lens (Some (3, il, params)) n ops ≡ false
-block_call_right lens il n params ops e = e
 
 -- ---- an instance
 
@@ -899,8 +894,11 @@ module _ (symbols : List Symbol) (t : Tree) (tree : IsSoundTree symbols t)
       (ap (λ (i : ℕ). i == 0) number ∙ instance_number_right symbols t d.place d.block)
       (ap (λ (i : ℕ). length_of_data i lens) number
       ∙ instance_found symbols t tree d.place d.block.block d.block.layout d.block.id d.block.sound d.block.is d.block.kind)
-      (le-ltb d.block.layout.length m.cal.il (omega (arith, long)))
+      (le-ltb d.block.layout.length m.cal.il (let one = fb_at.5 in omega (arith, one, long)))
     where
+      y : Types
+      y = types_of_source symbols t.blocks
+
       at : (nm : BlockName) × (m.inst ≡ Some nm) × (data_number (context_at symbols t k) nm ≡ Some n)
       at = instance_some (context_at symbols t k) m.inst n m.call.with_instance
 
@@ -909,15 +907,14 @@ module _ (symbols : List Symbol) (t : Tree) (tree : IsSoundTree symbols t)
 
       d : IsData symbols t k at.0
       d = data_there symbols t tree k at.0
-          (or_second (is_unknown_called (types_of_source symbols t.blocks) m.name)
-          (is_unknown_instance (types_of_source symbols t.blocks) (Some at.0))
-          (ap (names_unknown (types_of_source symbols t.blocks)) (sym operand_is) ∙ sound.there))
+          (or_second (is_unknown_called y m.name) (is_unknown_instance y (Some at.0))
+          (ap (names_unknown y) (sym operand_is) ∙ sound.there))
 
       number : n ≡ d.block.id.number
       number = same_Some n d.block.id.number (sym at.2 ∙ d.number)
 
       fb_at : (p : ℕ) × (c : Block) × (m.cal.of_source.place ≡ Some p) × (slice_get t.blocks p ≡ Some c)
-          × (c.kind ≡ kinds.Fb) × (m.cal.il ≡ length_of_block (types_of_source symbols t.blocks) t.blocks c)
+          × (c.kind ≡ kinds.Fb) × (m.cal.il ≡ length_of_block y t.blocks c)
       fb_at = m.cal.long fb
 
       place : whole_data_place (context_at symbols t k) at.0 ≡ Some d.place
@@ -928,8 +925,7 @@ module _ (symbols : List Symbol) (t : Tree) (tree : IsSoundTree symbols t)
 
       wrong : is_no_instance (context_at symbols t k) m.cal.of_source.place (whole_data_place (context_at symbols t k) at.0) ≡ false
       wrong =
-          second_false (is_function_block m.cal.of_source.id.kind)
-          (is_no_instance (context_at symbols t k) m.cal.of_source.place (whole_data_place (context_at symbols t k) at.0))
+          second_false (is_function_block m.cal.of_source.id.kind) _
           (ap (has_wrong_instance (context_at symbols t k) m.cal.of_source) (sym operand_is) ∙ m.rules.instance)
           (ap (λ (z : BlockId). is_function_block z.kind) m.cal.same ∙ fb)
 
@@ -941,14 +937,9 @@ module _ (symbols : List Symbol) (t : Tree) (tree : IsSoundTree symbols t)
           ∙ ap (λ (o : Option ℕ). is_no_instance (context_at symbols t k) m.cal.of_source.place o) (sym place)
           ∙ wrong)
 
-      well : IsBlock fb_at.1
-      well = (layout_of_block symbols t tree fb_at.0 fb_at.1 fb_at.3).2.well_formed
-
-      long : m.cal.il ≤ d.block.layout.length
-      long =
-          let one = fb_at.5 in
-          let two = instance_long symbols t d.place fb_at.0 d.block fb_at.1 fb_at.3 fb_at.4 well of_block in
-          omega (arith, one, two)
+      long : d.block.layout.length ≡ length_of_block y t.blocks fb_at.1
+      long = instance_long symbols t d.place fb_at.0 d.block fb_at.1 fb_at.3 fb_at.4
+          (layout_of_block symbols t tree fb_at.0 fb_at.1 fb_at.3).2.well_formed of_block
 
   -- CALL names one
   bare_owed : (how : CallOperation) (id : BlockId) (m : IsMade how id None) → is_function_block id.kind ≡ true
@@ -970,18 +961,15 @@ module _ (symbols : List Symbol) (t : Tree) (tree : IsSoundTree symbols t)
   call_bad how id instance m = by instance m (is_function_block id.kind) refl
     where
       by : (instance : Option ℕ) (m : IsMade how id instance) (fb : Bool) → is_function_block id.kind ≡ fb
-          → is_bad_call lens (Some (kind_number id.kind, m.cal.il, m.cal.params)) (instance_number_or_zero instance) (pass_ops (passed_by m.cal.of_source)) ≡ false
+          → is_bad_call lens (Some (kind_number id.kind, m.cal.il, m.cal.params)) (instance_number_or_zero instance)
+          (pass_ops (passed_by m.cal.of_source)) ≡ false
       by None m false e =
           call_right lens (kind_number id.kind) m.cal.il m.cal.params (pass_ops (passed_by m.cal.of_source))
           (other_than_three id.kind (callable_by id None m.by_view) e) (all_owed how id None m e)
       by (Some n) m false e = let given = m.by_view in absurd cc
       by None m true e =
-          subst (λ (n : ℕ). is_bad_call lens (Some (n, m.cal.il, m.cal.params)) 0 (pass_ops (passed_by m.cal.of_source)) ≡ false)
-          (sym (block_three id.kind e))
-          (bare_right lens m.cal.il m.cal.params (bare_owed how id m e))
-      by (Some n) m true e =
-          subst (λ (i : ℕ). is_bad_call lens (Some (i, m.cal.il, m.cal.params)) n (pass_ops (passed_by m.cal.of_source)) ≡ false)
-          (sym (block_three id.kind e)) (instance_right how id n m e)
+          rw (block_three id.kind e) (bare_right lens m.cal.il m.cal.params (bare_owed how id m e))
+      by (Some n) m true e = rw (block_three id.kind e) (instance_right how id n m e)
 
   pub call_fits : CallFits a (lens_of (data_blocks_of t symbols (layouts_of t symbols))) (context_at symbols t k) s
   call_fits how id instance word e =
