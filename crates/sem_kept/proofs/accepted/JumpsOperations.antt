@@ -8,7 +8,7 @@ use Rattle.flat_code.specs.Instr.{Instr, Passing, Does, Calls}
 use Rattle.flat_code.specs.Kinds.{jump_number}
 use Rattle.flat_code.specs.OpCodes.{op_code_of}
 use Rattle.flat_code.specs.Ops.{OpData}
-use Rattle.flat_code.specs.Placed.{is_empty_list, is_opening}
+use Rattle.flat_code.specs.Placed.{is_empty_list}
 use Rattle.flat_code.specs.declared.kinds.JumpOperation.{JumpOperation}
 use Rattle.flat_code.specs.declared.kinds.JumpOperation.TheVariants as jump
 use Rattle.flat_code.specs.declared.operands.Operand.{Operand as FlatOperand}
@@ -19,7 +19,6 @@ use Rattle.flat_code.specs.declared.operations.EndOperation.{EndOperation}
 use Rattle.flat_code.specs.declared.operations.EndOperation.TheVariants as ends
 use Rattle.flat_code.specs.declared.operations.Operation.TheVariants as operation
 use Rattle.stl_ast.specs.Statements.{is_call}
-use Rattle.stl_ast.specs.declared.literals.Literal.TheVariants as literal
 use Rattle.stl_ast.specs.declared.mnemonics.Mnemonic.{Mnemonic}
 use Rattle.stl_ast.specs.declared.mnemonics.Mnemonic.TheVariants as code
 use Rattle.stl_ast.specs.declared.operands.Operand.{Operand}
@@ -35,15 +34,15 @@ use Rattle.stl_types.specs.Zones.{ends_no_zone, ends_zone, is_ninth_zone, opens_
 use Rattle.stl_types.specs.declared.brackets.Bracket.{Bracket}
 use Rattle.stl_types.specs.declared.forms.OperandRule.{OperandRule}
 use Rattle.stl_types.specs.declared.forms.OperandRule.TheVariants as form
-use Rattle.stl_types.specs.declared.views.Register.TheVariants as register
 use Rattle.stl_types.specs.declared.views.ResolvedOperand.{ResolvedOperand}
 use Rattle.stl_types.specs.declared.views.ResolvedOperand.TheVariants as view
 use Rattle.stl_codegen.specs.Emitted.{use_db_ops as opening_op, pass_ops}
 use Rattle.stl_codegen.specs.Instruction.{call_instr, end_instr, instr_by, instruction, jump_instr, resolved_instr, target_of, view_instr}
-use Rattle.stl_codegen.specs.Operations.{add_operation, call_operation_of, end_operation_of, jump_operation_of, load_pointer_operation, load_operation, or_operation, store_pointer_operation, transfer_operation, operation_for}
+use Rattle.stl_codegen.specs.Operations.{call_operation_of, end_operation_of, jump_operation_of}
 use Rattle.sem_kept.specs.Back.{is_target}
 use Rattle.sem_kept.proofs.compiled.Instructions.{no_target}
 use Rattle.sem_kept.proofs.compiled.Reading.{parted}
+use Rattle.sem_kept.proofs.accepted.OperandsOperations.{IsCodeBy, IsCodeOf, IsOtherCode, IsZoneCodeBy, operation_is}
 use Rattle.sem_kept.proofs.accepted.JumpsCode.{IsQuiet, codes_behind, codes_fault, count_behind, count_ended, count_fault, count_opened}
 
 -- ---- the operands of jumps, of brackets and of zones
@@ -61,71 +60,6 @@ pub record TakesRight (s : Statement) : Type 0 where
   pub bare : nests s.code ≡ true → s.operand ≡ operand.Nothing
 
 -- ---- op codes
-
--- the op code of an instruction, by what it does to brackets
-abbrev IsCodeBy : Option ℕ → Bool → (code : ℕ) → Type 0
-IsCodeBy (Some function) c code = (code ≡ 0x18 + function) × (is_opening code ≡ true)
-IsCodeBy None true code = code ≡ 0x1E
-IsCodeBy None false code = (is_opening code ≡ false) × ((code == 0x1E) ≡ false)
-
--- and by what it does to zones
-abbrev IsZoneCodeBy : (opened ended : Bool) → (code : ℕ) → Type 0
-IsZoneCodeBy true ended code = code ≡ 0x07
-IsZoneCodeBy false true code = code ≡ 0x08
-IsZoneCodeBy false false code = ((code == 0x07) ≡ false) × ((code == 0x08) ≡ false)
-
-abbrev IsCodeOf : Mnemonic → (code : ℕ) → Type 0
-IsCodeOf m code =
-    IsCodeBy (bracket_function m) (is_closing_bracket m) code × IsZoneCodeBy (opens_zone m) (ends_zone m) code
-
--- that of an operation that has nothing to do with brackets and zones
-abbrev IsOtherCode : ℕ → Type 0
-IsOtherCode code = IsCodeBy None false code × IsZoneCodeBy false false code
-
-or_code : (v : ResolvedOperand) → IsOtherCode (op_code_of (or_operation v))
-or_code view.Nothing = ((refl, refl), (refl, refl))
-or_code _ = ((refl, refl), (refl, refl))
-
-load_code : (v : ResolvedOperand) → IsOtherCode (op_code_of (load_operation v))
-load_code (view.Register register.Stw) = ((refl, refl), (refl, refl))
-load_code (view.Register _) = ((refl, refl), (refl, refl))
-load_code _ = ((refl, refl), (refl, refl))
-
-transfer_code : (v : ResolvedOperand) → IsOtherCode (op_code_of (transfer_operation v))
-transfer_code (view.Register which) = ((refl, refl), (refl, refl))
-transfer_code _ = ((refl, refl), (refl, refl))
-
-load_pointer_code : (v : ResolvedOperand) → IsOtherCode (op_code_of (load_pointer_operation v))
-load_pointer_code (view.Register which) = ((refl, refl), (refl, refl))
-load_pointer_code _ = ((refl, refl), (refl, refl))
-
-store_pointer_code : (v : ResolvedOperand) → IsOtherCode (op_code_of (store_pointer_operation v))
-store_pointer_code (view.Register which) = ((refl, refl), (refl, refl))
-store_pointer_code _ = ((refl, refl), (refl, refl))
-
-add_code : (o : Operand) → IsOtherCode (op_code_of (add_operation o))
-add_code (operand.Constant (literal.Long value)) = ((refl, refl), (refl, refl))
-add_code (operand.Constant _) = ((refl, refl), (refl, refl))
-add_code _ = ((refl, refl), (refl, refl))
-
-operation_code : (m : Mnemonic) (o : Operand) (v : ResolvedOperand) → IsCodeOf m (op_code_of (operation_for m o v))
-unfolding operation_for bracket_function is_closing_bracket opens_zone ends_zone
-operation_code code.AOpen o v = ((refl, refl), (refl, refl))
-operation_code code.AnOpen o v = ((refl, refl), (refl, refl))
-operation_code code.OOpen o v = ((refl, refl), (refl, refl))
-operation_code code.OnOpen o v = ((refl, refl), (refl, refl))
-operation_code code.XOpen o v = ((refl, refl), (refl, refl))
-operation_code code.XnOpen o v = ((refl, refl), (refl, refl))
-operation_code code.Close o v = (refl, (refl, refl))
-operation_code code.McrOpen o v = ((refl, refl), refl)
-operation_code code.McrClose o v = ((refl, refl), refl)
-operation_code code.O o v = or_code v
-operation_code code.L o v = load_code v
-operation_code code.T o v = transfer_code v
-operation_code code.Lar1 o v = load_pointer_code v
-operation_code code.Tar1 o v = store_pointer_code v
-operation_code code.Add o v = add_code o
-operation_code _ o v = ((refl, refl), (refl, refl))
 
 -- another code, of an instruction that is neither bracket nor zone
 other_code : (m : Mnemonic) (code : ℕ) → nests m ≡ false → IsOtherCode code → IsCodeOf m code
@@ -190,7 +124,7 @@ record IsLast (m : Mnemonic) (op : OpData) : Type 0 where
 last_end : (s : Statement) (v : ResolvedOperand) (e : Option EndOperation) → end_operation_of s.code ≡ e
     → IsLast s.code (last_op (end_instr s v e))
 last_end s v None is =
-    record { code = operation_code s.code s.operand v; stays = no_target s.operand v }
+    record { code = (operation_is s.code s.operand v).code; stays = no_target s.operand v }
 last_end s v (Some how) is = record {
   code = other_code s.code (op_code_of (operation.End how)) (apart s.code _ how is (λ n. n.end)) (end_code how);
   stays = refl;

@@ -32,7 +32,7 @@ use Rattle.stl_codegen.specs.Operands.{flat_operand_of}
 use Rattle.stl_codegen.specs.Operations.{call_operation_of, end_operation_of, jump_operation_of, operation_for}
 use Rattle.sem_kept.specs.Operands.{InstrFits, IsOperandRightFor}
 use Rattle.sem_kept.proofs.accepted.OperandsViews.{IsSeen}
-use Rattle.sem_kept.proofs.accepted.OperandsOperations.{ViewFits, allowed, opened_fits, operand_fits, ordinary}
+use Rattle.sem_kept.proofs.accepted.OperandsOperations.{ViewFits, allowed, opened_fits, operand_fits, operation_is}
 
 jump_fits : (a : Environment) (lens : List (ℕ × ℕ)) (how : JumpOperation) (n target : ℕ)
     → InstrFits a lens (jump_instr how n target)
@@ -80,7 +80,7 @@ does_fits : (a : Environment) (lens : List (ℕ × ℕ)) (c : Context) (s : Stat
     → resolution_of c s.operand ≡ Resolved v → statement_rule c s ≡ None → ViewFits a v
     → (how : Option EndOperation) → InstrFits a lens (end_instr s v how)
 does_fits a lens c s v e h fits None = (
-  ordinary s.code s.operand v,
+  (operation_is s.code s.operand v).prepares,
   right_for a c s.code s.operand v e h fits,
   opened_fits s.operand v,
 )

@@ -13,9 +13,6 @@ use Rattle.flat_code.specs.declared.kinds.JumpOperation.TheVariants as jump
 use Rattle.flat_code.specs.declared.operations.CallOperation.{CallOperation}
 use Rattle.flat_code.specs.declared.operations.EndOperation.{EndOperation}
 use Rattle.machine.specs.Flat.{is_jl}
-use Rattle.stl_ast.specs.declared.literals.Literal.TheVariants as literal
-use Rattle.stl_ast.specs.declared.mnemonics.Mnemonic.{Mnemonic}
-use Rattle.stl_ast.specs.declared.mnemonics.Mnemonic.TheVariants as code
 use Rattle.stl_ast.specs.declared.names.BlockName.{BlockName}
 use Rattle.stl_ast.specs.declared.operands.Numbered.{Numbered}
 use Rattle.stl_ast.specs.declared.operands.Numbered.TheVariants as numbered
@@ -40,9 +37,10 @@ use Rattle.stl_types.specs.declared.views.ResolvedOperand.{ResolvedOperand}
 use Rattle.stl_types.specs.declared.views.ResolvedOperand.TheVariants as view
 use Rattle.stl_codegen.specs.Instruction.{numbers_from, jump_instr, target_of, call_instr, end_instr, view_instr, resolved_instr, instr_by, instruction}
 use Rattle.stl_codegen.specs.Operands.{numbered_operand, register_operand, flat_operand_of}
-use Rattle.stl_codegen.specs.Operations.{jump_operation_of, call_operation_of, end_operation_of, or_operation, load_operation, transfer_operation, load_pointer_operation, store_pointer_operation, add_operation, operation_for}
+use Rattle.stl_codegen.specs.Operations.{jump_operation_of, call_operation_of, end_operation_of}
 use Rattle.sem_kept.specs.Back.{goes_to_next_statement, is_target, IsInstanceNumber}
 use Rattle.sem_kept.proofs.ReachedLemmas.{AnyNumber, IsReached, direct_reached, path_reached}
+use Rattle.sem_kept.proofs.accepted.OperandsOperations.{operation_is}
 use Rattle.sem_kept.proofs.accepted.Shared.{call_form, rule_callable}
 
 abbrev pub IsMade : (n : ℕ) → Instr → Type 0
@@ -54,42 +52,6 @@ IsMade n (Calls how block instance passings) =
 IsMade n (Returns how) = Unit {0}
 
 -- ---- operations and operands of instructions that go on
-
-or_goes_on : (v : ResolvedOperand) → goes_to_next_statement (or_operation v) ≡ true
-or_goes_on view.Nothing = refl
-or_goes_on _ = refl
-
-load_goes_on : (v : ResolvedOperand) → goes_to_next_statement (load_operation v) ≡ true
-load_goes_on (view.Register register.Stw) = refl
-load_goes_on (view.Register _) = refl
-load_goes_on _ = refl
-
-transfer_goes_on : (v : ResolvedOperand) → goes_to_next_statement (transfer_operation v) ≡ true
-transfer_goes_on (view.Register which) = refl
-transfer_goes_on _ = refl
-
-load_pointer_goes_on : (v : ResolvedOperand) → goes_to_next_statement (load_pointer_operation v) ≡ true
-load_pointer_goes_on (view.Register which) = refl
-load_pointer_goes_on _ = refl
-
-store_pointer_goes_on : (v : ResolvedOperand) → goes_to_next_statement (store_pointer_operation v) ≡ true
-store_pointer_goes_on (view.Register which) = refl
-store_pointer_goes_on _ = refl
-
-add_goes_on : (o : Operand) → goes_to_next_statement (add_operation o) ≡ true
-add_goes_on (operand.Constant (literal.Long value)) = refl
-add_goes_on (operand.Constant _) = refl
-add_goes_on _ = refl
-
-operation_goes_on : (m : Mnemonic) (o : Operand) (v : ResolvedOperand) → goes_to_next_statement (operation_for m o v) ≡ true
-unfolding operation_for
-operation_goes_on code.O o v = or_goes_on v
-operation_goes_on code.L o v = load_goes_on v
-operation_goes_on code.T o v = transfer_goes_on v
-operation_goes_on code.Lar1 o v = load_pointer_goes_on v
-operation_goes_on code.Tar1 o v = store_pointer_goes_on v
-operation_goes_on code.Add o v = add_goes_on o
-operation_goes_on _ o v = refl
 
 by_number : (what : Numbered) (from : Area) (byte : ℕ)
     → is_target (numbered_operand what from byte) ≡ false
@@ -301,7 +263,7 @@ called_made c n s how _ is e = (refl, refl)
 
 ended_made : (n : ℕ) (s : Statement) (v : ResolvedOperand) (e : Option EndOperation)
     → IsMade n (end_instr s v e)
-ended_made n s v None = (operation_goes_on s.code s.operand v, no_target s.operand v)
+ended_made n s v None = ((operation_is s.code s.operand v).goes_on, no_target s.operand v)
 ended_made n s v (Some how) = tt
 
 seen_made : (c : Context) (n : ℕ) (s : Statement) (v : ResolvedOperand) → resolved_operand c s ≡ Some v
