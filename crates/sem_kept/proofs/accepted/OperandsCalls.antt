@@ -222,10 +222,6 @@ record IsCallee (symbols : List Symbol) (t : Tree) (k : ℕ) (blocks : List Bloc
       × (slice_get t.blocks p ≡ Some b) × (b.kind ≡ kinds.Fb)
       × (il ≡ length_of_block (types_of_source symbols t.blocks) t.blocks b)
 
-system_kind : (k : BlockKind) → is_system_function k ≡ true → k ≡ kinds.Sfc
-system_kind kinds.Sfc e = refl
-system_kind _ e = absurd cc
-
 known_function : (n : ℕ) (k : BlockKind) → k ≡ kinds.Sfc
     → (is_system_function k && is_none (system_formals n)) ≡ false
     → (fs : List Formal) × (system_formals n ≡ Some fs)
@@ -245,18 +241,18 @@ system_flat blocks id params is e =
 
 system_called : (symbols : List Symbol) (t : Tree) (k : ℕ) (blocks : List BlockSignature)
     (name : BlockName) (inst : Option BlockName) (id : BlockId)
-    → named_block symbols name ≡ Some id → is_system_function id.kind ≡ true
+    → named_block symbols name ≡ Some id → id.kind ≡ kinds.Sfc
     → is_unknown_function (named_block symbols name) ≡ false
     → IsCallee symbols t k blocks (operand.Called name inst) id
 unfolding callee_of
-system_called symbols t k blocks name inst id named sys known = record {
+system_called symbols t k blocks name inst id named kind known = record {
   of_source = record { id = id; place = None; formals = formals.0 };
   is =
       ap (λ (o : Option BlockId). option_and_then (λ id. callee_by (context_at symbols t k) id id.kind) o) named
       ∙ ap (λ (t' : Bool). if t' then system_callee id
       else if is_function id.kind then source_callee (context_at symbols t k) id
       else if is_function_block id.kind then source_callee (context_at symbols t k) id
-      else None) sys
+      else None) (ap is_system_function kind)
       ∙ ap (λ (o : Option (List Formal)). option_map (λ formals. record { id = id; place = None; formals = formals }) o) formals.1;
   same = refl;
   il = 0;
@@ -271,14 +267,14 @@ system_called symbols t k blocks name inst id named sys known = record {
       absurd cc;
 }
   where
-    kind : id.kind ≡ kinds.Sfc
-    kind = system_kind id.kind sys
-
     formals : (fs : List Formal) × (system_formals id.number ≡ Some fs)
     formals = known_function id.number id.kind kind (ap is_unknown_function (sym named) ∙ known)
 
     system : IsSystem id.number formals.0
     system = system_matched id.number formals.0 formals.1
+
+no_system : (k : BlockKind) → (k ≡ kinds.Fc) ⊎ (k ≡ kinds.Fb) → is_system_function k ≡ false
+no_system k h = ⊎_elim (λ e. ap is_system_function e) (λ e. ap is_system_function e) h
 
 source_code : (k : BlockKind) → (k ≡ kinds.Fc) ⊎ (k ≡ kinds.Fb) → is_code k ≡ true
 source_code k h = ⊎_elim (λ e. ap is_code e) (λ e. ap is_code e) h
@@ -403,15 +399,10 @@ source_called symbols t tree k name inst id p named kind whole = record {
 -- ---- a call
 
 -- the block of a call is one of the three kinds
-data CallKind (k : BlockKind) : Type 0 where
-  OfSystem : (sys : is_system_function k ≡ true) (no_block : is_function_block k ≡ false) → CallKind k
-  OfFunction : (is : k ≡ kinds.Fc) → CallKind k
-  OfBlock : (is : k ≡ kinds.Fb) → CallKind k
-
-call_kind : (k : BlockKind) → is_callable k ≡ true → CallKind k
-call_kind kinds.Sfc e = OfSystem refl refl
-call_kind kinds.Fc e = OfFunction refl
-call_kind kinds.Fb e = OfBlock refl
+call_kind : (k : BlockKind) → is_callable k ≡ true → (k ≡ kinds.Sfc) ⊎ ((k ≡ kinds.Fc) ⊎ (k ≡ kinds.Fb))
+call_kind kinds.Sfc e = inl refl
+call_kind kinds.Fc e = inr (inl refl)
+call_kind kinds.Fb e = inr (inr refl)
 call_kind _ e = absurd cc
 
 callee_there : (symbols : List Symbol) (t : Tree) → IsSoundTree symbols t → (k : ℕ)
@@ -419,20 +410,10 @@ callee_there : (symbols : List Symbol) (t : Tree) → IsSoundTree symbols t → 
     → IsCall (context_at symbols t k) name inst id instance → is_callable id.kind ≡ true
     → is_unknown_function (named_block symbols name) ≡ false
     → IsCallee symbols t k (signatures symbols t) (operand.Called name inst) id
-callee_there symbols t tree k name inst id instance call callable known = by (call_kind id.kind callable)
-  where
-    source : (id.kind ≡ kinds.Fc) ⊎ (id.kind ≡ kinds.Fb) → is_system_function id.kind ≡ false
-        → IsCallee symbols t k (signatures symbols t) (operand.Called name inst) id
-    source kind other =
-        let at = call.whole other in
-        source_called symbols t tree k name inst id at.0 call.named kind at.1
-
-    by : CallKind id.kind
-        → IsCallee symbols t k (signatures symbols t) (operand.Called name inst) id
-    by (OfSystem sys no_block) =
-        system_called symbols t k (signatures symbols t) name inst id call.named sys known
-    by (OfFunction is) = source (inl is) (ap is_system_function is)
-    by (OfBlock is) = source (inr is) (ap is_system_function is)
+callee_there symbols t tree k name inst id instance call callable known =
+    ⊎_elim (λ is. system_called symbols t k (signatures symbols t) name inst id call.named is known)
+    (λ kind. source_called symbols t tree k name inst id (call.whole (no_system id.kind kind)).0 call.named kind
+    (call.whole (no_system id.kind kind)).1) (call_kind id.kind callable)
 
 calls_alone : (m : Mnemonic) (how : CallOperation) (ps : List Passing) → call_operation_of m ≡ Some how
     → (has_actuals m ≡ false → ps ≡ []) → PassesAlone how ps
@@ -781,7 +762,6 @@ module _ (symbols : List Symbol) (t : Tree) (tree : IsSoundTree symbols t)
     operand_is : s.operand ≡ operand.Called name inst
     call : IsCall (context_at symbols t k) name inst id instance
     by_view : is_called_view (view.Called id instance) ≡ true
-    word : call_operation_of s.code ≡ Some how
     cal : IsCallee symbols t k (signatures symbols t) (operand.Called name inst) id
     rules : IsSoundCall (context_at symbols t k) cal.of_source s
 
@@ -799,7 +779,6 @@ module _ (symbols : List Symbol) (t : Tree) (tree : IsSoundTree symbols t)
     operand_is = o.2;
     call = call;
     by_view = by_view;
-    word = word;
     cal = cal;
     rules = sound.calls cal.of_source (ap (callee_of (context_at symbols t k)) o.2 ∙ cal.is);
   }
