@@ -87,7 +87,7 @@ use Rattle.sem_kept.proofs.accepted.OperandsInstr.{CallFits}
 use Rattle.sem_kept.proofs.accepted.OperandsMembers.{called_block, instance_found}
 use Rattle.sem_kept.proofs.accepted.OperandsPassed.{IsGoodActual, Passes, passed_from, supplied_passes}
 use Rattle.sem_kept.proofs.accepted.OperandsSymbols.{SymbolFits}
-use Rattle.sem_kept.proofs.accepted.OperandsViews.{EndsBy, IsData, IsThere, Surrounds, block_own, data_block_kind, data_length, data_there, function_block_kind, id_there, id_there_is, ids_same, instance_length, layout_components, layout_id, layout_length, layout_shape, not_none, operand_seen, whole_is}
+use Rattle.sem_kept.proofs.accepted.OperandsViews.{EndsBy, IsChecked, IsData, IsThere, Surrounds, block_own, data_block_kind, data_length, data_there, function_block_kind, id_there, id_there_is, ids_same, instance_length, layout_components, layout_id, layout_length, layout_shape, not_none, operand_seen, whole_is}
 use Rattle.sem_kept.proofs.accepted.Shared.{call_form, callable_by, calls_called, or_first, or_second}
 
 -- ---- what is passed stands among the ops
@@ -531,34 +531,6 @@ operand_called : (o : Operand) → names_called_block o ≡ true
 operand_called (operand.Called name inst) e = (name, inst, refl)
 operand_called _ e = absurd cc
 
-good_actuals : (symbols : List Symbol) (t : Tree) → IsSoundTree symbols t
-    → AllByRecursion SymbolFits symbols → (k : ℕ) (b : Block) (l : BlockLayout)
-    → IsSound symbols t k b l → is_code b.kind ≡ true → (a : Environment) → Surrounds symbols t b l a
-    → (formals : List Formal) (xs : List Actual)
-    → AllByRecursion IsActual xs
-    → AllByRecursion (IsSoundActual (types_of_source symbols t.blocks) (context_at symbols t k)) xs
-    → AllByRecursion (λ (x : Actual). local_end x.value ≤ a.local_len) xs
-    → AllByRecursion (λ (x : Actual). OperandHasBytes x.value) xs
-    → AllByRecursion (λ (x : Actual). misfits_formal (context_at symbols t k) x (formal_named formals x.name) ≡ false) xs
-    → AllByRecursion (IsGoodActual a (context_at symbols t k) formals) xs
-good_actuals symbols t tree fit k b l block code a around formals [] well sound ends bytes fits = tt
-good_actuals symbols t tree fit k b l block code a around formals (x ∷ xs) well sound ends bytes fits = (
-  record {
-    seen = operand_seen symbols t tree fit k b l block code a around x.value
-        (record {
-          well_formed = well.0.value;
-          known = sound.0.known;
-          there = sound.0.there;
-          inside = sound.0.inside;
-        })
-        well.0.no_block ends.0;
-    well = well.0.value;
-    bytes = bytes.0;
-    fits = fits.0;
-  },
-  good_actuals symbols t tree fit k b l block code a around formals xs well.1 sound.1 ends.1 bytes.1 fits.1,
-)
-
 -- an instance by its name
 instance_none : (c : Context) (inst : Option BlockName) → IsInstanceOf c inst None → inst ≡ None
 instance_none c None h = refl
@@ -755,6 +727,29 @@ module _ (symbols : List Symbol) (t : Tree) (tree : IsSoundTree symbols t)
   abbrev lens : List (ℕ × ℕ)
   lens = lens_of (data_blocks_of t symbols (layouts_of t symbols))
 
+  good_actuals : (formals : List Formal) (xs : List Actual) → AllByRecursion IsActual xs
+      → AllByRecursion (IsSoundActual (types_of_source symbols t.blocks) (context_at symbols t k)) xs
+      → AllByRecursion (λ (x : Actual). local_end x.value ≤ a.local_len) xs
+      → AllByRecursion (λ (x : Actual). OperandHasBytes x.value) xs
+      → AllByRecursion (λ (x : Actual). misfits_formal (context_at symbols t k) x (formal_named formals x.name) ≡ false) xs
+      → AllByRecursion (IsGoodActual a (context_at symbols t k) formals) xs
+  good_actuals formals [] well sound ends bytes fits = tt
+  good_actuals formals (x ∷ xs) well sound ends bytes fits =
+      let h : IsChecked symbols t k x.value = record {
+        well_formed = well.0.value;
+        known = sound.0.known;
+        there = sound.0.there;
+        inside = sound.0.inside;
+      } in (
+        record {
+          seen = operand_seen symbols t tree fit k b l block code a around x.value h well.0.no_block ends.0;
+          well = well.0.value;
+          bytes = bytes.0;
+          fits = fits.0;
+        },
+        good_actuals formals xs well.1 sound.1 ends.1 bytes.1 fits.1,
+      )
+
   -- what is known of the call
   record IsMade (how : CallOperation) (id : BlockId) (instance : Option ℕ) : Type 0 where
     name : BlockName
@@ -819,7 +814,7 @@ module _ (symbols : List Symbol) (t : Tree) (tree : IsSoundTree symbols t)
   goods : (how : CallOperation) (id : BlockId) (instance : Option ℕ) (m : IsMade how id instance)
       → AllByRecursion (IsGoodActual a (context_at symbols t k) m.cal.of_source.formals) s.actuals
   goods how id instance m =
-      good_actuals symbols t tree fit k b l block code a around m.cal.of_source.formals s.actuals
+      good_actuals m.cal.of_source.formals s.actuals
       sound.well_formed.actuals sound.actuals ends.1 bytes.actuals m.rules.fits
 
   passes_right : (how : CallOperation) (id : BlockId) (instance : Option ℕ) (m : IsMade how id instance)

@@ -100,8 +100,8 @@ IsCodeOf m code =
 abbrev pub IsOtherCode : ℕ → Type 0
 IsOtherCode code = IsCodeBy None false code × IsZoneCodeBy false false code
 
--- what an operation of a mnemonic has, whatever its operand: it prepares nothing, goes on to the next statement, and has a
--- code by what the mnemonic does to brackets and zones
+-- what an operation of a mnemonic has, whatever its operand: it prepares nothing, goes on to the next statement, and its
+-- code is one by what the mnemonic does to brackets and zones
 pub record IsOperationOf (m : Mnemonic) (w : Operation) : Type 0 where
   pub prepares : prepares_statement (op_code_of w) ≡ false
   pub goes_on : goes_to_next_statement w ≡ true

@@ -4,7 +4,8 @@ use Rattle.std.specs.Prelude.{is_some, nat_lt, slice_get, if◌then◌else◌}
 use Rattle.std.specs.List.{AllByRecursion, count_by, flat_map, sum_by}
 use Rattle.std.proofs.lemmas.Bool.Decides.{nat_tests}
 use Rattle.std.proofs.lemmas.List.{length-map}
-use Rattle.std.proofs.lemmas.List.Sums.{sum_by-cons}
+use Rattle.std.proofs.lemmas.List.Concat.{length-flat_map}
+use Rattle.std.proofs.lemmas.List.Sums.{sum_by-append, sum_by-cons}
 use Rattle.std.proofs.lemmas.Option.{same_Some}
 use Rattle.plc_base.specs.Kinds.{is_code, is_data_block, is_function_block}
 use Rattle.plc_base.specs.declared.blocks.BlockId.{BlockId}
@@ -64,19 +65,11 @@ use Rattle.sem_kept.proofs.accepted.Shared.{kind_there}
 -- ---- parameters
 
 -- how many parameters cells come to
+abbrev param_count : Bool → List Cell → Cell → ℕ
+param_count in_instance all c = length (param_here in_instance all c)
+
 abbrev params_among : Bool → List Cell → List Cell → ℕ
-params_among in_instance all cells = length (flat_map (λ c. param_here in_instance all c) cells)
-
-among_cons : (i : Bool) (all : List Cell) (c : Cell) (cells : List Cell)
-    → params_among i all (c ∷ cells) ≡ length (param_here i all c) + params_among i all cells
-among_cons i all c cells =
-    length-append (param_here i all c) (flat_map (λ c. param_here i all c) cells)
-
-among_append : (i : Bool) (all xs ys : List Cell)
-    → params_among i all (xs ++ ys) ≡ params_among i all xs + params_among i all ys
-among_append i all [] ys = omega arith
-among_append i all (x ∷ xs) ys =
-    omega (arith, among_cons i all x (xs ++ ys), among_cons i all x xs, among_append i all xs ys)
+params_among in_instance all cells = sum_by (param_count in_instance all) cells
 
 among_opened : (i : Bool) (all cells : List Cell)
     → params_among i all (with_first_cell_opening cells) ≡ params_among i all cells
@@ -87,7 +80,7 @@ among_opened i all (c ∷ cs) = by c.sound (among_opened i all cs)
         → params_among i all (if sound then record c { opens = true } ∷ cs else c ∷ with_first_cell_opening cs)
         ≡ params_among i all (c ∷ cs)
     by true more = refl
-    by false more = omega (arith, among_cons i all c (with_first_cell_opening cs), among_cons i all c cs, more)
+    by false more = omega (arith, sum_by-cons (param_count i all) c (with_first_cell_opening cs), sum_by-cons (param_count i all) c cs, more)
 
 -- six bytes each, as their declarations have
 one_param : (i : Bool) (all : List Cell) (c : Cell) (y : Types) (e : ElementType)
@@ -110,7 +103,7 @@ items_params i all y o section before (d ∷ ds) =
     let c = cell_of y o section before d in
     omega (
       arith,
-      among_cons i all c (cells_of y o section (d ∷ before) ds),
+      sum_by-cons (param_count i all) c (cells_of y o section (d ∷ before) ds),
       by (is_parameter section),
       items_params i all y o section (d ∷ before) ds,
       sum_by-cons declared_size d ds,
@@ -130,7 +123,7 @@ sections_params i all y o wanted before (p ∷ ps) =
     let here = if wanted p.kind then with_first_cell_opening (cells_of y o p.kind before p.items) else [] in
     omega (
       arith,
-      among_append i all here (section_cells y o wanted (declarations_before_next before p.items) ps),
+      sum_by-append (param_count i all) here (section_cells y o wanted (declarations_before_next before p.items) ps),
       by (wanted p.kind),
       sections_params i all y o wanted (declarations_before_next before p.items) ps,
       sum_by-cons part_size p ps,
@@ -155,7 +148,7 @@ static_params i all y o before [] = refl
 static_params i all y o before (d ∷ ds) =
     omega (
       arith,
-      among_cons i all (cell_of y o part.Static before d)
+      sum_by-cons (param_count i all) (cell_of y o part.Static before d)
           (cells_of y o part.Static (d ∷ before) ds),
       static_params i all y o (d ∷ before) ds,
     )
@@ -184,9 +177,10 @@ params_size y b l are =
     omega (
       arith,
       ordered_length b.result (flat_map (λ c. param_here i all c) all),
+      length-flat_map (λ c. param_here i all c) all,
       ap (params_among i all) are,
-      among_append i all (returned ++ sections) own,
-      among_append i all returned sections,
+      sum_by-append (param_count i all) (returned ++ sections) own,
+      sum_by-append (param_count i all) returned sections,
       static_params i all y of_structure [] b.components,
       returned_params i all b.result,
       sections_params i all y o (λ k. not (is_temp k)) [] b.parts,
