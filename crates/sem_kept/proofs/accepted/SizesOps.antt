@@ -1,6 +1,6 @@
 -- The bytes of ops, and that those of a statement fit its size.
 use Rattle.std.proofs.Common.{◌≡◌, ℕ, suc, ◌+◌, ◌*◌, ◌≤◌, Bool, true, false, not, ◌&&◌, List, [], ◌∷◌, ◌++◌, length, length-append, map, Option, Some, None, refl, sym, ap, subst, ◌∙◌, arith}
-use Rattle.std.specs.Prelude.{find, is_some, nat_eq, if◌then◌else◌}
+use Rattle.std.specs.Prelude.{is_some, nat_eq, if◌then◌else◌}
 use Rattle.std.specs.List.{AllByRecursion, count_by, sum_by}
 use Rattle.std.specs.Option.{IfSome}
 use Rattle.std.proofs.lemmas.Grind.{flat_map-append}
@@ -67,6 +67,7 @@ use Rattle.stl_codegen.specs.Operands.{is_db, is_in_named_block, numbered_operan
 use Rattle.stl_codegen.specs.Operations.{call_operation_of, end_operation_of, jump_operation_of, operation_for}
 use Rattle.sem_kept.proofs.accepted.OperandsInstr.{resolved_is}
 use Rattle.sem_kept.proofs.ReachedLemmas.{AnyNumber, HasNumber, IsReached, data_path_reached, direct_reached, own_reached, symbol_reached}
+use Rattle.sem_kept.proofs.accepted.OperandsSymbols.{named_has}
 use Rattle.sem_kept.proofs.accepted.Shared.{call_form, calls_called, jump_form, no_call_constant, no_jump_constant, rule_there, stated_count}
 use Rattle.sem_kept.proofs.accepted.SizesNames.{IsApart, IsFine}
 
@@ -252,25 +253,9 @@ fine_number (target.Variable place width) h = h
 fine_number (target.Timer number) h = tt
 fine_number _ h = tt
 
--- what is found has what all have
-found_has : {X : Type 0} (P : X → Type 0) (test : X → Bool) (xs : List X) → AllByRecursion P xs
-    → IfSome (find test xs) P
-found_has P test [] h = tt
-found_has {X = X} P test (x ∷ xs) h = by (test x) (found_has P test xs h.1)
-  where
-    by : (here : Bool) → IfSome (find test xs) P
-        → IfSome (if here then Some x else find test xs) P
-    by true more = h.0
-    by false more = more
-
 symbol_number : (s : Option Symbol) → IfSome s IsFine → IfSome s (λ s. HasNumber IsNone s.target)
 symbol_number None h = tt
 symbol_number (Some s) h = fine_number s.target h.apart
-
-named_fine : (name : List ℕ) (symbols : List Symbol) → AllByRecursion IsFine symbols
-    → IfSome (symbol_named name symbols) IsFine
-unfolding symbol_named
-named_fine name symbols h = found_has IsFine _ symbols h
 
 path_fits : (c : Context) (o : Operand) (path : PathHead) (steps : List PathStep)
     → AllByRecursion IsFine c.symbols → SeenFits (path_size path) o (path_seen c path steps)
@@ -278,7 +263,7 @@ path_fits c o (head.Local name) steps h = reached_fits IsNone 0 o apart_fits _ (
 path_fits c o (head.InBlock name) steps h = reached_fits AnyNumber 4 o place_fits _ (data_path_reached c _ _ _)
 path_fits c o (head.Symbol name) steps h =
     reached_fits IsNone 0 o apart_fits _
-    (symbol_reached IsNone (symbol_named name c.symbols) (symbol_number _ (named_fine name c.symbols h)))
+    (symbol_reached IsNone (symbol_named name c.symbols) (symbol_number _ (named_has IsFine name c.symbols h)))
 
 direct_fits : (c : Context) (o : Operand) (name : Option BlockName) (a : Letters) (w : Width)
     (byte bit : ℕ) → SeenFits (7 + block_size name) o (direct_seen c name a w byte bit)
