@@ -1,3 +1,4 @@
+mod ReachedLemmas
 pub mod RunLemmas
 mod SourceLemmas
 mod StageLemmas

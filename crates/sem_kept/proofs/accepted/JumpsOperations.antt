@@ -4,11 +4,11 @@ use Rattle.std.specs.Prelude.{◌==◌, is_some, nat_le, nat_eq}
 use Rattle.std.specs.List.{AllByRecursion}
 use Rattle.std.specs.Option.{is_none}
 use Rattle.std.proofs.lemmas.List.{length-map}
-use Rattle.flat_code.specs.Instr.{Instr, Passing, Does, Jumps, JumpsByList, Calls, Returns}
+use Rattle.flat_code.specs.Instr.{Instr, Passing, Does, Calls}
 use Rattle.flat_code.specs.Kinds.{jump_number}
 use Rattle.flat_code.specs.OpCodes.{op_code_of}
 use Rattle.flat_code.specs.Ops.{OpData}
-use Rattle.flat_code.specs.Placed.{is_empty_list, is_opening}
+use Rattle.flat_code.specs.Placed.{is_empty_list}
 use Rattle.flat_code.specs.declared.kinds.JumpOperation.{JumpOperation}
 use Rattle.flat_code.specs.declared.kinds.JumpOperation.TheVariants as jump
 use Rattle.flat_code.specs.declared.operands.Operand.{Operand as FlatOperand}
@@ -18,7 +18,7 @@ use Rattle.flat_code.specs.declared.operations.CallOperation.TheVariants as call
 use Rattle.flat_code.specs.declared.operations.EndOperation.{EndOperation}
 use Rattle.flat_code.specs.declared.operations.EndOperation.TheVariants as ends
 use Rattle.flat_code.specs.declared.operations.Operation.TheVariants as operation
-use Rattle.stl_ast.specs.declared.literals.Literal.TheVariants as literal
+use Rattle.stl_ast.specs.Statements.{is_call}
 use Rattle.stl_ast.specs.declared.mnemonics.Mnemonic.{Mnemonic}
 use Rattle.stl_ast.specs.declared.mnemonics.Mnemonic.TheVariants as code
 use Rattle.stl_ast.specs.declared.operands.Operand.{Operand}
@@ -34,15 +34,15 @@ use Rattle.stl_types.specs.Zones.{ends_no_zone, ends_zone, is_ninth_zone, opens_
 use Rattle.stl_types.specs.declared.brackets.SourceBracket.{SourceBracket}
 use Rattle.stl_types.specs.declared.forms.OperandRule.{OperandRule}
 use Rattle.stl_types.specs.declared.forms.OperandRule.TheVariants as form
-use Rattle.stl_types.specs.declared.views.Register.TheVariants as register
 use Rattle.stl_types.specs.declared.views.ResolvedOperand.{ResolvedOperand}
 use Rattle.stl_types.specs.declared.views.ResolvedOperand.TheVariants as view
 use Rattle.stl_codegen.specs.Emitted.{use_db_ops as opening_op, pass_ops}
 use Rattle.stl_codegen.specs.Instruction.{call_instr, end_instr, instr_by, instruction, jump_instr, resolved_instr, target_of, view_instr}
-use Rattle.stl_codegen.specs.Operations.{add_operation, call_operation_of, end_operation_of, jump_operation_of, load_pointer_operation, load_operation, or_operation, store_pointer_operation, transfer_operation, operation_for}
+use Rattle.stl_codegen.specs.Operations.{call_operation_of, end_operation_of, jump_operation_of}
 use Rattle.sem_kept.specs.Back.{is_target}
 use Rattle.sem_kept.proofs.compiled.Instructions.{no_target}
 use Rattle.sem_kept.proofs.compiled.Reading.{parted}
+use Rattle.sem_kept.proofs.accepted.OperandsOperations.{IsCodeBy, IsCodeOf, IsOtherCode, IsZoneCodeBy, operation_is}
 use Rattle.sem_kept.proofs.accepted.JumpsCode.{IsQuiet}
 use Rattle.flat_code.proofs.BracketLemmas.{codes_behind, codes_fault, count_behind, count_ended, count_fault, count_opened}
 
@@ -62,71 +62,6 @@ pub record TakesRight (s : Statement) : Type 0 where
 
 -- ---- op codes
 
--- the op code of an instruction, by what it does to brackets
-abbrev IsCodeBy : Option ℕ → Bool → (code : ℕ) → Type 0
-IsCodeBy (Some function) c code = (code ≡ 0x18 + function) × (is_opening code ≡ true)
-IsCodeBy None true code = code ≡ 0x1E
-IsCodeBy None false code = (is_opening code ≡ false) × ((code == 0x1E) ≡ false)
-
--- and by what it does to zones
-abbrev IsZoneCodeBy : (opened ended : Bool) → (code : ℕ) → Type 0
-IsZoneCodeBy true ended code = code ≡ 0x07
-IsZoneCodeBy false true code = code ≡ 0x08
-IsZoneCodeBy false false code = ((code == 0x07) ≡ false) × ((code == 0x08) ≡ false)
-
-abbrev IsCodeOf : Mnemonic → (code : ℕ) → Type 0
-IsCodeOf m code =
-    IsCodeBy (bracket_function m) (is_closing_bracket m) code × IsZoneCodeBy (opens_zone m) (ends_zone m) code
-
--- that of an operation that has nothing to do with brackets and zones
-abbrev IsOtherCode : ℕ → Type 0
-IsOtherCode code = IsCodeBy None false code × IsZoneCodeBy false false code
-
-or_code : (v : ResolvedOperand) → IsOtherCode (op_code_of (or_operation v))
-or_code view.Nothing = ((refl, refl), (refl, refl))
-or_code _ = ((refl, refl), (refl, refl))
-
-load_code : (v : ResolvedOperand) → IsOtherCode (op_code_of (load_operation v))
-load_code (view.Register register.Stw) = ((refl, refl), (refl, refl))
-load_code (view.Register _) = ((refl, refl), (refl, refl))
-load_code _ = ((refl, refl), (refl, refl))
-
-transfer_code : (v : ResolvedOperand) → IsOtherCode (op_code_of (transfer_operation v))
-transfer_code (view.Register which) = ((refl, refl), (refl, refl))
-transfer_code _ = ((refl, refl), (refl, refl))
-
-load_pointer_code : (v : ResolvedOperand) → IsOtherCode (op_code_of (load_pointer_operation v))
-load_pointer_code (view.Register which) = ((refl, refl), (refl, refl))
-load_pointer_code _ = ((refl, refl), (refl, refl))
-
-store_pointer_code : (v : ResolvedOperand) → IsOtherCode (op_code_of (store_pointer_operation v))
-store_pointer_code (view.Register which) = ((refl, refl), (refl, refl))
-store_pointer_code _ = ((refl, refl), (refl, refl))
-
-add_code : (o : Operand) → IsOtherCode (op_code_of (add_operation o))
-add_code (operand.Constant (literal.Long value)) = ((refl, refl), (refl, refl))
-add_code (operand.Constant _) = ((refl, refl), (refl, refl))
-add_code _ = ((refl, refl), (refl, refl))
-
-operation_code : (m : Mnemonic) (o : Operand) (v : ResolvedOperand) → IsCodeOf m (op_code_of (operation_for m o v))
-unfolding operation_for bracket_function is_closing_bracket opens_zone ends_zone
-operation_code code.AOpen o v = ((refl, refl), (refl, refl))
-operation_code code.AnOpen o v = ((refl, refl), (refl, refl))
-operation_code code.OOpen o v = ((refl, refl), (refl, refl))
-operation_code code.OnOpen o v = ((refl, refl), (refl, refl))
-operation_code code.XOpen o v = ((refl, refl), (refl, refl))
-operation_code code.XnOpen o v = ((refl, refl), (refl, refl))
-operation_code code.Close o v = (refl, (refl, refl))
-operation_code code.McrOpen o v = ((refl, refl), refl)
-operation_code code.McrClose o v = ((refl, refl), refl)
-operation_code code.O o v = or_code v
-operation_code code.L o v = load_code v
-operation_code code.T o v = transfer_code v
-operation_code code.Lar1 o v = load_pointer_code v
-operation_code code.Tar1 o v = store_pointer_code v
-operation_code code.Add o v = add_code o
-operation_code _ o v = ((refl, refl), (refl, refl))
-
 -- another code, of an instruction that is neither bracket nor zone
 other_code : (m : Mnemonic) (code : ℕ) → nests m ≡ false → IsOtherCode code → IsCodeOf m code
 other_code m code none other = by (bracket_function m) (is_closing_bracket m) (opens_zone m) (ends_zone m) none
@@ -140,54 +75,42 @@ other_code m code none other = by (bracket_function m) (is_closing_bracket m) (o
     by None false false true h = absurd cc
     by None false false false h = other
 
-no_jump : (m : Mnemonic) (how : JumpOperation) → jump_operation_of m ≡ Some how → nests m ≡ false
-unfolding bracket_function is_closing_bracket opens_zone ends_zone
-no_jump code.AOpen how e = absurd cc
-no_jump code.AnOpen how e = absurd cc
-no_jump code.OOpen how e = absurd cc
-no_jump code.OnOpen how e = absurd cc
-no_jump code.XOpen how e = absurd cc
-no_jump code.XnOpen how e = absurd cc
-no_jump code.Close how e = absurd cc
-no_jump code.McrOpen how e = absurd cc
-no_jump code.McrClose how e = absurd cc
-no_jump _ how e = refl
+-- what opens or closes a bracket or a zone takes nothing, and neither jumps nor calls nor ends
+pub record IsNesting (m : Mnemonic) : Type 0 where
+  pub form : form_of m ≡ form.Bare
+  pub jump : jump_operation_of m ≡ None
+  pub call : call_operation_of m ≡ None
+  pub end : end_operation_of m ≡ None
+  pub no_call : is_call m ≡ false
 
-no_call : (m : Mnemonic) (how : CallOperation) → call_operation_of m ≡ Some how → nests m ≡ false
-unfolding bracket_function is_closing_bracket opens_zone ends_zone
-no_call code.AOpen how e = absurd cc
-no_call code.AnOpen how e = absurd cc
-no_call code.OOpen how e = absurd cc
-no_call code.OnOpen how e = absurd cc
-no_call code.XOpen how e = absurd cc
-no_call code.XnOpen how e = absurd cc
-no_call code.Close how e = absurd cc
-no_call code.McrOpen how e = absurd cc
-no_call code.McrClose how e = absurd cc
-no_call _ how e = refl
+pub nesting : (m : Mnemonic) → nests m ≡ true → IsNesting m
+unfolding bracket_function is_closing_bracket opens_zone ends_zone form_of
+nesting code.AOpen e = record { form = refl; jump = refl; call = refl; end = refl; no_call = refl }
+nesting code.AnOpen e = record { form = refl; jump = refl; call = refl; end = refl; no_call = refl }
+nesting code.OOpen e = record { form = refl; jump = refl; call = refl; end = refl; no_call = refl }
+nesting code.OnOpen e = record { form = refl; jump = refl; call = refl; end = refl; no_call = refl }
+nesting code.XOpen e = record { form = refl; jump = refl; call = refl; end = refl; no_call = refl }
+nesting code.XnOpen e = record { form = refl; jump = refl; call = refl; end = refl; no_call = refl }
+nesting code.Close e = record { form = refl; jump = refl; call = refl; end = refl; no_call = refl }
+nesting code.McrOpen e = record { form = refl; jump = refl; call = refl; end = refl; no_call = refl }
+nesting code.McrClose e = record { form = refl; jump = refl; call = refl; end = refl; no_call = refl }
+nesting _ e = absurd cc
 
-no_end : (m : Mnemonic) (how : EndOperation) → end_operation_of m ≡ Some how → nests m ≡ false
-unfolding bracket_function is_closing_bracket opens_zone ends_zone
-no_end code.AOpen how e = absurd cc
-no_end code.AnOpen how e = absurd cc
-no_end code.OOpen how e = absurd cc
-no_end code.OnOpen how e = absurd cc
-no_end code.XOpen how e = absurd cc
-no_end code.XnOpen how e = absurd cc
-no_end code.Close how e = absurd cc
-no_end code.McrOpen how e = absurd cc
-no_end code.McrClose how e = absurd cc
-no_end _ how e = refl
+-- so what does one of these has nothing to do with brackets and zones
+apart : {A : Type 0} (m : Mnemonic) (o : Option A) (how : A) → o ≡ Some how → (IsNesting m → o ≡ None) → nests m ≡ false
+apart m o how e none = by (nests m) refl
+  where
+    by : (t : Bool) → nests m ≡ t → t ≡ false
+    by false is = refl
+    by true is = let never = none (nesting m is) in absurd cc
 
 call_code : (how : CallOperation) → IsOtherCode (op_code_of (operation.Call how))
 call_code calls.Call = ((refl, refl), (refl, refl))
-call_code calls.Uc = ((refl, refl), (refl, refl))
-call_code calls.Cc = ((refl, refl), (refl, refl))
+call_code _ = ((refl, refl), (refl, refl))
 
 end_code : (how : EndOperation) → IsOtherCode (op_code_of (operation.End how))
 end_code ends.Be = ((refl, refl), (refl, refl))
-end_code ends.Bec = ((refl, refl), (refl, refl))
-end_code ends.Beu = ((refl, refl), (refl, refl))
+end_code _ = ((refl, refl), (refl, refl))
 
 -- ---- the last op of a statement
 
@@ -202,20 +125,20 @@ record IsLast (m : Mnemonic) (op : OpData) : Type 0 where
 last_end : (s : Statement) (v : ResolvedOperand) (e : Option EndOperation) → end_operation_of s.code ≡ e
     → IsLast s.code (last_op (end_instr s v e))
 last_end s v None is =
-    record { code = operation_code s.code s.operand v; stays = no_target s.operand v }
+    record { code = (operation_is s.code s.operand v).code; stays = no_target s.operand v }
 last_end s v (Some how) is = record {
-  code = other_code s.code (op_code_of (operation.End how)) (no_end s.code how is) (end_code how);
+  code = other_code s.code (op_code_of (operation.End how)) (apart s.code _ how is (λ n. n.end)) (end_code how);
   stays = refl;
 }
 
 last_call : (c : Context) (s : Statement) (how : CallOperation) (v : ResolvedOperand) → call_operation_of s.code ≡ Some how
     → IsLast s.code (last_op (call_instr c s how v))
 last_call c s how (view.Called id instance) is = record {
-  code = other_code s.code (op_code_of (operation.Call how)) (no_call s.code how is) (call_code how);
+  code = other_code s.code (op_code_of (operation.Call how)) (apart s.code _ how is (λ n. n.call)) (call_code how);
   stays = refl;
 }
 last_call c s how _ is = record {
-  code = other_code s.code (op_code_of operation.Nop) (no_call s.code how is)
+  code = other_code s.code (op_code_of operation.Nop) (apart s.code _ how is (λ n. n.call))
       ((refl, refl), (refl, refl));
   stays = refl;
 }
@@ -224,20 +147,6 @@ last_view : (c : Context) (s : Statement) (v : ResolvedOperand) (call : Option C
     → IsLast s.code (last_op (view_instr c s v call))
 last_view c s v None is = last_end s v (end_operation_of s.code) refl
 last_view c s v (Some how) is = last_call c s how v is
-
--- a bracket or a zone stands with nothing, and is taken
-pub nests_form : (m : Mnemonic) → nests m ≡ true → form_of m ≡ form.Bare
-unfolding bracket_function is_closing_bracket opens_zone ends_zone form_of
-nests_form code.AOpen e = refl
-nests_form code.AnOpen e = refl
-nests_form code.OOpen e = refl
-nests_form code.OnOpen e = refl
-nests_form code.XOpen e = refl
-nests_form code.XnOpen e = refl
-nests_form code.Close e = refl
-nests_form code.McrOpen e = refl
-nests_form code.McrClose e = refl
-nests_form _ e = absurd cc
 
 abbrev resolved_by : Context → OperandRule → Operand → Option ResolvedOperand
 resolved_by c f o = if is_none (operand_rule c f o) then resolved_view (resolution_of c o) else None
@@ -250,7 +159,7 @@ nests_resolved : (c : Context) (s : Statement) → TakesRight s → nests s.code
     → resolved_operand c s ≡ Some view.Nothing
 unfolding resolved_operand
 nests_resolved c s h is =
-    ap (λ (f : OperandRule). resolved_by c f s.operand) (nests_form s.code is)
+    ap (λ (f : OperandRule). resolved_by c f s.operand) (nesting s.code is).form
     ∙ ap (resolved_by c form.Bare) (h.bare is) ∙ bare_resolved c
 
 last_resolved : (c : Context) (s : Statement) (v : Option ResolvedOperand) → TakesRight s → resolved_operand c s ≡ v
@@ -296,7 +205,7 @@ last_of c body n s h =
         let r = last_resolved c s (resolved_operand c s) h refl in (r.code, r.stays)
     by (Some how) is = (
       subst (IsCodeOf s.code) (sym (jump_code how n (target_of body s.operand)))
-          (other_code s.code 0x6F (no_jump s.code how is) ((refl, refl), (refl, refl))),
+          (other_code s.code 0x6F (apart s.code _ how is (λ n. n.jump)) ((refl, refl), (refl, refl))),
       jump_operand how n (target_of body s.operand),
     )
 
@@ -421,7 +330,5 @@ opening_quiet (Some number) =
 
 pub front_quiet : (i : Instr) → AllByRecursion IsQuiet (parted i).front
 front_quiet (Does use_db w o) = opening_quiet use_db
-front_quiet (Jumps how target) = tt
-front_quiet (JumpsByList targets otherwise) = tt
 front_quiet (Calls how block instance passings) = passing_quiet passings
-front_quiet (Returns how) = tt
+front_quiet _ = tt

@@ -1,5 +1,5 @@
 -- In an accepted source the operand of each statement but a call is checked.
-use Rattle.std.proofs.Common.{◌≡◌, ◌≤◌, ℕ, Bool, true, false, List, [], ◌∷◌, map, Some, None, refl, sym, ap, subst}
+use Rattle.std.proofs.Common.{◌≡◌, ◌≤◌, ℕ, Bool, true, false, List, [], ◌∷◌, map, Some, None, refl, sym, subst}
 use Rattle.std.specs.List.{AllByRecursion, slice_get}
 use Rattle.plc_base.specs.Kinds.{kind_number, is_code}
 use Rattle.flat_code.specs.Blocks.{Environment}
@@ -9,7 +9,6 @@ use Rattle.stl_ast.specs.declared.blocks.Block.{Block}
 use Rattle.stl_ast.specs.declared.blocks.Tree.{Tree}
 use Rattle.stl_ast.specs.declared.statements.Statement.{Statement}
 use Rattle.stl_symbols.specs.Symbol.{Symbol}
-use Rattle.block_layout.specs.Layouts.{block_layout}
 use Rattle.block_layout.specs.Lengths.{farthest_operand_end, local_len}
 use Rattle.block_layout.specs.Measures.{types_of_source}
 use Rattle.block_layout.specs.declared.blocks.BlockLayout.{BlockLayout}
@@ -21,7 +20,7 @@ use Rattle.sem_kept.proofs.accepted.Accepted.{IsSound, IsSoundStatement, IsSound
 use Rattle.sem_kept.proofs.accepted.JumpsOperands.{Settles}
 use Rattle.sem_kept.proofs.accepted.OperandsCells.{layout_of_block}
 use Rattle.sem_kept.proofs.accepted.OperandsSymbols.{SymbolFits, symbols_fit}
-use Rattle.sem_kept.proofs.accepted.OperandsViews.{EndsBy, IsSeen, ends_by, holds_locals, operand_seen}
+use Rattle.sem_kept.proofs.accepted.OperandsViews.{EndsBy, IsSeen, ends_by, holds_locals, layout_local, operand_seen}
 
 -- the operand of a statement of the block at a place
 abbrev pub Settle : List Symbol → Tree → ℕ → Statement → Type 0
@@ -59,11 +58,6 @@ all_settle symbols t tree fit k b l block is (s ∷ ss) h ends = (
   all_settle symbols t tree fit k b l block is ss h.1 ends.1,
 )
 
-local_is : (symbols : List Symbol) (t : Tree) (k : ℕ) (b : Block) (l : BlockLayout)
-    → IsSound symbols t k b l → l.local_len ≡ local_len (types_of_source symbols t.blocks) b
-unfolding block_layout
-local_is symbols t k b l block = ap (λ (z : BlockLayout). z.local_len) block.layout
-
 block_settles : (symbols : List Symbol) (t : Tree) → IsSoundTree symbols t
     → AllByRecursion SymbolFits symbols → (k : ℕ) (b : Block) (l : BlockLayout)
     → IsSound symbols t k b l → AllByRecursion (Settle symbols t k) b.body
@@ -73,7 +67,7 @@ block_settles symbols t tree fit k b l block = by (is_code b.kind) refl
     by true is =
         all_settle symbols t tree fit k b l block is b.body block.statements
         (ends_by l.local_len b.body
-        (subst (λ (n : ℕ). farthest_operand_end b.body ≤ n) (sym (local_is symbols t k b l block))
+        (subst (λ (n : ℕ). farthest_operand_end b.body ≤ n) (sym (layout_local symbols t k b l block))
         (holds_locals (types_of_source symbols t.blocks) b is block.head.by_50).operands))
     by false is =
         subst (AllByRecursion (Settle symbols t k))

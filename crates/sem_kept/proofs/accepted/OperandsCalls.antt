@@ -4,10 +4,9 @@ use Rattle.std.proofs.Common.{ℕ, suc, ◌≡◌, ◌≤◌, ◌/◌, ◌⊎◌
 use Rattle.std.specs.Prelude.{◌==◌}
 use Rattle.std.specs.List.{AllByRecursion, list_all, list_any, slice_get}
 use Rattle.std.specs.Option.{is_none, option_and_then, option_map}
-use Rattle.std.specs.Bool.{Decides}
-use Rattle.std.proofs.lemmas.Slice.Eq.{bytes_eq-Decides}
 use Rattle.std.proofs.lemmas.Bool.{not-false}
 use Rattle.std.proofs.lemmas.Option.{same_Some}
+use Rattle.plc_base.proofs.TruthLemmas.{and_first, and_second}
 use Rattle.plc_base.specs.Kinds.{kind_number, is_code, is_data_block, is_function, is_function_block, is_system_function, is_callable}
 use Rattle.plc_base.specs.declared.blocks.BlockId.{BlockId}
 use Rattle.plc_base.specs.declared.blocks.BlockKind.{BlockKind}
@@ -45,13 +44,14 @@ use Rattle.stl_symbols.specs.Symbol.{Symbol}
 use Rattle.block_layout.specs.Blocks.{id_of, is_any, is_block_number, known_block, named_block}
 use Rattle.block_layout.specs.Cells.{components_of}
 use Rattle.block_layout.specs.Fits.{bits_of}
-use Rattle.block_layout.specs.Layouts.{block_layout, layouts_of}
+use Rattle.block_layout.specs.Layouts.{layouts_of}
 use Rattle.block_layout.specs.Lengths.{block_bits, length_of_block, local_end, shape_bits}
 use Rattle.block_layout.specs.Measures.{types_of_source}
 use Rattle.block_layout.specs.Offsets.{width_of}
 use Rattle.block_layout.specs.Paths.{cells_at, if_whole, whole_at}
 use Rattle.block_layout.specs.Rule23.{is_unknown_called, is_unknown_id, is_unknown_instance, names_unknown}
 use Rattle.block_layout.specs.Rule44.{is_number_beyond_limits}
+use Rattle.block_layout.specs.Types.{Types}
 use Rattle.block_layout.specs.declared.blocks.BlockLayout.{BlockLayout}
 use Rattle.block_layout.specs.declared.blocks.Shape.{Shape}
 use Rattle.block_layout.specs.declared.blocks.Shape.TheVariants as shape
@@ -85,13 +85,13 @@ use Rattle.sem_kept.proofs.accepted.OperandsCells.{are_right, cells_are, layout_
 use Rattle.block_layout.proofs.SoundnessLemmas.{block_unbroken}
 use Rattle.block_layout.proofs.BlockLemmas.{known_there}
 use Rattle.block_layout.proofs.LayoutLemmas.{measured_symbols}
-use Rattle.sem_kept.proofs.accepted.OperandsFormals.{Distinct, IsFoundIn, IsSystem, Matched, block_formals, found_each, fresh_distinct, return_all, source_matched, system_matched}
+use Rattle.sem_kept.proofs.accepted.OperandsFormals.{Distinct, IsFoundIn, IsSystem, Matched, block_formals, bytes_itself, found_each, fresh_distinct, return_all, same_bytes, source_matched, system_matched}
 use Rattle.sem_kept.proofs.accepted.OperandsInstr.{CallFits}
 use Rattle.sem_kept.proofs.accepted.OperandsMembers.{called_block, instance_found}
 use Rattle.sem_kept.proofs.accepted.OperandsPassed.{IsGoodActual, Passes, passed_from, supplied_passes}
 use Rattle.sem_kept.proofs.accepted.OperandsSymbols.{SymbolFits}
-use Rattle.sem_kept.proofs.accepted.OperandsViews.{EndsBy, IsData, IsThere, Surrounds, block_own, data_block_kind, data_length, data_there, id_there, id_there_is, ids_same, instance_length, layout_id, layout_shape, not_none, operand_seen, whole_is}
-use Rattle.sem_kept.proofs.accepted.Shared.{callable_by, calls_called}
+use Rattle.sem_kept.proofs.accepted.OperandsViews.{EndsBy, IsChecked, IsData, IsThere, Surrounds, block_own, data_block_kind, data_length, data_there, function_block_kind, id_there, id_there_is, ids_same, instance_length, layout_components, layout_id, layout_length, layout_shape, not_none, operand_seen, whole_is}
+use Rattle.sem_kept.proofs.accepted.Shared.{call_form, callable_by, calls_called}
 use Rattle.block_layout.proofs.CommonLemmas.{or_first, or_second}
 
 -- ---- what is passed stands among the ops
@@ -146,12 +146,7 @@ module _ (a : Environment) (c : Context) (formals : List Formal) (actuals : List
 -- ---- what is supplied
 
 swapped : (xs ys : List ℕ) → bytes_eq xs ys ≡ true → bytes_eq ys xs ≡ true
-swapped xs ys e = by (bytes_eq xs ys) (bytes_eq ys xs) (bytes_eq-Decides xs ys) (bytes_eq-Decides ys xs) e
-  where
-    by : (s t : Bool) → Decides s (xs ≡ ys) → Decides t (ys ≡ xs) → s ≡ true → t ≡ true
-    by true true h k e = refl
-    by true false h k e = sym (sym (k.1 (sym (h.0 refl))))
-    by false t h k e = absurd cc
+swapped xs ys e = ap (λ (zs : List ℕ). bytes_eq zs xs) (sym (same_bytes xs ys e)) ∙ bytes_itself xs
 
 supplied_there : (actuals : List Actual) (f : Formal)
     → is_some (name_place f.name (map (λ (x : Actual). upper_case_name x.name) actuals)) ≡ true
@@ -179,17 +174,9 @@ all_supplied : (actuals : List Actual) (fs : List Formal)
     → list_all (is_supplied (supplied_names actuals)) fs ≡ true → AreSupplied actuals fs
 all_supplied actuals [] e = tt
 all_supplied actuals (f ∷ fs) e = (
-  supplied_there actuals f (first (is_supplied (supplied_names actuals) f) (list_all (is_supplied (supplied_names actuals)) fs) e),
-  all_supplied actuals fs (second (is_supplied (supplied_names actuals) f) (list_all (is_supplied (supplied_names actuals)) fs) e),
+  supplied_there actuals f (and_first (is_supplied (supplied_names actuals) f) (list_all (is_supplied (supplied_names actuals)) fs) e),
+  all_supplied actuals fs (and_second (is_supplied (supplied_names actuals) f) (list_all (is_supplied (supplied_names actuals)) fs) e),
 )
-  where
-    first : (x y : Bool) → (x && y) ≡ true → x ≡ true
-    first true y e = refl
-    first false y e = absurd cc
-
-    second : (x y : Bool) → (x && y) ≡ true → y ≡ true
-    second true y e = e
-    second false y e = absurd cc
 
 -- nothing is passed where nothing is supplied
 pub none_passed : (c : Context) (i : ℕ) (fs : List Formal) → passings_from c [] i fs ≡ []
@@ -209,70 +196,18 @@ record IsCall (c : Context) (name : BlockName) (inst : Option BlockName) (id : B
   named : named_block c.symbols name ≡ Some id
   whole : is_system_function id.kind ≡ false → (p : ℕ) × (whole_place c id ≡ Some p)
   with_instance : IsInstanceOf c inst instance
-
-called_same : (a b : BlockId) (m n : Option ℕ) → Resolved (view.Called a m) ≡ Resolved (view.Called b n) → a ≡ b
-called_same a b m n e = cc
-
-instance_same : (a b : BlockId) (m n : Option ℕ) → Resolved (view.Called a m) ≡ Resolved (view.Called b n)
-    → m ≡ n
-instance_same a b m n e = cc
-
-seen_call : (c : Context) (name : BlockName) (inst : Option BlockName) (id : BlockId)
-    (instance : Option ℕ) → resolution_of c (operand.Called name inst) ≡ Resolved (view.Called id instance)
-    → IsCall c name inst id instance
-unfolding resolution_of
-seen_call c name inst id instance e = by (named_block c.symbols name) refl e
-  where
-    given : (x : BlockId) (inst : Option BlockName)
-        → resolution_of_call (Some x) inst (instance_of_name c inst) ≡ Resolved (view.Called id instance)
-        → (x ≡ id) × IsInstanceOf c inst instance
-    given x None h = (
-      called_same x id None instance h,
-      subst (λ (o : Option ℕ). IsInstanceOf c None o) (instance_same x id None instance h) tt,
-    )
-    given x (Some nm) h = number (data_number c nm) refl h
-      where
-        number : (o : Option ℕ) → data_number c nm ≡ o
-            → resolution_of_call (Some x) (Some nm) o ≡ Resolved (view.Called id instance)
-            → (x ≡ id) × IsInstanceOf c (Some nm) instance
-        number None is h = absurd cc
-        number (Some n) is h = (
-          called_same x id (Some n) instance h,
-          subst (λ (o : Option ℕ). IsInstanceOf c (Some nm) o) (instance_same x id (Some n) instance h) is,
-        )
-
-    made : (x : BlockId) → named_block c.symbols name ≡ Some x
-        → (is_system_function x.kind ≡ false → (p : ℕ) × (whole_place c x ≡ Some p))
-        → resolution_of_call (Some x) inst (instance_of_name c inst) ≡ Resolved (view.Called id instance)
-        → IsCall c name inst id instance
-    made x is whole h =
-        let both = given x inst h in
-        record {
-          named = is ∙ ap (λ (z : BlockId). Some z) both.0;
-          whole = subst (λ (z : BlockId). is_system_function z.kind ≡ false → (p : ℕ) × (whole_place c z ≡ Some p)) both.0 whole;
-          with_instance = both.1;
-        }
-
-    placed : (x : BlockId) → named_block c.symbols name ≡ Some x → is_system_function x.kind ≡ false
-        → (o : Option ℕ) → whole_place c x ≡ o
-        → resolution_of_call (id_at x o) inst (instance_of_name c inst) ≡ Resolved (view.Called id instance)
-        → IsCall c name inst id instance
-    placed x is other None w h = absurd cc
-    placed x is other (Some p) w h = made x is (λ k. (p, w)) h
-
-    whether : (x : BlockId) → named_block c.symbols name ≡ Some x → (t : Bool) → is_system_function x.kind ≡ t
-        → resolution_of_call (if t then Some x else id_at x (whole_place c x)) inst (instance_of_name c inst) ≡ Resolved (view.Called id instance)
-        → IsCall c name inst id instance
-    whether x is true sys h = made x is (λ k. absurd cc) h
-    whether x is false sys h = placed x is sys (whole_place c x) refl h
-
-    by : (o : Option BlockId) → named_block c.symbols name ≡ o
-        → resolution_of_call (whole_called_block c o) inst (instance_of_name c inst) ≡ Resolved (view.Called id instance)
-        → IsCall c name inst id instance
-    by None is h = absurd cc
-    by (Some x) is h = whether x is (is_system_function x.kind) refl h
+  seen : resolution_of c (operand.Called name inst) ≡ Resolved (view.Called id instance)
 
 -- ---- what is called
+
+-- the signatures of the blocks of a program
+abbrev signatures : List Symbol → Tree → List BlockSignature
+signatures symbols t =
+    map signature_of (map record_of_block (map compiled_block (code_blocks_of t symbols (layouts_of t symbols))))
+
+-- the formal parameters of what is called, in the order of its code
+abbrev ordered_formals : Tree → Callee → List Formal
+ordered_formals t callee = in_parameter_order (source_block_at t.blocks callee.place) callee.formals
 
 -- a block that is called, as the source and as the code have it
 record IsCallee (symbols : List Symbol) (t : Tree) (k : ℕ) (blocks : List BlockSignature) (o : Operand)
@@ -283,26 +218,13 @@ record IsCallee (symbols : List Symbol) (t : Tree) (k : ℕ) (blocks : List Bloc
   il : ℕ
   params : List ParameterRecord
   flat : flat_callee blocks (kind_number id.kind) id.number ≡ Some (kind_number id.kind, il, params)
-  matched : Matched (in_parameter_order (source_block_at t.blocks of_source.place) of_source.formals) params
-  found : AllByRecursion (IsFoundIn of_source.formals)
-      (in_parameter_order (source_block_at t.blocks of_source.place) of_source.formals)
+  matched : Matched (ordered_formals t of_source) params
+  found : AllByRecursion (IsFoundIn of_source.formals) (ordered_formals t of_source)
   result : Option Simple
-  order : in_parameter_order (source_block_at t.blocks of_source.place) of_source.formals ≡ return_last result of_source.formals
+  order : ordered_formals t of_source ≡ return_last result of_source.formals
   long : is_function_block id.kind ≡ true → (p : ℕ) × (b : Block) × (of_source.place ≡ Some p)
       × (slice_get t.blocks p ≡ Some b) × (b.kind ≡ kinds.Fb)
       × (il ≡ length_of_block (types_of_source symbols t.blocks) t.blocks b)
-
-in_order_all : (b : Block) (P : Formal → Type 0) (fs : List Formal) → AllByRecursion P fs
-    → AllByRecursion P (in_parameter_order (Some b) fs)
-in_order_all b P fs h = return_all P b.result fs h
-
-system_kind : (k : BlockKind) → is_system_function k ≡ true → k ≡ kinds.Sfc
-system_kind kinds.Sfc e = refl
-system_kind kinds.Ob e = absurd cc
-system_kind kinds.Fc e = absurd cc
-system_kind kinds.Fb e = absurd cc
-system_kind kinds.Db e = absurd cc
-system_kind kinds.Udt e = absurd cc
 
 known_function : (n : ℕ) (k : BlockKind) → k ≡ kinds.Sfc
     → (is_system_function k && is_none (system_formals n)) ≡ false
@@ -323,18 +245,18 @@ system_flat blocks id params is e =
 
 system_called : (symbols : List Symbol) (t : Tree) (k : ℕ) (blocks : List BlockSignature)
     (name : BlockName) (inst : Option BlockName) (id : BlockId)
-    → named_block symbols name ≡ Some id → is_system_function id.kind ≡ true
+    → named_block symbols name ≡ Some id → id.kind ≡ kinds.Sfc
     → is_unknown_function (named_block symbols name) ≡ false
     → IsCallee symbols t k blocks (operand.Called name inst) id
 unfolding callee_of
-system_called symbols t k blocks name inst id named sys known = record {
+system_called symbols t k blocks name inst id named kind known = record {
   of_source = record { id = id; place = None; formals = formals.0 };
   is =
       ap (λ (o : Option BlockId). option_and_then (λ id. callee_by (context_at symbols t k) id id.kind) o) named
       ∙ ap (λ (t' : Bool). if t' then system_callee id
       else if is_function id.kind then source_callee (context_at symbols t k) id
       else if is_function_block id.kind then source_callee (context_at symbols t k) id
-      else None) sys
+      else None) (ap is_system_function kind)
       ∙ ap (λ (o : Option (List Formal)). option_map (λ formals. record { id = id; place = None; formals = formals }) o) formals.1;
   same = refl;
   il = 0;
@@ -349,24 +271,14 @@ system_called symbols t k blocks name inst id named sys known = record {
       absurd cc;
 }
   where
-    kind : id.kind ≡ kinds.Sfc
-    kind = system_kind id.kind sys
-
     formals : (fs : List Formal) × (system_formals id.number ≡ Some fs)
     formals = known_function id.number id.kind kind (ap is_unknown_function (sym named) ∙ known)
 
     system : IsSystem id.number formals.0
     system = system_matched id.number formals.0 formals.1
 
--- a function or a function block
-source_kind : (k : BlockKind) → is_callable k ≡ true → is_system_function k ≡ false
-    → (k ≡ kinds.Fc) ⊎ (k ≡ kinds.Fb)
-source_kind kinds.Fc e f = inl refl
-source_kind kinds.Fb e f = inr refl
-source_kind kinds.Sfc e f = absurd cc
-source_kind kinds.Ob e f = absurd cc
-source_kind kinds.Db e f = absurd cc
-source_kind kinds.Udt e f = absurd cc
+no_system : (k : BlockKind) → (k ≡ kinds.Fc) ⊎ (k ≡ kinds.Fb) → is_system_function k ≡ false
+no_system k h = ⊎_elim (λ e. ap is_system_function e) (λ e. ap is_system_function e) h
 
 source_code : (k : BlockKind) → (k ≡ kinds.Fc) ⊎ (k ≡ kinds.Fb) → is_code k ≡ true
 source_code k h = ⊎_elim (λ e. ap is_code e) (λ e. ap is_code e) h
@@ -420,56 +332,49 @@ whole_known l (Some q) p e = by (is_some (whole_at l q)) e
     by true h = h
     by false h = absurd cc
 
-components_same : (symbols : List Symbol) (t : Tree) (p : ℕ) (b : Block) (l : BlockLayout)
-    → IsSound symbols t p b l → l.components ≡ components_of (types_of_source symbols t.blocks) b
-unfolding block_layout
-components_same symbols t p b l h = ap (λ (z : BlockLayout). z.components) h.layout
-
-length_same : (symbols : List Symbol) (t : Tree) (p : ℕ) (b : Block) (l : BlockLayout)
-    → IsSound symbols t p b l → l.length ≡ length_of_block (types_of_source symbols t.blocks) t.blocks b
-unfolding block_layout
-length_same symbols t p b l h = ap (λ (z : BlockLayout). z.length) h.layout
-
 source_called : (symbols : List Symbol) (t : Tree) → IsSoundTree symbols t → (k : ℕ)
     (name : BlockName) (inst : Option BlockName) (id : BlockId) (p : ℕ)
     → named_block symbols name ≡ Some id → (id.kind ≡ kinds.Fc) ⊎ (id.kind ≡ kinds.Fb)
     → whole_place (context_at symbols t k) id ≡ Some p
-    → IsCallee symbols t k
-    (map signature_of (map record_of_block (map compiled_block (code_blocks_of t symbols (layouts_of t symbols)))))
-    (operand.Called name inst) id
+    → IsCallee symbols t k (signatures symbols t) (operand.Called name inst) id
 source_called symbols t tree k name inst id p named kind whole = record {
-  of_source = record { id = id; place = Some p; formals = formals_of (cells_at (layouts_of t symbols) p false) };
+  of_source = record { id = id; place = Some p; formals = formals };
   is = callee_source symbols t k name inst id p named kind whole
-      (sound_all (cells_at (layouts_of t symbols) p false)
-      (λ place c e. (are_right symbols t tree p place false c e).sound));
+      (sound_all cells (λ place c e. (are_right symbols t tree p place false c e).sound));
   same = refl;
   il = instance_len there.block there.layout;
   params = map record_of_param (params_of there.block there.layout);
-  flat =
-      source_flat (map signature_of (map record_of_block (map compiled_block (code_blocks_of t symbols (layouts_of t symbols))))) id.kind id.number kind
+  flat = source_flat (signatures symbols t) id.kind id.number kind
       ∙ called_block symbols t tree p there.block there.layout id there.sound is_there (source_code id.kind kind);
-  matched = subst (λ (o : Option Block). Matched (in_parameter_order o (formals_of (cells_at (layouts_of t symbols) p false))) (map record_of_param (params_of there.block there.layout)))
+  matched = subst (λ (o : Option Block). Matched (in_parameter_order o formals) (map record_of_param (params_of there.block there.layout)))
       (sym there.sound.block_there)
-      (source_matched there.block there.layout (cells_at (layouts_of t symbols) p false)
-      (components_same symbols t p there.block there.layout there.sound ∙ sym cells));
-  found = subst (λ (o : Option Block). AllByRecursion (IsFoundIn (formals_of (cells_at (layouts_of t symbols) p false))) (in_parameter_order o (formals_of (cells_at (layouts_of t symbols) p false))))
+      (source_matched there.block there.layout cells (layout_components symbols t p there.block there.layout there.sound ∙ sym cells_here));
+  found = subst (λ (o : Option Block). AllByRecursion (IsFoundIn formals) (in_parameter_order o formals))
       (sym there.sound.block_there)
-      (in_order_all there.block (IsFoundIn (formals_of (cells_at (layouts_of t symbols) p false))) (formals_of (cells_at (layouts_of t symbols) p false))
-      (found_each (formals_of (cells_at (layouts_of t symbols) p false)) distinct));
+      (return_all (IsFoundIn formals) there.block.result formals (found_each formals distinct));
   result = there.block.result;
-  order = ap (λ (o : Option Block). in_parameter_order o (formals_of (cells_at (layouts_of t symbols) p false))) there.sound.block_there;
+  order = ap (λ (o : Option Block). in_parameter_order o formals) there.sound.block_there;
   long = λ e. (
     p,
     there.block,
     refl,
     there.sound.block_there,
-    own_kind ∙ fb_kind id.kind e,
+    own_kind ∙ function_block_kind id.kind e,
     ap (λ (t' : Bool). if t' then there.layout.length else 0) (ap is_function_block own_kind ∙ e)
-        ∙ length_same symbols t p there.block there.layout there.sound,
+        ∙ layout_length symbols t p there.block there.layout there.sound,
   );
 }
   where
-    listed : slice_get (types_of_source symbols t.blocks).ids p ≡ Some (Some id)
+    y : Types
+    y = types_of_source symbols t.blocks
+
+    cells : List Cell
+    cells = cells_at (layouts_of t symbols) p false
+
+    formals : List Formal
+    formals = formals_of cells
+
+    listed : slice_get y.ids p ≡ Some (Some id)
     listed =
         ap (λ (is : List (Option BlockId)). slice_get is p) (sym (ids_same symbols t))
         ∙ known_there id (source_block_ids (context_at symbols t k)) p
@@ -487,74 +392,32 @@ source_called symbols t tree k name inst id p named kind whole = record {
     own_kind : there.block.kind ≡ id.kind
     own_kind = there.same ∙ ap (λ (z : BlockId). z.kind) one
 
-    cells : cells_at (layouts_of t symbols) p false ≡ components_of (types_of_source symbols t.blocks) there.block
-    cells = cells_are symbols t p there.block there.layout there.sound false
+    cells_here : cells ≡ components_of y there.block
+    cells_here = cells_are symbols t p there.block there.layout there.sound false
 
-    distinct : Distinct (formals_of (cells_at (layouts_of t symbols) p false))
-    distinct = subst (λ (cs : List Cell). Distinct (formals_of cs)) (sym cells)
-        (fresh_distinct [] (formals_of (components_of (types_of_source symbols t.blocks) there.block))
-        (block_formals (types_of_source symbols t.blocks) there.block there.sound.well_formed
-        (block_unbroken (types_of_source symbols t.blocks) there.block there.sound.declarations)))
-
-    fb_kind : (j : BlockKind) → is_function_block j ≡ true → j ≡ kinds.Fb
-    fb_kind kinds.Fb e = refl
-    fb_kind kinds.Ob e = absurd cc
-    fb_kind kinds.Fc e = absurd cc
-    fb_kind kinds.Db e = absurd cc
-    fb_kind kinds.Sfc e = absurd cc
-    fb_kind kinds.Udt e = absurd cc
+    distinct : Distinct formals
+    distinct = subst (λ (cs : List Cell). Distinct (formals_of cs)) (sym cells_here)
+        (fresh_distinct [] (formals_of (components_of y there.block))
+        (block_formals y there.block there.sound.well_formed (block_unbroken y there.block there.sound.declarations)))
 
 -- ---- a call
 
 -- the block of a call is one of the three kinds
-data CallKind (k : BlockKind) : Type 0 where
-  OfSystem : (sys : is_system_function k ≡ true) (no_block : is_function_block k ≡ false) → CallKind k
-  OfFunction : (is : k ≡ kinds.Fc) → CallKind k
-  OfBlock : (is : k ≡ kinds.Fb) → CallKind k
-
-call_kind : (k : BlockKind) → is_callable k ≡ true → CallKind k
-call_kind kinds.Sfc e = OfSystem refl refl
-call_kind kinds.Fc e = OfFunction refl
-call_kind kinds.Fb e = OfBlock refl
-call_kind kinds.Ob e = absurd cc
-call_kind kinds.Db e = absurd cc
-call_kind kinds.Udt e = absurd cc
+call_kind : (k : BlockKind) → is_callable k ≡ true → (k ≡ kinds.Sfc) ⊎ ((k ≡ kinds.Fc) ⊎ (k ≡ kinds.Fb))
+call_kind kinds.Sfc e = inl refl
+call_kind kinds.Fc e = inr (inl refl)
+call_kind kinds.Fb e = inr (inr refl)
+call_kind _ e = absurd cc
 
 callee_there : (symbols : List Symbol) (t : Tree) → IsSoundTree symbols t → (k : ℕ)
     (name : BlockName) (inst : Option BlockName) (id : BlockId) (instance : Option ℕ)
     → IsCall (context_at symbols t k) name inst id instance → is_callable id.kind ≡ true
     → is_unknown_function (named_block symbols name) ≡ false
-    → IsCallee symbols t k
-    (map signature_of (map record_of_block (map compiled_block (code_blocks_of t symbols (layouts_of t symbols)))))
-    (operand.Called name inst) id
-callee_there symbols t tree k name inst id instance call callable known = by (call_kind id.kind callable)
-  where
-    source : (id.kind ≡ kinds.Fc) ⊎ (id.kind ≡ kinds.Fb) → is_system_function id.kind ≡ false
-        → IsCallee symbols t k
-        (map signature_of (map record_of_block (map compiled_block (code_blocks_of t symbols (layouts_of t symbols)))))
-        (operand.Called name inst) id
-    source kind other =
-        let at = call.whole other in
-        source_called symbols t tree k name inst id at.0 call.named kind at.1
-
-    by : CallKind id.kind
-        → IsCallee symbols t k
-        (map signature_of (map record_of_block (map compiled_block (code_blocks_of t symbols (layouts_of t symbols)))))
-        (operand.Called name inst) id
-    by (OfSystem sys no_block) =
-        system_called symbols t k
-        (map signature_of (map record_of_block (map compiled_block (code_blocks_of t symbols (layouts_of t symbols)))))
-        name inst id call.named sys known
-    by (OfFunction is) = source (inl is) (ap is_system_function is)
-    by (OfBlock is) = source (inr is) (ap is_system_function is)
-
--- the words of calls
-calls_form : (m : Mnemonic) (how : CallOperation) → call_operation_of m ≡ Some how → form_of m ≡ form.Calls
-unfolding form_of
-calls_form code.Call how e = refl
-calls_form code.Uc how e = refl
-calls_form code.Cc how e = refl
-calls_form _ how e = absurd cc
+    → IsCallee symbols t k (signatures symbols t) (operand.Called name inst) id
+callee_there symbols t tree k name inst id instance call callable known =
+    ⊎_elim (λ is. system_called symbols t k (signatures symbols t) name inst id call.named is known)
+    (λ kind. source_called symbols t tree k name inst id (call.whole (no_system id.kind kind)).0 call.named kind
+    (call.whole (no_system id.kind kind)).1) (call_kind id.kind callable)
 
 calls_alone : (m : Mnemonic) (how : CallOperation) (ps : List Passing) → call_operation_of m ≡ Some how
     → (has_actuals m ≡ false → ps ≡ []) → PassesAlone how ps
@@ -624,11 +487,6 @@ call_right lens kind il params ops e f =
     ∙ ap (λ (t' : Bool). (not t' && false) || is_bad_instance lens (kind, il, params) 0) e
     ∙ no_instance_right lens kind il params e
 
-block_call_right : (lens : List (ℕ × ℕ)) (il n : ℕ) (params : List ParameterRecord) (ops : List OpData)
-    → is_bad_instance lens (3, il, params) n ≡ false
-    → is_bad_call lens (Some (3, il, params)) n ops ≡ false
-block_call_right lens il n params ops e = e
-
 -- ---- an instance
 
 instance_number_right : (symbols : List Symbol) (t : Tree) (q : ℕ) (d : IsThere symbols t is_data_block q)
@@ -645,13 +503,9 @@ instance_number_right symbols t q d =
     number = not-false (is_block_number d.id.kind d.id.number)
         (ap is_number_beyond_limits (sym named) ∙ d.sound.head.by_44)
 
-    first : (x y : Bool) → (x && y) ≡ true → x ≡ true
-    first true y e = refl
-    first false y e = absurd cc
-
     some : 1 ≤ d.id.number
     some = leb-true 1 d.id.number
-        (first (nat_le 1 d.id.number) (nat_le d.id.number 2047)
+        (and_first (nat_le 1 d.id.number) (nat_le d.id.number 2047)
         (ap (λ (j : BlockKind). is_block_number j d.id.number) (sym (data_block_kind d.id.kind d.kind)) ∙ number))
 
 shape_is_of : (p : ℕ) (s : Shape) → is_of_block (Some p) s ≡ true → s ≡ shape.Of p
@@ -666,7 +520,7 @@ instance_long : (symbols : List Symbol) (t : Tree) → (q p : ℕ) (d : IsThere 
     → is_of_block (Some p) d.layout.shape ≡ true
     → d.layout.length ≡ length_of_block (types_of_source symbols t.blocks) t.blocks b
 instance_long symbols t q p d b there is well of_block =
-    length_same symbols t q d.block d.layout d.sound
+    layout_length symbols t q d.block d.layout d.sound
     ∙ data_length (types_of_source symbols t.blocks) t.blocks d.block (d.same ∙ data_block_kind d.id.kind d.kind)
     ∙ ap (λ (s : Shape). shape_bits (types_of_source symbols t.blocks) t.blocks d.block s / 8)
     (sym (layout_shape symbols t q d.block d.layout d.sound) ∙ shape_is_of p d.layout.shape of_block)
@@ -679,48 +533,7 @@ instance_long symbols t q p d b there is well of_block =
 operand_called : (o : Operand) → names_called_block o ≡ true
     → (name : BlockName) × (inst : Option BlockName) × (o ≡ operand.Called name inst)
 operand_called (operand.Called name inst) e = (name, inst, refl)
-operand_called operand.Nothing e = absurd cc
-operand_called (operand.Direct n r w y i) e = absurd cc
-operand_called (operand.Timer n) e = absurd cc
-operand_called (operand.Counter n) e = absurd cc
-operand_called (operand.Named p s) e = absurd cc
-operand_called (operand.ByMemory r w f y) e = absurd cc
-operand_called (operand.NumberBy w f y) e = absurd cc
-operand_called (operand.ByRegister r w g b) e = absurd cc
-operand_called (operand.Pointer r y i) e = absurd cc
-operand_called (operand.Constant v) e = absurd cc
-operand_called (operand.Label n) e = absurd cc
-operand_called (operand.OfStatus f) e = absurd cc
-operand_called (operand.Other n) e = absurd cc
-operand_called (operand.OpenBlock d n) e = absurd cc
-
-good_actuals : (symbols : List Symbol) (t : Tree) → IsSoundTree symbols t
-    → AllByRecursion SymbolFits symbols → (k : ℕ) (b : Block) (l : BlockLayout)
-    → IsSound symbols t k b l → is_code b.kind ≡ true → (a : Environment) → Surrounds symbols t b l a
-    → (formals : List Formal) (xs : List Actual)
-    → AllByRecursion IsActual xs
-    → AllByRecursion (IsSoundActual (types_of_source symbols t.blocks) (context_at symbols t k)) xs
-    → AllByRecursion (λ (x : Actual). local_end x.value ≤ a.local_len) xs
-    → AllByRecursion (λ (x : Actual). OperandHasBytes x.value) xs
-    → AllByRecursion (λ (x : Actual). misfits_formal (context_at symbols t k) x (formal_named formals x.name) ≡ false) xs
-    → AllByRecursion (IsGoodActual a (context_at symbols t k) formals) xs
-good_actuals symbols t tree fit k b l block code a around formals [] well sound ends bytes fits = tt
-good_actuals symbols t tree fit k b l block code a around formals (x ∷ xs) well sound ends bytes fits = (
-  record {
-    seen = operand_seen symbols t tree fit k b l block code a around x.value
-        (record {
-          well_formed = well.0.value;
-          known = sound.0.known;
-          there = sound.0.there;
-          inside = sound.0.inside;
-        })
-        well.0.no_block ends.0;
-    well = well.0.value;
-    bytes = bytes.0;
-    fits = fits.0;
-  },
-  good_actuals symbols t tree fit k b l block code a around formals xs well.1 sound.1 ends.1 bytes.1 fits.1,
-)
+operand_called _ e = absurd cc
 
 -- an instance by its name
 instance_none : (c : Context) (inst : Option BlockName) → IsInstanceOf c inst None → inst ≡ None
@@ -746,18 +559,11 @@ other_than_three : (k : BlockKind) → is_callable k ≡ true → is_function_bl
     → (kind_number k == 3) ≡ false
 other_than_three kinds.Fc e f = refl
 other_than_three kinds.Sfc e f = refl
-other_than_three kinds.Fb e f = absurd cc
-other_than_three kinds.Ob e f = absurd cc
-other_than_three kinds.Db e f = absurd cc
-other_than_three kinds.Udt e f = absurd cc
+other_than_three _ e f = absurd cc
 
 block_three : (k : BlockKind) → is_function_block k ≡ true → kind_number k ≡ 3
 block_three kinds.Fb e = refl
-block_three kinds.Ob e = absurd cc
-block_three kinds.Fc e = absurd cc
-block_three kinds.Db e = absurd cc
-block_three kinds.Sfc e = absurd cc
-block_three kinds.Udt e = absurd cc
+block_three _ e = absurd cc
 
 -- ---- a call names what it calls
 
@@ -768,17 +574,25 @@ unfolding resolution_of
 seen_called c name inst = refl
 
 -- a block that is known is whole
+record IsWholeBlock (c : Context) (o : Option BlockId) : Type 0 where
+  id : BlockId
+  is : o ≡ Some id
+  whole : is_system_function id.kind ≡ false → (p : ℕ) × (whole_place c id ≡ Some p)
+  seen : whole_called_block c o ≡ Some id
+
 block_whole : (symbols : List Symbol) (t : Tree) → IsSoundTree symbols t → (k : ℕ)
     (o : Option BlockId) → is_unknown_id (types_of_source symbols t.blocks) o ≡ false
-    → (id : BlockId) × (whole_called_block (context_at symbols t k) o ≡ Some id)
+    → IsWholeBlock (context_at symbols t k) o
 block_whole symbols t tree k None e = absurd cc
-block_whole symbols t tree k (Some id) e = by (is_system_function id.kind) e
+block_whole symbols t tree k (Some id) e =
+    let r = by (is_system_function id.kind) refl e in record { id = id; is = refl; whole = r.0; seen = r.1 }
   where
-    by : (sys : Bool)
+    by : (sys : Bool) → is_system_function id.kind ≡ sys
         → (if sys then false else is_none (known_block id (types_of_source symbols t.blocks).ids)) ≡ false
-        → (i : BlockId) × ((if sys then Some id else id_at id (whole_place (context_at symbols t k) id)) ≡ Some i)
-    by true h = (id, refl)
-    by false h = (id, ap (id_at id) place)
+        → (is_system_function id.kind ≡ false → (p : ℕ) × (whole_place (context_at symbols t k) id ≡ Some p))
+        × ((if sys then Some id else id_at id (whole_place (context_at symbols t k) id)) ≡ Some id)
+    by true is h = (λ other. absurd cc, refl)
+    by false is h = (λ other. (found.0, place), ap (id_at id) place)
       where
         found : (p : ℕ) × (known_block id (types_of_source symbols t.blocks).ids ≡ Some p)
         found = not_none (known_block id (types_of_source symbols t.blocks).ids) h
@@ -798,12 +612,54 @@ block_whole symbols t tree k (Some id) e = by (is_system_function id.kind) e
 -- and so is the instance that is named
 instance_known : (symbols : List Symbol) (t : Tree) → IsSoundTree symbols t → (k : ℕ) (id : BlockId)
     (inst : Option BlockName) → is_unknown_instance (types_of_source symbols t.blocks) inst ≡ false
-    → (n : Option ℕ)
+    → (n : Option ℕ) × IsInstanceOf (context_at symbols t k) inst n
     × (resolution_of_call (Some id) inst (instance_of_name (context_at symbols t k) inst) ≡ Resolved (view.Called id n))
-instance_known symbols t tree k id None e = (None, refl)
+instance_known symbols t tree k id None e = (None, tt, refl)
 instance_known symbols t tree k id (Some name) e =
     let d = data_there symbols t tree k name e in
-    (Some d.block.id.number, ap (λ (o : Option ℕ). resolution_of_call (Some id) (Some name) o) d.number)
+    (Some d.block.id.number, d.number, ap (λ (o : Option ℕ). resolution_of_call (Some id) (Some name) o) d.number)
+
+call_there : (symbols : List Symbol) (t : Tree) → IsSoundTree symbols t → (k : ℕ) (name : BlockName)
+    (inst : Option BlockName) → names_unknown (types_of_source symbols t.blocks) (operand.Called name inst) ≡ false
+    → (id : BlockId) × (instance : Option ℕ) × IsCall (context_at symbols t k) name inst id instance
+call_there symbols t tree k name inst there = (
+  block.id,
+  given.0,
+  record {
+    named = block.is;
+    whole = block.whole;
+    with_instance = given.1;
+    seen = seen_called (context_at symbols t k) name inst
+        ∙ ap (λ (z : Option BlockId). resolution_of_call z inst (instance_of_name (context_at symbols t k) inst)) block.seen
+        ∙ given.2;
+  },
+)
+  where
+    y : Types
+    y = types_of_source symbols t.blocks
+
+    block : IsWholeBlock (context_at symbols t k) (named_block symbols name)
+    block = block_whole symbols t tree k (named_block symbols name)
+        (ap (λ (ss : List Symbol). is_unknown_id y (named_block ss name)) (sym (measured_symbols symbols t.blocks))
+        ∙ or_first (is_unknown_called y name) (is_unknown_instance y inst) there)
+
+    given : (n : Option ℕ) × IsInstanceOf (context_at symbols t k) inst n
+        × (resolution_of_call (Some block.id) inst (instance_of_name (context_at symbols t k) inst) ≡ Resolved (view.Called block.id n))
+    given = instance_known symbols t tree k block.id inst (or_second (is_unknown_called y name) (is_unknown_instance y inst) there)
+
+-- a call is one of what it is seen as
+call_of : (c : Context) (name : BlockName) (inst : Option BlockName) (id j : BlockId) (instance i : Option ℕ)
+    → IsCall c name inst j i → resolution_of c (operand.Called name inst) ≡ Resolved (view.Called id instance)
+    → IsCall c name inst id instance
+call_of c name inst id j instance i call e =
+    subst (λ (z : BlockId). IsCall c name inst z instance) one.0
+    (subst (λ (n : Option ℕ). IsCall c name inst j n) one.1 call)
+  where
+    same : Resolved (view.Called j i) ≡ Resolved (view.Called id instance) → (j ≡ id) × (i ≡ instance)
+    same e = (cc, cc)
+
+    one : (j ≡ id) × (i ≡ instance)
+    one = same (sym call.seen ∙ e)
 
 -- ---- an actual parameter names what is passed
 
@@ -842,20 +698,7 @@ operand_passed : (c : Context) (f : Formal) (o : Operand) (v : ResolvedOperand) 
     → fits_operand c f o ≡ true → (p : Passed) × (passed_resolution o (resolution_of c o) ≡ Some p)
 unfolding fits_operand
 operand_passed c f (operand.Constant value) v is e = constant_passed c value
-operand_passed c f operand.Nothing v is e = other_passed c f operand.Nothing v is e
-operand_passed c f (operand.Direct n g w y i) v is e = other_passed c f (operand.Direct n g w y i) v is e
-operand_passed c f (operand.Timer n) v is e = other_passed c f (operand.Timer n) v is e
-operand_passed c f (operand.Counter n) v is e = other_passed c f (operand.Counter n) v is e
-operand_passed c f (operand.Named p t) v is e = other_passed c f (operand.Named p t) v is e
-operand_passed c f (operand.ByMemory g w m y) v is e = other_passed c f (operand.ByMemory g w m y) v is e
-operand_passed c f (operand.NumberBy w m y) v is e = other_passed c f (operand.NumberBy w m y) v is e
-operand_passed c f (operand.ByRegister g w n b) v is e = other_passed c f (operand.ByRegister g w n b) v is e
-operand_passed c f (operand.Pointer g y i) v is e = other_passed c f (operand.Pointer g y i) v is e
-operand_passed c f (operand.Label n) v is e = other_passed c f (operand.Label n) v is e
-operand_passed c f (operand.OfStatus g) v is e = other_passed c f (operand.OfStatus g) v is e
-operand_passed c f (operand.Other n) v is e = other_passed c f (operand.Other n) v is e
-operand_passed c f (operand.OpenBlock d n) v is e = other_passed c f (operand.OpenBlock d n) v is e
-operand_passed c f (operand.Called n i) v is e = other_passed c f (operand.Called n i) v is e
+operand_passed c f o v is e = other_passed c f o v is e
 
 good_passed : (a : Environment) (c : Context) (formals : List Formal) (x : Actual)
     → IsGoodActual a c formals x → names_no_formal formals x ≡ false → NamesWhatIsPassed c x
@@ -877,9 +720,40 @@ module _ (symbols : List Symbol) (t : Tree) (tree : IsSoundTree symbols t)
     (fit : AllByRecursion SymbolFits symbols) (k : ℕ) (b : Block) (l : BlockLayout)
     (block : IsSound symbols t k b l) (code : is_code b.kind ≡ true)
     (a : Environment) (around : Surrounds symbols t b l a)
-    (blocks : a.blocks ≡ map signature_of (map record_of_block (map compiled_block (code_blocks_of t symbols (layouts_of t symbols)))))
+    (blocks : a.blocks ≡ signatures symbols t)
     (s : Statement) (sound : IsSoundStatement (types_of_source symbols t.blocks) (context_at symbols t k) s)
     (ends : EndsBy a.local_len s) (bytes : StatementHasBytes s) where
+  -- what the call passes to it
+  abbrev passed_by : Callee → List Passing
+  passed_by callee = passings_from (context_at symbols t k) s.actuals 0 (ordered_formals t callee)
+
+  -- the data blocks of the program
+  abbrev lens : List (ℕ × ℕ)
+  lens = lens_of (data_blocks_of t symbols (layouts_of t symbols))
+
+  good_actuals : (formals : List Formal) (xs : List Actual) → AllByRecursion IsActual xs
+      → AllByRecursion (IsSoundActual (types_of_source symbols t.blocks) (context_at symbols t k)) xs
+      → AllByRecursion (λ (x : Actual). local_end x.value ≤ a.local_len) xs
+      → AllByRecursion (λ (x : Actual). OperandHasBytes x.value) xs
+      → AllByRecursion (λ (x : Actual). misfits_formal (context_at symbols t k) x (formal_named formals x.name) ≡ false) xs
+      → AllByRecursion (IsGoodActual a (context_at symbols t k) formals) xs
+  good_actuals formals [] well sound ends bytes fits = tt
+  good_actuals formals (x ∷ xs) well sound ends bytes fits =
+      let h : IsChecked symbols t k x.value = record {
+        well_formed = well.0.value;
+        known = sound.0.known;
+        there = sound.0.there;
+        inside = sound.0.inside;
+      } in (
+        record {
+          seen = operand_seen symbols t tree fit k b l block code a around x.value h well.0.no_block ends.0;
+          well = well.0.value;
+          bytes = bytes.0;
+          fits = fits.0;
+        },
+        good_actuals formals xs well.1 sound.1 ends.1 bytes.1 fits.1,
+      )
+
   -- what is known of the call
   record IsMade (how : CallOperation) (id : BlockId) (instance : Option ℕ) : Type 0 where
     name : BlockName
@@ -887,9 +761,13 @@ module _ (symbols : List Symbol) (t : Tree) (tree : IsSoundTree symbols t)
     operand_is : s.operand ≡ operand.Called name inst
     call : IsCall (context_at symbols t k) name inst id instance
     by_view : is_called_view (view.Called id instance) ≡ true
-    word : call_operation_of s.code ≡ Some how
-    cal : IsCallee symbols t k (map signature_of (map record_of_block (map compiled_block (code_blocks_of t symbols (layouts_of t symbols))))) (operand.Called name inst) id
+    cal : IsCallee symbols t k (signatures symbols t) (operand.Called name inst) id
     rules : IsSoundCall (context_at symbols t k) cal.of_source s
+
+  call_found : (name : BlockName) (inst : Option BlockName) → s.operand ≡ operand.Called name inst
+      → (id : BlockId) × (instance : Option ℕ) × IsCall (context_at symbols t k) name inst id instance
+  call_found name inst e =
+      call_there symbols t tree k name inst (ap (names_unknown (types_of_source symbols t.blocks)) (sym e) ∙ sound.there)
 
   made : (how : CallOperation) (id : BlockId) (instance : Option ℕ) → call_operation_of s.code ≡ Some how
       → resolution_of (context_at symbols t k) s.operand ≡ Resolved (view.Called id instance)
@@ -900,7 +778,6 @@ module _ (symbols : List Symbol) (t : Tree) (tree : IsSoundTree symbols t)
     operand_is = o.2;
     call = call;
     by_view = by_view;
-    word = word;
     cal = cal;
     rules = sound.calls cal.of_source (ap (callee_of (context_at symbols t k)) o.2 ∙ cal.is);
   }
@@ -911,12 +788,15 @@ module _ (symbols : List Symbol) (t : Tree) (tree : IsSoundTree symbols t)
       seen_is : resolution_of (context_at symbols t k) (operand.Called o.0 o.1) ≡ Resolved (view.Called id instance)
       seen_is = ap (resolution_of (context_at symbols t k)) (sym o.2) ∙ e
 
+      found : (id : BlockId) × (instance : Option ℕ) × IsCall (context_at symbols t k) o.0 o.1 id instance
+      found = call_found o.0 o.1 o.2
+
       call : IsCall (context_at symbols t k) o.0 o.1 id instance
-      call = seen_call (context_at symbols t k) o.0 o.1 id instance seen_is
+      call = call_of (context_at symbols t k) o.0 o.1 id found.0 instance found.1 found.2 seen_is
 
       rule : rule_of_resolved_operand form.Calls (view.Called id instance) ≡ None
       rule =
-          ap (λ (f : OperandRule). rule_of_resolved_operand f (view.Called id instance)) (sym (calls_form s.code how word))
+          ap (λ (f : OperandRule). rule_of_resolved_operand f (view.Called id instance)) (sym (call_form s.code how word))
           ∙ ap (λ (x : Resolution). rule_of_resolution (form_of s.code) x) (sym seen_is)
           ∙ ap (λ (x : Operand). operand_rule (context_at symbols t k) (form_of s.code) x) (sym o.2)
           ∙ sound.allowed
@@ -924,37 +804,37 @@ module _ (symbols : List Symbol) (t : Tree) (tree : IsSoundTree symbols t)
       by_view : is_called_view (view.Called id instance) ≡ true
       by_view = calls_called (view.Called id instance) rule
 
-      cal : IsCallee symbols t k (map signature_of (map record_of_block (map compiled_block (code_blocks_of t symbols (layouts_of t symbols))))) (operand.Called o.0 o.1) id
+      cal : IsCallee symbols t k (signatures symbols t) (operand.Called o.0 o.1) id
       cal = callee_there symbols t tree k o.0 o.1 id instance call (callable_by id instance by_view)
           (ap (calls_unknown (context_at symbols t k)) (sym o.2) ∙ sound.one_of_nine)
 
   -- what it passes
   passings_are : (how : CallOperation) (id : BlockId) (instance : Option ℕ) (m : IsMade how id instance)
       → passings_to (context_at symbols t k) s (callee_of (context_at symbols t k) s.operand)
-      ≡ passings_from (context_at symbols t k) s.actuals 0 (in_parameter_order (source_block_at t.blocks m.cal.of_source.place) m.cal.of_source.formals)
+      ≡ passed_by m.cal.of_source
   passings_are how id instance m =
       ap (passings_to (context_at symbols t k) s) (ap (callee_of (context_at symbols t k)) m.operand_is ∙ m.cal.is)
 
   goods : (how : CallOperation) (id : BlockId) (instance : Option ℕ) (m : IsMade how id instance)
       → AllByRecursion (IsGoodActual a (context_at symbols t k) m.cal.of_source.formals) s.actuals
   goods how id instance m =
-      good_actuals symbols t tree fit k b l block code a around m.cal.of_source.formals s.actuals
+      good_actuals m.cal.of_source.formals s.actuals
       sound.well_formed.actuals sound.actuals ends.1 bytes.actuals m.rules.fits
 
   passes_right : (how : CallOperation) (id : BlockId) (instance : Option ℕ) (m : IsMade how id instance)
       → ArePassed a (Some (kind_number id.kind, m.cal.il, m.cal.params)) None
-      (passings_from (context_at symbols t k) s.actuals 0 (in_parameter_order (source_block_at t.blocks m.cal.of_source.place) m.cal.of_source.formals))
+      (passed_by m.cal.of_source)
   passes_right how id instance m =
       passed_from a (context_at symbols t k) m.cal.of_source.formals s.actuals (goods how id instance m)
       (kind_number id.kind) m.cal.il m.cal.params None 0
-      (in_parameter_order (source_block_at t.blocks m.cal.of_source.place) m.cal.of_source.formals) [] m.cal.params
+      (ordered_formals t m.cal.of_source) [] m.cal.params
       (λ n e. refl) m.cal.matched m.cal.found refl refl
 
   -- UC and CC call blocks without parameters
   nothing_owed : (how : CallOperation) (id : BlockId) (instance : Option ℕ) (m : IsMade how id instance)
       → has_actuals s.code ≡ false → m.cal.params ≡ []
   nothing_owed how id instance m e =
-      no_params (in_parameter_order (source_block_at t.blocks m.cal.of_source.place) m.cal.of_source.formals) m.cal.params
+      no_params (ordered_formals t m.cal.of_source) m.cal.params
       (m.cal.order ∙ no_order m.cal.result m.cal.of_source.formals
       (no_formals m.cal.of_source.formals
       (none_owed (has_actuals s.code) (has_formals m.cal.of_source.formals) e
@@ -964,20 +844,17 @@ module _ (symbols : List Symbol) (t : Tree) (tree : IsSoundTree symbols t)
 
   all_owed : (how : CallOperation) (id : BlockId) (instance : Option ℕ) (m : IsMade how id instance)
       → is_function_block id.kind ≡ false
-      → are_all_passed 0 m.cal.params (pass_ops (passings_from (context_at symbols t k) s.actuals 0
-      (in_parameter_order (source_block_at t.blocks m.cal.of_source.place) m.cal.of_source.formals))) ≡ true
+      → are_all_passed 0 m.cal.params (pass_ops (passed_by m.cal.of_source)) ≡ true
   all_owed how id instance m other = by (has_actuals s.code) refl
     where
       by : (call : Bool) → has_actuals s.code ≡ call
-          → are_all_passed 0 m.cal.params (pass_ops (passings_from (context_at symbols t k) s.actuals 0
-          (in_parameter_order (source_block_at t.blocks m.cal.of_source.place) m.cal.of_source.formals))) ≡ true
+          → are_all_passed 0 m.cal.params (pass_ops (passed_by m.cal.of_source)) ≡ true
       by false e =
-          ap (λ (ps : List ParameterRecord). are_all_passed 0 ps (pass_ops (passings_from (context_at symbols t k) s.actuals 0
-          (in_parameter_order (source_block_at t.blocks m.cal.of_source.place) m.cal.of_source.formals))))
+          ap (λ (ps : List ParameterRecord). are_all_passed 0 ps (pass_ops (passed_by m.cal.of_source)))
           (nothing_owed how id instance m e)
       by true e =
           all_passed a (context_at symbols t k) m.cal.of_source.formals s.actuals (goods how id instance m) 0
-          (in_parameter_order (source_block_at t.blocks m.cal.of_source.place) m.cal.of_source.formals) m.cal.params []
+          (ordered_formals t m.cal.of_source) m.cal.params []
           m.cal.matched m.cal.found
           (subst (AreSupplied s.actuals) (sym m.cal.order)
           (return_all (λ (f : Formal). (x : Actual) × (actual_of_formal s.actuals f ≡ Some x)) m.cal.result m.cal.of_source.formals
@@ -989,14 +866,17 @@ module _ (symbols : List Symbol) (t : Tree) (tree : IsSoundTree symbols t)
   -- the instance of a function block
   instance_right : (how : CallOperation) (id : BlockId) (n : ℕ) (m : IsMade how id (Some n))
       → is_function_block id.kind ≡ true
-      → is_bad_instance (lens_of (data_blocks_of t symbols (layouts_of t symbols))) (3, m.cal.il, m.cal.params) n ≡ false
+      → is_bad_instance lens (3, m.cal.il, m.cal.params) n ≡ false
   instance_right how id n m fb =
-      given_right (lens_of (data_blocks_of t symbols (layouts_of t symbols))) m.cal.il n d.block.layout.length m.cal.params
+      given_right lens m.cal.il n d.block.layout.length m.cal.params
       (ap (λ (i : ℕ). i == 0) number ∙ instance_number_right symbols t d.place d.block)
-      (ap (λ (i : ℕ). length_of_data i (lens_of (data_blocks_of t symbols (layouts_of t symbols)))) number
+      (ap (λ (i : ℕ). length_of_data i lens) number
       ∙ instance_found symbols t tree d.place d.block.block d.block.layout d.block.id d.block.sound d.block.is d.block.kind)
-      (le-ltb d.block.layout.length m.cal.il (omega (arith, long)))
+      (le-ltb d.block.layout.length m.cal.il (let one = fb_at.5 in omega (arith, one, long)))
     where
+      y : Types
+      y = types_of_source symbols t.blocks
+
       at : (nm : BlockName) × (m.inst ≡ Some nm) × (data_number (context_at symbols t k) nm ≡ Some n)
       at = instance_some (context_at symbols t k) m.inst n m.call.with_instance
 
@@ -1005,15 +885,14 @@ module _ (symbols : List Symbol) (t : Tree) (tree : IsSoundTree symbols t)
 
       d : IsData symbols t k at.0
       d = data_there symbols t tree k at.0
-          (or_second (is_unknown_called (types_of_source symbols t.blocks) m.name)
-          (is_unknown_instance (types_of_source symbols t.blocks) (Some at.0))
-          (ap (names_unknown (types_of_source symbols t.blocks)) (sym operand_is) ∙ sound.there))
+          (or_second (is_unknown_called y m.name) (is_unknown_instance y (Some at.0))
+          (ap (names_unknown y) (sym operand_is) ∙ sound.there))
 
       number : n ≡ d.block.id.number
       number = same_Some n d.block.id.number (sym at.2 ∙ d.number)
 
       fb_at : (p : ℕ) × (c : Block) × (m.cal.of_source.place ≡ Some p) × (slice_get t.blocks p ≡ Some c)
-          × (c.kind ≡ kinds.Fb) × (m.cal.il ≡ length_of_block (types_of_source symbols t.blocks) t.blocks c)
+          × (c.kind ≡ kinds.Fb) × (m.cal.il ≡ length_of_block y t.blocks c)
       fb_at = m.cal.long fb
 
       place : whole_data_place (context_at symbols t k) at.0 ≡ Some d.place
@@ -1024,8 +903,7 @@ module _ (symbols : List Symbol) (t : Tree) (tree : IsSoundTree symbols t)
 
       wrong : is_no_instance (context_at symbols t k) m.cal.of_source.place (whole_data_place (context_at symbols t k) at.0) ≡ false
       wrong =
-          second_false (is_function_block m.cal.of_source.id.kind)
-          (is_no_instance (context_at symbols t k) m.cal.of_source.place (whole_data_place (context_at symbols t k) at.0))
+          second_false (is_function_block m.cal.of_source.id.kind) _
           (ap (has_wrong_instance (context_at symbols t k) m.cal.of_source) (sym operand_is) ∙ m.rules.instance)
           (ap (λ (z : BlockId). is_function_block z.kind) m.cal.same ∙ fb)
 
@@ -1037,14 +915,9 @@ module _ (symbols : List Symbol) (t : Tree) (tree : IsSoundTree symbols t)
           ∙ ap (λ (o : Option ℕ). is_no_instance (context_at symbols t k) m.cal.of_source.place o) (sym place)
           ∙ wrong)
 
-      well : IsBlock fb_at.1
-      well = (layout_of_block symbols t tree fb_at.0 fb_at.1 fb_at.3).2.well_formed
-
-      long : m.cal.il ≤ d.block.layout.length
-      long =
-          let one = fb_at.5 in
-          let two = instance_long symbols t d.place fb_at.0 d.block fb_at.1 fb_at.3 fb_at.4 well of_block in
-          omega (arith, one, two)
+      long : d.block.layout.length ≡ length_of_block y t.blocks fb_at.1
+      long = instance_long symbols t d.place fb_at.0 d.block fb_at.1 fb_at.3 fb_at.4
+          (layout_of_block symbols t tree fb_at.0 fb_at.1 fb_at.3).2.well_formed of_block
 
   -- CALL names one
   bare_owed : (how : CallOperation) (id : BlockId) (m : IsMade how id None) → is_function_block id.kind ≡ true
@@ -1062,44 +935,27 @@ module _ (symbols : List Symbol) (t : Tree) (tree : IsSoundTree symbols t)
           (instance_none (context_at symbols t k) m.inst m.call.with_instance))))
 
   call_bad : (how : CallOperation) (id : BlockId) (instance : Option ℕ) (m : IsMade how id instance)
-      → is_bad_call (lens_of (data_blocks_of t symbols (layouts_of t symbols)))
-      (Some (kind_number id.kind, m.cal.il, m.cal.params)) (instance_number_or_zero instance)
-      (pass_ops (passings_from (context_at symbols t k) s.actuals 0
-      (in_parameter_order (source_block_at t.blocks m.cal.of_source.place) m.cal.of_source.formals))) ≡ false
+      → is_bad_call lens (Some (kind_number id.kind, m.cal.il, m.cal.params)) (instance_number_or_zero instance) (pass_ops (passed_by m.cal.of_source)) ≡ false
   call_bad how id instance m = by instance m (is_function_block id.kind) refl
     where
       by : (instance : Option ℕ) (m : IsMade how id instance) (fb : Bool) → is_function_block id.kind ≡ fb
-          → is_bad_call (lens_of (data_blocks_of t symbols (layouts_of t symbols)))
-          (Some (kind_number id.kind, m.cal.il, m.cal.params)) (instance_number_or_zero instance)
-          (pass_ops (passings_from (context_at symbols t k) s.actuals 0
-          (in_parameter_order (source_block_at t.blocks m.cal.of_source.place) m.cal.of_source.formals))) ≡ false
+          → is_bad_call lens (Some (kind_number id.kind, m.cal.il, m.cal.params)) (instance_number_or_zero instance)
+          (pass_ops (passed_by m.cal.of_source)) ≡ false
       by None m false e =
-          call_right (lens_of (data_blocks_of t symbols (layouts_of t symbols))) (kind_number id.kind) m.cal.il m.cal.params
-          (pass_ops (passings_from (context_at symbols t k) s.actuals 0
-          (in_parameter_order (source_block_at t.blocks m.cal.of_source.place) m.cal.of_source.formals)))
+          call_right lens (kind_number id.kind) m.cal.il m.cal.params (pass_ops (passed_by m.cal.of_source))
           (other_than_three id.kind (callable_by id None m.by_view) e) (all_owed how id None m e)
       by (Some n) m false e = let given = m.by_view in absurd cc
       by None m true e =
-          subst (λ (n : ℕ). is_bad_call (lens_of (data_blocks_of t symbols (layouts_of t symbols)))
-          (Some (n, m.cal.il, m.cal.params)) 0
-          (pass_ops (passings_from (context_at symbols t k) s.actuals 0
-          (in_parameter_order (source_block_at t.blocks m.cal.of_source.place) m.cal.of_source.formals))) ≡ false)
-          (sym (block_three id.kind e))
-          (bare_right (lens_of (data_blocks_of t symbols (layouts_of t symbols))) m.cal.il m.cal.params (bare_owed how id m e))
-      by (Some n) m true e =
-          subst (λ (i : ℕ). is_bad_call (lens_of (data_blocks_of t symbols (layouts_of t symbols)))
-          (Some (i, m.cal.il, m.cal.params)) n
-          (pass_ops (passings_from (context_at symbols t k) s.actuals 0
-          (in_parameter_order (source_block_at t.blocks m.cal.of_source.place) m.cal.of_source.formals))) ≡ false)
-          (sym (block_three id.kind e)) (instance_right how id n m e)
+          rw (block_three id.kind e) (bare_right lens m.cal.il m.cal.params (bare_owed how id m e))
+      by (Some n) m true e = rw (block_three id.kind e) (instance_right how id n m e)
 
   pub call_fits : CallFits a (lens_of (data_blocks_of t symbols (layouts_of t symbols))) (context_at symbols t k) s
   call_fits how id instance word e =
-      subst (λ (ps : List Passing). InstrFits a (lens_of (data_blocks_of t symbols (layouts_of t symbols))) (Calls how id instance ps))
+      subst (λ (ps : List Passing). InstrFits a lens (Calls how id instance ps))
       (sym (passings_are how id instance m)) (
         alone,
         subst (λ (o : Option FlatCallee). ArePassed a o None ps) (sym flat_is) (passes_right how id instance m),
-        subst (λ (o : Option FlatCallee). is_bad_call (lens_of (data_blocks_of t symbols (layouts_of t symbols))) o (instance_number_or_zero instance) (pass_ops ps) ≡ false)
+        subst (λ (o : Option FlatCallee). is_bad_call lens o (instance_number_or_zero instance) (pass_ops ps) ≡ false)
             (sym flat_is) (call_bad how id instance m),
       )
     where
@@ -1107,13 +963,13 @@ module _ (symbols : List Symbol) (t : Tree) (tree : IsSoundTree symbols t)
       m = made how id instance word e
 
       ps : List Passing
-      ps = passings_from (context_at symbols t k) s.actuals 0 (in_parameter_order (source_block_at t.blocks m.cal.of_source.place) m.cal.of_source.formals)
+      ps = passed_by m.cal.of_source
 
       alone : PassesAlone how ps
       alone = calls_alone s.code how ps word
-          (λ none. ap (λ (xs : List Actual). passings_from (context_at symbols t k) xs 0 (in_parameter_order (source_block_at t.blocks m.cal.of_source.place) m.cal.of_source.formals))
+          (λ none. ap (λ (xs : List Actual). passings_from (context_at symbols t k) xs 0 (ordered_formals t m.cal.of_source))
           (sound.well_formed.no_actuals none)
-          ∙ none_passed (context_at symbols t k) 0 (in_parameter_order (source_block_at t.blocks m.cal.of_source.place) m.cal.of_source.formals))
+          ∙ none_passed (context_at symbols t k) 0 (ordered_formals t m.cal.of_source))
 
       flat_is : flat_callee a.blocks (kind_number id.kind) id.number ≡ Some (kind_number id.kind, m.cal.il, m.cal.params)
       flat_is = ap (λ (sg : List BlockSignature). flat_callee sg (kind_number id.kind) id.number) blocks ∙ m.cal.flat
@@ -1122,32 +978,10 @@ module _ (symbols : List Symbol) (t : Tree) (tree : IsSoundTree symbols t)
   pub called_is : (how : CallOperation) → call_operation_of s.code ≡ Some how
       → (id : BlockId) × (instance : Option ℕ)
       × (resolution_of (context_at symbols t k) s.operand ≡ Resolved (view.Called id instance))
-  called_is how word = (
-    whole.0,
-    given.0,
-    ap (resolution_of (context_at symbols t k)) o.2 ∙ seen_called (context_at symbols t k) o.0 o.1
-        ∙ ap (λ (z : Option BlockId). resolution_of_call z o.1 (instance_of_name (context_at symbols t k) o.1)) whole.1
-        ∙ given.1,
-  )
-    where
-      o : (name : BlockName) × (inst : Option BlockName) × (s.operand ≡ operand.Called name inst)
-      o = operand_called s.operand (sound.well_formed.called ∙ calls_are s.code how word)
-
-      there : (is_unknown_called (types_of_source symbols t.blocks) o.0 || is_unknown_instance (types_of_source symbols t.blocks) o.1) ≡ false
-      there = ap (names_unknown (types_of_source symbols t.blocks)) (sym o.2) ∙ sound.there
-
-      whole : (id : BlockId) × (whole_called_block (context_at symbols t k) (named_block symbols o.0) ≡ Some id)
-      whole = block_whole symbols t tree k (named_block symbols o.0)
-          (ap (λ (ss : List Symbol). is_unknown_id (types_of_source symbols t.blocks) (named_block ss o.0))
-          (sym (measured_symbols symbols t.blocks))
-          ∙ or_first (is_unknown_called (types_of_source symbols t.blocks) o.0)
-          (is_unknown_instance (types_of_source symbols t.blocks) o.1) there)
-
-      given : (n : Option ℕ)
-          × (resolution_of_call (Some whole.0) o.1 (instance_of_name (context_at symbols t k) o.1) ≡ Resolved (view.Called whole.0 n))
-      given = instance_known symbols t tree k whole.0 o.1
-          (or_second (is_unknown_called (types_of_source symbols t.blocks) o.0)
-          (is_unknown_instance (types_of_source symbols t.blocks) o.1) there)
+  called_is how word =
+      let o = operand_called s.operand (sound.well_formed.called ∙ calls_are s.code how word) in
+      let found = call_found o.0 o.1 o.2 in
+      (found.0, found.1, ap (resolution_of (context_at symbols t k)) o.2 ∙ found.2.seen)
 
   called_made : (how : CallOperation) (word : call_operation_of s.code ≡ Some how)
       → IsMade how (called_is how word).0 (called_is how word).1

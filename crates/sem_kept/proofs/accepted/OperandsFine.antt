@@ -14,7 +14,7 @@ use Rattle.stl_ast.specs.declared.blocks.Block.{Block}
 use Rattle.stl_ast.specs.declared.blocks.Tree.{Tree}
 use Rattle.stl_ast.specs.declared.statements.Statement.{Statement}
 use Rattle.stl_symbols.specs.Symbol.{Symbol}
-use Rattle.block_layout.specs.Layouts.{block_layout, layouts_of}
+use Rattle.block_layout.specs.Layouts.{layouts_of}
 use Rattle.block_layout.specs.Lengths.{farthest_operand_end, local_len}
 use Rattle.block_layout.specs.Measures.{types_of_source}
 use Rattle.block_layout.specs.declared.blocks.BlockLayout.{BlockLayout}
@@ -31,15 +31,10 @@ use Rattle.block_layout.proofs.CommonLemmas.{all_there}
 use Rattle.sem_kept.proofs.accepted.OperandsInstr.{instr_fits}
 use Rattle.sem_kept.proofs.accepted.OperandsPlaced.{code_fine}
 use Rattle.sem_kept.proofs.accepted.OperandsSymbols.{SymbolFits, symbols_fit}
-use Rattle.sem_kept.proofs.accepted.OperandsViews.{EndsBy, Surrounds, ends_by, holds_locals, layout_id, operand_seen}
+use Rattle.sem_kept.proofs.accepted.OperandsViews.{EndsBy, Surrounds, ends_by, holds_locals, layout_id, layout_local, operand_seen}
 use Rattle.block_layout.proofs.BlockLemmas.{kind_there}
 
 -- ---- a block
-
-local_is : (symbols : List Symbol) (t : Tree) (k : ℕ) (b : Block) (l : BlockLayout)
-    → IsSound symbols t k b l → l.local_len ≡ local_len (types_of_source symbols t.blocks) b
-unfolding block_layout
-local_is symbols t k b l h = ap (λ (z : BlockLayout). z.local_len) h.layout
 
 module _ (symbols : List Symbol) (t : Tree) (tree : IsSoundTree symbols t)
     (fit : AllByRecursion SymbolFits symbols) (k : ℕ) (b : Block) (l : BlockLayout) (id : BlockId)
@@ -62,7 +57,7 @@ module _ (symbols : List Symbol) (t : Tree) (tree : IsSoundTree symbols t)
 
   ends : AllByRecursion (EndsBy here.local_len) b.body
   ends = ends_by l.local_len b.body
-      (subst (λ (n : ℕ). farthest_operand_end b.body ≤ n) (sym (local_is symbols t k b l block))
+      (subst (λ (n : ℕ). farthest_operand_end b.body ≤ n) (sym (layout_local symbols t k b l block))
       (holds_locals (types_of_source symbols t.blocks) b is_code_here block.head.by_50).operands)
 
   statement_fits : (n : ℕ) (s : Statement)

@@ -2,9 +2,8 @@
 -- same order, and no two with one name.
 use Rattle.std.proofs.Common.{ℕ, suc, ◌≡◌, List, [], ◌∷◌, ◌++◌, append_assoc, Option, Some, None, is_some, Bool, true, false, ◌&&◌, ◌||◌, not, nat_eq, refl, sym, ◌∙◌, ap, subst, arith, map, find, bytes_eq, if◌then◌else◌, le-ltb, eq-eqb}
 use Rattle.std.specs.List.{AllByRecursion, flat_map}
-use Rattle.std.specs.Option.{option_map}
-use Rattle.std.specs.Bool.{Decides}
-use Rattle.std.proofs.lemmas.List.{map-append}
+use Rattle.std.specs.Option.{IfSome, option_map}
+use Rattle.std.proofs.lemmas.List.{append-nil, map-append}
 use Rattle.std.proofs.lemmas.Grind.{flat_map-append}
 use Rattle.std.proofs.lemmas.Slice.Eq.{bytes_eq-Decides}
 use Rattle.plc_base.specs.Kinds.{is_function_block}
@@ -135,6 +134,10 @@ abbrev pub Distinct : List Formal → Type 0
 Distinct [] = Unit {0}
 Distinct (g ∷ gs) = AllByRecursion (λ (h : Formal). bytes_eq h.name g.name ≡ false) gs × Distinct gs
 
+none_suc : (o : Option ℕ) → option_map (λ k. suc k) o ≡ None → o ≡ None
+none_suc None h = refl
+none_suc (Some m) h = absurd cc
+
 absent : (name x : List ℕ) (pre post : List (List ℕ)) → name_place name (pre ++ x ∷ post) ≡ None
     → bytes_eq name x ≡ false
 absent name x [] post e = by (bytes_eq name x) e
@@ -145,15 +148,11 @@ absent name x [] post e = by (bytes_eq name x) e
     by false h = refl
 absent name x (p ∷ pre) post e = by (bytes_eq name p) e (absent name x pre post)
   where
-    none : (o : Option ℕ) → option_map (λ k. suc k) o ≡ None → o ≡ None
-    none None h = refl
-    none (Some m) h = absurd cc
-
     by : (t : Bool)
         → (if t then Some 0 else option_map (λ k. suc k) (name_place name (pre ++ x ∷ post))) ≡ None
         → (name_place name (pre ++ x ∷ post) ≡ None → bytes_eq name x ≡ false) → bytes_eq name x ≡ false
     by true h more = absurd cc
-    by false h more = more (none (name_place name (pre ++ x ∷ post)) h)
+    by false h more = more (none_suc (name_place name (pre ++ x ∷ post)) h)
 
 fresh_all : (x : List ℕ) (pre post : List (List ℕ)) (fs : List Formal) → FreshFrom (pre ++ x ∷ post) fs
     → AllByRecursion (λ (h : Formal). bytes_eq h.name x ≡ false) fs
@@ -169,14 +168,10 @@ fresh_distinct names [] h = tt
 fresh_distinct names (f ∷ fs) h =
     (fresh_all f.name names [] fs h.1, fresh_distinct (names ++ f.name ∷ []) fs h.1)
 
-same_bytes : (xs ys : List ℕ) → bytes_eq xs ys ≡ true → xs ≡ ys
-same_bytes xs ys e = by (bytes_eq xs ys) (bytes_eq-Decides xs ys) e
-  where
-    by : (t : Bool) → Decides t (xs ≡ ys) → t ≡ true → xs ≡ ys
-    by true d e = d.0 refl
-    by false d e = absurd cc
+pub same_bytes : (xs ys : List ℕ) → bytes_eq xs ys ≡ true → xs ≡ ys
+same_bytes xs ys e = (bytes_eq-Decides xs ys).0 e
 
-bytes_itself : (xs : List ℕ) → bytes_eq xs xs ≡ true
+pub bytes_itself : (xs : List ℕ) → bytes_eq xs xs ≡ true
 bytes_itself [] = refl
 bytes_itself (x ∷ xs) =
     ap (λ (t : Bool). t && bytes_eq xs xs) (eq-eqb x x refl) ∙ bytes_itself xs
@@ -219,10 +214,6 @@ return_all P (Some kind) (f ∷ fs) h = all_append P fs (f ∷ []) h.1 (h.0, tt)
 -- what isn't among the names of the list isn't among the names so far
 abbrev Within : (names outer : List (List ℕ)) → Type 0
 Within names outer = (n : List ℕ) → name_place n outer ≡ None → name_place n names ≡ None
-
-none_suc : (o : Option ℕ) → option_map (λ k. suc k) o ≡ None → o ≡ None
-none_suc None h = refl
-none_suc (Some m) h = absurd cc
 
 absent_front : (n : List ℕ) (xs ys : List (List ℕ)) → name_place n (xs ++ ys) ≡ None
     → name_place n xs ≡ None
@@ -321,11 +312,7 @@ fresh_section : (y : Types) (o : Outside) (k : BlockKind) (section : PartKind)
     → Within names (names_before o.names 0 before)
     → AreFresh names o.names (declarations_before_next before ds) (flat_map formal_here (cells_of y o section before ds))
 fresh_section y o k section names before [] is declared outline h within =
-    record { fresh = tt; behind = names; named = sym (nothing names); within = within }
-  where
-    nothing : (xs : List (List ℕ)) → xs ++ [] ≡ xs
-    nothing [] = refl
-    nothing (x ∷ xs) = ap (λ (zs : List (List ℕ)). x ∷ zs) (nothing xs)
+    record { fresh = tt; behind = names; named = sym (append-nil names); within = within }
 fresh_section y o k section names before (d ∷ ds) is declared outline h within =
     subst (λ (fs : List Formal). AreFresh names o.names (declarations_before_next (d ∷ before) ds) (fs ++ flat_map formal_here (cells_of y o section (d ∷ before) ds)))
     (sym (parameter_formal y o section before d type.0 is type.1))
@@ -379,10 +366,7 @@ none_here y o section before (d ∷ ds) is =
 
 temp_is_none : (p : PartKind) → not (is_temp p) ≡ false → is_parameter p ≡ false
 temp_is_none part.Temp e = refl
-temp_is_none part.Input e = absurd cc
-temp_is_none part.Output e = absurd cc
-temp_is_none part.InOut e = absurd cc
-temp_is_none part.Static e = absurd cc
+temp_is_none _ e = absurd cc
 
 unbroken_first : (y : Types) (o : Outside) (before xs ys : List Declaration)
     → Unbroken y o before (xs ++ ys) → Unbroken y o before xs
@@ -403,15 +387,11 @@ part_formals : (y : Types) (o : Outside) (k : BlockKind) (names : List (List ℕ
 part_formals y o k names before p section h within =
     wanted (not (is_temp p.kind)) refl
   where
-    nothing : (xs : List (List ℕ)) → xs ++ [] ≡ xs
-    nothing [] = refl
-    nothing (x ∷ xs) = ap (λ (zs : List (List ℕ)). x ∷ zs) (nothing xs)
-
     empty : AreFresh names o.names (declarations_before_next before p.items) []
     empty = record {
       fresh = tt;
       behind = names;
-      named = sym (nothing names);
+      named = sym (append-nil names);
       within = within_onto names o.names before p.items within;
     }
 
@@ -432,11 +412,7 @@ part_formals y o k names before p section h within =
 
 fresh_append : (names : List (List ℕ)) (fs gs : List Formal) → FreshFrom names fs
     → FreshFrom (names ++ map (λ (f : Formal). f.name) fs) gs → FreshFrom names (fs ++ gs)
-fresh_append names [] gs h k = subst (λ (ns : List (List ℕ)). FreshFrom ns gs) (nothing names) k
-  where
-    nothing : (xs : List (List ℕ)) → xs ++ [] ≡ xs
-    nothing [] = refl
-    nothing (x ∷ xs) = ap (λ (zs : List (List ℕ)). x ∷ zs) (nothing xs)
+fresh_append names [] gs h k = subst (λ (ns : List (List ℕ)). FreshFrom ns gs) (append-nil names) k
 fresh_append names (f ∷ fs) gs h k = (
   h.0,
   fresh_append (names ++ f.name ∷ []) fs gs h.1
@@ -467,10 +443,6 @@ sections_fresh y o k names before (p ∷ ps) sections h within =
     one = part_formals y o k names before p sections.0
         (unbroken_first y o before p.items (flat_map (λ p. p.items) ps) h) within
 
-append_none : (xs : List Formal) → xs ++ [] ≡ xs
-append_none [] = refl
-append_none (x ∷ xs) = ap (λ (zs : List Formal). x ∷ zs) (append_none xs)
-
 returned_fresh : (y : Types) (b : Block) (result : Option Simple) → b.result ≡ result
     → FreshFrom (returned_names result) (flat_map formal_here (section_cells y (of_sections b) (λ k. not (is_temp k)) [] b.parts))
     → FreshFrom [] (flat_map formal_here (returned_cells result ++ section_cells y (of_sections b) (λ k. not (is_temp k)) [] b.parts))
@@ -487,7 +459,7 @@ block_formals y b h unbroken =
     (cells_of y of_structure part.Static [] b.components)
     ∙ ap (λ (fs : List Formal). flat_map formal_here (returned_cells b.result ++ section_cells y (of_sections b) (λ k. not (is_temp k)) [] b.parts) ++ fs)
     (none_here y of_structure part.Static [] b.components refl)
-    ∙ append_none (flat_map formal_here (returned_cells b.result ++ section_cells y (of_sections b) (λ k. not (is_temp k)) [] b.parts))))
+    ∙ append-nil (flat_map formal_here (returned_cells b.result ++ section_cells y (of_sections b) (λ k. not (is_temp k)) [] b.parts))))
     (returned_fresh y b b.result refl
     (sections_fresh y (of_sections b) b.kind (returned_names b.result) [] b.parts h.sections.1
     unbroken.sections (λ n e. e)))
@@ -527,47 +499,35 @@ record IsSystemBy (o : Option (List ParameterRecord)) (formals : List Formal) : 
   matched : Matched formals params
   fresh : FreshFrom [] formals
 
-some_list : (fs gs : List Formal) → Some fs ≡ Some gs → fs ≡ gs
-some_list fs gs e = cc
-
-system_by : (a b c d e f g h i : Bool) (formals : List Formal)
-    → formals_by a b c d e f g h i ≡ Some formals
-    → IsSystemBy (params_by a b c d e f g h i) formals
-system_by true b c d e f g h i formals s =
-    subst (λ (fs : List Formal). IsSystemBy (params_by true b c d e f g h i) fs) (some_list (ob_nr_formal ∷ dtime_formal ∷ sign_formal ∷ return_value_formal simple.Int ∷ []) formals s)
-    (record { params = in_record width.Word ∷ in_record width.Dword ∷ in_record width.Word ∷ out_record width.Word ∷ []; is = refl; matched = ((refl, refl, refl), ((refl, refl, refl), ((refl, refl, refl), ((refl, refl, refl), tt)))); fresh = (refl, (refl, (refl, (refl, tt)))) })
-system_by false true c d e f g h i formals s =
-    subst (λ (fs : List Formal). IsSystemBy (params_by false true c d e f g h i) fs) (some_list (ob_nr_formal ∷ return_value_formal simple.Int ∷ []) formals s)
-    (record { params = in_record width.Word ∷ out_record width.Word ∷ []; is = refl; matched = ((refl, refl, refl), ((refl, refl, refl), tt)); fresh = (refl, (refl, tt)) })
-system_by false false true d e f g h i formals s =
-    subst (λ (fs : List Formal). IsSystemBy (params_by false false true d e f g h i) fs) (some_list (mode_formal ∷ ob_nr_formal ∷ return_value_formal simple.Int ∷ []) formals s)
-    (record { params = in_record width.Byte ∷ in_record width.Word ∷ out_record width.Word ∷ []; is = refl; matched = ((refl, refl, refl), ((refl, refl, refl), ((refl, refl, refl), tt))); fresh = (refl, (refl, (refl, tt))) })
-system_by false false false true e f g h i formals s =
-    subst (λ (fs : List Formal). IsSystemBy (params_by false false false true e f g h i) fs) (some_list (mode_formal ∷ ob_nr_formal ∷ return_value_formal simple.Int ∷ []) formals s)
-    (record { params = in_record width.Byte ∷ in_record width.Word ∷ out_record width.Word ∷ []; is = refl; matched = ((refl, refl, refl), ((refl, refl, refl), ((refl, refl, refl), tt))); fresh = (refl, (refl, (refl, tt))) })
-system_by false false false false true f g h i formals s =
-    subst (λ (fs : List Formal). IsSystemBy (params_by false false false false true f g h i) fs) (some_list (return_value_formal simple.Int ∷ []) formals s)
-    (record { params = out_record width.Word ∷ []; is = refl; matched = ((refl, refl, refl), tt); fresh = (refl, tt) })
-system_by false false false false false true g h i formals s =
-    subst (λ (fs : List Formal). IsSystemBy (params_by false false false false false true g h i) fs) (some_list (return_value_formal simple.Int ∷ []) formals s)
-    (record { params = out_record width.Word ∷ []; is = refl; matched = ((refl, refl, refl), tt); fresh = (refl, tt) })
-system_by false false false false false false true h i formals s =
-    subst (λ (fs : List Formal). IsSystemBy (params_by false false false false false false true h i) fs) (some_list [] formals s)
-    (record { params = []; is = refl; matched = tt; fresh = tt })
-system_by false false false false false false false true i formals s =
-    subst (λ (fs : List Formal). IsSystemBy (params_by false false false false false false false true i) fs) (some_list [] formals s)
-    (record { params = []; is = refl; matched = tt; fresh = tt })
-system_by false false false false false false false false true formals s =
-    subst (λ (fs : List Formal). IsSystemBy (params_by false false false false false false false false true) fs) (some_list (return_value_formal simple.Time ∷ []) formals s)
-    (record { params = out_record width.Dword ∷ []; is = refl; matched = ((refl, refl, refl), tt); fresh = (refl, tt) })
-system_by false false false false false false false false false formals s = absurd cc
+system_by : (a b c d e f g h i : Bool)
+    → IfSome (formals_by a b c d e f g h i) (IsSystemBy (params_by a b c d e f g h i))
+system_by true b c d e f g h i =
+    record { params = _; is = refl; matched = ((refl, refl, refl), ((refl, refl, refl), ((refl, refl, refl), ((refl, refl, refl), tt)))); fresh = (refl, (refl, (refl, (refl, tt)))) }
+system_by false true c d e f g h i =
+    record { params = _; is = refl; matched = ((refl, refl, refl), ((refl, refl, refl), tt)); fresh = (refl, (refl, tt)) }
+system_by false false true d e f g h i =
+    record { params = _; is = refl; matched = ((refl, refl, refl), ((refl, refl, refl), ((refl, refl, refl), tt))); fresh = (refl, (refl, (refl, tt))) }
+system_by false false false true e f g h i =
+    record { params = _; is = refl; matched = ((refl, refl, refl), ((refl, refl, refl), ((refl, refl, refl), tt))); fresh = (refl, (refl, (refl, tt))) }
+system_by false false false false true f g h i =
+    record { params = _; is = refl; matched = ((refl, refl, refl), tt); fresh = (refl, tt) }
+system_by false false false false false true g h i =
+    record { params = _; is = refl; matched = ((refl, refl, refl), tt); fresh = (refl, tt) }
+system_by false false false false false false true h i =
+    record { params = _; is = refl; matched = tt; fresh = tt }
+system_by false false false false false false false true i =
+    record { params = _; is = refl; matched = tt; fresh = tt }
+system_by false false false false false false false false true =
+    record { params = _; is = refl; matched = ((refl, refl, refl), tt); fresh = (refl, tt) }
+system_by false false false false false false false false false = tt
 
 pub system_matched : (n : ℕ) (formals : List Formal) → system_formals n ≡ Some formals
     → IsSystem n formals
 unfolding system_formals
-system_matched n formals s = record { params = r.params; is = r.is; matched = r.matched; fresh = r.fresh }
-  where
-    r : IsSystemBy (params_by (nat_eq n 32) (nat_eq n 33) (nat_eq n 39) (nat_eq n 40) (nat_eq n 41)
-        (nat_eq n 42) (nat_eq n 43) (nat_eq n 46) (nat_eq n 64)) formals
-    r = system_by (nat_eq n 32) (nat_eq n 33) (nat_eq n 39) (nat_eq n 40) (nat_eq n 41)
-        (nat_eq n 42) (nat_eq n 43) (nat_eq n 46) (nat_eq n 64) formals s
+system_matched n formals s =
+    let params = params_by (nat_eq n 32) (nat_eq n 33) (nat_eq n 39) (nat_eq n 40) (nat_eq n 41) (nat_eq n 42) (nat_eq n 43)
+    (nat_eq n 46) (nat_eq n 64) in
+    let r : IsSystemBy params formals = subst (λ (o : Option (List Formal)). IfSome o (IsSystemBy params)) s
+    (system_by (nat_eq n 32) (nat_eq n 33) (nat_eq n 39) (nat_eq n 40) (nat_eq n 41) (nat_eq n 42) (nat_eq n 43) (nat_eq n 46)
+    (nat_eq n 64)) in
+    record { params = r.params; is = r.is; matched = r.matched; fresh = r.fresh }

@@ -23,16 +23,16 @@ use Rattle.stl_types.specs.Resolved.{resolved_operand, resolved_view}
 use Rattle.stl_types.specs.Resolution.{resolution_of}
 use Rattle.stl_types.specs.declared.forms.OperandRule.{OperandRule}
 use Rattle.stl_types.specs.declared.views.Resolution.{Resolution}
-use Rattle.stl_types.specs.declared.views.Resolution.TheVariants.{Resolved, Unknown, Unjudged}
+use Rattle.stl_types.specs.declared.views.Resolution.TheVariants.{Resolved}
 use Rattle.stl_types.specs.declared.views.ResolvedOperand.{ResolvedOperand}
 use Rattle.stl_types.specs.declared.views.ResolvedOperand.TheVariants as view
 use Rattle.stl_codegen.specs.Emitted.{op_with_end_mark}
-use Rattle.stl_codegen.specs.Instruction.{call_instr, end_instr, filler_instruction, instr_by, instruction, jump_instr, passings_to, resolved_instr, target_of, view_instr}
+use Rattle.stl_codegen.specs.Instruction.{call_instr, end_instr, filler_instruction, instr_by, instruction, jump_instr, passings_to, resolved_instr, target_of}
 use Rattle.stl_codegen.specs.Operands.{flat_operand_of}
 use Rattle.stl_codegen.specs.Operations.{call_operation_of, end_operation_of, jump_operation_of, operation_for}
 use Rattle.sem_kept.specs.Operands.{InstrFits, IsOperandRightFor}
 use Rattle.sem_kept.proofs.accepted.OperandsViews.{IsSeen}
-use Rattle.sem_kept.proofs.accepted.OperandsOperations.{ViewFits, allowed, opened_fits, operand_fits, ordinary}
+use Rattle.sem_kept.proofs.accepted.OperandsOperations.{ViewFits, allowed, opened_fits, operand_fits, operation_is}
 
 jump_fits : (a : Environment) (lens : List (ℕ × ℕ)) (how : JumpOperation) (n target : ℕ)
     → InstrFits a lens (jump_instr how n target)
@@ -74,26 +74,13 @@ right_for : (a : Environment) (c : Context) (m : Mnemonic) (o : Operand) (v : Re
 right_for a c m (operand.Constant value) v e h fits =
     subst (λ (w : ResolvedOperand). IsOperandRightFor a (op_with_end_mark (operation_for m (operand.Constant value) w) (flat_operand_of (operand.Constant value) w)) (flat_operand_of (operand.Constant value) w))
     (sees_same view.Constant v (sym (constant_seen c value) ∙ e)) (constant_right a m value)
-right_for a c m operand.Nothing v e h fits = operand_fits a m operand.Nothing v (allowed (form_of m) v (seen_rule c (form_of m) operand.Nothing v e h)) fits
-right_for a c m (operand.Direct n r w y i) v e h fits = operand_fits a m (operand.Direct n r w y i) v (allowed (form_of m) v (seen_rule c (form_of m) (operand.Direct n r w y i) v e h)) fits
-right_for a c m (operand.Timer n) v e h fits = operand_fits a m (operand.Timer n) v (allowed (form_of m) v (seen_rule c (form_of m) (operand.Timer n) v e h)) fits
-right_for a c m (operand.Counter n) v e h fits = operand_fits a m (operand.Counter n) v (allowed (form_of m) v (seen_rule c (form_of m) (operand.Counter n) v e h)) fits
-right_for a c m (operand.Named p s) v e h fits = operand_fits a m (operand.Named p s) v (allowed (form_of m) v (seen_rule c (form_of m) (operand.Named p s) v e h)) fits
-right_for a c m (operand.ByMemory r w f y) v e h fits = operand_fits a m (operand.ByMemory r w f y) v (allowed (form_of m) v (seen_rule c (form_of m) (operand.ByMemory r w f y) v e h)) fits
-right_for a c m (operand.NumberBy w f y) v e h fits = operand_fits a m (operand.NumberBy w f y) v (allowed (form_of m) v (seen_rule c (form_of m) (operand.NumberBy w f y) v e h)) fits
-right_for a c m (operand.ByRegister r w g b) v e h fits = operand_fits a m (operand.ByRegister r w g b) v (allowed (form_of m) v (seen_rule c (form_of m) (operand.ByRegister r w g b) v e h)) fits
-right_for a c m (operand.Pointer r y i) v e h fits = operand_fits a m (operand.Pointer r y i) v (allowed (form_of m) v (seen_rule c (form_of m) (operand.Pointer r y i) v e h)) fits
-right_for a c m (operand.Label n) v e h fits = operand_fits a m (operand.Label n) v (allowed (form_of m) v (seen_rule c (form_of m) (operand.Label n) v e h)) fits
-right_for a c m (operand.OfStatus f) v e h fits = operand_fits a m (operand.OfStatus f) v (allowed (form_of m) v (seen_rule c (form_of m) (operand.OfStatus f) v e h)) fits
-right_for a c m (operand.Other n) v e h fits = operand_fits a m (operand.Other n) v (allowed (form_of m) v (seen_rule c (form_of m) (operand.Other n) v e h)) fits
-right_for a c m (operand.OpenBlock d n) v e h fits = operand_fits a m (operand.OpenBlock d n) v (allowed (form_of m) v (seen_rule c (form_of m) (operand.OpenBlock d n) v e h)) fits
-right_for a c m (operand.Called n i) v e h fits = operand_fits a m (operand.Called n i) v (allowed (form_of m) v (seen_rule c (form_of m) (operand.Called n i) v e h)) fits
+right_for a c m o v e h fits = operand_fits a m o v (allowed (form_of m) v (seen_rule c (form_of m) o v e h)) fits
 
 does_fits : (a : Environment) (lens : List (ℕ × ℕ)) (c : Context) (s : Statement) (v : ResolvedOperand)
     → resolution_of c s.operand ≡ Resolved v → statement_rule c s ≡ None → ViewFits a v
     → (how : Option EndOperation) → InstrFits a lens (end_instr s v how)
 does_fits a lens c s v e h fits None = (
-  ordinary s.code s.operand v,
+  (operation_is s.code s.operand v).prepares,
   right_for a c s.code s.operand v e h fits,
   opened_fits s.operand v,
 )
@@ -127,25 +114,16 @@ instr_fits a lens c body n s allowed seen_fits calls = by (jump_operation_of s.c
   where
     called : (how : CallOperation) → call_operation_of s.code ≡ Some how → (x : Resolution) → resolution_of c s.operand ≡ x
         → InstrFits a lens (resolved_instr c s (resolved_view x))
-    called how is (Resolved v) e =
-        subst (λ (o : Option CallOperation). InstrFits a lens (view_instr c s v o)) (sym is)
-        (call_view_fits a lens c s how calls is v e)
-    called how is Unknown e = filler_fits a lens
-    called how is Unjudged e = filler_fits a lens
+    called how is (Resolved v) e = rw is (call_view_fits a lens c s how calls is v e)
+    called how is _ e = filler_fits a lens
 
     whether : (o : Option CallOperation) → call_operation_of s.code ≡ o
         → InstrFits a lens (resolved_instr c s (resolved_view (resolution_of c s.operand)))
     whether None is =
-        subst (λ (x : Resolution). InstrFits a lens (resolved_instr c s (resolved_view x))) (sym found.is)
-        (subst (λ (o : Option CallOperation). InstrFits a lens (view_instr c s found.view o)) (sym is)
-        (does_fits a lens c s found.view found.is allowed found.fits (end_operation_of s.code)))
-      where
-        found : IsSeen a (resolution_of c s.operand)
-        found = seen_fits (no_call s.code is)
+        let found : IsSeen a (resolution_of c s.operand) = seen_fits (no_call s.code is) in
+        rw (found.is, is) (does_fits a lens c s found.view found.is allowed found.fits (end_operation_of s.code))
     whether (Some how) is = called how is (resolution_of c s.operand) refl
 
     by : (o : Option JumpOperation) → InstrFits a lens (instr_by c body n s o)
     by (Some how) = jump_fits a lens how n (target_of body s.operand)
-    by None =
-        subst (λ (o : Option ResolvedOperand). InstrFits a lens (resolved_instr c s o)) (sym (resolved_is c s allowed))
-        (whether (call_operation_of s.code) refl)
+    by None = rw (resolved_is c s allowed) (whether (call_operation_of s.code) refl)

@@ -9,6 +9,7 @@ use Rattle.plc_base.specs.declared.blocks.BlockId.{BlockId}
 use Rattle.plc_base.specs.declared.blocks.BlockKind.{BlockKind}
 use Rattle.plc_base.specs.declared.blocks.BlockKind.TheVariants as kinds
 use Rattle.plc_base.proofs.ListLemmas.{all_front, all_back}
+use Rattle.std.proofs.lemmas.List.{length-replicate}
 use Rattle.plc_base.proofs.TruthLemmas.{and_first, and_second}
 use Rattle.flat_code.specs.Blocks.{BlockSignature, block_with, length_of_data, signature_of}
 use Rattle.flat_code.specs.Image.{record_of_block, record_of_param}
@@ -32,8 +33,8 @@ use Rattle.stl_codegen.specs.Order.{is_code_before, is_data_before}
 use Rattle.stl_codegen.proofs.ProgramLemmas.{all_before}
 use Rattle.sem_kept.proofs.accepted.Accepted.{IsSound, IsSoundTree, context_at, sound_code_blocks, sound_data_blocks}
 use Rattle.block_layout.proofs.LayoutLemmas.{measured_ids, measured_symbols}
+use Rattle.sem_kept.proofs.accepted.OperandsViews.{data_block_kind, layout_id}
 use Rattle.block_layout.proofs.FillLemmas.{written_length}
-use Rattle.sem_kept.proofs.accepted.OperandsViews.{layout_id}
 
 -- ---- what holds of all blocks holds of each
 
@@ -60,25 +61,32 @@ each_of symbols t P of k (x ∷ bs) (z ∷ ls) h (suc i) b l e f =
     (all_back P (of (context_at symbols t k) x z) (each_block of (context_at symbols t (suc k)) bs ls) h)
     i b l e f)
 
+-- what holds of all that a block makes holds of what it makes under its number
+made_there : {A : Type 0} (P : A → Type 0) (of : Option BlockId → List A) (one : BlockId → A) (test : BlockId → Bool)
+    (id : BlockId) → of (Some id) ≡ (if test id then one id ∷ [] else []) → (o : Option BlockId) → o ≡ Some id
+    → test id ≡ true → AllByRecursion P (of o) → P (one id)
+made_there P of one test id some o is right h =
+    (subst (λ (t : Bool). AllByRecursion P (if t then one id ∷ [] else [])) right
+    (subst (AllByRecursion P) some (subst (λ (o : Option BlockId). AllByRecursion P (of o)) is h))).0
+
+each_there : {A : Type 0} (symbols : List Symbol) (t : Tree) (P : A → Type 0) (of : Context → Block → BlockLayout → List A)
+    → AllByRecursion P (each_block of (context_at symbols t 0) t.blocks (layouts_of t symbols))
+    → (k : ℕ) (b : Block) (l : BlockLayout) → IsSound symbols t k b l → AllByRecursion P (of (context_at symbols t k) b l)
+each_there symbols t P of h k b l sound =
+    let from : 0 + k ≡ k = omega arith in
+    subst (λ (n : ℕ). AllByRecursion P (of (context_at symbols t n) b l)) from
+    (each_of symbols t P of 0 t.blocks (layouts_of t symbols) h k b l sound.block_there sound.layout_there)
+
 pub code_block_there : (symbols : List Symbol) (t : Tree) (P : StatedBlock → Type 0)
     → AllByRecursion P (code_blocks_of t symbols (layouts_of t symbols))
     → (k : ℕ) (b : Block) (l : BlockLayout) (id : BlockId) → IsSound symbols t k b l
     → l.id ≡ Some id → is_code id.kind ≡ true → P (code_block (context_at symbols t k) b l id)
 unfolding code_blocks_of
 code_block_there symbols t P h k b l id sound is code =
-    one (subst (λ (n : ℕ). AllByRecursion P (code_block_of (context_at symbols t n) b l l.id))
-    (let from : 0 + k ≡ k = omega arith in from)
-    (each_of symbols t P (λ c b l. code_block_of c b l l.id) 0 t.blocks (layouts_of t symbols)
-    (all_before P is_code_before
-    (each_block (λ c b l. code_block_of c b l l.id) (context_at symbols t 0) t.blocks (layouts_of t symbols)) h)
-    k b l sound.block_there sound.layout_there))
-  where
-    one : AllByRecursion P (code_block_of (context_at symbols t k) b l l.id)
-        → P (code_block (context_at symbols t k) b l id)
-    one h =
-        (subst (λ (t' : Bool). AllByRecursion P (if t' then code_block (context_at symbols t k) b l id ∷ [] else []))
-        code
-        (subst (λ (o : Option BlockId). AllByRecursion P (code_block_of (context_at symbols t k) b l o)) is h)).0
+    let of_ : Context → Block → BlockLayout → List StatedBlock = λ c b l. code_block_of c b l l.id in
+    made_there P (code_block_of (context_at symbols t k) b l) (code_block (context_at symbols t k) b l)
+    (λ id. is_code id.kind) id refl l.id is code (each_there symbols t P of_
+    (all_before P is_code_before (each_block of_ (context_at symbols t 0) t.blocks (layouts_of t symbols)) h) k b l sound)
 
 pub data_block_there : (symbols : List Symbol) (t : Tree) (P : DataBlock → Type 0)
     → AllByRecursion P (data_blocks_of t symbols (layouts_of t symbols))
@@ -86,29 +94,16 @@ pub data_block_there : (symbols : List Symbol) (t : Tree) (P : DataBlock → Typ
     → l.id ≡ Some id → is_data_block id.kind ≡ true → P (generated_data_block (context_at symbols t k) l id)
 unfolding data_blocks_of
 data_block_there symbols t P h k b l id sound is kind =
-    one (subst (λ (n : ℕ). AllByRecursion P (data_block_of (context_at symbols t n) l l.id))
-    (let from : 0 + k ≡ k = omega arith in from)
-    (each_of symbols t P (λ c b l. data_block_of c l l.id) 0 t.blocks (layouts_of t symbols)
-    (all_before P is_data_before
-    (each_block (λ c b l. data_block_of c l l.id) (context_at symbols t 0) t.blocks (layouts_of t symbols)) h)
-    k b l sound.block_there sound.layout_there))
-  where
-    one : AllByRecursion P (data_block_of (context_at symbols t k) l l.id)
-        → P (generated_data_block (context_at symbols t k) l id)
-    one h =
-        (subst (λ (t' : Bool). AllByRecursion P (if t' then generated_data_block (context_at symbols t k) l id ∷ [] else []))
-        kind
-        (subst (λ (o : Option BlockId). AllByRecursion P (data_block_of (context_at symbols t k) l o)) is h)).0
+    let of_ : Context → Block → BlockLayout → List DataBlock = λ c b l. data_block_of c l l.id in
+    made_there P (data_block_of (context_at symbols t k) l) (generated_data_block (context_at symbols t k) l)
+    (λ id. is_data_block id.kind) id refl l.id is kind (each_there symbols t P of_
+    (all_before P is_data_before (each_block of_ (context_at symbols t 0) t.blocks (layouts_of t symbols)) h) k b l sound)
 
 -- ---- no two blocks have one number
 
 kind_itself : (k : BlockKind) → is_same_kind k k ≡ true
 kind_itself kinds.Ob = refl
-kind_itself kinds.Fc = refl
-kind_itself kinds.Fb = refl
-kind_itself kinds.Db = refl
-kind_itself kinds.Sfc = refl
-kind_itself kinds.Udt = refl
+kind_itself _ = refl
 
 block_itself : (id : BlockId) → is_same_block id id ≡ true
 block_itself id =
@@ -199,10 +194,6 @@ finds kind number il ps [] h some = absurd (some tt)
 finds kind number il ps (b ∷ bs) h some =
     by (matches kind number b) refl (finds kind number il ps bs h.1)
   where
-    first : (x y : Bool) → (x && y) ≡ true → x ≡ true
-    first true y e = refl
-    first false y e = absurd cc
-
     by : (t : Bool) → matches kind number b ≡ t
         → ((AllByRecursion (λ b. matches kind number b ≡ false) bs → ⊥)
         → block_with kind number (map signature_of (map record_of_block (map compiled_block bs))) ≡ Some (kind, il, ps))
@@ -211,7 +202,7 @@ finds kind number il ps (b ∷ bs) h some =
         ≡ Some (kind, il, ps)
     by true is more =
         let kinds_same : (sig_of b).kind ≡ kind
-        = eqb-true (sig_of b).kind kind (first ((sig_of b).kind == kind) ((sig_of b).number == number) is) in
+        = eqb-true (sig_of b).kind kind (and_first ((sig_of b).kind == kind) ((sig_of b).number == number) is) in
         let rest = h.0 is in
         ap (λ (k : ℕ). Some (k, (sig_of b).instance_len, (sig_of b).params)) kinds_same
         ∙ ap (λ (n : ℕ). Some (kind, n, (sig_of b).params)) rest.0
@@ -223,24 +214,7 @@ code_kind_same : (j k : BlockKind) → is_code j ≡ true → is_code k ≡ true
 code_kind_same kinds.Ob kinds.Ob e f g = refl
 code_kind_same kinds.Fc kinds.Fc e f g = refl
 code_kind_same kinds.Fb kinds.Fb e f g = refl
-code_kind_same kinds.Ob kinds.Fc e f g = absurd (omega (arith, g))
-code_kind_same kinds.Ob kinds.Fb e f g = absurd (omega (arith, g))
-code_kind_same kinds.Fc kinds.Ob e f g = absurd (omega (arith, g))
-code_kind_same kinds.Fc kinds.Fb e f g = absurd (omega (arith, g))
-code_kind_same kinds.Fb kinds.Ob e f g = absurd (omega (arith, g))
-code_kind_same kinds.Fb kinds.Fc e f g = absurd (omega (arith, g))
-code_kind_same kinds.Db k e f g = absurd cc
-code_kind_same kinds.Sfc k e f g = absurd cc
-code_kind_same kinds.Udt k e f g = absurd cc
-code_kind_same kinds.Ob kinds.Db e f g = absurd cc
-code_kind_same kinds.Ob kinds.Sfc e f g = absurd cc
-code_kind_same kinds.Ob kinds.Udt e f g = absurd cc
-code_kind_same kinds.Fc kinds.Db e f g = absurd cc
-code_kind_same kinds.Fc kinds.Sfc e f g = absurd cc
-code_kind_same kinds.Fc kinds.Udt e f g = absurd cc
-code_kind_same kinds.Fb kinds.Db e f g = absurd cc
-code_kind_same kinds.Fb kinds.Sfc e f g = absurd cc
-code_kind_same kinds.Fb kinds.Udt e f g = absurd cc
+code_kind_same _ _ e f g = absurd (first_of (cc, omega (arith, g)))
 
 id_by : (a b : BlockId) → a.kind ≡ b.kind → a.number ≡ b.number → a ≡ b
 id_by a b e f =
@@ -301,17 +275,13 @@ called_block symbols t tree p b l id h is code =
 
 -- ---- the data block of an instance
 
-zeros_long : (n : ℕ) → length {A = ℕ} (replicate n 0) ≡ n
-zeros_long zero = refl
-zeros_long (suc n) = ap suc (zeros_long n)
-
-initial_long : (l : List BlockLayout) (blocks : List Block) (k : ℕ)
+pub initial_long : (l : List BlockLayout) (blocks : List Block) (k : ℕ)
     → length (initial_bytes l blocks k) ≡ length_at (slice_get l k)
 unfolding initial_bytes
 initial_long l blocks k =
     written_length (replicate (length_at (slice_get l k)) 0)
     (structure_writes l (structure_of l k) ++ setting_writes l k (settings_at (slice_get blocks k)))
-    ∙ zeros_long (length_at (slice_get l k))
+    ∙ length-replicate (length_at (slice_get l k)) 0
 
 len_finds : (number len : ℕ) (ds : List DataBlock)
     → AllByRecursion (λ d. (d.number == number) ≡ true → length d.bytes ≡ len) ds
@@ -325,19 +295,6 @@ len_finds number len (d ∷ ds) h some = by (d.number == number) refl (len_finds
         → (if t then Some (length d.bytes) else length_of_data number (lens_of ds)) ≡ Some len
     by true is more = ap (λ (n : ℕ). Some n) (h.0 is)
     by false is more = more (λ none. some (is, none))
-
-data_kind_same : (j k : BlockKind) → is_data_block j ≡ true → is_data_block k ≡ true → j ≡ k
-data_kind_same kinds.Db kinds.Db e f = refl
-data_kind_same kinds.Ob k e f = absurd cc
-data_kind_same kinds.Fc k e f = absurd cc
-data_kind_same kinds.Fb k e f = absurd cc
-data_kind_same kinds.Sfc k e f = absurd cc
-data_kind_same kinds.Udt k e f = absurd cc
-data_kind_same kinds.Db kinds.Ob e f = absurd cc
-data_kind_same kinds.Db kinds.Fc e f = absurd cc
-data_kind_same kinds.Db kinds.Fb e f = absurd cc
-data_kind_same kinds.Db kinds.Sfc e f = absurd cc
-data_kind_same kinds.Db kinds.Udt e f = absurd cc
 
 pub instance_found : (symbols : List Symbol) (t : Tree) → IsSoundTree symbols t → (q : ℕ)
     (b : Block) (l : BlockLayout) (id : BlockId) → IsSound symbols t q b l → l.id ≡ Some id
@@ -361,7 +318,7 @@ instance_found symbols t tree q b l id h is kind =
         ∙ ap (λ (x : BlockLayout). x.length) layouts
       where
         same : other ≡ id
-        same = id_by other id (data_kind_same other.kind id.kind f kind)
+        same = id_by other id (data_block_kind other.kind f ∙ sym (data_block_kind id.kind kind))
             (eqb-true other.number id.number fits)
 
         place : k ≡ q

@@ -1,12 +1,13 @@
 -- The operation of an instruction takes the width of its operand, writes no input, and prepares nothing.
-use Rattle.std.proofs.Common.{◌≡◌, ℕ, Bool, true, false, ◌&&◌, ◌||◌, not, Option, Some, None, refl, sym, ap, ◌∙◌}
-use Rattle.std.specs.Prelude.{if◌then◌else◌, nat_eq}
+use Rattle.std.proofs.Common.{◌≡◌, ℕ, ◌+◌, Bool, true, false, ◌&&◌, ◌||◌, not, Option, Some, None, refl, sym, ap, ◌∙◌}
+use Rattle.std.specs.Prelude.{◌==◌, if◌then◌else◌, nat_eq}
 use Rattle.plc_base.specs.declared.places.Area.{Area}
 use Rattle.plc_base.specs.declared.places.Area.TheVariants as area
 use Rattle.plc_base.specs.declared.places.Width.{Width}
 use Rattle.plc_base.specs.declared.places.Width.TheVariants as width
 use Rattle.flat_code.specs.Blocks.{Environment, is_bad_place, is_in_parameter as is_input_parameter, lacks_own_parameter, lacks_width, parameter_meant, prepares_statement, writes_operand as writes_code}
 use Rattle.flat_code.specs.OpCodes.{op_code_of}
+use Rattle.flat_code.specs.Placed.{is_opening}
 use Rattle.flat_code.specs.Table.{has_memory_width as has_width_of, takes_of}
 use Rattle.flat_code.specs.Operations.{operation_of as operation_of_code}
 use Rattle.flat_code.specs.declared.table.OperandForms.{OperandForms}
@@ -24,9 +25,11 @@ use Rattle.stl_ast.specs.declared.operands.Operand.{Operand}
 use Rattle.stl_ast.specs.declared.operands.Operand.TheVariants as operand
 use Rattle.block_layout.specs.Offsets.{width_of}
 use Rattle.stl_types.specs.Actuals.{is_input_section}
+use Rattle.stl_types.specs.Brackets.{bracket_function, is_closing_bracket}
 use Rattle.stl_types.specs.Forms.{form_of}
 use Rattle.stl_types.specs.Kinds.{is_bit, is_composite, is_double_word, is_in_memory, width_in}
 use Rattle.stl_types.specs.Operands.{composite_rule, has_width, is_input, is_on_wrong_side, rule_of_resolved_operand, takes_operand, takes_width, form_writes_operand}
+use Rattle.stl_types.specs.Zones.{ends_zone, opens_zone}
 use Rattle.stl_types.specs.declared.forms.OperandRule.{OperandRule}
 use Rattle.stl_types.specs.declared.forms.OperandRule.TheVariants as form
 use Rattle.stl_types.specs.declared.views.Register.{Register}
@@ -37,6 +40,7 @@ use Rattle.stl_types.specs.declared.views.ResolvedOperand.TheVariants as view
 use Rattle.stl_codegen.specs.Emitted.{op_with_end_mark}
 use Rattle.stl_codegen.specs.Operands.{is_db, numbered_operand, block_opened_by_operand, flat_operand_of, register_operand}
 use Rattle.stl_codegen.specs.Operations.{add_operation, load_pointer_operation, load_operation, or_operation, store_pointer_operation, transfer_operation, operation_for}
+use Rattle.sem_kept.specs.Back.{goes_to_next_statement}
 use Rattle.sem_kept.specs.Operands.{IsOpenedFor, IsOperandRightFor}
 
 -- ---- what the rules of operands leave
@@ -76,40 +80,76 @@ allowed f v e =
 
 -- ---- operations
 
-load_ordinary : (v : ResolvedOperand) → prepares_statement (op_code_of (load_operation v)) ≡ false
-load_ordinary (view.Register register.Stw) = refl
-load_ordinary (view.Register which) = refl
-load_ordinary _ = refl
+-- the op code of an instruction, by what it does to brackets
+abbrev pub IsCodeBy : Option ℕ → Bool → (code : ℕ) → Type 0
+IsCodeBy (Some function) c code = (code ≡ 0x18 + function) × (is_opening code ≡ true)
+IsCodeBy None true code = code ≡ 0x1E
+IsCodeBy None false code = (is_opening code ≡ false) × ((code == 0x1E) ≡ false)
 
-transfer_ordinary : (v : ResolvedOperand) → prepares_statement (op_code_of (transfer_operation v)) ≡ false
-transfer_ordinary (view.Register which) = refl
-transfer_ordinary _ = refl
+-- and by what it does to zones
+abbrev pub IsZoneCodeBy : (opened ended : Bool) → (code : ℕ) → Type 0
+IsZoneCodeBy true ended code = code ≡ 0x07
+IsZoneCodeBy false true code = code ≡ 0x08
+IsZoneCodeBy false false code = ((code == 0x07) ≡ false) × ((code == 0x08) ≡ false)
 
-or_ordinary : (v : ResolvedOperand) → prepares_statement (op_code_of (or_operation v)) ≡ false
-or_ordinary view.Nothing = refl
-or_ordinary _ = refl
+abbrev pub IsCodeOf : Mnemonic → (code : ℕ) → Type 0
+IsCodeOf m code =
+    IsCodeBy (bracket_function m) (is_closing_bracket m) code × IsZoneCodeBy (opens_zone m) (ends_zone m) code
 
-load_pointer_ordinary : (v : ResolvedOperand) → prepares_statement (op_code_of (load_pointer_operation v)) ≡ false
-load_pointer_ordinary (view.Register which) = refl
-load_pointer_ordinary _ = refl
+-- that of an operation that has nothing to do with brackets and zones
+abbrev pub IsOtherCode : ℕ → Type 0
+IsOtherCode code = IsCodeBy None false code × IsZoneCodeBy false false code
 
-store_pointer_ordinary : (v : ResolvedOperand) → prepares_statement (op_code_of (store_pointer_operation v)) ≡ false
-store_pointer_ordinary (view.Register which) = refl
-store_pointer_ordinary _ = refl
+-- what an operation of a mnemonic has, whatever its operand: it prepares nothing, goes on to the next statement, and its
+-- code is one by what the mnemonic does to brackets and zones
+pub record IsOperationOf (m : Mnemonic) (w : Operation) : Type 0 where
+  pub prepares : prepares_statement (op_code_of w) ≡ false
+  pub goes_on : goes_to_next_statement w ≡ true
+  pub code : IsCodeOf m (op_code_of w)
 
-add_ordinary : (o : Operand) → prepares_statement (op_code_of (add_operation o)) ≡ false
-add_ordinary (operand.Constant (literal.Long value)) = refl
-add_ordinary _ = refl
+or_is : (v : ResolvedOperand) → IsOperationOf code.O (or_operation v)
+unfolding bracket_function is_closing_bracket opens_zone ends_zone
+or_is view.Nothing = record { prepares = refl; goes_on = refl; code = ((refl, refl), (refl, refl)) }
+or_is _ = record { prepares = refl; goes_on = refl; code = ((refl, refl), (refl, refl)) }
 
-pub ordinary : (m : Mnemonic) (o : Operand) (v : ResolvedOperand) → prepares_statement (op_code_of (operation_for m o v)) ≡ false
-unfolding operation_for
-ordinary code.O o v = or_ordinary v
-ordinary code.L o v = load_ordinary v
-ordinary code.T o v = transfer_ordinary v
-ordinary code.Lar1 o v = load_pointer_ordinary v
-ordinary code.Tar1 o v = store_pointer_ordinary v
-ordinary code.Add o v = add_ordinary o
-ordinary _ o v = refl
+load_is : (v : ResolvedOperand) → IsOperationOf code.L (load_operation v)
+unfolding bracket_function is_closing_bracket opens_zone ends_zone
+load_is (view.Register register.Stw) = record { prepares = refl; goes_on = refl; code = ((refl, refl), (refl, refl)) }
+load_is (view.Register _) = record { prepares = refl; goes_on = refl; code = ((refl, refl), (refl, refl)) }
+load_is _ = record { prepares = refl; goes_on = refl; code = ((refl, refl), (refl, refl)) }
+
+transfer_is : (v : ResolvedOperand) → IsOperationOf code.T (transfer_operation v)
+unfolding bracket_function is_closing_bracket opens_zone ends_zone
+transfer_is (view.Register which) = record { prepares = refl; goes_on = refl; code = ((refl, refl), (refl, refl)) }
+transfer_is _ = record { prepares = refl; goes_on = refl; code = ((refl, refl), (refl, refl)) }
+
+load_pointer_is : (v : ResolvedOperand) → IsOperationOf code.Lar1 (load_pointer_operation v)
+unfolding bracket_function is_closing_bracket opens_zone ends_zone
+load_pointer_is (view.Register which) = record { prepares = refl; goes_on = refl; code = ((refl, refl), (refl, refl)) }
+load_pointer_is _ = record { prepares = refl; goes_on = refl; code = ((refl, refl), (refl, refl)) }
+
+store_pointer_is : (v : ResolvedOperand) → IsOperationOf code.Tar1 (store_pointer_operation v)
+unfolding bracket_function is_closing_bracket opens_zone ends_zone
+store_pointer_is (view.Register which) = record { prepares = refl; goes_on = refl; code = ((refl, refl), (refl, refl)) }
+store_pointer_is _ = record { prepares = refl; goes_on = refl; code = ((refl, refl), (refl, refl)) }
+
+add_is : (o : Operand) → IsOperationOf code.Add (add_operation o)
+unfolding bracket_function is_closing_bracket opens_zone ends_zone
+add_is (operand.Constant (literal.Long value)) = record { prepares = refl; goes_on = refl; code = ((refl, refl), (refl, refl)) }
+add_is _ = record { prepares = refl; goes_on = refl; code = ((refl, refl), (refl, refl)) }
+
+pub operation_is : (m : Mnemonic) (o : Operand) (v : ResolvedOperand) → IsOperationOf m (operation_for m o v)
+unfolding operation_for bracket_function is_closing_bracket opens_zone ends_zone
+operation_is code.Close o v = record { prepares = refl; goes_on = refl; code = (refl, (refl, refl)) }
+operation_is code.McrOpen o v = record { prepares = refl; goes_on = refl; code = ((refl, refl), refl) }
+operation_is code.McrClose o v = record { prepares = refl; goes_on = refl; code = ((refl, refl), refl) }
+operation_is code.O o v = or_is v
+operation_is code.L o v = load_is v
+operation_is code.T o v = transfer_is v
+operation_is code.Lar1 o v = load_pointer_is v
+operation_is code.Tar1 o v = store_pointer_is v
+operation_is code.Add o v = add_is o
+operation_is _ o v = record { prepares = refl; goes_on = refl; code = ((refl, refl), (refl, refl)) }
 
 -- a place in memory stands for all of them
 abbrev in_memory : ResolvedOperand
@@ -158,36 +198,19 @@ or_true false false false d h k l e = absurd cc
 memory_form : (f : OperandRule) (v : ResolvedOperand) → is_in_memory v ≡ true → takes_operand f v ≡ true
     → takes_operand f in_memory ≡ true
 unfolding takes_operand
-memory_form f (view.Direct place w s declared) h k = direct f k
-  where
-    direct : (f : OperandRule) → takes_operand f (view.Direct place w s declared) ≡ true → takes_operand f in_memory ≡ true
-    direct form.Bare k = absurd cc
-    direct _ k = k
-memory_form f (view.Parameter index section declared) h k = other f k
-  where
-    other : (f : OperandRule) → takes_operand f (view.Parameter index section declared) ≡ true → takes_operand f in_memory ≡ true
-    other form.LoadsAr1 k = refl
-    other form.LoadsAr2 k = refl
-    other form.StoresAr1 k = refl
-    other form.StoresAr2 k = refl
-    other _ k = k
-memory_form f (view.ByMemory a w from byte) h k = other f k
-  where
-    other : (f : OperandRule) → takes_operand f (view.ByMemory a w from byte) ≡ true → takes_operand f in_memory ≡ true
-    other form.LoadsAr1 k = refl
-    other form.LoadsAr2 k = refl
-    other form.StoresAr1 k = refl
-    other form.StoresAr2 k = refl
-    other _ k = k
-memory_form f (view.ByRegister a w r bits) h k = other f k
-  where
-    other : (f : OperandRule) → takes_operand f (view.ByRegister a w r bits) ≡ true → takes_operand f in_memory ≡ true
-    other form.LoadsAr1 k = refl
-    other form.LoadsAr2 k = refl
-    other form.StoresAr1 k = refl
-    other form.StoresAr2 k = refl
-    other _ k = k
-memory_form f _ h k = absurd cc
+memory_form form.ReadsBit v h k = refl
+memory_form form.ReadsBitOrBare v h k = refl
+memory_form form.WritesBit v h k = refl
+memory_form form.Sets v h k = refl
+memory_form form.Resets v h k = refl
+memory_form form.Loads v h k = refl
+memory_form form.Transfers v h k = refl
+memory_form form.LoadsAr1 v h k = refl
+memory_form form.LoadsAr2 v h k = refl
+memory_form form.StoresAr1 v h k = refl
+memory_form form.StoresAr2 v h k = refl
+memory_form _ view.Nothing h k = absurd cc
+memory_form _ _ h k = absurd cc
 
 bit_only : (t : OperandForms) → has_width_of t width.Bit ≡ true → (w : Width) → is_bit (Some w) ≡ true
     → has_width_of t w ≡ true
@@ -283,9 +306,7 @@ ViewFits a _ = Unit {0}
 numbered_fits : (a : Environment) (w : Operation) (what : Numbered) (from : Area) (byte : ℕ)
     → IsOperandRightFor a (op_with_end_mark w (numbered_operand what from byte)) (numbered_operand what from byte)
 numbered_fits a w numbered.Timer from byte = tt
-numbered_fits a w numbered.Counter from byte = tt
-numbered_fits a w numbered.Db from byte = tt
-numbered_fits a w numbered.Di from byte = tt
+numbered_fits a w _ from byte = tt
 
 register_fits : (a : Environment) (w : Operation) (which : Register)
     → IsOperandRightFor a (op_with_end_mark w (register_operand which)) (register_operand which)

@@ -111,15 +111,13 @@ time_fits _ is has h = absurd cc
 
 literal_width : (value : Literal) (kind : Simple) → IsLiteral value → HasBytes value
     → fits_elementary_type value kind ≡ true → literal_fits (width_number (width_of kind)) (bits_of value) ≡ true
-literal_width value simple.Dword is has h = refl
-literal_width value simple.Dint is has h = refl
-literal_width value simple.Time is has h = refl
 literal_width value simple.Word is has h = word_fits value is has h
 literal_width value simple.Bool is has h = truth_fits value h
 literal_width value simple.Byte is has h = byte_fits value is h
 literal_width value simple.Char is has h = char_fits value has h
 literal_width value simple.Int is has h = int_fits value is h
 literal_width value simple.S5time is has h = time_fits value is has h
+literal_width value _ is has h = refl
 
 -- ---- what is passed for a parameter
 
@@ -135,10 +133,7 @@ same_widths width.Bit width.Bit e = refl
 same_widths width.Byte width.Byte e = refl
 same_widths width.Word width.Word e = refl
 same_widths width.Dword width.Dword e = refl
-same_widths width.Bit _ e = absurd cc
-same_widths width.Byte _ e = absurd cc
-same_widths width.Word _ e = absurd cc
-same_widths width.Dword _ e = absurd cc
+same_widths _ _ e = absurd cc
 
 same_types : (a b : Simple) → is_same_type a b ≡ true → width_of a ≡ width_of b
 same_types a b e = by a b (eqb-true (type_number a) (type_number b) e)
@@ -153,15 +148,7 @@ same_types a b e = by a b (eqb-true (type_number a) (type_number b) e)
     by simple.Dword simple.Dword e = refl
     by simple.Dint simple.Dint e = refl
     by simple.Time simple.Time e = refl
-    by simple.Bool _ e = absurd (omega (arith, e))
-    by simple.Byte _ e = absurd (omega (arith, e))
-    by simple.Char _ e = absurd (omega (arith, e))
-    by simple.Word _ e = absurd (omega (arith, e))
-    by simple.Int _ e = absurd (omega (arith, e))
-    by simple.S5time _ e = absurd (omega (arith, e))
-    by simple.Dword _ e = absurd (omega (arith, e))
-    by simple.Dint _ e = absurd (omega (arith, e))
-    by simple.Time _ e = absurd (omega (arith, e))
+    by _ _ e = absurd (omega (arith, e))
 
 typed_width : (f : Formal) (w : Width) (declared : Option Simple) → fits_type f w declared ≡ true
     → HasWidth w declared → w ≡ width_of f.kind
@@ -184,12 +171,7 @@ place_passes a r area.Db number byte bit w fits same = by (nat_eq number 0)
         × (misfits_parameter a r (if true && not t then passed.InBlock number area.Db w byte bit else passed.Direct area.Db w byte bit) ≡ false)
     by true = (fits, same)
     by false = (or_first (is_odd_bit w bit) (is_past_locals a area.Db w byte) fits, same)
-place_passes a r area.I number byte bit w fits same = (fits, same)
-place_passes a r area.Q number byte bit w fits same = (fits, same)
-place_passes a r area.M number byte bit w fits same = (fits, same)
-place_passes a r area.P number byte bit w fits same = (fits, same)
-place_passes a r area.Di number byte bit w fits same = (fits, same)
-place_passes a r area.L number byte bit w fits same = (fits, same)
+place_passes a r _ number byte bit w fits same = (fits, same)
 
 section_input : (f : Formal) (r : ParameterRecord) → IsRecordOf f r
     → (r.section == 1) ≡ is_input_section f.section
@@ -265,20 +247,7 @@ pub passes : (a : Environment) (c : Context) (f : Formal) (r : ParameterRecord) 
     → fits_operand c f o ≡ true → Passes a c r o
 unfolding fits_operand
 passes a c f r (operand.Constant value) s is has h taken = constant_passes a c f r value is has h taken
-passes a c f r operand.Nothing s is has h taken = other_passes a c f r operand.Nothing s h taken
-passes a c f r (operand.Direct n g w y i) s is has h taken = other_passes a c f r (operand.Direct n g w y i) s h taken
-passes a c f r (operand.Timer n) s is has h taken = other_passes a c f r (operand.Timer n) s h taken
-passes a c f r (operand.Counter n) s is has h taken = other_passes a c f r (operand.Counter n) s h taken
-passes a c f r (operand.Named p t) s is has h taken = other_passes a c f r (operand.Named p t) s h taken
-passes a c f r (operand.ByMemory g w m y) s is has h taken = other_passes a c f r (operand.ByMemory g w m y) s h taken
-passes a c f r (operand.NumberBy w m y) s is has h taken = other_passes a c f r (operand.NumberBy w m y) s h taken
-passes a c f r (operand.ByRegister g w n b) s is has h taken = other_passes a c f r (operand.ByRegister g w n b) s h taken
-passes a c f r (operand.Pointer g y i) s is has h taken = other_passes a c f r (operand.Pointer g y i) s h taken
-passes a c f r (operand.Label n) s is has h taken = other_passes a c f r (operand.Label n) s h taken
-passes a c f r (operand.OfStatus g) s is has h taken = other_passes a c f r (operand.OfStatus g) s h taken
-passes a c f r (operand.Other n) s is has h taken = other_passes a c f r (operand.Other n) s h taken
-passes a c f r (operand.OpenBlock d n) s is has h taken = other_passes a c f r (operand.OpenBlock d n) s h taken
-passes a c f r (operand.Called n i) s is has h taken = other_passes a c f r (operand.Called n i) s h taken
+passes a c f r o s is has h taken = other_passes a c f r o s h taken
 
 -- ---- the actual parameters of a call
 

@@ -3,11 +3,11 @@
 use Rattle.std.proofs.Common.{◌≡◌, ℕ, ◌+◌, Bool, true, false, ◌&&◌, ◌||◌, not, List, [], ◌∷◌, ◌++◌, map, append_assoc, Option, Some, None, refl, sym, ap, subst, ◌∙◌}
 use Rattle.std.specs.Prelude.{◌==◌}
 use Rattle.std.specs.List.{AllByRecursion}
-use Rattle.std.proofs.lemmas.List.{map-append}
+use Rattle.std.proofs.lemmas.List.{append-nil, map-append}
 use Rattle.std.proofs.lemmas.Bool.{or_from}
 use Rattle.plc_base.specs.declared.blocks.BlockId.{BlockId}
 use Rattle.plc_base.specs.Kinds.{kind_number}
-use Rattle.flat_code.specs.Blocks.{Environment, callee_among, call_fault_among, is_above, is_bad_actual, is_bad_call, is_bad_place, is_in_db, is_stray_pass, is_stray_use_db, lacks_width, mark_fault, misfits_call, misfits_callee, operand_fault, pass_before, pass_index, prepares_statement, seven_if}
+use Rattle.flat_code.specs.Blocks.{CalleeSeen, Environment, callee_among, call_fault_among, is_above, is_bad_actual, is_bad_call, is_bad_place, is_in_db, is_stray_pass, lacks_width, mark_fault, misfits_call, misfits_callee, operand_fault, pass_before, pass_index, prepares_statement, seven_if}
 use Rattle.flat_code.specs.Codes.{first_found, size_of_op}
 use Rattle.flat_code.specs.Instr.{Instr, Passing, Does, Jumps, JumpsByList, Calls, Returns}
 use Rattle.flat_code.specs.Kinds.{jump_number}
@@ -45,20 +45,7 @@ marked w o e = rw e refl
 aimed_still : (f : ℕ → ℕ) (a : Environment) (op : OpData) (o : Operand) → IsOperandRightFor a op o
     → operand_with_target f o ≡ o
 aimed_still f a op (operand.Jump kind target) h = absurd h
-aimed_still f a op operand.Nothing h = refl
-aimed_still f a op (operand.Literal value) h = refl
-aimed_still f a op (operand.Direct area w byte bit) h = refl
-aimed_still f a op (operand.ByMemory area w from byte) h = refl
-aimed_still f a op (operand.ByRegister area w register bits) h = refl
-aimed_still f a op (operand.Parameter index w) h = refl
-aimed_still f a op (operand.Numbered kind number) h = refl
-aimed_still f a op (operand.NumberedBy kind from byte) h = refl
-aimed_still f a op (operand.OfStatus condition) h = refl
-aimed_still f a op (operand.UseDb number) h = refl
-aimed_still f a op (operand.Pass index actual) h = refl
-aimed_still f a op (operand.Called kind number instance) h = refl
-aimed_still f a op (operand.OpenBlock register number) h = refl
-aimed_still f a op (operand.OpenBy register from byte) h = refl
+aimed_still f a op _ h = refl
 
 right_operand : (a : Environment) (ss : List StatementSpot) (p : PlacedOp) (o : Operand) → IsOperandRightFor a p.op o
     → operand_fault a ss p o ≡ None
@@ -73,107 +60,30 @@ right_operand a ss p (operand.Jump kind target) h = absurd h
 right_operand a ss p (operand.UseDb number) h = absurd h
 right_operand a ss p (operand.Pass index actual) h = absurd h
 right_operand a ss p (operand.Called kind number instance) h = absurd h
-right_operand a ss p operand.Nothing h = refl
-right_operand a ss p (operand.Literal value) h = refl
-right_operand a ss p (operand.Numbered kind number) h = refl
-right_operand a ss p (operand.NumberedBy kind from byte) h = refl
-right_operand a ss p (operand.OfStatus condition) h = refl
-right_operand a ss p (operand.OpenBlock register number) h = refl
-right_operand a ss p (operand.OpenBy register from byte) h = refl
+right_operand a ss p _ h = refl
 
 right_call : (a : Environment) (lens : List (ℕ × ℕ)) (p : PlacedOp) (o : Operand) → IsOperandRightFor a p.op o
     → call_fault_among a lens p o ≡ None
-right_call a lens p (operand.Direct area w byte bit) h = refl
-right_call a lens p (operand.ByMemory area w from byte) h = refl
-right_call a lens p (operand.ByRegister area w register bits) h = refl
-right_call a lens p (operand.Parameter index w) h = refl
 right_call a lens p (operand.Jump kind target) h = absurd h
 right_call a lens p (operand.UseDb number) h = absurd h
 right_call a lens p (operand.Pass index actual) h = absurd h
 right_call a lens p (operand.Called kind number instance) h = absurd h
-right_call a lens p operand.Nothing h = refl
-right_call a lens p (operand.Literal value) h = refl
-right_call a lens p (operand.Numbered kind number) h = refl
-right_call a lens p (operand.NumberedBy kind from byte) h = refl
-right_call a lens p (operand.OfStatus condition) h = refl
-right_call a lens p (operand.OpenBlock register number) h = refl
-right_call a lens p (operand.OpenBy register from byte) h = refl
+right_call a lens p _ h = refl
 
--- the ops behind a statement are fine wherever they stand
-abbrev FineBehind : Environment → List (ℕ × ℕ) → List StatementSpot → List OpData → Type 0
-FineBehind a lens ss rest = (at : ℕ) (brackets : List OpenBracket) (zones : List ℕ)
-    → HaveNoOperandFaults a lens ss (ops_placed at brackets zones [] rest)
+-- an op where it stands
+abbrev placed_op : ℕ → List OpenBracket → List ℕ → (before : List OpData) → OpData → (rest : List OpData) → PlacedOp
+placed_op at brackets zones before op rest =
+    record { at = at; brackets = brackets; zones = zones; before = before; op = op; rest = rest }
 
--- an op that ends a statement, and those behind it
-last_fine : (a : Environment) (lens : List (ℕ × ℕ)) (ss : List StatementSpot) (at : ℕ)
-    (brackets : List OpenBracket) (zones : List ℕ) (before : List OpData) (op : OpData) (rest : List OpData)
-    → op.last ≡ true
-    → HasNoOperandFault a lens ss (record { at = at; brackets = brackets; zones = zones; before = before; op = op; rest = rest })
-    → FineBehind a lens ss rest → HaveNoOperandFaults a lens ss (ops_placed at brackets zones before (op ∷ rest))
-last_fine a lens ss at brackets zones before op rest last fine behind = (
-  fine,
-  subst (λ (z : List OpData). HaveNoOperandFaults a lens ss (ops_placed (at + size_of_op op) (brackets_after at op.code brackets) (zones_behind_op at op.code zones) z rest))
-      (sym next) (behind (at + size_of_op op) (brackets_after at op.code brackets) (zones_behind_op at op.code zones)),
-)
-  where
-    next : before_next op before ≡ []
-    next = rw last refl
+abbrev use_db_op : ℕ → OpData
+use_db_op number = preparing_op operation.UseDb (operand.UseDb number)
 
-does_fine : (a : Environment) (lens : List (ℕ × ℕ)) (ss : List StatementSpot) (at : ℕ)
-    (brackets : List OpenBracket) (zones : List ℕ) (before : List OpData) (w : Operation) (o : Operand) (rest : List OpData)
-    → prepares_statement (op_code_of w) ≡ false → IsOperandRightFor a (op_with_end_mark w o) o → FineBehind a lens ss rest
-    → HaveNoOperandFaults a lens ss (ops_placed at brackets zones before (op_with_end_mark w o ∷ rest))
-does_fine a lens ss at brackets zones before w o rest own right behind =
-    last_fine a lens ss at brackets zones before (op_with_end_mark w o) rest refl
-    (record {
-      operand = λ still. right_operand a ss
-          (record { at = at; brackets = brackets; zones = zones; before = before; op = op_with_end_mark w o; rest = rest }) o right;
-      call = right_call a lens
-          (record { at = at; brackets = brackets; zones = zones; before = before; op = op_with_end_mark w o; rest = rest }) o right;
-      mark = marked w o own;
-    })
-    behind
-
-use_db_fine : (a : Environment) (lens : List (ℕ × ℕ)) (ss : List StatementSpot) (at number : ℕ)
-    (brackets : List OpenBracket) (zones : List ℕ) (w : Operation) (o : Operand) (rest : List OpData)
-    → is_in_db o ≡ true
-    → HasNoOperandFault a lens ss (record {
-      at = at;
-      brackets = brackets;
-      zones = zones;
-      before = [];
-      op = preparing_op operation.UseDb (operand.UseDb number);
-      rest = op_with_end_mark w o ∷ rest;
-    })
-use_db_fine a lens ss at number brackets zones w o rest db = record {
-  operand = λ still. seven_none _ stray;
-  call = refl;
-  mark = refl;
-}
-  where
-    here : PlacedOp
-    here = record {
-      at = at;
-      brackets = brackets;
-      zones = zones;
-      before = [];
-      op = preparing_op operation.UseDb (operand.UseDb number);
-      rest = op_with_end_mark w o ∷ rest;
-    }
-
-    last : last_op here ≡ op_with_end_mark w o
-    last = ends_here (op_with_end_mark w o) rest refl
-
-    stray : is_stray_use_db here ≡ false
-    stray = ap (λ (op : OpData). not (is_in_db op.operand)) last ∙ not_true (is_in_db o) db
-
--- ---- calls
+abbrev pass_op : Passing → OpData
+pass_op p = preparing_op operation.Pass (operand.Pass p.index p.actual)
 
 passing_still : (f : ℕ → ℕ) (ps : List Passing) → map (op_with_target f) (pass_ops ps) ≡ pass_ops ps
 passing_still f [] = refl
-passing_still f (p ∷ ps) =
-    ap (λ (z : List OpData). preparing_op operation.Pass (operand.Pass p.index p.actual) ∷ z)
-    (passing_still f ps)
+passing_still f (p ∷ ps) = ap (λ (z : List OpData). pass_op p ∷ z) (passing_still f ps)
 
 pass_last : (found : Option ℕ) (ops : List OpData) (op : OpData)
     → pass_before found (ops ++ op ∷ []) ≡ first_found (pass_index op.operand) (pass_before found ops)
@@ -184,177 +94,172 @@ pass_last found (x ∷ ops) op = pass_last (first_found (pass_index x.operand) f
 ends_calls : (op : OpData) (ps : List Passing) (call : OpData) (rest : List OpData)
     → op.last ≡ false → call.last ≡ true → ending_op op (pass_ops ps ++ call ∷ rest) ≡ call
 ends_calls op [] call rest going closed = rw going (ends_here call rest closed)
-ends_calls op (p ∷ ps) call rest going closed =
-    rw going (ends_calls (preparing_op operation.Pass (operand.Pass p.index p.actual)) ps call rest refl closed)
+ends_calls op (p ∷ ps) call rest going closed = rw going (ends_calls (pass_op p) ps call rest refl closed)
 
-pass_fine : (a : Environment) (lens : List (ℕ × ℕ)) (ss : List StatementSpot) (at : ℕ)
-    (brackets : List OpenBracket) (zones : List ℕ) (before : List OpData) (p : Passing) (ps : List Passing)
-    (block : BlockId) (instance : Option ℕ) (rest : List OpData)
-    → is_above p.index (pass_before None before) ≡ true → is_bad_actual a p.actual ≡ false
-    → misfits_callee a (callee_among a.blocks (kind_number block.kind) block.number) p.index p.actual ≡ false
-    → HasNoOperandFault a lens ss (record {
-      at = at;
-      brackets = brackets;
-      zones = zones;
-      before = before;
-      op = preparing_op operation.Pass (operand.Pass p.index p.actual);
-      rest = pass_ops ps ++ call_op calls.Call block instance ∷ rest;
-    })
-pass_fine a lens ss at brackets zones before p ps block instance rest above bad misfits = record {
-  operand = λ still. seven_none _ (or_from (is_stray_pass here p.index) (is_bad_actual a p.actual) stray bad);
-  call = seven_none _ unfit;
-  mark = refl;
-}
-  where
-    here : PlacedOp
-    here = record {
-      at = at;
-      brackets = brackets;
-      zones = zones;
-      before = before;
-      op = preparing_op operation.Pass (operand.Pass p.index p.actual);
-      rest = pass_ops ps ++ call_op calls.Call block instance ∷ rest;
-    }
+module _ (a : Environment) (lens : List (ℕ × ℕ)) (ss : List StatementSpot) where
+  -- ops have no fault where they stand, behind these of their statement
+  abbrev AreFine : ℕ → List OpenBracket → List ℕ → (before ops : List OpData) → Type 0
+  AreFine at brackets zones before ops = HaveNoOperandFaults a lens ss (ops_placed at brackets zones before ops)
 
-    last : last_op here ≡ call_op calls.Call block instance
-    last = ends_calls (preparing_op operation.Pass (operand.Pass p.index p.actual)) ps
-        (call_op calls.Call block instance) rest refl refl
+  -- the ops behind a statement have none wherever they stand
+  abbrev FineBehind : List OpData → Type 0
+  FineBehind rest = (at : ℕ) (brackets : List OpenBracket) (zones : List ℕ) → AreFine at brackets zones [] rest
 
-    stray : is_stray_pass here p.index ≡ false
-    stray =
-        ap (λ (op : OpData). not (op.code == 0x78) || not (is_above p.index (pass_before None before))) last
-        ∙ not_true (is_above p.index (pass_before None before)) above
+  -- the block that a call means
+  abbrev callee : BlockId → Option CalleeSeen
+  callee block = callee_among a.blocks (kind_number block.kind) block.number
 
-    unfit : ((last_op here).code == 0x78 && misfits_call a (last_op here).operand p.index p.actual) ≡ false
-    unfit =
-        ap (λ (op : OpData). op.code == 0x78 && misfits_call a op.operand p.index p.actual) last
-        ∙ misfits
+  -- an op that ends a statement, and those behind it
+  last_fine : (at : ℕ) (brackets : List OpenBracket) (zones : List ℕ) (before : List OpData) (op : OpData) (rest : List OpData)
+      → op.last ≡ true → HasNoOperandFault a lens ss (placed_op at brackets zones before op rest)
+      → FineBehind rest → AreFine at brackets zones before (op ∷ rest)
+  last_fine at brackets zones before op rest last fine behind = (
+    fine,
+    subst (λ (z : List OpData). AreFine (at + size_of_op op) (brackets_after at op.code brackets) (zones_behind_op at op.code zones) z rest)
+        (sym next) (behind (at + size_of_op op) (brackets_after at op.code brackets) (zones_behind_op at op.code zones)),
+  )
+    where
+      next : before_next op before ≡ []
+      next = rw last refl
 
-call_fine : (a : Environment) (lens : List (ℕ × ℕ)) (ss : List StatementSpot) (at : ℕ)
-    (brackets : List OpenBracket) (zones : List ℕ) (before : List OpData) (how : CallOperation) (block : BlockId)
-    (instance : Option ℕ) (rest : List OpData)
-    → is_bad_call lens (callee_among a.blocks (kind_number block.kind) block.number)
-    (instance_number_or_zero instance) before ≡ false
-    → FineBehind a lens ss rest
-    → HaveNoOperandFaults a lens ss (ops_placed at brackets zones before (call_op how block instance ∷ rest))
-call_fine a lens ss at brackets zones before how block instance rest bad behind =
-    last_fine a lens ss at brackets zones before (call_op how block instance) rest refl
-    (record { operand = λ still. refl; call = seven_none _ bad; mark = by how }) behind
-  where
-    by : (how : CallOperation) → mark_fault (call_op how block instance) ≡ None
-    by calls.Call = refl
-    by calls.Uc = refl
-    by calls.Cc = refl
+  does_fine : (at : ℕ) (brackets : List OpenBracket) (zones : List ℕ) (before : List OpData) (w : Operation) (o : Operand)
+      (rest : List OpData) → prepares_statement (op_code_of w) ≡ false → IsOperandRightFor a (op_with_end_mark w o) o
+      → FineBehind rest → AreFine at brackets zones before (op_with_end_mark w o ∷ rest)
+  does_fine at brackets zones before w o rest own right behind =
+      let p = placed_op at brackets zones before (op_with_end_mark w o) rest in
+      last_fine at brackets zones before (op_with_end_mark w o) rest refl
+      (record { operand = λ still. right_operand a ss p o right; call = right_call a lens p o right; mark = marked w o own })
+      behind
 
-calls_fine : (a : Environment) (lens : List (ℕ × ℕ)) (ss : List StatementSpot) (at : ℕ)
-    (brackets : List OpenBracket) (zones : List ℕ) (done : List OpData) (block : BlockId)
-    (instance : Option ℕ) (left : List Passing) (rest : List OpData)
-    → ArePassed a (callee_among a.blocks (kind_number block.kind) block.number) (pass_before None done) left
-    → is_bad_call lens (callee_among a.blocks (kind_number block.kind) block.number)
-    (instance_number_or_zero instance) (done ++ pass_ops left) ≡ false
-    → FineBehind a lens ss rest
-    → HaveNoOperandFaults a lens ss (ops_placed at brackets zones done (pass_ops left ++ call_op calls.Call block instance ∷ rest))
-calls_fine a lens ss at brackets zones done block instance [] rest passed bad behind =
-    call_fine a lens ss at brackets zones done calls.Call block instance rest
-    (subst (λ (z : List OpData). is_bad_call lens (callee_among a.blocks (kind_number block.kind) block.number)
-    (instance_number_or_zero instance) z ≡ false) (append_nothing done) bad) behind
-  where
-    append_nothing : (ops : List OpData) → ops ++ [] ≡ ops
-    append_nothing [] = refl
-    append_nothing (op ∷ ops) = ap (λ (z : List OpData). op ∷ z) (append_nothing ops)
-calls_fine a lens ss at brackets zones done block instance (p ∷ ps) rest passed bad behind = (
-  pass_fine a lens ss at brackets zones done p ps block instance rest passed.0 passed.1 passed.2,
-  calls_fine a lens ss (at + size_of_op op) (brackets_after at op.code brackets) (zones_behind_op at op.code zones) (done ++ op ∷ []) block instance ps rest
-      (subst (λ (o : Option ℕ). ArePassed a (callee_among a.blocks (kind_number block.kind) block.number) o ps)
-      (sym (pass_last None done op)) passed.3)
-      (subst (λ (z : List OpData). is_bad_call lens (callee_among a.blocks (kind_number block.kind) block.number)
-      (instance_number_or_zero instance) z ≡ false) (sym (append_assoc done (op ∷ []) (pass_ops ps))) bad)
-      behind,
-)
-  where
-    op : OpData
-    op = preparing_op operation.Pass (operand.Pass p.index p.actual)
+  use_db_fine : (at number : ℕ) (brackets : List OpenBracket) (zones : List ℕ) (w : Operation) (o : Operand)
+      (rest : List OpData) → is_in_db o ≡ true
+      → HasNoOperandFault a lens ss (placed_op at brackets zones [] (use_db_op number) (op_with_end_mark w o ∷ rest))
+  use_db_fine at number brackets zones w o rest db = record {
+    operand = λ still. seven_none _ (ap (λ (op : OpData). not (is_in_db op.operand))
+        (ends_here (op_with_end_mark w o) rest refl) ∙ not_true (is_in_db o) db);
+    call = refl;
+    mark = refl;
+  }
 
--- ---- statements
+  -- ---- calls
 
-jump_fine : (a : Environment) (lens : List (ℕ × ℕ)) (ss : List StatementSpot) (at kind target : ℕ)
-    (brackets : List OpenBracket) (zones : List ℕ) (rest : List OpData)
-    → FineBehind a lens ss rest
-    → HaveNoOperandFaults a lens ss (ops_placed at brackets zones [] (op_with_end_mark operation.Jump (operand.Jump kind target) ∷ rest))
-jump_fine a lens ss at kind target brackets zones rest behind =
-    last_fine a lens ss at brackets zones [] (op_with_end_mark operation.Jump (operand.Jump kind target)) rest refl
-    (record { operand = λ still. absurd still; call = refl; mark = refl }) behind
+  pass_fine : (at : ℕ) (brackets : List OpenBracket) (zones : List ℕ) (before : List OpData) (p : Passing)
+      (ps : List Passing) (block : BlockId) (instance : Option ℕ) (rest : List OpData)
+      → is_above p.index (pass_before None before) ≡ true → is_bad_actual a p.actual ≡ false
+      → misfits_callee a (callee block) p.index p.actual ≡ false
+      → HasNoOperandFault a lens ss
+      (placed_op at brackets zones before (pass_op p) (pass_ops ps ++ call_op calls.Call block instance ∷ rest))
+  pass_fine at brackets zones before p ps block instance rest above bad misfits = record {
+    operand = λ still. seven_none _ (or_from (is_stray_pass here p.index) (is_bad_actual a p.actual) stray bad);
+    call = seven_none _ (ap (λ (op : OpData). op.code == 0x78 && misfits_call a op.operand p.index p.actual) last ∙ misfits);
+    mark = refl;
+  }
+    where
+      here : PlacedOp
+      here = placed_op at brackets zones before (pass_op p) (pass_ops ps ++ call_op calls.Call block instance ∷ rest)
 
-end_fine : (a : Environment) (lens : List (ℕ × ℕ)) (ss : List StatementSpot) (at : ℕ)
-    (brackets : List OpenBracket) (zones : List ℕ) (how : EndOperation) (rest : List OpData) → FineBehind a lens ss rest
-    → HaveNoOperandFaults a lens ss (ops_placed at brackets zones [] (end_op how ∷ rest))
-end_fine a lens ss at brackets zones how rest behind =
-    last_fine a lens ss at brackets zones [] (end_op how) rest refl
-    (record { operand = λ still. refl; call = refl; mark = by how }) behind
-  where
-    by : (how : EndOperation) → mark_fault (end_op how) ≡ None
-    by ends.Be = refl
-    by ends.Bec = refl
-    by ends.Beu = refl
+      last : last_op here ≡ call_op calls.Call block instance
+      last = ends_calls (pass_op p) ps (call_op calls.Call block instance) rest refl refl
 
-instr_fine : (a : Environment) (lens : List (ℕ × ℕ)) (ss : List StatementSpot) (f : ℕ → ℕ) (at : ℕ)
-    (brackets : List OpenBracket) (zones : List ℕ) (i : Instr) (rest : List OpData) → InstrFits a lens i
-    → FineBehind a lens ss rest
-    → HaveNoOperandFaults a lens ss (ops_placed at brackets zones [] (map (op_with_target f) (ops_of i) ++ rest))
-unfolding ops_of
-instr_fine a lens ss f at brackets zones (Does None w o) rest h behind =
-    subst (λ (x : Operand). HaveNoOperandFaults a lens ss (ops_placed at brackets zones [] (op_with_end_mark w x ∷ rest)))
-    (sym (aimed_still f a (op_with_end_mark w o) o h.1))
-    (does_fine a lens ss at brackets zones [] w o rest h.0 h.1 behind)
-instr_fine a lens ss f at brackets zones (Does (Some number) w o) rest h behind =
-    subst (λ (x : Operand). HaveNoOperandFaults a lens ss (ops_placed at brackets zones []
-    (preparing_op operation.UseDb (operand.UseDb number) ∷ op_with_end_mark w x ∷ rest)))
-    (sym (aimed_still f a (op_with_end_mark w o) o h.1)) (
-      use_db_fine a lens ss at number brackets zones w o rest h.2,
-      does_fine a lens ss (at + size_of_op (preparing_op operation.UseDb (operand.UseDb number))) brackets zones
-          (preparing_op operation.UseDb (operand.UseDb number) ∷ []) w o rest h.0 h.1 behind,
-    )
-instr_fine a lens ss f at brackets zones (Jumps how target) rest h behind =
-    jump_fine a lens ss at (jump_number how) (f target) brackets zones rest behind
-instr_fine a lens ss f at brackets zones (JumpsByList targets otherwise) rest h behind =
-    jump_fine a lens ss at 1 (f otherwise) brackets zones rest behind
-instr_fine a lens ss f at brackets zones (Returns how) rest h behind =
-    end_fine a lens ss at brackets zones how rest behind
-instr_fine a lens ss f at brackets zones (Calls calls.Call block instance ps) rest h behind =
-    subst (λ (z : List OpData). HaveNoOperandFaults a lens ss (ops_placed at brackets zones [] z)) (sym same)
-    (calls_fine a lens ss at brackets zones [] block instance ps rest h.1 h.2 behind)
-  where
-    call : OpData
-    call = call_op calls.Call block instance
+      stray : is_stray_pass here p.index ≡ false
+      stray =
+          ap (λ (op : OpData). not (op.code == 0x78) || not (is_above p.index (pass_before None before))) last
+          ∙ not_true (is_above p.index (pass_before None before)) above
 
-    same : map (op_with_target f) (pass_ops ps ++ call ∷ []) ++ rest ≡ pass_ops ps ++ call ∷ rest
-    same =
-        ap (λ (z : List OpData). z ++ rest) (map-append (op_with_target f) (pass_ops ps) (call ∷ [])
-        ∙ ap (λ (z : List OpData). z ++ call ∷ []) (passing_still f ps))
-        ∙ append_assoc (pass_ops ps) (call ∷ []) rest
-instr_fine a lens ss f at brackets zones (Calls calls.Uc block instance []) rest h behind =
-    call_fine a lens ss at brackets zones [] calls.Uc block instance rest h.2 behind
-instr_fine a lens ss f at brackets zones (Calls calls.Cc block instance []) rest h behind =
-    call_fine a lens ss at brackets zones [] calls.Cc block instance rest h.2 behind
-instr_fine a lens ss f at brackets zones (Calls calls.Uc block instance (p ∷ ps)) rest h behind =
-    let none = h.0 in absurd cc
-instr_fine a lens ss f at brackets zones (Calls calls.Cc block instance (p ∷ ps)) rest h behind =
-    let none = h.0 in absurd cc
+  call_fine : (at : ℕ) (brackets : List OpenBracket) (zones : List ℕ) (before : List OpData) (how : CallOperation)
+      (block : BlockId) (instance : Option ℕ) (rest : List OpData)
+      → is_bad_call lens (callee block) (instance_number_or_zero instance) before ≡ false
+      → FineBehind rest → AreFine at brackets zones before (call_op how block instance ∷ rest)
+  call_fine at brackets zones before how block instance rest bad behind =
+      last_fine at brackets zones before (call_op how block instance) rest refl
+      (record { operand = λ still. refl; call = seven_none _ bad; mark = by how }) behind
+    where
+      by : (how : CallOperation) → mark_fault (call_op how block instance) ≡ None
+      by calls.Call = refl
+      by _ = refl
 
--- ---- a block
+  calls_fine : (at : ℕ) (brackets : List OpenBracket) (zones : List ℕ) (done : List OpData) (block : BlockId)
+      (instance : Option ℕ) (left : List Passing) (rest : List OpData)
+      → ArePassed a (callee block) (pass_before None done) left
+      → is_bad_call lens (callee block) (instance_number_or_zero instance) (done ++ pass_ops left) ≡ false
+      → FineBehind rest → AreFine at brackets zones done (pass_ops left ++ call_op calls.Call block instance ∷ rest)
+  calls_fine at brackets zones done block instance [] rest passed bad behind =
+      call_fine at brackets zones done calls.Call block instance rest
+      (subst (λ (z : List OpData). is_bad_call lens (callee block) (instance_number_or_zero instance) z ≡ false)
+      (append-nil done) bad) behind
+  calls_fine at brackets zones done block instance (p ∷ ps) rest passed bad behind =
+      let op = pass_op p in (
+        pass_fine at brackets zones done p ps block instance rest passed.0 passed.1 passed.2,
+        calls_fine (at + size_of_op op) (brackets_after at op.code brackets) (zones_behind_op at op.code zones) (done ++ op ∷ [])
+            block instance ps rest
+            (subst (λ (o : Option ℕ). ArePassed a (callee block) o ps) (sym (pass_last None done op)) passed.3)
+            (subst (λ (z : List OpData). is_bad_call lens (callee block) (instance_number_or_zero instance) z ≡ false)
+            (sym (append_assoc done (op ∷ []) (pass_ops ps))) bad)
+            behind,
+      )
 
-statements_fine : (a : Environment) (lens : List (ℕ × ℕ)) (ss : List StatementSpot) (f : ℕ → ℕ)
-    (statements : List SourceInstruction) → AllByRecursion (λ s. InstrFits a lens s.instr) statements
-    → FineBehind a lens ss (map (op_with_target f) (ops_in statements))
-statements_fine a lens ss f [] h at brackets zones = tt
-statements_fine a lens ss f (s ∷ more) h at brackets zones =
-    subst (λ (z : List OpData). HaveNoOperandFaults a lens ss (ops_placed at brackets zones [] z))
-    (sym (map-append (op_with_target f) (ops_of s.instr) (ops_in more)))
-    (instr_fine a lens ss f at brackets zones s.instr (map (op_with_target f) (ops_in more)) h.0
-    (statements_fine a lens ss f more h.1))
+  -- ---- statements
 
-pub code_fine : (a : Environment) (lens : List (ℕ × ℕ)) (ss : List StatementSpot) (statements : List SourceInstruction)
-    → AllByRecursion (λ s. InstrFits a lens s.instr) statements
-    → HaveNoOperandFaults a lens ss (ops_placed 0 [] [] [] (placed_ops (ops_in statements)))
-unfolding placed_ops
-code_fine a lens ss statements h = statements_fine a lens ss _ statements h 0 [] []
+  jump_fine : (at kind target : ℕ) (brackets : List OpenBracket) (zones : List ℕ) (rest : List OpData) → FineBehind rest
+      → AreFine at brackets zones [] (op_with_end_mark operation.Jump (operand.Jump kind target) ∷ rest)
+  jump_fine at kind target brackets zones rest behind =
+      last_fine at brackets zones [] (op_with_end_mark operation.Jump (operand.Jump kind target)) rest refl
+      (record { operand = λ still. absurd still; call = refl; mark = refl }) behind
+
+  end_fine : (at : ℕ) (brackets : List OpenBracket) (zones : List ℕ) (how : EndOperation) (rest : List OpData)
+      → FineBehind rest → AreFine at brackets zones [] (end_op how ∷ rest)
+  end_fine at brackets zones how rest behind =
+      last_fine at brackets zones [] (end_op how) rest refl
+      (record { operand = λ still. refl; call = refl; mark = by how }) behind
+    where
+      by : (how : EndOperation) → mark_fault (end_op how) ≡ None
+      by ends.Be = refl
+      by _ = refl
+
+  instr_fine : (f : ℕ → ℕ) (at : ℕ) (brackets : List OpenBracket) (zones : List ℕ) (i : Instr) (rest : List OpData)
+      → InstrFits a lens i → FineBehind rest → AreFine at brackets zones [] (map (op_with_target f) (ops_of i) ++ rest)
+  unfolding ops_of
+  instr_fine f at brackets zones (Does None w o) rest h behind =
+      subst (λ (x : Operand). AreFine at brackets zones [] (op_with_end_mark w x ∷ rest))
+      (sym (aimed_still f a (op_with_end_mark w o) o h.1))
+      (does_fine at brackets zones [] w o rest h.0 h.1 behind)
+  instr_fine f at brackets zones (Does (Some number) w o) rest h behind =
+      subst (λ (x : Operand). AreFine at brackets zones [] (use_db_op number ∷ op_with_end_mark w x ∷ rest))
+      (sym (aimed_still f a (op_with_end_mark w o) o h.1)) (
+        use_db_fine at number brackets zones w o rest h.2,
+        does_fine (at + size_of_op (use_db_op number)) brackets zones (use_db_op number ∷ []) w o rest h.0 h.1 behind,
+      )
+  instr_fine f at brackets zones (Jumps how target) rest h behind =
+      jump_fine at (jump_number how) (f target) brackets zones rest behind
+  instr_fine f at brackets zones (JumpsByList targets otherwise) rest h behind =
+      jump_fine at 1 (f otherwise) brackets zones rest behind
+  instr_fine f at brackets zones (Returns how) rest h behind = end_fine at brackets zones how rest behind
+  instr_fine f at brackets zones (Calls calls.Call block instance ps) rest h behind =
+      subst (AreFine at brackets zones []) (sym same) (calls_fine at brackets zones [] block instance ps rest h.1 h.2 behind)
+    where
+      call : OpData
+      call = call_op calls.Call block instance
+
+      same : map (op_with_target f) (pass_ops ps ++ call ∷ []) ++ rest ≡ pass_ops ps ++ call ∷ rest
+      same =
+          ap (λ (z : List OpData). z ++ rest) (map-append (op_with_target f) (pass_ops ps) (call ∷ [])
+          ∙ ap (λ (z : List OpData). z ++ call ∷ []) (passing_still f ps))
+          ∙ append_assoc (pass_ops ps) (call ∷ []) rest
+  instr_fine f at brackets zones (Calls how block instance []) rest h behind =
+      call_fine at brackets zones [] how block instance rest h.2 behind
+  instr_fine f at brackets zones (Calls how block instance (p ∷ ps)) rest h behind = let none = h.0 in absurd cc
+
+  -- ---- a block
+
+  statements_fine : (f : ℕ → ℕ) (statements : List SourceInstruction)
+      → AllByRecursion (λ s. InstrFits a lens s.instr) statements
+      → FineBehind (map (op_with_target f) (ops_in statements))
+  statements_fine f [] h at brackets zones = tt
+  statements_fine f (s ∷ more) h at brackets zones =
+      subst (AreFine at brackets zones []) (sym (map-append (op_with_target f) (ops_of s.instr) (ops_in more)))
+      (instr_fine f at brackets zones s.instr (map (op_with_target f) (ops_in more)) h.0 (statements_fine f more h.1))
+
+  pub code_fine : (statements : List SourceInstruction) → AllByRecursion (λ s. InstrFits a lens s.instr) statements
+      → AreFine 0 [] [] [] (placed_ops (ops_in statements))
+  unfolding placed_ops
+  code_fine statements h = statements_fine _ statements h 0 [] []

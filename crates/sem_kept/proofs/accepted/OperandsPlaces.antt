@@ -60,10 +60,7 @@ pub record IsPlaced (limit offset : ℕ) (kind : Simple) : Type 0 where
 
 plain_of : (e : Element) (kind : Simple) → plain_kind e ≡ Some kind → e ≡ Plain kind
 plain_of (Plain k) kind e = ap Plain (let same : k ≡ kind = cc in same)
-plain_of Structure kind e = absurd cc
-plain_of DateAndTime kind e = absurd cc
-plain_of (Udt block bits) kind e = absurd cc
-plain_of Unknown kind e = absurd cc
+plain_of _ kind e = absurd cc
 
 -- a spot that is an elementary variable: all its indices are there
 pub record IsElementary (s : ComponentAt) (c : Cell) (kind : Simple) : Type 0 where
@@ -117,25 +114,18 @@ pub place_even : (offset : ℕ) (kind : Simple) → MeetsKind offset kind
 place_even offset simple.Bool e = refl
 place_even offset simple.Byte e = zero_even (offset % 8) e
 place_even offset simple.Char e = zero_even (offset % 8) e
-place_even offset simple.Word e = zero_even (offset % 8) (omega (arith, e))
-place_even offset simple.Int e = zero_even (offset % 8) (omega (arith, e))
-place_even offset simple.S5time e = zero_even (offset % 8) (omega (arith, e))
-place_even offset simple.Dword e = zero_even (offset % 8) (omega (arith, e))
-place_even offset simple.Dint e = zero_even (offset % 8) (omega (arith, e))
-place_even offset simple.Time e = zero_even (offset % 8) (omega (arith, e))
+place_even offset _ e = zero_even (offset % 8) (omega (arith, e))
 
 pub place_within : (offset limit local : ℕ) (kind : Simple) → offset + plain_bits kind ≤ limit
     → limit % 16 ≡ 0 → limit / 8 ≤ local
     → nat_lt local (offset / 8 + byte_count (width_of kind)) ≡ false
-place_within offset limit local simple.Bool h e f = le-ltb local (offset / 8 + 1) (omega (arith, h, e, f))
-place_within offset limit local simple.Byte h e f = le-ltb local (offset / 8 + 1) (omega (arith, h, e, f))
-place_within offset limit local simple.Char h e f = le-ltb local (offset / 8 + 1) (omega (arith, h, e, f))
 place_within offset limit local simple.Word h e f = le-ltb local (offset / 8 + 2) (omega (arith, h, e, f))
 place_within offset limit local simple.Int h e f = le-ltb local (offset / 8 + 2) (omega (arith, h, e, f))
 place_within offset limit local simple.S5time h e f = le-ltb local (offset / 8 + 2) (omega (arith, h, e, f))
 place_within offset limit local simple.Dword h e f = le-ltb local (offset / 8 + 4) (omega (arith, h, e, f))
 place_within offset limit local simple.Dint h e f = le-ltb local (offset / 8 + 4) (omega (arith, h, e, f))
 place_within offset limit local simple.Time h e f = le-ltb local (offset / 8 + 4) (omega (arith, h, e, f))
+place_within offset limit local _ h e f = le-ltb local (offset / 8 + 1) (omega (arith, h, e, f))
 
 -- a variable in the local data
 pub local_fits : (a : Environment) (offset limit : ℕ) (kind : Simple) → IsPlaced limit offset kind
@@ -221,11 +211,9 @@ opened_parameters (c ∷ cs) h = by (opened_parameters cs h.1) c.sound
 function_section : (p : PartKind) → may_have_section kinds.Fc p ≡ true → not (is_temp p) ≡ true
     → is_parameter p ≡ true
 unfolding may_have_section
-function_section part.Input e f = refl
-function_section part.Output e f = refl
-function_section part.InOut e f = refl
 function_section part.Static e f = absurd cc
 function_section part.Temp e f = absurd cc
+function_section _ e f = refl
 
 function_sections : (y : Types) (o : Outside) (before : List Declaration) (ps : List Part)
     → AllByRecursion (IsSection kinds.Fc) ps
@@ -347,10 +335,7 @@ if_stays k false w h = tt
 plain_named : (l : List BlockLayout) (k : ℕ) (s : ComponentAt) (name : List ℕ) (c : Cell) (of : Element)
     (kind : Simple) → of ≡ Plain kind → Stays k (named_in l s name c of)
 plain_named l k s name c (Plain other) kind e = tt
-plain_named l k s name c Structure kind e = absurd cc
-plain_named l k s name c DateAndTime kind e = absurd cc
-plain_named l k s name c (Udt block bits) kind e = absurd cc
-plain_named l k s name c Unknown kind e = absurd cc
+plain_named l k s name c _ kind e = absurd cc
 
 within_stays : (k : ℕ) (s : ComponentAt) (c : Cell) (behind : List Cell) (at : ℤ) (o : Option Bounds)
     → s.block ≡ k → s.temporary ≡ false → Stays k (path_end_in_bounds s c behind at o)

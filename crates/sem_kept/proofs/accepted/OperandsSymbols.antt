@@ -1,10 +1,11 @@
 -- The variables of a symbols file lie in I, Q, M or the peripheral area, and have no odd bit.
-use Rattle.std.proofs.Common.{ℕ, ◌≡◌, List, [], ◌∷◌, Option, Some, None, Ok, Bool, true, false, not, find, refl, ap, subst, if◌then◌else◌}
+use Rattle.std.proofs.Common.{ℕ, ◌≡◌, List, [], ◌∷◌, Option, Some, Ok, Bool, true, false, not, find, refl, ap, subst, if◌then◌else◌}
+use Rattle.std.specs.Option.{IfSome}
 use Rattle.std.specs.List.{AllByRecursion}
 use Rattle.std.proofs.lemmas.Bool.{eq-eqb}
 use Rattle.plc_base.specs.Folding.{is_same_name}
 use Rattle.plc_base.specs.declared.places.Width.{Width}
-use Rattle.plc_base.specs.declared.places.Width.TheVariants.{Bit, Byte, Word, Dword}
+use Rattle.plc_base.specs.declared.places.Width.TheVariants.{Bit}
 use Rattle.flat_code.specs.Blocks.{is_odd_bit}
 use Rattle.stl_symbols.specs.Symbol.{IsFirstBit, IsSymbol, IsSymbolTarget, Symbol, has_symbols, symbol_named}
 use Rattle.stl_symbols.specs.Symbols.{symbols_in}
@@ -22,21 +23,13 @@ TargetFits _ = Unit {0}
 abbrev pub SymbolFits : Symbol → Type 0
 SymbolFits s = TargetFits s.target
 
-abbrev Holds : {A : Type 0} → (A → Type 0) → Option A → Type 0
-Holds P None = Unit {0}
-Holds P (Some x) = P x
-
 bit_fits : (w : Width) (bit : ℕ) → IsFirstBit w bit → is_odd_bit w bit ≡ false
 bit_fits Bit bit h = refl
-bit_fits Byte bit h = ap not (eq-eqb bit 0 h)
-bit_fits Word bit h = ap not (eq-eqb bit 0 h)
-bit_fits Dword bit h = ap not (eq-eqb bit 0 h)
+bit_fits _ bit h = ap not (eq-eqb bit 0 h)
 
 target_fits : (t : Target) → IsSymbolTarget t → TargetFits t
 target_fits (target.Variable place w) h = (bit_fits w place.bit h.bit, h.area)
-target_fits (target.Timer n) h = tt
-target_fits (target.Counter n) h = tt
-target_fits (target.Block id) h = tt
+target_fits _ h = tt
 
 -- all symbols of a file
 pub symbols_fit : (language : Language) (file : List ℕ) (symbols : List Symbol)
@@ -46,20 +39,21 @@ symbols_fit language file symbols are =
     all_mapped IsSymbol SymbolFits (λ s is. target_fits s.target is.target) symbols
     (symbols_right language file symbols are).each
 
-find_fits : (test : Symbol → Bool) (ss : List Symbol) → AllByRecursion SymbolFits ss
-    → Holds SymbolFits (find test ss)
-find_fits test [] h = tt
-find_fits test (x ∷ xs) h = by (find_fits test xs h.1) (test x)
+-- what is found has what all have
+found_has : {A : Type 0} (P : A → Type 0) (test : A → Bool) (xs : List A) → AllByRecursion P xs → IfSome (find test xs) P
+found_has P test [] h = tt
+found_has {A = A} P test (x ∷ xs) h = by (test x) (found_has P test xs h.1)
   where
-    by : Holds SymbolFits (find test xs) → (t : Bool)
-        → Holds SymbolFits (if t then Some x else find test xs)
-    by more true = h.0
-    by more false = more
+    by : (here : Bool) → IfSome (find test xs) P → IfSome (if here then Some x else find test xs) P
+    by true more = h.0
+    by false more = more
 
--- and one that is found among them
+pub named_has : (P : Symbol → Type 0) (name : List ℕ) (symbols : List Symbol) → AllByRecursion P symbols
+    → IfSome (symbol_named name symbols) P
+unfolding symbol_named
+named_has P name symbols h = found_has P (λ symbol. is_same_name name symbol.name) symbols h
+
 pub named_fits : (name : List ℕ) (symbols : List Symbol) (s : Symbol)
     → AllByRecursion SymbolFits symbols → symbol_named name symbols ≡ Some s → SymbolFits s
-unfolding symbol_named
 named_fits name symbols s h e =
-    subst (λ (o : Option Symbol). Holds SymbolFits o) e
-    (find_fits (λ symbol. is_same_name name symbol.name) symbols h)
+    subst (λ (o : Option Symbol). IfSome o SymbolFits) e (named_has SymbolFits name symbols h)

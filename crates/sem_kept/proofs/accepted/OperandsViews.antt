@@ -62,15 +62,14 @@ use Rattle.block_layout.specs.declared.blocks.Shape.{Shape}
 use Rattle.block_layout.specs.declared.blocks.Shape.TheVariants as shape
 use Rattle.block_layout.specs.declared.cells.Cell.{Cell}
 use Rattle.block_layout.specs.declared.cells.Element.{Element}
-use Rattle.block_layout.specs.declared.cells.Element.TheVariants.{Plain, Structure, DateAndTime, Udt}
-use Rattle.block_layout.specs.declared.cells.Element.TheVariants as cell_element
+use Rattle.block_layout.specs.declared.cells.Element.TheVariants.{Plain, DateAndTime, Udt}
 use Rattle.block_layout.specs.declared.walks.ComponentAt.{ComponentAt}
 use Rattle.block_layout.specs.declared.walks.PathEnd.{PathEnd}
 use Rattle.block_layout.specs.declared.walks.PathEnd.TheVariants as walk
 use Rattle.stl_types.specs.Actuals.{is_input_section}
-use Rattle.stl_types.specs.Addresses.{resolved_address, address_in_block, area_left, area_for_letters}
-use Rattle.stl_types.specs.Context.{data_number, data_place, in_function, is_of_function, number_of_block}
-use Rattle.stl_types.specs.Resolution.{resolution_of_opened_block, resolution_of_path, register_for_word, resolution_of, resolution_of_symbol, target_view}
+use Rattle.stl_types.specs.Addresses.{resolved_address, address_in_block, area_for_letters}
+use Rattle.stl_types.specs.Context.{Context, data_number, data_place, in_function, is_of_function, number_of_block}
+use Rattle.stl_types.specs.Resolution.{resolution_of_opened_block, resolution_of_path, resolution_of, resolution_of_symbol, target_view}
 use Rattle.stl_types.specs.Unknown.{is_unknown}
 use Rattle.stl_types.specs.Variables.{composite_operand, data_at, date_or_composite, data_path, data_variable, data_walked, variable_in_area, own_at, own_elementary, own_variable, own_walked, parameter_resolution, parameter_at, parameter_index}
 use Rattle.stl_types.specs.declared.views.Resolution.{Resolution}
@@ -82,9 +81,9 @@ use Rattle.stl_codegen.specs.Generated.{param_at_bits, param_here, param_of, par
 use Rattle.stl_codegen.specs.Instruction.{return_last}
 use Rattle.sem_kept.proofs.accepted.Accepted.{IsSound, IsSoundTree, context_at}
 use Rattle.block_layout.proofs.BlockLemmas.{IsFoundBlock, found_there, kind_there}
+use Rattle.block_layout.proofs.CommonLemmas.{IsOrigin, all_there, origin, or_second}
 use Rattle.sem_kept.proofs.accepted.OperandsCells.{are_right, cells_are, layout_of_block}
 use Rattle.block_layout.proofs.LayoutLemmas.{measured_ids, measured_symbols}
-use Rattle.block_layout.proofs.CommonLemmas.{IsOrigin, all_there, origin, or_second}
 use Rattle.block_layout.proofs.ContainmentLemmas.{Moves, data_goes, local_goes, local_moves}
 use Rattle.sem_kept.proofs.accepted.OperandsPlaces.{AreParameters, GivesOne, IsElementary, IsParameterCell, IsPlaced, Stays, count_each, data_fits, elementary, function_components, in_its_order, instance_fits, local_fits, local_stays, one_each, placed_sees, reached_place}
 use Rattle.sem_kept.proofs.accepted.OperandsSymbols.{SymbolFits, TargetFits, named_fits}
@@ -109,36 +108,15 @@ EndsBy n s = (local_end s.operand ≤ n) × AllByRecursion (λ (a : Actual). loc
 actuals_by : (n : ℕ) (actuals : List Actual) → farthest_actual_end actuals ≤ n
     → AllByRecursion (λ (a : Actual). local_end a.value ≤ n) actuals
 actuals_by n [] h = tt
-actuals_by n (a ∷ more) h = (
-  first (local_end a.value) (farthest_actual_end more) h,
-  actuals_by n more (rest (local_end a.value) (farthest_actual_end more) h),
-)
-  where
-    first : (x y : ℕ) → max x y ≤ n → x ≤ n
-    first x y h = omega (arith, h)
-
-    rest : (x y : ℕ) → max x y ≤ n → y ≤ n
-    rest x y h = omega (arith, h)
+actuals_by n (a ∷ more) h = (omega (arith, h), actuals_by n more (omega (arith, h)))
 
 pub ends_by : (n : ℕ) (body : List Statement) → farthest_operand_end body ≤ n
     → AllByRecursion (EndsBy n) body
 ends_by n [] h = tt
 ends_by n (s ∷ ss) h = (
-  (
-    own (local_end s.operand) (farthest_actual_end s.actuals) (farthest_operand_end ss) h,
-    actuals_by n s.actuals (given (local_end s.operand) (farthest_actual_end s.actuals) (farthest_operand_end ss) h),
-  ),
-  ends_by n ss (rest (local_end s.operand) (farthest_actual_end s.actuals) (farthest_operand_end ss) h),
+  (omega (arith, h), actuals_by n s.actuals (omega (arith, h))),
+  ends_by n ss (omega (arith, h)),
 )
-  where
-    own : (x y z : ℕ) → max (max x y) z ≤ n → x ≤ n
-    own x y z h = omega (arith, h)
-
-    given : (x y z : ℕ) → max (max x y) z ≤ n → y ≤ n
-    given x y z h = omega (arith, h)
-
-    rest : (x y z : ℕ) → max (max x y) z ≤ n → z ≤ n
-    rest x y z h = omega (arith, h)
 
 -- the local data of a code block hold its temporary variables and its farthest operand
 pub record HoldsLocals (y : Types) (b : Block) (local : ℕ) : Type 0 where
@@ -159,26 +137,14 @@ code_len y b code =
 
 pub holds_locals : (y : Types) (b : Block) → is_code b.kind ≡ true → has_too_much_local y b ≡ false
     → HoldsLocals y b (local_len y b)
-holds_locals y b code few = record {
-  temps = subst (λ (n : ℕ). structure_bits (temps_of y b) / 8 ≤ n) (sym is)
-      (first (least_local b.kind) (structure_bits (temps_of y b) / 8) (farthest_operand_end b.body)
-      (next_multiple (max (structure_bits (temps_of y b) / 8) (farthest_operand_end b.body)) 2)
-      (up_2_behind (max (structure_bits (temps_of y b) / 8) (farthest_operand_end b.body))));
-  operands = subst (λ (n : ℕ). farthest_operand_end b.body ≤ n) (sym is)
-      (second (least_local b.kind) (structure_bits (temps_of y b) / 8) (farthest_operand_end b.body)
-      (next_multiple (max (structure_bits (temps_of y b) / 8) (farthest_operand_end b.body)) 2)
-      (up_2_behind (max (structure_bits (temps_of y b) / 8) (farthest_operand_end b.body))));
-  short = ltb-false 1024 (local_len y b) few;
-}
-  where
-    is : local_len y b ≡ max (least_local b.kind) (next_multiple (max (structure_bits (temps_of y b) / 8) (farthest_operand_end b.body)) 2)
-    is = code_len y b code
-
-    first : (least x z whole : ℕ) → max x z ≤ whole → x ≤ max least whole
-    first least x z whole h = omega (arith, h)
-
-    second : (least x z whole : ℕ) → max x z ≤ whole → z ≤ max least whole
-    second least x z whole h = omega (arith, h)
+holds_locals y b code few =
+    let is = code_len y b code in
+    let long = up_2_behind (max (structure_bits (temps_of y b) / 8) (farthest_operand_end b.body)) in
+    record {
+      temps = omega (arith, is, long);
+      operands = omega (arith, is, long);
+      short = ltb-false 1024 (local_len y b) few;
+    }
 
 -- the structure of a function block is as long as its instances
 pub block_own : (y : Types) (b : Block) → IsBlock b → b.kind ≡ kinds.Fb → shape_of y b ≡ shape.Own
@@ -201,10 +167,7 @@ short_bits n bits few same even = omega (arith, few, same, even)
 only_temps : (p : PartKind) → may_have_section kinds.Ob p ≡ true → not (is_temp p) ≡ false
 unfolding may_have_section
 only_temps part.Temp e = refl
-only_temps part.Input e = absurd cc
-only_temps part.Output e = absurd cc
-only_temps part.InOut e = absurd cc
-only_temps part.Static e = absurd cc
+only_temps _ e = absurd cc
 
 no_sections : (y : Types) (o : Outside) (before : List Declaration) (ps : List Part)
     → AllByRecursion (IsSection kinds.Ob) ps → section_cells y o (λ k. not (is_temp k)) before ps ≡ []
@@ -237,16 +200,16 @@ pub record IsSeen (a : Environment) (s : Resolution) : Type 0 where
   pub is : s ≡ Resolved view
   pub fits : ViewFits a view
 
-composite_fits : (a : Environment) (o : Option Cell) → ViewFits a (composite_operand o)
-composite_fits a None = tt
-composite_fits a (Some c) = by c.of
+view_seen : (a : Environment) (v : ResolvedOperand) → ViewFits a v → IsSeen a (Resolved v)
+view_seen a v fits = record { view = v; is = refl; fits = fits }
+
+composite_seen : (a : Environment) (o : Option Cell) → IsSeen a (Resolved (composite_operand o))
+composite_seen a None = view_seen a view.Composite tt
+composite_seen a (Some c) = by c.of
   where
-    by : (e : Element) → ViewFits a (date_or_composite e)
-    by DateAndTime = tt
-    by Structure = tt
-    by (Plain kind) = tt
-    by (Udt block bits) = tt
-    by cell_element.Unknown = tt
+    by : (e : Element) → IsSeen a (Resolved (date_or_composite e))
+    by DateAndTime = view_seen a view.Date tt
+    by _ = view_seen a view.Composite tt
 
 -- ---- parameters
 
@@ -297,11 +260,9 @@ param_there b l cells place c kind is same each there plain section =
 
 section_is_input : (p : PartKind) → is_parameter p ≡ true
     → (section_number p == 1) ≡ is_input_section p
-section_is_input part.Input e = refl
-section_is_input part.Output e = refl
-section_is_input part.InOut e = refl
 section_is_input part.Static e = absurd cc
 section_is_input part.Temp e = absurd cc
+section_is_input _ e = refl
 
 own_there : (a : Environment) (index : ℕ) (q : ParameterRecord) → a.kind ≡ 2
     → slice_get a.params index ≡ Some q → parameter_meant a index ≡ Some q
@@ -312,21 +273,13 @@ own_there a index q is there =
 
 no_odd_bit : (w : Width) (bit : ℕ) → IsBitOf w bit → is_odd_bit w bit ≡ false
 no_odd_bit width.Bit bit h = refl
-no_odd_bit width.Byte bit h = ap not (eq-eqb bit 0 h)
-no_odd_bit width.Word bit h = ap not (eq-eqb bit 0 h)
-no_odd_bit width.Dword bit h = ap not (eq-eqb bit 0 h)
+no_odd_bit _ bit h = ap not (eq-eqb bit 0 h)
 
 no_past : (a : Environment) (ar : Letters) (w : Width) (byte : ℕ)
     → (if is_local_data_letter ar then byte + byte_count w else 0) ≤ a.local_len
     → is_past_locals a (area_for_letters ar) w byte ≡ false
 no_past a letters.L w byte h = le-ltb a.local_len (byte + byte_count w) h
-no_past a letters.I w byte h = refl
-no_past a letters.Q w byte h = refl
-no_past a letters.M w byte h = refl
-no_past a letters.Db w byte h = refl
-no_past a letters.Di w byte h = refl
-no_past a letters.Pi w byte h = refl
-no_past a letters.Pq w byte h = refl
+no_past a _ w byte h = refl
 
 address_fits : (a : Environment) (ar : Letters) (w : Width) (byte bit : ℕ) → IsBitOf w bit
     → (if is_local_data_letter ar then byte + byte_count w else 0) ≤ a.local_len
@@ -338,12 +291,7 @@ address_fits a ar w byte bit h ends =
 outside_locals : (a : Environment) (ar : Area) (w : Width) (byte : ℕ) → has_symbols ar ≡ true
     → is_past_locals a ar w byte ≡ false
 outside_locals a area.L w byte h = absurd cc
-outside_locals a area.I w byte h = refl
-outside_locals a area.Q w byte h = refl
-outside_locals a area.M w byte h = refl
-outside_locals a area.P w byte h = refl
-outside_locals a area.Db w byte h = refl
-outside_locals a area.Di w byte h = refl
+outside_locals a _ w byte h = refl
 
 target_fits : (a : Environment) (x : Target) → TargetFits x → ViewFits a (target_view x)
 target_fits a (target.Variable place w) h = (
@@ -352,8 +300,7 @@ target_fits a (target.Variable place w) h = (
   tt,
 )
 target_fits a (target.Timer number) h = tt
-target_fits a (target.Counter number) h = tt
-target_fits a (target.Block id) h = tt
+target_fits a _ h = tt
 
 pub not_none : {A : Type 0} (o : Option A) → is_none o ≡ false → (x : A) × (o ≡ Some x)
 not_none None e = absurd cc
@@ -362,27 +309,15 @@ not_none (Some x) e = (x, refl)
 code_kind : (k : BlockKind) → is_code k ≡ true → is_function k ≡ false → is_function_block k ≡ false
     → k ≡ kinds.Ob
 code_kind kinds.Ob e f g = refl
-code_kind kinds.Fc e f g = absurd cc
-code_kind kinds.Fb e f g = absurd cc
-code_kind kinds.Db e f g = absurd cc
-code_kind kinds.Sfc e f g = absurd cc
-code_kind kinds.Udt e f g = absurd cc
+code_kind _ e f g = absurd cc
 
 function_kind : (k : BlockKind) → is_function k ≡ true → k ≡ kinds.Fc
 function_kind kinds.Fc e = refl
-function_kind kinds.Ob e = absurd cc
-function_kind kinds.Fb e = absurd cc
-function_kind kinds.Db e = absurd cc
-function_kind kinds.Sfc e = absurd cc
-function_kind kinds.Udt e = absurd cc
+function_kind _ e = absurd cc
 
-function_block_kind : (k : BlockKind) → is_function_block k ≡ true → k ≡ kinds.Fb
+pub function_block_kind : (k : BlockKind) → is_function_block k ≡ true → k ≡ kinds.Fb
 function_block_kind kinds.Fb e = refl
-function_block_kind kinds.Ob e = absurd cc
-function_block_kind kinds.Fc e = absurd cc
-function_block_kind kinds.Db e = absurd cc
-function_block_kind kinds.Sfc e = absurd cc
-function_block_kind kinds.Udt e = absurd cc
+function_block_kind _ e = absurd cc
 
 pub data_block_kind : (k : BlockKind) → is_data_block k ≡ true → k ≡ kinds.Db
 data_block_kind kinds.Db e = refl
@@ -402,6 +337,23 @@ no_component : (name : List ℕ) → is_some (component_of_name 0 0 0 name []) �
 unfolding component_of_name
 no_component name e = absurd cc
 
+-- ---- the layout of a block
+
+pub layout_length : (symbols : List Symbol) (t : Tree) (p : ℕ) (b : Block) (l : BlockLayout)
+    → IsSound symbols t p b l → l.length ≡ length_of_block (types_of_source symbols t.blocks) t.blocks b
+unfolding block_layout
+layout_length symbols t p b l h = ap (λ (z : BlockLayout). z.length) h.layout
+
+pub layout_components : (symbols : List Symbol) (t : Tree) (p : ℕ) (b : Block) (l : BlockLayout)
+    → IsSound symbols t p b l → l.components ≡ components_of (types_of_source symbols t.blocks) b
+unfolding block_layout
+layout_components symbols t p b l h = ap (λ (z : BlockLayout). z.components) h.layout
+
+pub layout_local : (symbols : List Symbol) (t : Tree) (p : ℕ) (b : Block) (l : BlockLayout)
+    → IsSound symbols t p b l → l.local_len ≡ local_len (types_of_source symbols t.blocks) b
+unfolding block_layout
+layout_local symbols t p b l h = ap (λ (z : BlockLayout). z.local_len) h.layout
+
 -- ---- the block's own variables
 
 module _ (symbols : List Symbol) (t : Tree) (tree : IsSoundTree symbols t) (k : ℕ) (b : Block)
@@ -416,14 +368,6 @@ module _ (symbols : List Symbol) (t : Tree) (tree : IsSoundTree symbols t) (k : 
   temps_here : cells_at (layouts_of t symbols) k true ≡ temps_of (types_of_source symbols t.blocks) b
   temps_here = cells_are symbols t k b l block true
 
-  local_is : l.local_len ≡ local_len (types_of_source symbols t.blocks) b
-  unfolding block_layout
-  local_is = ap (λ (z : BlockLayout). z.local_len) block.layout
-
-  components_are : l.components ≡ components_of (types_of_source symbols t.blocks) b
-  unfolding block_layout
-  components_are = ap (λ (z : BlockLayout). z.components) block.layout
-
   locals_here : HoldsLocals (types_of_source symbols t.blocks) b (local_len (types_of_source symbols t.blocks) b)
   locals_here = holds_locals (types_of_source symbols t.blocks) b code block.head.by_50
 
@@ -434,11 +378,7 @@ module _ (symbols : List Symbol) (t : Tree) (tree : IsSoundTree symbols t) (k : 
   temporary_seen : (s : ComponentAt) → Lies (layouts_of t symbols) (structure_bits (cells_at (layouts_of t symbols) k true)) s
       → (o : Option Simple) → elementary_at (layouts_of t symbols) s ≡ o
       → IsSeen a (own_at (context_at symbols t k) true s o)
-  temporary_seen s h None e = record {
-    view = composite_operand (slice_get (cells_at (layouts_of t symbols) s.block s.temporary) s.place);
-    is = refl;
-    fits = composite_fits a (slice_get (cells_at (layouts_of t symbols) s.block s.temporary) s.place);
-  }
+  temporary_seen s h None e = composite_seen a (slice_get (cells_at (layouts_of t symbols) s.block s.temporary) s.place)
   temporary_seen s h (Some kind) e = record {
     view = view.Direct (place_at area.L 0 s.offset) (width_of kind) side.Both (Some kind);
     is = placed_sees area.L 0 s.offset (structure_bits (cells_at (layouts_of t symbols) k true)) kind at
@@ -454,7 +394,7 @@ module _ (symbols : List Symbol) (t : Tree) (tree : IsSoundTree symbols t) (k : 
       at = reached_place (layouts_of t symbols) (structure_bits (cells_at (layouts_of t symbols) k true)) s kind h e
 
       is_local_len : a.local_len ≡ local_len (types_of_source symbols t.blocks) b
-      is_local_len = around.local ∙ local_is
+      is_local_len = around.local ∙ layout_local symbols t k b l block
 
       within : structure_bits (cells_at (layouts_of t symbols) k true) / 8 ≤ a.local_len
       within = subst (λ (n : ℕ). structure_bits (cells_at (layouts_of t symbols) k true) / 8 ≤ n) (sym is_local_len)
@@ -472,11 +412,7 @@ module _ (symbols : List Symbol) (t : Tree) (tree : IsSoundTree symbols t) (k : 
       → Lies (layouts_of t symbols) limit s
       → (o : Option Simple) → elementary_at (layouts_of t symbols) s ≡ o
       → IsSeen a (own_at (context_at symbols t k) false s o)
-  instance_seen limit few other s h None e = record {
-    view = composite_operand (slice_get (cells_at (layouts_of t symbols) s.block s.temporary) s.place);
-    is = refl;
-    fits = composite_fits a (slice_get (cells_at (layouts_of t symbols) s.block s.temporary) s.place);
-  }
+  instance_seen limit few other s h None e = composite_seen a (slice_get (cells_at (layouts_of t symbols) s.block s.temporary) s.place)
   instance_seen limit few other s h (Some kind) e = record {
     view = view.Direct (place_at area.Di 0 s.offset) (width_of kind) side.Both (Some kind);
     is =
@@ -493,11 +429,7 @@ module _ (symbols : List Symbol) (t : Tree) (tree : IsSoundTree symbols t) (k : 
   parameter_seen : b.kind ≡ kinds.Fc → (s : ComponentAt) → s.block ≡ k → s.temporary ≡ false
       → (o : Option Simple) → elementary_at (layouts_of t symbols) s ≡ o
       → IsSeen a (own_at (context_at symbols t k) false s o)
-  parameter_seen is s at own None e = record {
-    view = composite_operand (slice_get (cells_at (layouts_of t symbols) s.block s.temporary) s.place);
-    is = refl;
-    fits = composite_fits a (slice_get (cells_at (layouts_of t symbols) s.block s.temporary) s.place);
-  }
+  parameter_seen is s at own None e = composite_seen a (slice_get (cells_at (layouts_of t symbols) s.block s.temporary) s.place)
   parameter_seen is s at own (Some kind) e =
       by (slice_get (cells_at (layouts_of t symbols) k false) s.place) refl
       (ap (λ (n : ℕ). kind_of s (slice_get (cells_at (layouts_of t symbols) n false) s.place)) (sym at)
@@ -539,7 +471,7 @@ module _ (symbols : List Symbol) (t : Tree) (tree : IsSoundTree symbols t) (k : 
               ∙ mapped_there record_of_param (params_of b l) index (param_at_bits (section_number c.section) (width_of kind) 0)
               (ap (λ (o : Option Block). slice_get (params_of b l) (parameter_index (length (cells_at (layouts_of t symbols) k false)) s.place o)) block.block_there
               ∙ param_there b l (cells_at (layouts_of t symbols) k false) s.place c kind is
-              (components_are ∙ sym components_here) parameters there elem.plain cell.section))
+              (layout_components symbols t k b l block ∙ sym components_here) parameters there elem.plain cell.section))
 
       by : (o : Option Cell) → slice_get (cells_at (layouts_of t symbols) k false) s.place ≡ o
           → kind_of s o ≡ Some kind
@@ -552,82 +484,70 @@ module _ (symbols : List Symbol) (t : Tree) (tree : IsSoundTree symbols t) (k : 
       → is_unknown (own_variable (context_at symbols t k) name steps) ≡ false
       → leaves_local (layouts_of t symbols) k name steps ≡ false
       → IsSeen a (own_variable (context_at symbols t k) name steps)
-  own_seen name steps known stays =
-      by (is_some (component_of_name 0 0 0 name (cells_at (layouts_of t symbols) k false))) refl known
+  own_seen name steps known stays = by (is_some (component_of_name 0 0 0 name cells)) refl known
     where
-      right : AreRight (layouts_of t symbols)
+      ls : List BlockLayout
+      ls = layouts_of t symbols
+
+      cells : List Cell
+      cells = cells_at ls k false
+
+      temps : List Cell
+      temps = cells_at ls k true
+
+      walked : PathEnd
+      walked = walked_local ls k name steps
+
+      right : AreRight ls
       right = are_right symbols t tree
 
-      reads : (temporary : Bool) (limit : ℕ) (w : PathEnd)
-          → ((s : ComponentAt) → w ≡ walk.Reaches s → IsSeen a (own_at (context_at symbols t k) temporary s (elementary_at (layouts_of t symbols) s)))
+      -- each component that the path reaches is seen
+      IsRead : Bool → Type 0
+      IsRead temporary = (s : ComponentAt) → walked ≡ walk.Reaches s
+          → IsSeen a (own_at (context_at symbols t k) temporary s (elementary_at ls s))
+
+      reads : (temporary : Bool) (w : PathEnd)
+          → ((s : ComponentAt) → w ≡ walk.Reaches s → IsSeen a (own_at (context_at symbols t k) temporary s (elementary_at ls s)))
           → Moves w → is_unknown (own_walked (context_at symbols t k) temporary w) ≡ false
           → IsSeen a (own_walked (context_at symbols t k) temporary w)
-      reads temporary limit (walk.Reaches s) f m known = f s refl
-      reads temporary limit walk.Unknown f m known = absurd cc
-      reads temporary limit walk.Rests f m known = absurd m
+      reads temporary (walk.Reaches s) f m known = f s refl
+      reads temporary walk.Unknown f m known = absurd cc
+      reads temporary walk.Rests f m known = absurd m
 
-      lies : (limit : ℕ) (w : PathEnd) (s : ComponentAt) → w ≡ walk.Reaches s → Goes (layouts_of t symbols) limit w
-          → Lies (layouts_of t symbols) limit s
-      lies limit w s e g = subst (Goes (layouts_of t symbols) limit) e g
-
-      moves : Moves (walked_local (layouts_of t symbols) k name steps)
-      moves = local_moves (layouts_of t symbols) right k name steps whole_here
-
-      temps_small : structure_bits (cells_at (layouts_of t symbols) k true) < 2147483648
-      temps_small =
-          let h = subst (λ (cs : List Cell). structure_bits cs / 8 ≤ local_len (types_of_source symbols t.blocks) b) (sym temps_here) locals_here.temps in
-          let s = locals_here.short in
-          small (structure_bits (cells_at (layouts_of t symbols) k true)) (local_len (types_of_source symbols t.blocks) b) h s
+      temporary : is_some (component_of_name 0 0 0 name cells) ≡ false → IsRead true
+      temporary e s reaches =
+          temporary_seen s (subst (Goes ls (structure_bits temps)) reaches
+          (local_goes ls (structure_bits temps) right small k name steps false e (omega arith) whole_here stays))
+          (elementary_at ls s) refl
         where
-          small : (limit local : ℕ) → limit / 8 ≤ local → local ≤ 1024 → limit < 2147483648
-          small limit local h k = omega (arith, h, k)
+          small : structure_bits temps < 2147483648
+          small =
+              let h = subst (λ (cs : List Cell). structure_bits cs / 8 ≤ local_len (types_of_source symbols t.blocks) b) (sym temps_here) locals_here.temps in
+              let s = locals_here.short in
+              few (structure_bits temps) (local_len (types_of_source symbols t.blocks) b) h s
+            where
+              few : (limit local : ℕ) → limit / 8 ≤ local → local ≤ 1024 → limit < 2147483648
+              few limit local h k = omega (arith, h, k)
 
-      temporary : is_some (component_of_name 0 0 0 name (cells_at (layouts_of t symbols) k false)) ≡ false
-          → is_unknown (own_walked (context_at symbols t k) true (walked_local (layouts_of t symbols) k name steps)) ≡ false
-          → IsSeen a (own_walked (context_at symbols t k) true (walked_local (layouts_of t symbols) k name steps))
-      temporary e known =
-          reads true 0 (walked_local (layouts_of t symbols) k name steps)
-          (λ s is. temporary_seen s
-          (lies (structure_bits (cells_at (layouts_of t symbols) k true)) (walked_local (layouts_of t symbols) k name steps) s is
-          (local_goes (layouts_of t symbols) (structure_bits (cells_at (layouts_of t symbols) k true)) right
-          temps_small k name steps false e (omega arith) whole_here stays))
-          (elementary_at (layouts_of t symbols) s) refl)
-          moves known
-
-      of_function : b.kind ≡ kinds.Fc
-          → is_some (component_of_name 0 0 0 name (cells_at (layouts_of t symbols) k false)) ≡ true
-          → is_unknown (own_walked (context_at symbols t k) false (walked_local (layouts_of t symbols) k name steps)) ≡ false
-          → IsSeen a (own_walked (context_at symbols t k) false (walked_local (layouts_of t symbols) k name steps))
-      of_function is e known =
-          reads false 0 (walked_local (layouts_of t symbols) k name steps)
-          (λ s reaches.
-          let home : Stays k (walk.Reaches s) = subst (Stays k) reaches
-          (local_stays (layouts_of t symbols) k plain name steps e whole_here) in
-          parameter_seen is s home.0 home.1 (elementary_at (layouts_of t symbols) s) refl)
-          moves known
+      of_function : b.kind ≡ kinds.Fc → is_some (component_of_name 0 0 0 name cells) ≡ true → IsRead false
+      of_function is e s reaches =
+          let home : Stays k (walk.Reaches s) = subst (Stays k) reaches (local_stays ls k plain name steps e whole_here) in
+          parameter_seen is s home.0 home.1 (elementary_at ls s) refl
         where
-          plain : (place : ℕ) (c : Cell) → slice_get (cells_at (layouts_of t symbols) k false) place ≡ Some c
-              → IsParameterCell c
+          plain : (place : ℕ) (c : Cell) → slice_get cells place ≡ Some c → IsParameterCell c
           plain place c there =
-              all_there IsParameterCell (cells_at (layouts_of t symbols) k false) place c
+              all_there IsParameterCell cells place c
               (subst AreParameters (sym components_here)
               (function_components (types_of_source symbols t.blocks) b block.well_formed is)) there
 
-      of_block : b.kind ≡ kinds.Fb
-          → is_some (component_of_name 0 0 0 name (cells_at (layouts_of t symbols) k false)) ≡ true
-          → is_unknown (own_walked (context_at symbols t k) false (walked_local (layouts_of t symbols) k name steps)) ≡ false
-          → IsSeen a (own_walked (context_at symbols t k) false (walked_local (layouts_of t symbols) k name steps))
-      of_block is e known =
-          reads false 0 (walked_local (layouts_of t symbols) k name steps)
-          (λ s reaches. instance_seen (structure_bits (cells_at (layouts_of t symbols) k false)) small
-          (ap is_function is) s
-          (lies (structure_bits (cells_at (layouts_of t symbols) k false)) (walked_local (layouts_of t symbols) k name steps) s reaches
-          (local_goes (layouts_of t symbols) (structure_bits (cells_at (layouts_of t symbols) k false)) right
-          (omega (arith, small)) k name steps true e (omega arith) whole_here stays))
-          (elementary_at (layouts_of t symbols) s) refl)
-          moves known
+      of_block : b.kind ≡ kinds.Fb → is_some (component_of_name 0 0 0 name cells) ≡ true → IsRead false
+      of_block is e s reaches =
+          instance_seen (structure_bits cells) small (ap is_function is) s
+          (subst (Goes ls (structure_bits cells)) reaches
+          (local_goes ls (structure_bits cells) right (omega (arith, small)) k name steps true e (omega arith) whole_here stays))
+          (elementary_at ls s) refl
         where
-          small : structure_bits (cells_at (layouts_of t symbols) k false) ≤ 131072
+          small : structure_bits cells ≤ 131072
           small = subst (λ (cs : List Cell). structure_bits cs ≤ 131072) (sym components_here)
               (short_bits (length_of_block (types_of_source symbols t.blocks) t.blocks b)
               (structure_bits (components_of (types_of_source symbols t.blocks) b))
@@ -636,40 +556,25 @@ module _ (symbols : List Symbol) (t : Tree) (tree : IsSoundTree symbols t) (k : 
               (block_own (types_of_source symbols t.blocks) b block.well_formed is))
               (structure_even (components_of (types_of_source symbols t.blocks) b)))
 
-      of_organization : b.kind ≡ kinds.Ob
-          → is_some (component_of_name 0 0 0 name (cells_at (layouts_of t symbols) k false)) ≡ true
-          → IsSeen a (own_walked (context_at symbols t k) false (walked_local (layouts_of t symbols) k name steps))
+      of_organization : b.kind ≡ kinds.Ob → is_some (component_of_name 0 0 0 name cells) ≡ true → IsRead false
       of_organization is e =
-          absurd (never (ap (λ (cs : List Cell). is_some (component_of_name 0 0 0 name cs))
+          absurd (no_component name (ap (λ (cs : List Cell). is_some (component_of_name 0 0 0 name cs))
           (sym (components_here ∙ no_components (types_of_source symbols t.blocks) b block.well_formed is)) ∙ e))
+
+      own : is_some (component_of_name 0 0 0 name cells) ≡ true → IsRead false
+      own e = kind (is_function b.kind) (is_function_block b.kind) refl refl
         where
-          never : is_some (component_of_name 0 0 0 name []) ≡ true → ⊥
-          never e = no_component name e
+          kind : (function instance : Bool) → is_function b.kind ≡ function → is_function_block b.kind ≡ instance
+              → IsRead false
+          kind true instance f g = of_function (function_kind b.kind f) e
+          kind false true f g = of_block (function_block_kind b.kind g) e
+          kind false false f g = of_organization (code_kind b.kind code f g) e
 
-      own : is_some (component_of_name 0 0 0 name (cells_at (layouts_of t symbols) k false)) ≡ true
-          → is_unknown (own_walked (context_at symbols t k) false (walked_local (layouts_of t symbols) k name steps)) ≡ false
-          → IsSeen a (own_walked (context_at symbols t k) false (walked_local (layouts_of t symbols) k name steps))
-      own e known = function (is_function b.kind) refl
-        where
-          instance : (t' : Bool) → is_function_block b.kind ≡ t' → is_function b.kind ≡ false
-              → IsSeen a (own_walked (context_at symbols t k) false (walked_local (layouts_of t symbols) k name steps))
-          instance true f g = of_block (function_block_kind b.kind f) e known
-          instance false f g = of_organization (code_kind b.kind code g f) e
-
-          function : (t' : Bool) → is_function b.kind ≡ t'
-              → IsSeen a (own_walked (context_at symbols t k) false (walked_local (layouts_of t symbols) k name steps))
-          function true f = of_function (function_kind b.kind f) e known
-          function false f = instance (is_function_block b.kind) refl f
-
-      by : (t' : Bool) → is_some (component_of_name 0 0 0 name (cells_at (layouts_of t symbols) k false)) ≡ t'
-          → is_unknown (own_variable (context_at symbols t k) name steps) ≡ false
-          → IsSeen a (own_variable (context_at symbols t k) name steps)
-      by true e known =
-          subst (λ (t' : Bool). IsSeen a (own_walked (context_at symbols t k) (not t') (walked_local (layouts_of t symbols) k name steps)))
-          (sym e) (own e (subst (λ (t' : Bool). is_unknown (own_walked (context_at symbols t k) (not t') (walked_local (layouts_of t symbols) k name steps)) ≡ false) e known))
-      by false e known =
-          subst (λ (t' : Bool). IsSeen a (own_walked (context_at symbols t k) (not t') (walked_local (layouts_of t symbols) k name steps)))
-          (sym e) (temporary e (subst (λ (t' : Bool). is_unknown (own_walked (context_at symbols t k) (not t') (walked_local (layouts_of t symbols) k name steps)) ≡ false) e known))
+      by : (there : Bool) → is_some (component_of_name 0 0 0 name cells) ≡ there
+          → is_unknown (own_walked (context_at symbols t k) (not there) walked) ≡ false
+          → IsSeen a (own_walked (context_at symbols t k) (not there) walked)
+      by true e known = reads false walked (own e) (local_moves ls right k name steps whole_here) known
+      by false e known = reads true walked (temporary e) (local_moves ls right k name steps whole_here) known
 
 -- ---- data blocks
 
@@ -815,87 +720,60 @@ pub layout_shape : (symbols : List Symbol) (t : Tree) (p : ℕ) (b : Block) (l :
 unfolding block_layout
 layout_shape symbols t p b l h = ap (λ (z : BlockLayout). z.shape) h.layout
 
-layout_length : (symbols : List Symbol) (t : Tree) (p : ℕ) (b : Block) (l : BlockLayout)
-    → IsSound symbols t p b l → l.length ≡ length_of_block (types_of_source symbols t.blocks) t.blocks b
-unfolding block_layout
-layout_length symbols t p b l h = ap (λ (z : BlockLayout). z.length) h.layout
-
 pub structured : (symbols : List Symbol) (t : Tree) → IsSoundTree symbols t → (p : ℕ)
     → IsThere symbols t is_data_block p → IsStructured symbols t p
-structured symbols t tree p d = by (shape_of (types_of_source symbols t.blocks) d.block) refl
+structured symbols t tree p d = by (shape_of y d.block) refl
   where
+    y : Types
+    y = types_of_source symbols t.blocks
+
+    ls : List BlockLayout
+    ls = layouts_of t symbols
+
     kind : d.block.kind ≡ kinds.Db
     kind = d.same ∙ data_block_kind d.id.kind d.kind
 
-    whole : whole_at (layouts_of t symbols) p ≡ Some d.layout
-    whole = whole_is (layouts_of t symbols) p d.layout d.laid d.sound.whole
-
-    shape_is : d.layout.shape ≡ shape_of (types_of_source symbols t.blocks) d.block
-    shape_is = layout_shape symbols t p d.block d.layout d.sound
-
-    structure : (sh : Shape) → shape_of (types_of_source symbols t.blocks) d.block ≡ sh
-        → structure_of (layouts_of t symbols) p ≡ shape_block (layouts_of t symbols) p sh
-    structure sh e =
-        ap (λ (o : Option BlockLayout). option_and_then (λ (b : BlockLayout). shape_block (layouts_of t symbols) p b.shape) o) whole
-        ∙ ap (λ (s : Shape). shape_block (layouts_of t symbols) p s) (shape_is ∙ e)
-
-    short : (sh : Shape) → shape_of (types_of_source symbols t.blocks) d.block ≡ sh
-        → shape_bits (types_of_source symbols t.blocks) t.blocks d.block sh / 8 ≤ 16384
-    short sh e =
-        subst (λ (s : Shape). shape_bits (types_of_source symbols t.blocks) t.blocks d.block s / 8 ≤ 16384) e
-        (subst (λ (n : ℕ). n ≤ 16384) (data_length (types_of_source symbols t.blocks) t.blocks d.block kind)
-        (ltb-false 16384 (length_of_block (types_of_source symbols t.blocks) t.blocks d.block) d.sound.head.by_51))
-
-    long : (sh : Shape) → shape_of (types_of_source symbols t.blocks) d.block ≡ sh
-        → length_at (slice_get (layouts_of t symbols) p)
-        ≡ shape_bits (types_of_source symbols t.blocks) t.blocks d.block sh / 8
-    long sh e =
-        ap (λ (o : Option BlockLayout). length_at o) d.laid
-        ∙ layout_length symbols t p d.block d.layout d.sound
-        ∙ data_length (types_of_source symbols t.blocks) t.blocks d.block kind
-        ∙ ap (λ (s : Shape). shape_bits (types_of_source symbols t.blocks) t.blocks d.block s / 8) e
-
-    by : (sh : Shape) → shape_of (types_of_source symbols t.blocks) d.block ≡ sh → IsStructured symbols t p
-    by shape.Own e = record {
-      inside = p;
-      is = structure shape.Own e;
-      small = subst (λ (cs : List Cell). structure_bits cs ≤ 131072)
-          (sym (cells_are symbols t p d.block d.layout d.sound false))
-          (short_bits (structure_bits (components_of (types_of_source symbols t.blocks) d.block) / 8)
-          (structure_bits (components_of (types_of_source symbols t.blocks) d.block)) (short shape.Own e) refl
-          (structure_even (components_of (types_of_source symbols t.blocks) d.block)));
-      long = long shape.Own e
-          ∙ ap (λ (cs : List Cell). structure_bits cs / 8)
-          (sym (cells_are symbols t p d.block d.layout d.sound false));
-    }
-    by (shape.Of other) e = record {
-      inside = other;
-      is = structure (shape.Of other) e
-          ∙ ap (λ (t' : Bool). if t' then Some other else None)
-          (ap is_some (whole_is (layouts_of t symbols) other there.layout there.laid there.sound.whole));
-      small = subst (λ (cs : List Cell). structure_bits cs ≤ 131072)
-          (sym (cells_are symbols t other there.block there.layout there.sound false))
-          (short_bits (structure_bits (components_of (types_of_source symbols t.blocks) there.block) / 8)
-          (structure_bits (components_of (types_of_source symbols t.blocks) there.block))
-          (subst (λ (o : Option Block). block_bits (types_of_source symbols t.blocks) o / 8 ≤ 16384)
-          there.sound.block_there (short (shape.Of other) e)) refl
-          (structure_even (components_of (types_of_source symbols t.blocks) there.block)));
-      long = long (shape.Of other) e
-          ∙ ap (λ (o : Option Block). block_bits (types_of_source symbols t.blocks) o / 8) there.sound.block_there
-          ∙ ap (λ (cs : List Cell). structure_bits cs / 8)
-          (sym (cells_are symbols t other there.block there.layout there.sound false));
+    -- the structure is that of this block
+    made : (inside : ℕ) (b : Block) (l : BlockLayout) → IsSound symbols t inside b l → (sh : Shape)
+        → shape_of y d.block ≡ sh → shape_block ls p sh ≡ Some inside
+        → shape_bits y t.blocks d.block sh ≡ structure_bits (components_of y b) → IsStructured symbols t p
+    made inside b l sound sh e is bits = record {
+      inside = inside;
+      is = ap (λ (o : Option BlockLayout). option_and_then (λ (b : BlockLayout). shape_block ls p b.shape) o)
+          (whole_is ls p d.layout d.laid d.sound.whole)
+          ∙ ap (λ (s : Shape). shape_block ls p s) (layout_shape symbols t p d.block d.layout d.sound ∙ e) ∙ is;
+      small = subst (λ (cs : List Cell). structure_bits cs ≤ 131072) (sym cells)
+          (short_bits (structure_bits (components_of y b) / 8) (structure_bits (components_of y b))
+          (subst (λ (n : ℕ). n ≤ 16384) long (ltb-false 16384 (length_of_block y t.blocks d.block) d.sound.head.by_51)) refl
+          (structure_even (components_of y b)));
+      long = ap length_at d.laid ∙ layout_length symbols t p d.block d.layout d.sound ∙ long
+          ∙ ap (λ (cs : List Cell). structure_bits cs / 8) (sym cells);
     }
       where
-        found : (n : BlockName) × (found_block (types_of_source symbols t.blocks).symbols (types_of_source symbols t.blocks).ids has_structure n ≡ Some other)
-        found = shape_found (types_of_source symbols t.blocks) (structure_block_name d.block.instance_of d.block.shape) other e
+        cells : cells_at ls inside false ≡ components_of y b
+        cells = cells_are symbols t inside b l sound false
+
+        long : length_of_block y t.blocks d.block ≡ structure_bits (components_of y b) / 8
+        long =
+            data_length y t.blocks d.block kind ∙ ap (λ (s : Shape). shape_bits y t.blocks d.block s / 8) e
+            ∙ ap (λ (n : ℕ). n / 8) bits
+
+    by : (sh : Shape) → shape_of y d.block ≡ sh → IsStructured symbols t p
+    by shape.Own e = made p d.block d.layout d.sound shape.Own e refl refl
+    by (shape.Of other) e =
+        made other there.block there.layout there.sound (shape.Of other) e
+        (ap (λ (t' : Bool). if t' then Some other else None)
+        (ap is_some (whole_is ls other there.layout there.laid there.sound.whole)))
+        (ap (λ (o : Option Block). block_bits y o) there.sound.block_there)
+      where
+        found : (n : BlockName) × (found_block y.symbols y.ids has_structure n ≡ Some other)
+        found = shape_found y (structure_block_name d.block.instance_of d.block.shape) other e
 
         there : IsThere symbols t has_structure other
         there = block_there symbols t tree has_structure found.0 other found.1
     by shape.Unknown e =
-        let known = or_second (is_none (id_of (types_of_source symbols t.blocks).symbols d.block))
-        (is_unknown_shape (shape_of (types_of_source symbols t.blocks) d.block)) d.sound.head.by_23 in
-        let never : is_unknown_shape shape.Unknown ≡ false
-        = ap is_unknown_shape (sym e) ∙ known in
+        let known = or_second (is_none (id_of y.symbols d.block)) (is_unknown_shape (shape_of y d.block)) d.sound.head.by_23 in
+        let never : is_unknown_shape shape.Unknown ≡ false = ap is_unknown_shape (sym e) ∙ known in
         absurd cc
 
 -- a component of a data block
@@ -907,58 +785,50 @@ pub data_seen : (symbols : List Symbol) (t : Tree) → IsSoundTree symbols t →
     (found_block (types_of_source symbols t.blocks).symbols (types_of_source symbols t.blocks).ids is_data_block name) steps ≡ false
     → IsSeen a (data_variable (context_at symbols t k) name steps)
 data_seen symbols t tree k a name steps there known stays =
-    subst (IsSeen a) (sym whole)
-    (reads (path_end_in_data_block (layouts_of t symbols) d.place steps) refl goes
+    subst (IsSeen a) (sym whole) (reads (path_end_in_data_block ls d.place steps) goes
     (subst (λ (s : Resolution). is_unknown s ≡ false) whole known))
   where
+    ls : List BlockLayout
+    ls = layouts_of t symbols
+
+    c : Context
+    c = context_at symbols t k
+
     d : IsData symbols t k name
     d = data_there symbols t tree k name there
 
     s : IsStructured symbols t d.place
     s = structured symbols t tree d.place d.block
 
-    whole : data_variable (context_at symbols t k) name steps
-        ≡ data_walked (context_at symbols t k) d.block.id.number (path_end_in_data_block (layouts_of t symbols) d.place steps)
+    limit : ℕ
+    limit = structure_bits (cells_at ls s.inside false)
+
+    whole : data_variable c name steps ≡ data_walked c d.block.id.number (path_end_in_data_block ls d.place steps)
     whole =
-        ap (λ (o : Option ℕ). data_path (context_at symbols t k) steps o (data_place (context_at symbols t k) name)) d.number
-        ∙ ap (λ (o : Option ℕ). data_path (context_at symbols t k) steps (Some d.block.id.number) o) d.found
+        ap (λ (o : Option ℕ). data_path c steps o (data_place c name)) d.number
+        ∙ ap (λ (o : Option ℕ). data_path c steps (Some d.block.id.number) o) d.found
 
-    goes : Goes (layouts_of t symbols) (structure_bits (cells_at (layouts_of t symbols) s.inside false))
-        (path_end_in_data_block (layouts_of t symbols) d.place steps)
-    goes = data_goes (layouts_of t symbols) (structure_bits (cells_at (layouts_of t symbols) s.inside false))
-        (are_right symbols t tree) (let small = s.small in omega (arith, small)) d.place s.inside steps s.is
-        (omega arith)
-        (subst (λ (o : Option ℕ). leaves_found (layouts_of t symbols) o steps ≡ false) d.listed stays)
+    goes : Goes ls limit (path_end_in_data_block ls d.place steps)
+    goes = data_goes ls limit (are_right symbols t tree) (let small = s.small in omega (arith, small)) d.place s.inside steps s.is
+        (omega arith) (subst (λ (o : Option ℕ). leaves_found ls o steps ≡ false) d.listed stays)
 
-    at : (w : ComponentAt) → Lies (layouts_of t symbols) (structure_bits (cells_at (layouts_of t symbols) s.inside false)) w
-        → (o : Option Simple) → elementary_at (layouts_of t symbols) w ≡ o
-        → IsSeen a (data_at (context_at symbols t k) d.block.id.number w o)
-    at w h None e = record {
-      view = composite_operand (slice_get (cells_at (layouts_of t symbols) w.block w.temporary) w.place);
-      is = refl;
-      fits = composite_fits a (slice_get (cells_at (layouts_of t symbols) w.block w.temporary) w.place);
-    }
+    at : (w : ComponentAt) → Lies ls limit w → (o : Option Simple) → elementary_at ls w ≡ o
+        → IsSeen a (data_at c d.block.id.number w o)
+    at w h None e = composite_seen a (slice_get (cells_at ls w.block w.temporary) w.place)
     at w h (Some kind) e = record {
       view = view.Direct (place_at area.Db d.block.id.number w.offset) (width_of kind) side.Both (Some kind);
-      is = placed_sees area.Db d.block.id.number w.offset
-          (structure_bits (cells_at (layouts_of t symbols) s.inside false)) kind place
-          (let small = s.small in omega (arith, small));
-      fits = (
-        data_fits a w.offset (structure_bits (cells_at (layouts_of t symbols) s.inside false)) kind place,
-        refl,
-      );
+      is = placed_sees area.Db d.block.id.number w.offset limit kind place (let small = s.small in omega (arith, small));
+      fits = (data_fits a w.offset limit kind place, refl);
     }
       where
-        place : IsPlaced (structure_bits (cells_at (layouts_of t symbols) s.inside false)) w.offset kind
-        place = reached_place (layouts_of t symbols) (structure_bits (cells_at (layouts_of t symbols) s.inside false)) w kind h e
+        place : IsPlaced limit w.offset kind
+        place = reached_place ls limit w kind h e
 
-    reads : (w : PathEnd) → w ≡ path_end_in_data_block (layouts_of t symbols) d.place steps
-        → Goes (layouts_of t symbols) (structure_bits (cells_at (layouts_of t symbols) s.inside false)) w
-        → is_unknown (data_walked (context_at symbols t k) d.block.id.number w) ≡ false
-        → IsSeen a (data_walked (context_at symbols t k) d.block.id.number w)
-    reads (walk.Reaches w) e g u = at w g (elementary_at (layouts_of t symbols) w) refl
-    reads walk.Unknown e g u = absurd cc
-    reads walk.Rests e g u = absurd g
+    reads : (w : PathEnd) → Goes ls limit w → is_unknown (data_walked c d.block.id.number w) ≡ false
+        → IsSeen a (data_walked c d.block.id.number w)
+    reads (walk.Reaches w) g u = at w g (elementary_at ls w) refl
+    reads walk.Unknown g u = absurd cc
+    reads walk.Rests g u = absurd g
 
 -- ---- operands
 
@@ -997,12 +867,8 @@ module _ (symbols : List Symbol) (t : Tree) (tree : IsSoundTree symbols t)
   pub operand_seen : (o : Operand) → IsChecked symbols t k o → names_called_block o ≡ false
       → local_end o ≤ a.local_len → IsSeen a (resolution_of (context_at symbols t k) o)
   unfolding resolution_of
-  operand_seen operand.Nothing h other ends = record { view = view.Nothing; is = refl; fits = tt }
-  operand_seen (operand.Direct None ar w byte bit) h other ends = record {
-    view = resolved_address 0 ar w byte bit;
-    is = refl;
-    fits = (address_fits a ar w byte bit h.well_formed.2 ends, tt);
-  }
+  operand_seen (operand.Direct None ar w byte bit) h other ends =
+      view_seen a _ (address_fits a ar w byte bit h.well_formed.2 ends, tt)
   operand_seen (operand.Direct (Some name) ar w byte bit) h other ends = record {
     view = resolved_address d.block.id.number ar w byte bit;
     is = ap (λ (o : Option ℕ). address_in_block o ar w byte bit) d.number;
@@ -1011,26 +877,7 @@ module _ (symbols : List Symbol) (t : Tree) (tree : IsSoundTree symbols t)
     where
       d : IsData symbols t k name
       d = data_there symbols t tree k name h.there
-  operand_seen (operand.Timer number) h other ends =
-      record { view = view.Timer number; is = refl; fits = tt }
-  operand_seen (operand.Counter number) h other ends =
-      record { view = view.Counter number; is = refl; fits = tt }
   operand_seen (operand.Named p steps) h other ends = path_fits p steps h.known h.there h.inside
-  operand_seen (operand.ByMemory ar w from byte) h other ends =
-      record { view = view.ByMemory (area_for_letters ar) w (area_for_letters from) byte; is = refl; fits = tt }
-  operand_seen (operand.NumberBy what from byte) h other ends =
-      record { view = view.NumberBy what (area_for_letters from) byte; is = refl; fits = tt }
-  operand_seen (operand.ByRegister ar w r bits) h other ends =
-      record { view = view.ByRegister (area_left ar) w r bits; is = refl; fits = tt }
-  operand_seen (operand.Pointer ar byte bit) h other ends =
-      record { view = view.Pointer (area_left ar) byte bit; is = refl; fits = tt }
-  operand_seen (operand.Constant value) h other ends =
-      record { view = view.Constant; is = refl; fits = tt }
-  operand_seen (operand.Label name) h other ends = record { view = view.Label; is = refl; fits = tt }
-  operand_seen (operand.OfStatus flag) h other ends =
-      record { view = view.OfStatus flag; is = refl; fits = tt }
-  operand_seen (operand.Other name) h other ends =
-      record { view = view.Register (register_for_word name); is = refl; fits = tt }
   operand_seen (operand.OpenBlock di name) h other ends = record {
     view = view.OpenBlock di d.block.id.number;
     is = ap (λ (o : Option ℕ). resolution_of_opened_block di o) d.number;
@@ -1040,3 +887,4 @@ module _ (symbols : List Symbol) (t : Tree) (tree : IsSoundTree symbols t)
       d : IsData symbols t k name
       d = data_there symbols t tree k name h.there
   operand_seen (operand.Called name instance) h other ends = absurd cc
+  operand_seen _ h other ends = view_seen a _ tt

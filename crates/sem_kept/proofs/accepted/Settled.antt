@@ -16,7 +16,7 @@ use Rattle.stl_ast.specs.declared.operands.Operand.TheVariants as operand
 use Rattle.stl_ast.specs.declared.statements.Statement.{Statement}
 use Rattle.stl_symbols.specs.Names.{name_place}
 use Rattle.stl_symbols.specs.Symbol.{Symbol}
-use Rattle.block_layout.specs.Layouts.{block_layout, layouts_of}
+use Rattle.block_layout.specs.Layouts.{layouts_of}
 use Rattle.block_layout.specs.Lengths.{farthest_operand_end, local_len}
 use Rattle.block_layout.specs.Measures.{types_of_source}
 use Rattle.block_layout.specs.declared.blocks.BlockLayout.{BlockLayout}
@@ -38,17 +38,12 @@ use Rattle.block_layout.proofs.CommonLemmas.{all_there}
 use Rattle.sem_kept.proofs.accepted.OperandsCells.{layout_of_block}
 use Rattle.sem_kept.proofs.accepted.OperandsInstr.{no_call, resolved_is}
 use Rattle.sem_kept.proofs.accepted.OperandsSymbols.{SymbolFits, symbols_fit}
-use Rattle.sem_kept.proofs.accepted.OperandsViews.{EndsBy, IsSeen, Surrounds, ends_by, holds_locals, not_none, operand_seen}
+use Rattle.sem_kept.proofs.accepted.OperandsViews.{EndsBy, IsSeen, Surrounds, ends_by, holds_locals, layout_local, not_none, operand_seen}
 
 -- what calls no block has no actual parameters
 none_owed : (m : Mnemonic) → call_operation_of m ≡ None → has_actuals m ≡ false
 none_owed code.Call e = absurd cc
 none_owed _ e = refl
-
-local_is : (symbols : List Symbol) (t : Tree) (k : ℕ) (b : Block) (l : BlockLayout)
-    → IsSound symbols t k b l → l.local_len ≡ local_len (types_of_source symbols t.blocks) b
-unfolding block_layout
-local_is symbols t k b l block = ap (λ (z : BlockLayout). z.local_len) block.layout
 
 module _ (symbols : List Symbol) (t : Tree) (tree : IsSoundTree symbols t)
     (fit : AllByRecursion SymbolFits symbols) (k : ℕ) (b : Block) (l : BlockLayout)
@@ -152,7 +147,7 @@ block_settles symbols t tree fit k b l block has settle = by (is_code b.kind) re
     by true is =
         all_settle symbols t tree fit k b l block is b.body block.statements
         (ends_by l.local_len b.body
-        (subst (λ (n : ℕ). farthest_operand_end b.body ≤ n) (sym (local_is symbols t k b l block))
+        (subst (λ (n : ℕ). farthest_operand_end b.body ≤ n) (sym (layout_local symbols t k b l block))
         (holds_locals (types_of_source symbols t.blocks) b is block.head.by_50).operands))
         has
         (each_passes (λ (s : Statement). is_unknown_label (labels_of b.body) s.operand)

@@ -1,10 +1,10 @@
 -- The names of a program: how many, and the bytes that they take.
-use Rattle.std.proofs.Common.{◌≡◌, ℕ, ◌*◌, ◌≤◌, Bool, true, false, List, [], ◌∷◌, length, length-append, map, Ok, arith}
+use Rattle.std.proofs.Common.{◌≡◌, ℕ, ◌*◌, ◌≤◌, ◌≡◌, Bool, true, false, List, [], ◌∷◌, length, length-append, map, Ok, ap, refl, arith}
 use Rattle.std.specs.Prelude.{if◌then◌else◌}
 use Rattle.std.specs.Char.{to_ascii_uppercase}
 use Rattle.std.specs.List.{AllByRecursion, flat_map, sum_by}
 use Rattle.std.proofs.lemmas.List.{length-map}
-use Rattle.std.proofs.lemmas.List.Sums.{sum_by-append}
+use Rattle.std.proofs.lemmas.List.Sums.{sum_by-append, sum_by-cons}
 use Rattle.flat_code.specs.Checking.{name_size}
 use Rattle.flat_code.specs.Programs.{NameEntry}
 use Rattle.stl_symbols.specs.Symbol.{IsSymbol, IsSymbolTarget, Symbol}
@@ -16,7 +16,7 @@ use Rattle.stl_symbols.proofs.FileLemmas.{symbols_right}
 use Rattle.stl_codegen.specs.Generated.{has_name, name_entry, name_entries_of}
 use Rattle.stl_codegen.specs.Order.{is_name_before}
 use Rattle.sem_kept.proofs.accepted.Accepted.{all_mapped}
-use Rattle.sem_kept.proofs.accepted.SizesSums.{sorted_length, sorted_sum}
+use Rattle.sem_kept.proofs.accepted.SizesSums.{sorted_length, sorted_sum, summed_ones}
 
 -- ---- what a symbol is
 
@@ -35,9 +35,7 @@ pub record AreFine (symbols : List Symbol) : Type 0 where
 
 target_apart : (t : Target) → IsSymbolTarget t → IsApart t
 target_apart (target.Variable place width) h = h.number
-target_apart (target.Timer number) h = tt
-target_apart (target.Counter number) h = tt
-target_apart (target.Block id) h = tt
+target_apart _ h = tt
 
 pub symbols_fine : (language : Language) (file : List ℕ) (symbols : List Symbol)
     → symbols_in language file ≡ Ok symbols
@@ -54,30 +52,19 @@ symbols_fine language file symbols are =
 
 -- ---- their names
 
-entry_size : (name : List ℕ) (t : Target) → length name ≤ 24
-    → sum_by name_size (name_entry name t) ≤ 30
-entry_size name (target.Variable place width) short = by (has_name place.area)
+-- a symbol has one entry at most
+entry_sum : (f : NameEntry → ℕ) (n : ℕ) (name : List ℕ) (t : Target)
+    → ((e : NameEntry) → e.name ≡ map to_ascii_uppercase name → f e ≤ n) → sum_by f (name_entry name t) ≤ n
+entry_sum f n name (target.Variable place width) h = by (has_name place.area)
   where
-    by : (named : Bool) → sum_by name_size (if named
-        then record { name = map to_ascii_uppercase name; place = place; width = width } ∷ []
-        else []) ≤ 30
-    by true = omega (arith, short, length-map name to_ascii_uppercase)
-    by false = omega arith
-entry_size name (target.Timer number) short = omega arith
-entry_size name (target.Counter number) short = omega arith
-entry_size name (target.Block id) short = omega arith
+    one : NameEntry
+    one = record { name = map to_ascii_uppercase name; place = place; width = width }
 
-entry_count : (name : List ℕ) (t : Target) → length (name_entry name t) ≤ 1
-entry_count name (target.Variable place width) = by (has_name place.area)
-  where
-    by : (named : Bool) → length {A = NameEntry} (if named
-        then record { name = map to_ascii_uppercase name; place = place; width = width } ∷ []
-        else []) ≤ 1
-    by true = omega arith
+    by : (named : Bool) → sum_by f (if named then one ∷ [] else []) ≤ n
+    by true = omega (arith, h one refl, sum_by-cons f one [])
     by false = omega arith
-entry_count name (target.Timer number) = omega arith
-entry_count name (target.Counter number) = omega arith
-entry_count name (target.Block id) = omega arith
+entry_sum f n name (target.Timer number) h = omega arith
+entry_sum f n name _ h = omega arith
 
 entries_size : (symbols : List Symbol) → AllByRecursion IsFine symbols
     → sum_by name_size (flat_map (λ s. name_entry s.name s.target) symbols) ≤ 30 * length symbols
@@ -85,7 +72,7 @@ entries_size [] h = omega arith
 entries_size (s ∷ ss) h =
     omega (
       arith,
-      entry_size s.name s.target h.0.short,
+      entry_sum name_size 30 s.name s.target (λ e is. omega (arith, ap length is, length-map s.name to_ascii_uppercase, h.0.short)),
       entries_size ss h.1,
       sum_by-append name_size (name_entry s.name s.target)
           (flat_map (λ (s : Symbol). name_entry s.name s.target) ss),
@@ -97,7 +84,8 @@ entries_count [] = omega arith
 entries_count (s ∷ ss) =
     omega (
       arith,
-      entry_count s.name s.target,
+      entry_sum (λ e. 1) 1 s.name s.target (λ e is. omega arith),
+      summed_ones (name_entry s.name s.target),
       entries_count ss,
       length-append (name_entry s.name s.target)
           (flat_map (λ (s : Symbol). name_entry s.name s.target) ss),

@@ -1,14 +1,14 @@
 -- The bytes of ops, and that those of a statement fit its size.
 use Rattle.std.proofs.Common.{◌≡◌, ℕ, suc, ◌+◌, ◌*◌, ◌≤◌, Bool, true, false, not, ◌&&◌, List, [], ◌∷◌, ◌++◌, length, length-append, map, Option, Some, None, refl, sym, ap, subst, ◌∙◌, arith}
-use Rattle.std.specs.Prelude.{◌/◌, find, is_some, nat_eq, nat_le, if◌then◌else◌}
+use Rattle.std.specs.Prelude.{is_some, nat_eq, if◌then◌else◌}
 use Rattle.std.specs.List.{AllByRecursion, count_by, sum_by}
 use Rattle.std.specs.Option.{IfSome}
+use Rattle.std.proofs.lemmas.Grind.{flat_map-append}
 use Rattle.std.proofs.lemmas.List.{length-map}
 use Rattle.std.proofs.lemmas.List.Sums.{sum_by-cons}
 use Rattle.plc_base.specs.Kinds.{is_code}
 use Rattle.plc_base.specs.declared.blocks.BlockId.{BlockId}
 use Rattle.plc_base.specs.declared.places.Area.{Area}
-use Rattle.plc_base.specs.declared.places.Area.TheVariants as area
 use Rattle.plc_base.specs.declared.places.Place.{Place}
 use Rattle.plc_base.specs.declared.places.Width.{Width}
 use Rattle.flat_code.specs.Codes.{code_bytes}
@@ -30,7 +30,6 @@ use Rattle.stl_ast.specs.Sizes.{block_size, body_size, code_size, op_size, path_
 use Rattle.stl_ast.specs.Statements.{is_empty_statement}
 use Rattle.stl_ast.specs.declared.blocks.Block.{Block}
 use Rattle.stl_ast.specs.declared.blocks.PathStep.{PathStep}
-use Rattle.stl_ast.specs.declared.declarations.Simple.{Simple}
 use Rattle.stl_ast.specs.declared.mnemonics.Mnemonic.{Mnemonic}
 use Rattle.stl_ast.specs.declared.mnemonics.Mnemonic.TheVariants as code
 use Rattle.stl_ast.specs.declared.names.BlockName.{BlockName}
@@ -45,21 +44,13 @@ use Rattle.stl_ast.specs.declared.statements.Statement.{Statement}
 use Rattle.stl_symbols.specs.Symbol.{Symbol, symbol_named}
 use Rattle.stl_symbols.specs.declared.targets.Target.{Target}
 use Rattle.stl_symbols.specs.declared.targets.Target.TheVariants as target
-use Rattle.block_layout.specs.Offsets.{place_at, elementary_place, width_of}
-use Rattle.block_layout.specs.declared.cells.Cell.{Cell}
-use Rattle.block_layout.specs.declared.cells.Element.{Element}
-use Rattle.block_layout.specs.declared.cells.Element.TheVariants as element
-use Rattle.block_layout.specs.declared.walks.ComponentAt.{ComponentAt}
-use Rattle.block_layout.specs.declared.walks.PathEnd.{PathEnd}
-use Rattle.block_layout.specs.declared.walks.PathEnd.TheVariants as walk
-use Rattle.stl_types.specs.Addresses.{address_in_block, area_for_letters}
-use Rattle.stl_types.specs.Context.{Context, data_number, in_function}
+use Rattle.stl_types.specs.Addresses.{area_for_letters}
+use Rattle.stl_types.specs.Context.{Context, data_number}
 use Rattle.stl_types.specs.Kinds.{is_operand_of_call}
 use Rattle.stl_types.specs.Operands.{operand_rule, rule_of_resolved_operand, statement_rule, takes_operand}
 use Rattle.stl_types.specs.Parameters.{callee_of}
-use Rattle.stl_types.specs.Resolved.{resolved_operand, resolved_view}
-use Rattle.stl_types.specs.Resolution.{resolution_of_call, resolution_of_address, resolution_of_opened_block, resolution_of_path, register_for_word, resolution_of, resolution_of_symbol, target_view}
-use Rattle.stl_types.specs.Variables.{composite_operand, data_at, data_path, data_walked, date_or_composite, variable_in_area, own_at, own_elementary, own_walked, parameter_resolution, parameter_at}
+use Rattle.stl_types.specs.Resolved.{resolved_view}
+use Rattle.stl_types.specs.Resolution.{resolution_of_call, resolution_of_address, resolution_of_opened_block, resolution_of_path, register_for_word, resolution_of}
 use Rattle.stl_types.specs.declared.forms.OperandRule.{OperandRule}
 use Rattle.stl_types.specs.declared.forms.OperandRule.TheVariants as form
 use Rattle.stl_types.specs.declared.views.Register.{Register}
@@ -74,6 +65,9 @@ use Rattle.stl_codegen.specs.Generated.{return_statement, stated_from, statement
 use Rattle.stl_codegen.specs.Instruction.{call_instr, end_instr, filler_instruction, instr_by, instruction, jump_instr, passings_to, resolved_instr, target_of, view_instr}
 use Rattle.stl_codegen.specs.Operands.{is_db, is_in_named_block, numbered_operand, block_opened_by_operand, opened_by_place, flat_operand_of, register_operand}
 use Rattle.stl_codegen.specs.Operations.{call_operation_of, end_operation_of, jump_operation_of, operation_for}
+use Rattle.sem_kept.proofs.accepted.OperandsInstr.{resolved_is}
+use Rattle.sem_kept.proofs.ReachedLemmas.{AnyNumber, HasNumber, IsReached, data_path_reached, direct_reached, own_reached, symbol_reached}
+use Rattle.sem_kept.proofs.accepted.OperandsSymbols.{named_has}
 use Rattle.sem_kept.proofs.accepted.Shared.{call_form, calls_called, jump_form, no_call_constant, no_jump_constant, rule_there, stated_count}
 use Rattle.sem_kept.proofs.accepted.SizesNames.{IsApart, IsFine}
 
@@ -110,27 +104,12 @@ pass_sized : (index : ℕ) (p : Passed)
     → suc (suc (length (payload (flat.Pass index p)))) ≡ flat_size (flat.Pass index p)
 unfolding passed_coding direct_coding
 pass_sized index (passed.Literal value) = refl
-pass_sized index (passed.Direct area width byte bit) = refl
-pass_sized index (passed.Parameter index' width) = refl
-pass_sized index (passed.InBlock number area width byte bit) = refl
+pass_sized index _ = refl
 
 payload_sized : (o : FlatOperand) → suc (suc (length (payload o))) ≡ flat_size o
 unfolding direct_coding
-payload_sized flat.Nothing = refl
-payload_sized (flat.Literal value) = refl
-payload_sized (flat.Direct area width byte bit) = refl
-payload_sized (flat.ByMemory area width from byte) = refl
-payload_sized (flat.ByRegister area width register bits) = refl
-payload_sized (flat.Parameter index width) = refl
-payload_sized (flat.Numbered kind number) = refl
-payload_sized (flat.NumberedBy kind from byte) = refl
-payload_sized (flat.Jump kind target) = refl
-payload_sized (flat.OfStatus condition) = refl
-payload_sized (flat.UseDb number) = refl
 payload_sized (flat.Pass index passed) = pass_sized index passed
-payload_sized (flat.Called kind number instance) = refl
-payload_sized (flat.OpenBlock register number) = refl
-payload_sized (flat.OpenBy register from byte) = refl
+payload_sized _ = refl
 
 op_sized : (op : OpData) → length (op_bytes op) ≡ flat_size op.operand
 unfolding op_bytes
@@ -191,9 +170,7 @@ does_sized (Some number) w o =
 
 passed_few : (index : ℕ) (p : Passed) → flat_size (flat.Pass index p) ≤ 11
 passed_few index (passed.Literal value) = omega arith
-passed_few index (passed.Direct area width byte bit) = omega arith
-passed_few index (passed.Parameter index' width) = omega arith
-passed_few index (passed.InBlock number area width byte bit) = omega arith
+passed_few index _ = omega arith
 
 passing_sized : (ps : List Passing) → bytes_in (pass_ops ps) ≤ 11 * length ps
 passing_sized [] = omega arith
@@ -239,150 +216,65 @@ abbrev SeenFits : ℕ → Operand → Resolution → Type 0
 SeenFits n o (Resolved v) = ViewFits n o v
 SeenFits n o _ = Unit {0}
 
-composite_fits : (n : ℕ) (o : Operand) (c : Option Cell) → 2 ≤ n
-    → SeenFits n o (Resolved (composite_operand c))
-unfolding flat_operand_of
-composite_fits n o None h = omega (arith, h)
-composite_fits n o (Some c) h = by c.of
-  where
-    by : (e : Element) → SeenFits n o (Resolved (date_or_composite e))
-    by element.DateAndTime = omega (arith, h)
-    by _ = omega (arith, h)
-
--- any place
-place_fits : (o : Operand) (place : Place) (named : Bool)
-    → opened_size (if named then Some place.number else None) + 7 ≤ 11
-place_fits o place true = omega arith
-place_fits o place false = omega arith
-
 -- a place in no data block that is named
 none_opened : (b : Bool) (n m : ℕ) → n ≡ 0
     → (if b && not (nat_eq n 0) then Some m else None) ≡ None
 none_opened true n m h = rw h refl
 none_opened false n m h = refl
 
-apart : (place : Place) → place.number ≡ 0 → opened_by_place place ≡ None
-apart place h = none_opened (is_db place.area) place.number place.number h
+apart_fits : (place : Place) → place.number ≡ 0 → opened_size (opened_by_place place) ≤ 0
+apart_fits place h = rw (none_opened (is_db place.area) place.number place.number h) (omega arith)
 
-apart_fits : (place : Place) → place.number ≡ 0 → opened_size (opened_by_place place) + 7 ≤ 7
-apart_fits place h = rw (apart place h) (omega arith)
-
-own_area_fits : (o : Operand) (a : Area) (bits : ℕ) (kind : Simple)
-    → SeenFits 7 o (variable_in_area kind (elementary_place a 0 bits (Some kind)))
-unfolding flat_operand_of
-own_area_fits o a bits kind = by (nat_le (bits / 8) 65535)
+-- any place
+place_fits : (place : Place) → Unit {0} → opened_size (opened_by_place place) ≤ 4
+place_fits place h = by (is_in_named_block place)
   where
-    by : (near : Bool) → SeenFits 7 o (variable_in_area kind (if near then Some (place_at a 0 bits, width_of kind) else None))
-    by true = apart_fits (place_at a 0 bits) refl
-    by false = tt
+    by : (named : Bool) → opened_size (if named then Some place.number else None) ≤ 4
+    by true = omega arith
+    by false = omega arith
 
-parameter_fits : (o : Operand) (index : ℕ) (kind : Simple) (c : Option Cell)
-    → SeenFits 7 o (parameter_resolution index kind c)
+-- what is reached, with so many bytes at most for the op that opens its data block
+reached_fits : (P : ℕ → Type 0) (n : ℕ) (o : Operand) → ((place : Place) → P place.number → opened_size (opened_by_place place) ≤ n)
+    → (s : Resolution) → IsReached P s → SeenFits (7 + n) o s
 unfolding flat_operand_of
-parameter_fits o index kind None = tt
-parameter_fits o index kind (Some c) = omega arith
+reached_fits P n o few (Resolved (view.Direct place w side declared)) h = omega (arith, few place h)
+reached_fits P n o few (Resolved (view.ByRegister a w register bits)) h = absurd h
+reached_fits P n o few (Resolved (view.NumberBy what from byte)) h = absurd h
+reached_fits P n o few (Resolved (view.Register which)) h = absurd h
+reached_fits P n o few (Resolved view.Constant) h = absurd h
+reached_fits P n o few (Resolved _) h = omega arith
+reached_fits P n o few _ h = tt
 
-own_elementary_fits : (c : Context) (o : Operand) (temporary : Bool) (spot : ComponentAt) (kind : Simple)
-    → SeenFits 7 o (own_elementary c temporary spot kind)
-own_elementary_fits c o true spot kind = own_area_fits o area.L spot.offset kind
-own_elementary_fits c o false spot kind = by (in_function c)
-  where
-    by : (function : Bool) → SeenFits 7 o (if function then parameter_at c spot kind
-        else variable_in_area kind (elementary_place area.Di 0 spot.offset (Some kind)))
-    by true = parameter_fits o _ kind _
-    by false = own_area_fits o area.Di spot.offset kind
+abbrev IsNone : ℕ → Type 0
+IsNone number = number ≡ 0
 
-own_at_fits : (c : Context) (o : Operand) (temporary : Bool) (spot : ComponentAt) (kind : Option Simple)
-    → SeenFits 7 o (own_at c temporary spot kind)
-own_at_fits c o temporary spot None = composite_fits 7 o _ (omega arith)
-own_at_fits c o temporary spot (Some kind) = own_elementary_fits c o temporary spot kind
+fine_number : (t : Target) → IsApart t → HasNumber IsNone t
+fine_number (target.Variable place width) h = h
+fine_number (target.Timer number) h = tt
+fine_number _ h = tt
 
-own_fits : (c : Context) (o : Operand) (temporary : Bool) (w : PathEnd)
-    → SeenFits 7 o (own_walked c temporary w)
-own_fits c o temporary (walk.Reaches spot) = own_at_fits c o temporary spot _
-own_fits c o temporary walk.Unknown = tt
-own_fits c o temporary walk.Rests = tt
-
-data_area_fits : (o : Operand) (number bits : ℕ) (kind : Simple)
-    → SeenFits 11 o (variable_in_area kind (elementary_place area.Db number bits (Some kind)))
-unfolding flat_operand_of
-data_area_fits o number bits kind = by (nat_le (bits / 8) 65535)
-  where
-    by : (near : Bool) → SeenFits 11 o (variable_in_area kind (if near then Some (place_at area.Db number bits, width_of kind) else None))
-    by true =
-        place_fits o (place_at area.Db number bits) (is_in_named_block (place_at area.Db number bits))
-    by false = tt
-
-data_at_fits : (c : Context) (o : Operand) (number : ℕ) (spot : ComponentAt) (kind : Option Simple)
-    → SeenFits 11 o (data_at c number spot kind)
-data_at_fits c o number spot None = composite_fits 11 o _ (omega arith)
-data_at_fits c o number spot (Some kind) = data_area_fits o number spot.offset kind
-
-data_walked_fits : (c : Context) (o : Operand) (number : ℕ) (w : PathEnd)
-    → SeenFits 11 o (data_walked c number w)
-data_walked_fits c o number (walk.Reaches spot) = data_at_fits c o number spot _
-data_walked_fits c o number walk.Unknown = tt
-data_walked_fits c o number walk.Rests = tt
-
-data_path_fits : (c : Context) (o : Operand) (steps : List PathStep) (number block : Option ℕ)
-    → SeenFits 11 o (data_path c steps number block)
-data_path_fits c o steps (Some number) (Some block) = data_walked_fits c o number _
-data_path_fits c o steps (Some number) None = tt
-data_path_fits c o steps None block = tt
-
-target_fits : (o : Operand) (t : Target) → IsApart t → SeenFits 7 o (Resolved (target_view t))
-unfolding flat_operand_of
-target_fits o (target.Variable place width) h = apart_fits place h
-target_fits o (target.Timer number) h = omega arith
-target_fits o (target.Counter number) h = omega arith
-target_fits o (target.Block id) h = omega arith
-
-symbol_fits : (o : Operand) (s : Option Symbol) → IfSome s IsFine → SeenFits 7 o (resolution_of_symbol s)
-symbol_fits o None h = tt
-symbol_fits o (Some s) h = target_fits o s.target h.apart
-
--- what is found has what all have
-found_has : {X : Type 0} (P : X → Type 0) (test : X → Bool) (xs : List X) → AllByRecursion P xs
-    → IfSome (find test xs) P
-found_has P test [] h = tt
-found_has {X = X} P test (x ∷ xs) h = by (test x) (found_has P test xs h.1)
-  where
-    by : (here : Bool) → IfSome (find test xs) P
-        → IfSome (if here then Some x else find test xs) P
-    by true more = h.0
-    by false more = more
-
-named_fine : (name : List ℕ) (symbols : List Symbol) → AllByRecursion IsFine symbols
-    → IfSome (symbol_named name symbols) IsFine
-unfolding symbol_named
-named_fine name symbols h = found_has IsFine _ symbols h
+symbol_number : (s : Option Symbol) → IfSome s IsFine → IfSome s (λ s. HasNumber IsNone s.target)
+symbol_number None h = tt
+symbol_number (Some s) h = fine_number s.target h.apart
 
 path_fits : (c : Context) (o : Operand) (path : PathHead) (steps : List PathStep)
     → AllByRecursion IsFine c.symbols → SeenFits (path_size path) o (resolution_of_path c path steps)
-path_fits c o (head.Local name) steps h = own_fits c o _ _
-path_fits c o (head.InBlock name) steps h = data_path_fits c o _ _ _
+path_fits c o (head.Local name) steps h = reached_fits IsNone 0 o apart_fits _ (own_reached IsNone refl c _ _)
+path_fits c o (head.InBlock name) steps h = reached_fits AnyNumber 4 o place_fits _ (data_path_reached c _ _ _)
 path_fits c o (head.Symbol name) steps h =
-    symbol_fits o (symbol_named name c.symbols) (named_fine name c.symbols h)
+    reached_fits IsNone 0 o apart_fits _
+    (symbol_reached IsNone (symbol_named name c.symbols) (symbol_number _ (named_has IsFine name c.symbols h)))
 
 direct_fits : (c : Context) (o : Operand) (name : Option BlockName) (a : Letters) (w : Width)
     (byte bit : ℕ) → SeenFits (7 + block_size name) o (resolution_of_address c name a w byte bit)
-unfolding flat_operand_of
-direct_fits c o None a w byte bit =
-    apart_fits (record { area = area_for_letters a; number = 0; byte = byte; bit = bit }) refl
-direct_fits c o (Some name) a w byte bit = by (data_number c name)
-  where
-    by : (number : Option ℕ) → SeenFits 11 o (address_in_block number a w byte bit)
-    by None = tt
-    by (Some number) =
-        let place : Place = record { area = area_for_letters a; number = number; byte = byte; bit = bit } in
-        place_fits o place (is_in_named_block place)
+direct_fits c o None a w byte bit = reached_fits IsNone 0 o apart_fits (resolution_of_address c None a w byte bit) refl
+direct_fits c o (Some name) a w byte bit =
+    reached_fits AnyNumber 4 o place_fits _ (direct_reached c (Some name) a w byte bit)
 
 numbered_fits : (what : Numbered) (from : Area) (byte : ℕ)
     → flat_size (numbered_operand what from byte) ≤ 6
 numbered_fits numbered.Timer from byte = omega arith
-numbered_fits numbered.Counter from byte = omega arith
-numbered_fits numbered.Db from byte = omega arith
-numbered_fits numbered.Di from byte = omega arith
+numbered_fits _ from byte = omega arith
 
 register_fits : (r : Register) → flat_size (register_operand r) ≤ 6
 register_fits register.Dblg = omega arith
@@ -408,135 +300,64 @@ called_fits o (Some id) (Some name) (Some number) = omega arith
 seen_fits : (c : Context) (o : Operand) → AllByRecursion IsFine c.symbols
     → SeenFits (op_size o) o (resolution_of c o)
 unfolding resolution_of flat_operand_of
-seen_fits c operand.Nothing h = omega arith
 seen_fits c (operand.Direct name a w byte bit) h =
     direct_fits c (operand.Direct name a w byte bit) name a w byte bit
-seen_fits c (operand.Timer number) h = omega arith
-seen_fits c (operand.Counter number) h = omega arith
 seen_fits c (operand.Named path steps) h = path_fits c (operand.Named path steps) path steps h
-seen_fits c (operand.ByMemory a w from byte) h = omega arith
 seen_fits c (operand.NumberBy what from byte) h =
     omega (arith, numbered_fits what (area_for_letters from) byte)
-seen_fits c (operand.ByRegister a w register bits) h = omega arith
-seen_fits c (operand.Pointer a byte bit) h = omega arith
-seen_fits c (operand.Constant value) h = omega arith
-seen_fits c (operand.Label name) h = omega arith
-seen_fits c (operand.OfStatus flag) h = omega arith
 seen_fits c (operand.Other name) h = omega (arith, register_fits (register_for_word name))
 seen_fits c (operand.OpenBlock di name) h =
     opened_fits (operand.OpenBlock di name) di (data_number c name)
 seen_fits c (operand.Called name instance) h =
     called_fits (operand.Called name instance) _ instance _
+seen_fits c _ h = omega arith
 
 -- ---- of statements
 
 path_some : (path : PathHead) → 7 ≤ path_size path
 path_some (head.Local name) = omega arith
-path_some (head.InBlock name) = omega arith
-path_some (head.Symbol name) = omega arith
+path_some _ = omega arith
 
 least_op : (o : Operand) → 2 ≤ op_size o
-least_op operand.Nothing = omega arith
-least_op (operand.Direct name a w byte bit) = omega arith
-least_op (operand.Timer number) = omega arith
-least_op (operand.Counter number) = omega arith
 least_op (operand.Named path steps) = omega (arith, path_some path)
-least_op (operand.ByMemory a w from byte) = omega arith
-least_op (operand.NumberBy what from byte) = omega arith
-least_op (operand.ByRegister a w register bits) = omega arith
-least_op (operand.Pointer a byte bit) = omega arith
-least_op (operand.Constant value) = omega arith
-least_op (operand.Label name) = omega arith
-least_op (operand.OfStatus flag) = omega arith
-least_op (operand.Other name) = omega arith
-least_op (operand.OpenBlock di name) = omega arith
-least_op (operand.Called name instance) = omega arith
+least_op _ = omega arith
 
--- a jump has its label, a call its block: an operand of seven bytes
-abbrev IsWide : ResolvedOperand → Type 0
-IsWide view.Label = Unit {0}
-IsWide (view.Called id instance) = Unit {0}
-IsWide _ = ⊥
+-- what isn't seen, a label and what is called: an operand of seven bytes
+abbrev IsWide : ℕ → Resolution → Type 0
+IsWide n (Resolved view.Label) = 7 ≤ n
+IsWide n (Resolved (view.Called id instance)) = 7 ≤ n
+IsWide n (Resolved _) = Unit {0}
+IsWide n _ = 7 ≤ n
 
-abbrev SeenWide : ℕ → Resolution → Type 0
-SeenWide n (Resolved v) = IsWide v → 7 ≤ n
-SeenWide n _ = Unit {0}
-
-any_wide : (n : ℕ) (s : Resolution) → 7 ≤ n → SeenWide n s
-any_wide n (Resolved v) h = λ wide. h
-any_wide n Unknown h = tt
-any_wide n Unjudged h = tt
-
-opened_wide : (n : ℕ) (di : Bool) (number : Option ℕ) → SeenWide n (resolution_of_opened_block di number)
-opened_wide n di None = tt
-opened_wide n di (Some number) = λ wide. absurd wide
-
-seen_wide : (c : Context) (o : Operand) → SeenWide (op_size o) (resolution_of c o)
-unfolding resolution_of
-seen_wide c operand.Nothing = λ wide. absurd wide
-seen_wide c (operand.Direct name a w byte bit) = any_wide _ _ (omega arith)
-seen_wide c (operand.Timer number) = λ wide. absurd wide
-seen_wide c (operand.Counter number) = λ wide. absurd wide
-seen_wide c (operand.Named path steps) = any_wide _ _ (path_some path)
-seen_wide c (operand.ByMemory a w from byte) = λ wide. absurd wide
-seen_wide c (operand.NumberBy what from byte) = λ wide. absurd wide
-seen_wide c (operand.ByRegister a w register bits) = λ wide. absurd wide
-seen_wide c (operand.Pointer a byte bit) = λ wide. absurd wide
-seen_wide c (operand.Constant value) = λ wide. absurd wide
-seen_wide c (operand.Label name) = λ wide. omega arith
-seen_wide c (operand.OfStatus flag) = λ wide. absurd wide
-seen_wide c (operand.Other name) = λ wide. absurd wide
-seen_wide c (operand.OpenBlock di name) = opened_wide _ di (data_number c name)
-seen_wide c (operand.Called name instance) = any_wide _ _ (omega arith)
+any_wide : (n : ℕ) (s : Resolution) → 7 ≤ n → IsWide n s
+any_wide n (Resolved view.Label) h = h
+any_wide n (Resolved (view.Called id instance)) h = h
+any_wide n (Resolved _) h = tt
+any_wide n _ h = h
 
 -- a data block that is opened is there
 abbrev pub Opens : Context → Operand → Type 0
 Opens c (operand.OpenBlock di name) = is_some (data_number c name) ≡ true
 Opens c _ = Unit {0}
 
--- what isn't seen is a path, an address in a data block or a call
-abbrev SeenOrWide : ℕ → Resolution → Type 0
-SeenOrWide n (Resolved v) = Unit {0}
-SeenOrWide n _ = 7 ≤ n
+opened_wide : (n : ℕ) (di : Bool) (number : Option ℕ) → is_some number ≡ true → IsWide n (resolution_of_opened_block di number)
+opened_wide n di None h = absurd cc
+opened_wide n di (Some number) h = tt
 
-wide_anyway : (n : ℕ) (s : Resolution) → 7 ≤ n → SeenOrWide n s
-wide_anyway n (Resolved v) h = tt
-wide_anyway n Unknown h = h
-wide_anyway n Unjudged h = h
-
-opened_seen_there : (n : ℕ) (di : Bool) (number : Option ℕ) → is_some number ≡ true
-    → SeenOrWide n (resolution_of_opened_block di number)
-opened_seen_there n di None h = absurd cc
-opened_seen_there n di (Some number) h = tt
-
-seen_or_wide : (c : Context) (o : Operand) → Opens c o → SeenOrWide (op_size o) (resolution_of c o)
+operand_wide : (c : Context) (o : Operand) → Opens c o → IsWide (op_size o) (resolution_of c o)
 unfolding resolution_of
-seen_or_wide c operand.Nothing h = tt
-seen_or_wide c (operand.Direct name a w byte bit) h = wide_anyway _ _ (omega arith)
-seen_or_wide c (operand.Timer number) h = tt
-seen_or_wide c (operand.Counter number) h = tt
-seen_or_wide c (operand.Named path steps) h = wide_anyway _ _ (path_some path)
-seen_or_wide c (operand.ByMemory a w from byte) h = tt
-seen_or_wide c (operand.NumberBy what from byte) h = tt
-seen_or_wide c (operand.ByRegister a w register bits) h = tt
-seen_or_wide c (operand.Pointer a byte bit) h = tt
-seen_or_wide c (operand.Constant value) h = tt
-seen_or_wide c (operand.Label name) h = tt
-seen_or_wide c (operand.OfStatus flag) h = tt
-seen_or_wide c (operand.Other name) h = tt
-seen_or_wide c (operand.OpenBlock di name) h = opened_seen_there _ di (data_number c name) h
-seen_or_wide c (operand.Called name instance) h = wide_anyway _ _ (omega arith)
+operand_wide c (operand.Direct name a w byte bit) h = any_wide _ _ (omega arith)
+operand_wide c (operand.Named path steps) h = any_wide _ _ (path_some path)
+operand_wide c (operand.Label name) h = omega arith
+operand_wide c (operand.OpenBlock di name) h = opened_wide _ di (data_number c name) h
+operand_wide c (operand.Called name instance) h = any_wide _ _ (omega arith)
+operand_wide c _ h = tt
 
--- what such a form takes
-jumps_wide : (v : ResolvedOperand) → rule_of_resolved_operand form.Jumps v ≡ None → IsWide v
+-- what a jump takes
+jump_wide : (n : ℕ) (v : ResolvedOperand) → rule_of_resolved_operand form.Jumps v ≡ None → IsWide n (Resolved v) → 7 ≤ n
 unfolding rule_of_resolved_operand takes_operand
-jumps_wide view.Label h = tt
-jumps_wide (view.Called id instance) h = tt
-jumps_wide _ h = absurd cc
-
-seen_holds : (n : ℕ) (s : Resolution) (v : ResolvedOperand) → s ≡ Resolved v → SeenWide n s
-    → IsWide v → 7 ≤ n
-seen_holds n s v e h wide = subst (λ (s : Resolution). SeenWide n s) e h wide
+jump_wide n view.Label h wide = wide
+jump_wide n _ h wide = absurd cc
 
 view_holds : (n : ℕ) (o : Operand) (s : Resolution) (v : ResolvedOperand) → s ≡ Resolved v → SeenFits n o s
     → ViewFits n o v
@@ -546,38 +367,35 @@ view_holds n o s v e h = subst (λ (s : Resolution). SeenFits n o s) e h
 abbrev pub PassesFew : Context → Statement → Type 0
 PassesFew c s = length (passings_to c s (callee_of c s.operand)) ≤ length s.actuals
 
-jump_fits : (c : Context) (n : ℕ) (s : Statement) (how : JumpOperation) (v : ResolvedOperand)
-    → jump_operation_of s.code ≡ Some how → statement_rule c s ≡ None → resolution_of c s.operand ≡ Resolved v
-    → (target : ℕ) → bytes_in (ops_of (jump_instr how n target)) ≤ op_size s.operand
-jump_fits c n s how v is rule e target =
-    let there = rule_there c form.Jumps s.operand v no_jump_constant
-    (ap (λ (f : OperandRule). operand_rule c f s.operand) (sym (jump_form s.code how is)) ∙ rule) e in
-    let wide = seen_holds (op_size s.operand) (resolution_of c s.operand) v e
-    (seen_wide c s.operand) (jumps_wide v there) in
-    omega (arith, jump_sized how n target, wide)
+-- a statement that breaks no rule by its operand, and opens what is there
+pub record IsTaken (c : Context) (s : Statement) : Type 0 where
+  pub allowed : statement_rule c s ≡ None
+  pub opens : Opens c s.operand
+  pub few : PassesFew c s
+
+jump_fits : (c : Context) (n : ℕ) (s : Statement) (how : JumpOperation) → IsTaken c s
+    → jump_operation_of s.code ≡ Some how → (target : ℕ)
+    → bytes_in (ops_of (jump_instr how n target)) ≤ op_size s.operand
+jump_fits c n s how is jumps target =
+    omega (
+      arith,
+      jump_sized how n target,
+      by (resolution_of c s.operand) refl (operand_wide c s.operand is.opens),
+    )
+  where
+    by : (x : Resolution) → resolution_of c s.operand ≡ x → IsWide (op_size s.operand) x → 7 ≤ op_size s.operand
+    by (Resolved v) e wide =
+        jump_wide (op_size s.operand) v (rule_there c form.Jumps s.operand v no_jump_constant
+        (ap (λ (f : OperandRule). operand_rule c f s.operand) (sym (jump_form s.code how jumps)) ∙ is.allowed) e)
+        wide
+    by _ e wide = wide
 
 called_view_fits : (c : Context) (s : Statement) (how : CallOperation) (v : ResolvedOperand)
-    → is_operand_of_call v ≡ true → 7 ≤ op_size s.operand → PassesFew c s
+    → is_operand_of_call v ≡ true → IsWide (op_size s.operand) (Resolved v) → PassesFew c s
     → bytes_in (ops_of (call_instr c s how v)) ≤ op_size s.operand + 11 * length s.actuals
 called_view_fits c s how (view.Called id instance) h wide few =
     omega (arith, calls_sized how id instance (passings_to c s (callee_of c s.operand)), wide, few)
 called_view_fits c s how _ h wide few = absurd cc
-
-called_wide : (v : ResolvedOperand) → is_operand_of_call v ≡ true → IsWide v
-called_wide (view.Called id instance) h = tt
-called_wide _ h = absurd cc
-
-call_fits : (c : Context) (s : Statement) (how : CallOperation) (v : ResolvedOperand)
-    → call_operation_of s.code ≡ Some how → statement_rule c s ≡ None → resolution_of c s.operand ≡ Resolved v
-    → PassesFew c s
-    → bytes_in (ops_of (call_instr c s how v)) ≤ op_size s.operand + 11 * length s.actuals
-call_fits c s how v is rule e few =
-    let there = rule_there c form.Calls s.operand v no_call_constant
-    (ap (λ (f : OperandRule). operand_rule c f s.operand) (sym (call_form s.code how is)) ∙ rule) e in
-    let called = calls_called v there in
-    let wide = seen_holds (op_size s.operand) (resolution_of c s.operand) v e
-    (seen_wide c s.operand) (called_wide v called) in
-    called_view_fits c s how v called wide few
 
 end_fits : (c : Context) (s : Statement) (v : ResolvedOperand) (how : Option EndOperation)
     → AllByRecursion IsFine c.symbols → resolution_of c s.operand ≡ Resolved v
@@ -591,22 +409,14 @@ end_fits c s v None fine e =
 end_fits c s v (Some how) fine e = omega (arith, returns_sized how, least_op s.operand)
 
 view_instr_fits : (c : Context) (s : Statement) (v : ResolvedOperand) (how : Option CallOperation)
-    → call_operation_of s.code ≡ how → AllByRecursion IsFine c.symbols → statement_rule c s ≡ None
-    → resolution_of c s.operand ≡ Resolved v → PassesFew c s
+    → call_operation_of s.code ≡ how → AllByRecursion IsFine c.symbols → IsTaken c s
+    → resolution_of c s.operand ≡ Resolved v → IsWide (op_size s.operand) (Resolved v)
     → bytes_in (ops_of (view_instr c s v how)) ≤ op_size s.operand + 11 * length s.actuals
-view_instr_fits c s v None is fine rule e few = omega (arith, end_fits c s v (end_operation_of s.code) fine e)
-view_instr_fits c s v (Some how) is fine rule e few = call_fits c s how v is rule e few
-
--- a statement that breaks no rule by its operand, and opens what is there
-pub record IsTaken (c : Context) (s : Statement) : Type 0 where
-  pub allowed : statement_rule c s ≡ None
-  pub opens : Opens c s.operand
-  pub few : PassesFew c s
-
-resolved_is : (c : Context) (s : Statement) → statement_rule c s ≡ None
-    → resolved_operand c s ≡ resolved_view (resolution_of c s.operand)
-unfolding resolved_operand
-resolved_is c s rule = rw rule refl
+view_instr_fits c s v None calls fine is e wide =
+    omega (arith, end_fits c s v (end_operation_of s.code) fine e)
+view_instr_fits c s v (Some how) calls fine is e wide =
+    called_view_fits c s how v (calls_called v (rule_there c form.Calls s.operand v no_call_constant
+    (ap (λ (f : OperandRule). operand_rule c f s.operand) (sym (call_form s.code how calls)) ∙ is.allowed) e)) wide is.few
 
 filler_sized : bytes_in (ops_of filler_instruction) ≡ 6
 unfolding ops_of
@@ -614,46 +424,22 @@ filler_sized = one_sized _
 
 -- an instruction that isn't a jump
 view_fits : (c : Context) (s : Statement) (found : Resolution) → AllByRecursion IsFine c.symbols
-    → IsTaken c s → resolution_of c s.operand ≡ found
+    → IsTaken c s → resolution_of c s.operand ≡ found → IsWide (op_size s.operand) found
     → bytes_in (ops_of (resolved_instr c s (resolved_view found)))
     ≤ op_size s.operand + 11 * length s.actuals
-view_fits c s (Resolved v) fine is e =
-    view_instr_fits c s v (call_operation_of s.code) refl fine is.allowed e is.few
-view_fits c s Unknown fine is e =
-    let wide = subst (λ (s' : Resolution). SeenOrWide (op_size s.operand) s') e
-    (seen_or_wide c s.operand is.opens) in
-    omega (arith, wide, filler_sized)
-view_fits c s Unjudged fine is e =
-    let wide = subst (λ (s' : Resolution). SeenOrWide (op_size s.operand) s') e
-    (seen_or_wide c s.operand is.opens) in
-    omega (arith, wide, filler_sized)
-
--- a jump
-jump_seen_fits : (c : Context) (n : ℕ) (s : Statement) (how : JumpOperation) (found : Resolution)
-    → IsTaken c s → jump_operation_of s.code ≡ Some how → resolution_of c s.operand ≡ found → (target : ℕ)
-    → bytes_in (ops_of (jump_instr how n target)) ≤ op_size s.operand
-jump_seen_fits c n s how (Resolved v) is jumps e target =
-    jump_fits c n s how v jumps is.allowed e target
-jump_seen_fits c n s how Unknown is jumps e target =
-    let wide = subst (λ (s' : Resolution). SeenOrWide (op_size s.operand) s') e
-    (seen_or_wide c s.operand is.opens) in
-    omega (arith, wide, jump_sized how n target)
-jump_seen_fits c n s how Unjudged is jumps e target =
-    let wide = subst (λ (s' : Resolution). SeenOrWide (op_size s.operand) s') e
-    (seen_or_wide c s.operand is.opens) in
-    omega (arith, wide, jump_sized how n target)
+view_fits c s (Resolved v) fine is e wide =
+    view_instr_fits c s v (call_operation_of s.code) refl fine is e wide
+view_fits c s Unknown fine is e wide = omega (arith, wide, filler_sized)
+view_fits c s Unjudged fine is e wide = omega (arith, wide, filler_sized)
 
 instr_fits : (c : Context) (body : List Statement) (n : ℕ) (s : Statement) (how : Option JumpOperation)
     → jump_operation_of s.code ≡ how → AllByRecursion IsFine c.symbols → IsTaken c s
     → bytes_in (ops_of (instr_by c body n s how)) ≤ op_size s.operand + 11 * length s.actuals
 instr_fits c body n s None jumps fine is =
-    rw (resolved_is c s is.allowed) (view_fits c s (resolution_of c s.operand) fine is refl)
+    rw (resolved_is c s is.allowed)
+    (view_fits c s (resolution_of c s.operand) fine is refl (operand_wide c s.operand is.opens))
 instr_fits c body n s (Some how) jumps fine is =
-    omega (
-      arith,
-      jump_seen_fits c n s how (resolution_of c s.operand) is jumps refl
-          (target_of body s.operand),
-    )
+    omega (arith, jump_fits c n s how is jumps (target_of body s.operand))
 
 statement_fits : (c : Context) (body : List Statement) (n : ℕ) (s : Statement)
     → AllByRecursion IsFine c.symbols → IsTaken c s
@@ -702,18 +488,6 @@ body_fits c body n (s ∷ ss) fine h =
         )
 
 -- with the statement that returns
-ops_both : (xs ys : List SourceInstruction) → bytes_in (ops_in (xs ++ ys)) ≡ bytes_in (ops_in xs ++ ops_in ys)
-ops_both [] ys = refl
-ops_both (x ∷ xs) ys =
-    omega (
-      arith,
-      bytes_both (ops_of x.instr) (ops_in (xs ++ ys)),
-      ops_both xs ys,
-      bytes_both (ops_in xs) (ops_in ys),
-      bytes_both (ops_of x.instr) (ops_in xs),
-      bytes_both (ops_in (x ∷ xs)) (ops_in ys),
-    )
-
 one_returns : (b : Block) → bytes_in (ops_in (return_statement b ∷ [])) ≡ 2
 one_returns b = omega (arith, returns_sized ends.Be, bytes_both (ops_of (Returns ends.Be)) [])
 
@@ -728,7 +502,7 @@ whole_fits c b fine h has =
     omega (
       arith,
       placed_bytes (ops_in all),
-      ops_both ss (return_statement b ∷ []),
+      ap bytes_in (flat_map-append (λ (s : SourceInstruction). ops_of s.instr) ss (return_statement b ∷ [])),
       bytes_both (ops_in ss) (ops_in (return_statement b ∷ [])),
       one_returns b,
       length-map all (λ s. s.line),

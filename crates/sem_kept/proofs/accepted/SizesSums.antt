@@ -1,7 +1,7 @@
 -- Sums over lists that are put in order, mapped, or made block by block.
 use Rattle.std.proofs.Common.{◌≡◌, ℕ, suc, ◌+◌, ◌*◌, ◌≤◌, Bool, true, false, List, [], ◌∷◌, length, map, refl, arith}
 use Rattle.std.specs.Prelude.{if◌then◌else◌}
-use Rattle.std.specs.List.{sum_by, flat_map, AllByRecursion}
+use Rattle.std.specs.List.{sum_by, AllByRecursion}
 use Rattle.std.proofs.lemmas.List.Sums.{sum_by-append, sum_by-cons}
 use Rattle.stl_ast.specs.declared.blocks.Block.{Block}
 use Rattle.stl_ast.specs.declared.blocks.Tree.{Tree}
@@ -52,17 +52,6 @@ mapped_sum {A = A} g f (x ∷ xs) =
       sum_by-cons f (g x) (map g xs),
       sum_by-cons (λ (x : A). f (g x)) x xs,
       mapped_sum g f xs,
-    )
-
-pub flat_sum : {A B : Type 0} (g : A → List B) (f : B → ℕ) (xs : List A)
-    → sum_by f (flat_map g xs) ≡ sum_by (λ x. sum_by f (g x)) xs
-flat_sum g f [] = refl
-flat_sum {A = A} g f (x ∷ xs) =
-    omega (
-      arith,
-      sum_by-append f (g x) (flat_map g xs),
-      sum_by-cons (λ (x : A). sum_by f (g x)) x xs,
-      flat_sum g f xs,
     )
 
 -- ---- in order

@@ -1,5 +1,5 @@
 -- What the instruction of a statement is in every source, whatever rule it breaks.
-use Rattle.std.proofs.Common.{◌≡◌, ℕ, zero, suc, ◌-◌, ◌≤◌, Bool, true, false, if◌then◌else◌, List, [], ◌∷◌, length, map, slice_get, Option, Some, None, option_map, option_and_then, refl, sym, ap, ◌∙◌, arith}
+use Rattle.std.proofs.Common.{◌≡◌, ℕ, zero, suc, ◌-◌, ◌≤◌, Bool, true, false, if◌then◌else◌, List, [], ◌∷◌, map, slice_get, Option, Some, None, option_map, option_and_then, refl, sym, ap, ◌∙◌, arith}
 use Rattle.std.specs.Option.{is_none}
 use Rattle.std.proofs.lemmas.Bool.Decides.{nat_tests}
 use Rattle.plc_base.specs.Kinds.{is_data_block, is_callable}
@@ -7,49 +7,26 @@ use Rattle.plc_base.specs.declared.blocks.BlockId.{BlockId}
 use Rattle.plc_base.specs.declared.blocks.BlockKind.{BlockKind}
 use Rattle.plc_base.specs.declared.blocks.BlockKind.TheVariants as kinds
 use Rattle.plc_base.specs.declared.places.Area.{Area}
-use Rattle.plc_base.specs.declared.places.Place.{Place}
-use Rattle.plc_base.specs.declared.places.Width.{Width}
 use Rattle.flat_code.specs.Instr.{Instr, Does, Jumps, JumpsByList, Calls, Returns}
 use Rattle.flat_code.specs.declared.kinds.JumpOperation.{JumpOperation}
 use Rattle.flat_code.specs.declared.kinds.JumpOperation.TheVariants as jump
 use Rattle.flat_code.specs.declared.operations.CallOperation.{CallOperation}
 use Rattle.flat_code.specs.declared.operations.EndOperation.{EndOperation}
 use Rattle.machine.specs.Flat.{is_jl}
-use Rattle.stl_ast.specs.declared.blocks.PathStep.{PathStep}
-use Rattle.stl_ast.specs.declared.declarations.Simple.{Simple}
-use Rattle.stl_ast.specs.declared.literals.Literal.TheVariants as literal
-use Rattle.stl_ast.specs.declared.mnemonics.Mnemonic.{Mnemonic}
-use Rattle.stl_ast.specs.declared.mnemonics.Mnemonic.TheVariants as code
 use Rattle.stl_ast.specs.declared.names.BlockName.{BlockName}
-use Rattle.stl_ast.specs.declared.operands.Letters.{Letters}
 use Rattle.stl_ast.specs.declared.operands.Numbered.{Numbered}
 use Rattle.stl_ast.specs.declared.operands.Numbered.TheVariants as numbered
 use Rattle.stl_ast.specs.declared.operands.Operand.{Operand}
 use Rattle.stl_ast.specs.declared.operands.Operand.TheVariants as operand
-use Rattle.stl_ast.specs.declared.operands.PathHead.{PathHead}
-use Rattle.stl_ast.specs.declared.operands.PathHead.TheVariants as head
 use Rattle.stl_ast.specs.declared.statements.Statement.{Statement}
-use Rattle.stl_symbols.specs.Symbol.{Symbol, symbol_named}
-use Rattle.plc_base.specs.Folding.{upper_case_name}
-use Rattle.stl_symbols.specs.declared.targets.Target.{Target}
-use Rattle.stl_symbols.specs.declared.targets.Target.TheVariants as target
 use Rattle.block_layout.specs.Blocks.{is_id, is_block_number, place_of_block, known_block, of_kind, named_block}
-use Rattle.block_layout.specs.Paths.{cells_at, elementary_at, path_end_in_data_block, walked_local, whole_at, whole_block, folded_path}
-use Rattle.block_layout.specs.Offsets.{elementary_place}
+use Rattle.block_layout.specs.Paths.{whole_at, whole_block}
 use Rattle.block_layout.specs.declared.blocks.BlockLayout.{BlockLayout}
-use Rattle.block_layout.specs.declared.cells.Cell.{Cell}
-use Rattle.block_layout.specs.declared.cells.Element.{Element}
-use Rattle.block_layout.specs.declared.cells.Element.TheVariants as element
-use Rattle.block_layout.specs.declared.walks.ComponentAt.{ComponentAt}
-use Rattle.block_layout.specs.declared.walks.PathEnd.{PathEnd}
-use Rattle.block_layout.specs.declared.walks.PathEnd.TheVariants as walk
-use Rattle.stl_types.specs.Addresses.{address_in_block}
-use Rattle.stl_types.specs.Context.{Context, source_block_ids, number_of_block, data_place, data_number, in_function}
+use Rattle.stl_types.specs.Context.{Context, source_block_ids, number_of_block, data_place, data_number}
 use Rattle.stl_types.specs.Forms.{form_of}
 use Rattle.stl_types.specs.Operands.{rule_of_resolved_operand, rule_of_resolution, operand_rule, statement_rule}
 use Rattle.stl_types.specs.Resolved.{resolved_view, resolved_operand}
-use Rattle.stl_types.specs.Resolution.{target_view, resolution_of_symbol, resolution_of_path, resolution_of_address, resolution_of_opened_block, resolution_of_call, instance_number, whole_called_block as whole_called, resolution_of}
-use Rattle.stl_types.specs.Variables.{date_or_composite, composite_operand, variable_in_area, parameter_resolution, parameter_index, parameter_at, is_temporary_variable, own_elementary, own_at, own_walked, data_at, data_walked, data_path}
+use Rattle.stl_types.specs.Resolution.{resolution_of_path, resolution_of_address, resolution_of_opened_block, resolution_of_call, instance_number, whole_called_block as whole_called, resolution_of}
 use Rattle.stl_types.specs.declared.forms.OperandRule.{OperandRule}
 use Rattle.stl_types.specs.declared.forms.OperandRule.TheVariants as form
 use Rattle.stl_types.specs.declared.views.Register.{Register}
@@ -60,8 +37,10 @@ use Rattle.stl_types.specs.declared.views.ResolvedOperand.{ResolvedOperand}
 use Rattle.stl_types.specs.declared.views.ResolvedOperand.TheVariants as view
 use Rattle.stl_codegen.specs.Instruction.{numbers_from, jump_instr, target_of, call_instr, end_instr, view_instr, resolved_instr, instr_by, instruction}
 use Rattle.stl_codegen.specs.Operands.{numbered_operand, register_operand, flat_operand_of}
-use Rattle.stl_codegen.specs.Operations.{jump_operation_of, call_operation_of, end_operation_of, or_operation, load_operation, transfer_operation, load_pointer_operation, store_pointer_operation, add_operation, operation_for}
+use Rattle.stl_codegen.specs.Operations.{jump_operation_of, call_operation_of, end_operation_of}
 use Rattle.sem_kept.specs.Back.{goes_to_next_statement, is_target, IsInstanceNumber}
+use Rattle.sem_kept.proofs.ReachedLemmas.{AnyNumber, IsReached, direct_reached, path_reached}
+use Rattle.sem_kept.proofs.accepted.OperandsOperations.{operation_is}
 use Rattle.sem_kept.proofs.accepted.Shared.{call_form, rule_callable}
 
 abbrev pub IsMade : (n : ℕ) → Instr → Type 0
@@ -73,42 +52,6 @@ IsMade n (Calls how block instance passings) =
 IsMade n (Returns how) = Unit {0}
 
 -- ---- operations and operands of instructions that go on
-
-or_goes_on : (v : ResolvedOperand) → goes_to_next_statement (or_operation v) ≡ true
-or_goes_on view.Nothing = refl
-or_goes_on _ = refl
-
-load_goes_on : (v : ResolvedOperand) → goes_to_next_statement (load_operation v) ≡ true
-load_goes_on (view.Register register.Stw) = refl
-load_goes_on (view.Register _) = refl
-load_goes_on _ = refl
-
-transfer_goes_on : (v : ResolvedOperand) → goes_to_next_statement (transfer_operation v) ≡ true
-transfer_goes_on (view.Register which) = refl
-transfer_goes_on _ = refl
-
-load_pointer_goes_on : (v : ResolvedOperand) → goes_to_next_statement (load_pointer_operation v) ≡ true
-load_pointer_goes_on (view.Register which) = refl
-load_pointer_goes_on _ = refl
-
-store_pointer_goes_on : (v : ResolvedOperand) → goes_to_next_statement (store_pointer_operation v) ≡ true
-store_pointer_goes_on (view.Register which) = refl
-store_pointer_goes_on _ = refl
-
-add_goes_on : (o : Operand) → goes_to_next_statement (add_operation o) ≡ true
-add_goes_on (operand.Constant (literal.Long value)) = refl
-add_goes_on (operand.Constant _) = refl
-add_goes_on _ = refl
-
-operation_goes_on : (m : Mnemonic) (o : Operand) (v : ResolvedOperand) → goes_to_next_statement (operation_for m o v) ≡ true
-unfolding operation_for
-operation_goes_on code.O o v = or_goes_on v
-operation_goes_on code.L o v = load_goes_on v
-operation_goes_on code.T o v = transfer_goes_on v
-operation_goes_on code.Lar1 o v = load_pointer_goes_on v
-operation_goes_on code.Tar1 o v = store_pointer_goes_on v
-operation_goes_on code.Add o v = add_goes_on o
-operation_goes_on _ o v = refl
 
 by_number : (what : Numbered) (from : Area) (byte : ℕ)
     → is_target (numbered_operand what from byte) ≡ false
@@ -155,97 +98,10 @@ abbrev names_called : Resolution → Bool
 names_called (Resolved (view.Called id instance)) = true
 names_called _ = false
 
-of_element : (e : Element) → names_called (Resolved (date_or_composite e)) ≡ false
-of_element element.DateAndTime = refl
-of_element _ = refl
-
-of_cell : (c : Option Cell) → names_called (Resolved (composite_operand c)) ≡ false
-of_cell None = refl
-of_cell (Some c) = of_element c.of
-
-of_area : (kind : Simple) (p : Option (Place × Width)) → names_called (variable_in_area kind p) ≡ false
-of_area kind None = refl
-of_area kind (Some p) = refl
-
-of_parameter : (index : ℕ) (kind : Simple) (c : Option Cell)
-    → names_called (parameter_resolution index kind c) ≡ false
-of_parameter index kind None = refl
-of_parameter index kind (Some c) = refl
-
-of_function : (c : Context) (function : Bool) (spot : ComponentAt) (kind : Simple) (p : Option (Place × Width))
-    → names_called (if function then parameter_at c spot kind else variable_in_area kind p) ≡ false
-of_function c true spot kind p =
-    of_parameter
-    (parameter_index (length (cells_at c.layouts c.block false)) spot.place
-    (slice_get c.blocks c.block))
-    kind (slice_get (cells_at c.layouts c.block false) spot.place)
-of_function c false spot kind p = of_area kind p
-
-of_elementary : (c : Context) (temporary : Bool) (spot : ComponentAt) (kind : Simple)
-    → names_called (own_elementary c temporary spot kind) ≡ false
-of_elementary c true spot kind = of_area kind (elementary_place _ 0 spot.offset (Some kind))
-of_elementary c false spot kind =
-    of_function c (in_function c) spot kind (elementary_place _ 0 spot.offset (Some kind))
-
-of_own_at : (c : Context) (temporary : Bool) (spot : ComponentAt) (k : Option Simple)
-    → names_called (own_at c temporary spot k) ≡ false
-of_own_at c temporary spot None =
-    of_cell (slice_get (cells_at c.layouts spot.block spot.temporary) spot.place)
-of_own_at c temporary spot (Some kind) = of_elementary c temporary spot kind
-
-of_own : (c : Context) (temporary : Bool) (w : PathEnd)
-    → names_called (own_walked c temporary w) ≡ false
-of_own c temporary (walk.Reaches spot) =
-    of_own_at c temporary spot (elementary_at c.layouts spot)
-of_own c temporary walk.Unknown = refl
-of_own c temporary walk.Rests = refl
-
-of_data_at : (c : Context) (number : ℕ) (spot : ComponentAt) (k : Option Simple)
-    → names_called (data_at c number spot k) ≡ false
-of_data_at c number spot None =
-    of_cell (slice_get (cells_at c.layouts spot.block spot.temporary) spot.place)
-of_data_at c number spot (Some kind) = of_area kind (elementary_place _ number spot.offset (Some kind))
-
-of_data : (c : Context) (number : ℕ) (w : PathEnd) → names_called (data_walked c number w) ≡ false
-of_data c number (walk.Reaches spot) = of_data_at c number spot (elementary_at c.layouts spot)
-of_data c number walk.Unknown = refl
-of_data c number walk.Rests = refl
-
-of_data_path : (c : Context) (steps : List PathStep) (number place : Option ℕ)
-    → names_called (data_path c steps number place) ≡ false
-of_data_path c steps (Some number) (Some block) =
-    of_data c number (path_end_in_data_block c.layouts block steps)
-of_data_path c steps (Some number) None = refl
-of_data_path c steps None place = refl
-
-of_target : (t : Target) → names_called (Resolved (target_view t)) ≡ false
-of_target (target.Variable place width) = refl
-of_target (target.Timer number) = refl
-of_target (target.Counter number) = refl
-of_target (target.Block id) = refl
-
-of_symbol : (s : Option Symbol) → names_called (resolution_of_symbol s) ≡ false
-of_symbol None = refl
-of_symbol (Some s) = of_target s.target
-
-of_path : (c : Context) (h : PathHead) (steps : List PathStep)
-    → names_called (resolution_of_path c h steps) ≡ false
-of_path c (head.Local name) steps =
-    of_own c (is_temporary_variable c (upper_case_name name))
-    (walked_local c.layouts c.block (upper_case_name name) (folded_path steps))
-of_path c (head.InBlock name) steps =
-    of_data_path c (folded_path steps) (data_number c name) (data_place c name)
-of_path c (head.Symbol name) steps = of_symbol (symbol_named name c.symbols)
-
-of_address : (number : Option ℕ) (a : Letters) (width : Width) (byte bit : ℕ)
-    → names_called (address_in_block number a width byte bit) ≡ false
-of_address None a width byte bit = refl
-of_address (Some number) a width byte bit = refl
-
-of_direct : (c : Context) (name : Option BlockName) (a : Letters) (width : Width) (byte bit : ℕ)
-    → names_called (resolution_of_address c name a width byte bit) ≡ false
-of_direct c None a width byte bit = refl
-of_direct c (Some name) a width byte bit = of_address (data_number c name) a width byte bit
+none_called : (x : Resolution) → IsReached AnyNumber x → names_called x ≡ false
+none_called (Resolved (view.Called id instance)) h = absurd h
+none_called (Resolved _) h = refl
+none_called _ h = refl
 
 of_opened : (di : Bool) (number : Option ℕ) → names_called (resolution_of_opened_block di number) ≡ false
 of_opened di None = refl
@@ -377,9 +233,9 @@ seen_instance c (operand.Called name instance) id number e =
     called_instance c (whole_called c (named_block c.symbols name)) instance id number e
 seen_instance c (operand.Direct name a width byte bit) id number e =
     absurd (not_called (resolution_of_address c name a width byte bit) id (Some number)
-    (of_direct c name a width byte bit) e)
+    (none_called _ (direct_reached c name a width byte bit)) e)
 seen_instance c (operand.Named h steps) id number e =
-    absurd (not_called (resolution_of_path c h steps) id (Some number) (of_path c h steps) e)
+    absurd (not_called (resolution_of_path c h steps) id (Some number) (none_called _ (path_reached c h steps)) e)
 seen_instance c (operand.OpenBlock di name) id number e =
     absurd (not_called (resolution_of_opened_block di (data_number c name)) id (Some number)
     (of_opened di (data_number c name)) e)
@@ -407,7 +263,7 @@ called_made c n s how _ is e = (refl, refl)
 
 ended_made : (n : ℕ) (s : Statement) (v : ResolvedOperand) (e : Option EndOperation)
     → IsMade n (end_instr s v e)
-ended_made n s v None = (operation_goes_on s.code s.operand v, no_target s.operand v)
+ended_made n s v None = ((operation_is s.code s.operand v).goes_on, no_target s.operand v)
 ended_made n s v (Some how) = tt
 
 seen_made : (c : Context) (n : ℕ) (s : Statement) (v : ResolvedOperand) → resolved_operand c s ≡ Some v
