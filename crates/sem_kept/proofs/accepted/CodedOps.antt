@@ -3,6 +3,7 @@ use Rattle.std.proofs.Common.{◌≡◌, ℕ, suc, ◌+◌, ◌<◌, ◌≤◌, 
 use Rattle.std.specs.Prelude.{IfSome, is_none, if◌then◌else◌}
 use Rattle.std.specs.List.{AllByRecursion}
 use Rattle.std.specs.Str.{bytes_eq}
+use Rattle.std.proofs.lemmas.Bool.Decides.{nat_tests}
 use Rattle.std.proofs.lemmas.Bool.{and_from, lt-ltb}
 use Rattle.plc_base.specs.declared.blocks.BlockId.{BlockId}
 use Rattle.plc_base.specs.declared.blocks.BlockKind.{BlockKind}
@@ -114,36 +115,20 @@ abbrev IsAllowed : OperandRule → Operand → ResolvedOperand → Type 0
 IsAllowed f (operand.Constant value) v = (takes_constant f value ≡ true) × (v ≡ view.Constant)
 IsAllowed f _ v = rule_of_resolved_operand f v ≡ None
 
-record IsTaken (f : OperandRule) (v : ResolvedOperand) : Type 0 where
-  takes : form_takes f v ≡ true
-  side : is_on_wrong_side f v ≡ false
-
-rule_parts : (f : OperandRule) (v : ResolvedOperand) → rule_of_resolved_operand f v ≡ None → IsTaken f v
-rule_parts f v h = let all = allowed f v h in record { takes = all.taken; side = all.side }
-
 still_view : (o : Operand) (v : ResolvedOperand) (f : ℕ → ℕ) → operand_with_target f (flat_operand_of o v) ≡ flat_operand_of o v
 unfolding flat_operand_of
-still_view o (view.NumberBy numbered.Timer from byte) f = refl
-still_view o (view.NumberBy numbered.Counter from byte) f = refl
-still_view o (view.NumberBy numbered.Db from byte) f = refl
-still_view o (view.NumberBy numbered.Di from byte) f = refl
-still_view o (view.Register register.Dblg) f = refl
-still_view o (view.Register register.Dbno) f = refl
-still_view o (view.Register register.Dilg) f = refl
-still_view o (view.Register register.Dino) f = refl
-still_view o (view.Register _) f = refl
-still_view o _ f = refl
+still_view o v f = grind arith
 
 by_rule : (m : Mnemonic) (o : Operand) (v : ResolvedOperand) → jump_operation_of m ≡ None → call_operation_of m ≡ None
     → end_operation_of m ≡ None → is_empty_statement m ≡ false → ViewFits o v → rule_of_resolved_operand (form_of m) v ≡ None
     → is_instruction (operation_for m o v) (flat_operand_of o v) ≡ true
 unfolding is_instruction
 by_rule m o v j c e n fits rule =
-    let t = rule_parts (form_of m) v rule in
+    let all = allowed (form_of m) v rule in
     and_from (admits (takes_of_operation (operation_for m o v)) (flat_operand_of o v))
     (payload_fits (flat_operand_of o v))
-    (taken m o v j c e n (pointer_fits o v fits) t.takes)
-    (payload_right (form_of m) o v t.side fits)
+    (taken m o v j c e n (pointer_fits o v fits) all.taken)
+    (payload_right (form_of m) o v all.side fits)
 
 by_constant : (m : Mnemonic) (value : Literal) → IsLiteral value → HasBytes value
     → takes_constant (form_of m) value ≡ true
@@ -167,34 +152,7 @@ is_taken m (operand.Constant value) v j c e n is has fits allowed =
     is_instruction (operation_for m (operand.Constant value) x) (flat_operand_of (operand.Constant value) x)
     ≡ true)
     (sym allowed.1) (by_constant m value is has allowed.0)
-is_taken m operand.Nothing v j c e n is has fits allowed =
-    by_rule m operand.Nothing v j c e n fits allowed
-is_taken m (operand.Direct name a w byte bit) v j c e n is has fits allowed =
-    by_rule m (operand.Direct name a w byte bit) v j c e n fits allowed
-is_taken m (operand.Timer k) v j c e n is has fits allowed =
-    by_rule m (operand.Timer k) v j c e n fits allowed
-is_taken m (operand.Counter k) v j c e n is has fits allowed =
-    by_rule m (operand.Counter k) v j c e n fits allowed
-is_taken m (operand.Named path steps) v j c e n is has fits allowed =
-    by_rule m (operand.Named path steps) v j c e n fits allowed
-is_taken m (operand.ByMemory a w from byte) v j c e n is has fits allowed =
-    by_rule m (operand.ByMemory a w from byte) v j c e n fits allowed
-is_taken m (operand.NumberBy what from byte) v j c e n is has fits allowed =
-    by_rule m (operand.NumberBy what from byte) v j c e n fits allowed
-is_taken m (operand.ByRegister a w r bits) v j c e n is has fits allowed =
-    by_rule m (operand.ByRegister a w r bits) v j c e n fits allowed
-is_taken m (operand.Pointer a byte bit) v j c e n is has fits allowed =
-    by_rule m (operand.Pointer a byte bit) v j c e n fits allowed
-is_taken m (operand.Label name) v j c e n is has fits allowed =
-    by_rule m (operand.Label name) v j c e n fits allowed
-is_taken m (operand.OfStatus flag) v j c e n is has fits allowed =
-    by_rule m (operand.OfStatus flag) v j c e n fits allowed
-is_taken m (operand.Other name) v j c e n is has fits allowed =
-    by_rule m (operand.Other name) v j c e n fits allowed
-is_taken m (operand.OpenBlock di name) v j c e n is has fits allowed =
-    by_rule m (operand.OpenBlock di name) v j c e n fits allowed
-is_taken m (operand.Called name instance) v j c e n is has fits allowed =
-    by_rule m (operand.Called name instance) v j c e n fits allowed
+is_taken m o v j c e n is has fits allowed = by_rule m o v j c e n fits allowed
 
 -- what stands in the source
 seen_rule : (f : OperandRule) (s : Resolution) (v : ResolvedOperand) → s ≡ Resolved v → rule_seen f s ≡ None → rule_of_resolved_operand f v ≡ None
@@ -216,38 +174,12 @@ allowed_by : (c : Context) (f : OperandRule) (o : Operand) (v : ResolvedOperand)
 unfolding resolution_of
 allowed_by c f (operand.Constant value) v h e =
     (constant_rule (takes_constant f value) h, sym (ap (the_view view.Constant) e))
-allowed_by c f operand.Nothing v h e = seen_rule f (resolution_of c operand.Nothing) v e h
-allowed_by c f (operand.Direct name a w byte bit) v h e =
-    seen_rule f (resolution_of c (operand.Direct name a w byte bit)) v e h
-allowed_by c f (operand.Timer k) v h e = seen_rule f (resolution_of c (operand.Timer k)) v e h
-allowed_by c f (operand.Counter k) v h e = seen_rule f (resolution_of c (operand.Counter k)) v e h
-allowed_by c f (operand.Named path steps) v h e =
-    seen_rule f (resolution_of c (operand.Named path steps)) v e h
-allowed_by c f (operand.ByMemory a w from byte) v h e =
-    seen_rule f (resolution_of c (operand.ByMemory a w from byte)) v e h
-allowed_by c f (operand.NumberBy what from byte) v h e =
-    seen_rule f (resolution_of c (operand.NumberBy what from byte)) v e h
-allowed_by c f (operand.ByRegister a w r bits) v h e =
-    seen_rule f (resolution_of c (operand.ByRegister a w r bits)) v e h
-allowed_by c f (operand.Pointer a byte bit) v h e =
-    seen_rule f (resolution_of c (operand.Pointer a byte bit)) v e h
-allowed_by c f (operand.Label name) v h e = seen_rule f (resolution_of c (operand.Label name)) v e h
-allowed_by c f (operand.OfStatus flag) v h e = seen_rule f (resolution_of c (operand.OfStatus flag)) v e h
-allowed_by c f (operand.Other name) v h e = seen_rule f (resolution_of c (operand.Other name)) v e h
-allowed_by c f (operand.OpenBlock di name) v h e =
-    seen_rule f (resolution_of c (operand.OpenBlock di name)) v e h
-allowed_by c f (operand.Called name instance) v h e =
-    seen_rule f (resolution_of c (operand.Called name instance)) v e h
+allowed_by c f o v h e = seen_rule f (resolution_of c o) v e h
 
 -- ---- one that opens a data block first
 
 opened_fits : (o : Operand) (v : ResolvedOperand) → ViewFits o v → IfSome (block_opened_by_operand v) IsWord
-opened_fits o (view.Direct place w side declared) fits = by (is_in_named_block place)
-  where
-    by : (b : Bool) → IfSome (if b then Some place.number else None) IsWord
-    by true = fits.0
-    by false = tt
-opened_fits o _ fits = tt
+opened_fits o v fits = grind arith
 
 opening_good : (n : ℕ) → IsWord n → IsGoodPart (preparing_op operation.UseDb (flat.UseDb n))
 unfolding is_instruction admits
@@ -273,16 +205,10 @@ opened_good (Some n) w o h good = record {
 
 kind_called : (k : BlockKind) → is_callable_kind k ≡ true
     → (ltb (kind_number k) 256 && is_callable_number (kind_number k)) ≡ true
-kind_called kinds.Fc h = refl
-kind_called kinds.Fb h = refl
-kind_called kinds.Sfc h = refl
-kind_called kinds.Ob h = absurd cc
-kind_called kinds.Db h = absurd cc
-kind_called kinds.Udt h = absurd cc
+kind_called k h = grind arith
 
 instance_small : (instance : Option ℕ) → IfSome instance IsWord → IsWord (instance_number_or_zero instance)
-instance_small None h = omega arith
-instance_small (Some n) h = h
+instance_small instance h = grind arith
 
 call_takes : (how : CallOperation) (k n m : ℕ)
     → (ltb k 256 && is_callable_number k) ≡ true → IsWord n → IsWord m
@@ -301,33 +227,13 @@ call_good how id instance c h k =
     (kind_called id.kind c) h (instance_small instance k))
 
 -- what is passed
-place_passed : (place : Place) (w : Width) → PlaceFits place
-    → actual_fits (passed_place place w) ≡ true
-place_passed place w fits = by (is_in_named_block place)
-  where
-    inside : direct_coding.fits (place.area, (w, (place.byte, place.bit))) ≡ true
-    inside = direct_fits place.area w place.byte place.bit fits.1 fits.2
-
-    by : (b : Bool)
-        → actual_fits (if b then passed.InBlock place.number place.area w place.byte place.bit
-        else passed.Direct place.area w place.byte place.bit) ≡ true
-    by true = and_from (ltb place.number 65536) _ (word_fits place.number fits.0) inside
-    by false = inside
-
 view_passed : (o : Operand) (v : ResolvedOperand) → ViewFits o v
     → IfSome (passed_view o v) (λ p. actual_fits p ≡ true)
-view_passed o (view.Direct place w side declared) fits = place_passed place w fits
-view_passed o (view.Parameter index section declared) fits =
-    and_from (ltb index 256) true (lt-ltb index 256 fits) refl
-view_passed o view.Constant fits =
-    lt-ltb (constant_bits o) 4294967296 (omega (arith, fits))
-view_passed o _ fits = tt
+view_passed o v fits = grind (arith, nat_tests, direct_fits)
 
 seen_passed : (o : Operand) (s : Resolution) → SeenFits o s
     → IfSome (passed_seen o s) (λ p. actual_fits p ≡ true)
-seen_passed o (Resolved v) fits = view_passed o v fits
-seen_passed o Unknown fits = tt
-seen_passed o Unjudged fits = tt
+seen_passed o s fits = grind (arith, view_passed)
 
 -- what a call passes for the parameters from an index on
 record IsGoodPassing (most : ℕ) (ps : List Passing) : Type 0 where
@@ -376,16 +282,11 @@ passed_good c actuals index (f ∷ fs) all few =
 
 in_order_length : (b : Option Block) (formals : List Formal)
     → length (in_parameter_order b formals) ≡ length formals
-in_order_length None formals = refl
-in_order_length (Some b) formals = by b.result
+in_order_length b formals = grind (arith, turned_length)
   where
-    by : (result : Option Simple) → length (return_last result formals) ≡ length formals
-    by None = refl
-    by (Some kind) =
-        let all = ap length (take-append-drop 1 formals) in
-        let front = length-append (take 1 formals) (drop 1 formals) in
-        let behind = length-append (drop 1 formals) (take 1 formals) in
-        omega (arith, all, front, behind)
+    turned_length : (xs : List Formal) → length (drop 1 xs ++ take 1 xs) ≡ length xs
+    turned_length [] = refl
+    turned_length (x ∷ xs) = rw length-append (omega arith)
 
 abbrev pub HasFewFormals : Context → Statement → Type 0
 HasFewFormals c s = IfSome (callee_of c s.operand) (λ callee. length callee.formals ≤ 60)
@@ -433,9 +334,7 @@ jump_good how n target =
 
 end_takes : (how : EndOperation) → is_instruction (operation.End how) flat.Nothing ≡ true
 unfolding is_instruction admits
-end_takes ends.Be = refl
-end_takes ends.Bec = refl
-end_takes ends.Beu = refl
+end_takes how = grind arith
 
 pub end_good : (how : EndOperation) → IsGoodStatement (ops_of (Returns how))
 unfolding ops_of
@@ -514,18 +413,7 @@ record IsResolved (c : Context) (s : Statement) (v : ResolvedOperand) : Type 0 w
 resolved_parts : (c : Context) (s : Statement) (v : ResolvedOperand) → resolved_operand c s ≡ Some v
     → IsResolved c s v
 unfolding resolved_operand
-resolved_parts c s v e = by (statement_rule c s) (resolution_of c s.operand) refl refl e
-  where
-    by : (rule : Option ℕ) (what : Resolution) → statement_rule c s ≡ rule → resolution_of c s.operand ≡ what
-        → (if is_none rule then seen_view what else None) ≡ Some v → IsResolved c s v
-    by None (Resolved x) r k h = record { rule = r; seen = k ∙ ap Resolved (ap (view_or x) h) }
-      where
-        view_or : ResolvedOperand → Option ResolvedOperand → ResolvedOperand
-        view_or d None = d
-        view_or d (Some y) = y
-    by None Unknown r k h = absurd cc
-    by None Unjudged r k h = absurd cc
-    by (Some n) what r k h = absurd cc
+resolved_parts c s v e = grind arith
 
 -- THE OPS OF A STATEMENT
 pub statement_good : (c : Context) (body : List Statement) (n : ℕ) (s : Statement) → IsFit c
