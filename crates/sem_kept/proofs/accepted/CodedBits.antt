@@ -1,28 +1,24 @@
 -- The bits of constants, and which instruction takes which constant.
-use Rattle.std.proofs.Common.{◌≡◌, ℕ, ◌+◌, ◌*◌, ◌/◌, ◌%◌, ◌≤◌, ◌<◌, ◌^◌, true, false, leb, List, [], ◌∷◌, length, Option, Some, None, ℤ, pos, negsuc, refl, ⊎_elim, arith}
-use Rattle.std.specs.Option.{option_map}
+use Rattle.std.proofs.Common.{◌≡◌, ℕ, ◌+◌, ◌*◌, ◌/◌, ◌%◌, ◌≤◌, ◌<◌, ◌^◌, true, List, [], ◌∷◌, length, ℤ, refl, arith}
 use Rattle.std.proofs.lemmas.Bool.Decides.{nat_tests}
-use Rattle.std.proofs.lemmas.Bool.{eqb-true, leb-true, le-leb}
 use Rattle.plc_base.specs.Bcd.{bcd_digits}
-use Rattle.plc_base.specs.S5Time.{s5time_of_ms, s5time_of_units, smallest_base, unit_of}
+use Rattle.plc_base.specs.S5Time.{s5time_of_ms, s5time_of_units}
 use Rattle.plc_base.specs.declared.s5times.TimeBase.{TimeBase}
-use Rattle.plc_base.specs.declared.s5times.TimeBase.TheVariants as base
 use Rattle.flat_code.specs.Table.{admits, takes_of_operation}
 use Rattle.flat_code.specs.declared.operands.Operand.TheVariants as flat
 use Rattle.stl_ast.specs.Literals.{AreBytes, IsDecimal, IsLiteral, IsLong}
 use Rattle.stl_ast.specs.declared.declarations.Simple.{Simple}
 use Rattle.stl_ast.specs.declared.declarations.Simple.TheVariants as simple
 use Rattle.stl_ast.specs.declared.literals.Literal.{Literal}
-use Rattle.stl_ast.specs.declared.literals.Literal.TheVariants as literal
 use Rattle.stl_ast.specs.declared.mnemonics.Mnemonic.{Mnemonic}
 use Rattle.stl_ast.specs.declared.mnemonics.Mnemonic.TheVariants as code
 use Rattle.stl_ast.specs.declared.operands.Operand.TheVariants as operand
 use Rattle.block_layout.specs.Fits.{bits_of, fits_elementary_type, number_from, or_0, twos_complement_bits}
 use Rattle.block_layout.specs.Sizes.{plain_bits}
-use Rattle.stl_types.specs.Constants.{is_count, takes_constant}
+use Rattle.stl_types.specs.Constants.{takes_constant}
 use Rattle.stl_types.specs.Forms.{form_of}
 use Rattle.stl_types.specs.declared.views.ResolvedOperand.TheVariants as view
-use Rattle.stl_codegen.specs.Operations.{add_operation, operation_for}
+use Rattle.stl_codegen.specs.Operations.{operation_for}
 use Rattle.sem_kept.specs.Coded.{HasBytes}
 
 -- ---- bits
@@ -46,7 +42,7 @@ decimal_small v h = grind arith
 long_small : (v : ℤ) → IsLong v → twos_complement_bits 32 v ≤ 4294967295
 long_small v h = grind arith
 
-characters_small : (bytes : List ℕ) → length bytes ≤ 4 → AreBytes bytes 
+characters_small : (bytes : List ℕ) → length bytes ≤ 4 → AreBytes bytes
     → (number_from 0 bytes ≤ 4294967295) × (length bytes ≡ 1 → number_from 0 bytes ≤ 255) × (length bytes ≡ 2 → number_from 0 bytes ≤ 65535)
 characters_small [] few h = omega arith
 characters_small (a ∷ []) few h = omega arith
@@ -60,12 +56,6 @@ pub bits_small : (value : Literal) → IsLiteral value → HasBytes value → bi
 unfolding bits_of
 bits_small value is has =
     grind (arith, decimal_small, long_small, digits_small, time_small, characters_small)
-
--- and 16 bits what fits WORD
-word_small : (value : Literal) → IsLiteral value → HasBytes value → fits_elementary_type value simple.Word ≡ true
-    → bits_of value ≤ 65535
-unfolding bits_of fits_elementary_type
-word_small value is has h = grind (arith, nat_tests, digits_small, time_small, characters_small)
 
 -- and the bits of a type what fits it
 pub value_fits : (value : Literal) (kind : Simple) → IsLiteral value → HasBytes value
@@ -83,7 +73,7 @@ pub constant_taken : (m : Mnemonic) (value : Literal) → IsLiteral value → Ha
     (flat.Literal (bits_of value)) ≡ true
 unfolding form_of takes_constant operation_for admits bits_of
 constant_taken code.L value is has h = refl
-constant_taken code.Aw value is has h = grind (arith, nat_tests, word_small)
-constant_taken code.Ow value is has h = grind (arith, nat_tests, word_small)
-constant_taken code.Xow value is has h = grind (arith, nat_tests, word_small)
+constant_taken code.Aw value is has h = grind (arith, nat_tests, value_fits value simple.Word is has)
+constant_taken code.Ow value is has h = grind (arith, nat_tests, value_fits value simple.Word is has)
+constant_taken code.Xow value is has h = grind (arith, nat_tests, value_fits value simple.Word is has)
 constant_taken _ value is has h = grind (arith, nat_tests, bits_small)

@@ -1,16 +1,13 @@
 -- The ops of a statement are ops of the table, wherever its targets lead, and at most 64.
-use Rattle.std.proofs.Common.{◌≡◌, ℕ, suc, ◌+◌, ◌<◌, ◌≤◌, Bool, true, false, ltb, ◌&&◌, List, [], ◌∷◌, ◌++◌, length, length-append, take, drop, take-append-drop, Option, Some, None, refl, sym, ap, subst, ◌∙◌, arith}
-use Rattle.std.specs.Prelude.{IfSome, is_none, if◌then◌else◌}
+use Rattle.std.proofs.Common.{◌≡◌, ℕ, suc, ◌+◌, ◌<◌, ◌≤◌, Bool, true, false, ltb, ◌&&◌, List, [], ◌∷◌, ◌++◌, length, length-append, take, drop, Option, Some, None, refl, sym, ap, subst, ◌∙◌, arith}
+use Rattle.std.specs.Prelude.{IfSome}
 use Rattle.std.specs.List.{AllByRecursion}
 use Rattle.std.specs.Str.{bytes_eq}
 use Rattle.std.proofs.lemmas.Bool.Decides.{nat_tests}
 use Rattle.std.proofs.lemmas.Bool.{and_from, lt-ltb}
 use Rattle.plc_base.specs.declared.blocks.BlockId.{BlockId}
 use Rattle.plc_base.specs.declared.blocks.BlockKind.{BlockKind}
-use Rattle.plc_base.specs.declared.blocks.BlockKind.TheVariants as kinds
-use Rattle.plc_base.specs.declared.places.Place.{Place}
-use Rattle.plc_base.specs.declared.places.Width.{Width}
-use Rattle.flat_code.specs.Forms.{passed_coding, actual_fits, direct_coding, is_callable_number, payload_fits}
+use Rattle.flat_code.specs.Forms.{passed_coding, actual_fits, is_callable_number, payload_fits}
 use Rattle.flat_code.specs.Instr.{Passing, Does, Calls, Returns}
 use Rattle.flat_code.specs.Kinds.{jump_number}
 use Rattle.flat_code.specs.OpCodes.{op_code_of}
@@ -20,10 +17,8 @@ use Rattle.flat_code.specs.declared.kinds.JumpOperation.{JumpOperation}
 use Rattle.flat_code.specs.declared.operands.Operand.{Operand as FlatOperand}
 use Rattle.flat_code.specs.declared.operands.Operand.TheVariants as flat
 use Rattle.flat_code.specs.declared.operands.Passed.{Passed}
-use Rattle.flat_code.specs.declared.operands.Passed.TheVariants as passed
 use Rattle.flat_code.specs.declared.operations.CallOperation.{CallOperation}
 use Rattle.flat_code.specs.declared.operations.EndOperation.{EndOperation}
-use Rattle.flat_code.specs.declared.operations.EndOperation.TheVariants as ends
 use Rattle.flat_code.specs.declared.operations.Operation.{Operation}
 use Rattle.flat_code.specs.declared.operations.Operation.TheVariants as operation
 use Rattle.block_layout.specs.Fits.{bits_of}
@@ -31,10 +26,8 @@ use Rattle.stl_ast.specs.Literals.{IsLiteral}
 use Rattle.stl_ast.specs.Operands.{IsOperand}
 use Rattle.stl_ast.specs.Statements.{AreActuals, IsStatement, is_empty_statement}
 use Rattle.stl_ast.specs.declared.blocks.Block.{Block}
-use Rattle.stl_ast.specs.declared.declarations.Simple.{Simple}
 use Rattle.stl_ast.specs.declared.literals.Literal.{Literal}
 use Rattle.stl_ast.specs.declared.mnemonics.Mnemonic.{Mnemonic}
-use Rattle.stl_ast.specs.declared.operands.Numbered.TheVariants as numbered
 use Rattle.stl_ast.specs.declared.operands.Operand.{Operand}
 use Rattle.stl_ast.specs.declared.operands.Operand.TheVariants as operand
 use Rattle.stl_ast.specs.declared.statements.Actual.{Actual}
@@ -44,28 +37,27 @@ use Rattle.plc_base.specs.Kinds.{is_callable as is_callable_kind, kind_number}
 use Rattle.stl_types.specs.Constants.{takes_constant}
 use Rattle.stl_types.specs.Context.{Context}
 use Rattle.stl_types.specs.Forms.{form_of}
-use Rattle.stl_types.specs.Operands.{is_on_wrong_side, operand_rule, rule_of_resolved_operand, rule_seen, statement_rule, takes_operand as form_takes}
+use Rattle.stl_types.specs.Operands.{operand_rule, rule_of_resolved_operand, rule_seen, statement_rule}
 use Rattle.stl_types.specs.Parameters.{Callee, callee_of}
-use Rattle.stl_types.specs.Resolved.{resolved_operand, seen_view}
+use Rattle.stl_types.specs.Resolved.{resolved_operand}
 use Rattle.stl_types.specs.Resolution.{resolution_of}
 use Rattle.stl_types.specs.declared.forms.OperandRule.{OperandRule}
 use Rattle.stl_types.specs.declared.forms.OperandRule.TheVariants as form
 use Rattle.stl_types.specs.declared.parameters.Formal.{Formal}
-use Rattle.stl_types.specs.declared.views.Register.TheVariants as register
 use Rattle.stl_types.specs.declared.views.Resolution.{Resolution}
-use Rattle.stl_types.specs.declared.views.Resolution.TheVariants.{Resolved, Unknown, Unjudged}
+use Rattle.stl_types.specs.declared.views.Resolution.TheVariants.{Resolved}
 use Rattle.stl_types.specs.declared.views.ResolvedOperand.{ResolvedOperand}
 use Rattle.stl_types.specs.declared.views.ResolvedOperand.TheVariants as view
 use Rattle.stl_codegen.proofs.OpLemmas.{jumps, jump_ops}
 use Rattle.stl_codegen.specs.Compiled.{operand_with_target}
 use Rattle.stl_codegen.specs.Emitted.{call_op, end_op, op_with_end_mark, instance_number_or_zero, jump_op, use_db_ops, ops_of, pass_ops, preparing_op}
-use Rattle.stl_codegen.specs.Instruction.{source_block_at, call_instr, end_instr, filler_instruction, in_parameter_order, instr_by, instruction, jump_instr, passings_to, resolved_instr, return_last, target_of, view_instr}
-use Rattle.stl_codegen.specs.Operands.{constant_bits, is_in_named_block, block_opened_by_operand, flat_operand_of}
-use Rattle.stl_codegen.specs.Passed.{passed_actual, passed_place, passed_seen, passed_view, passings_from, actual_of_formal, with_index}
+use Rattle.stl_codegen.specs.Instruction.{source_block_at, call_instr, end_instr, filler_instruction, in_parameter_order, instr_by, instruction, jump_instr, passings_to, resolved_instr, target_of, view_instr}
+use Rattle.stl_codegen.specs.Operands.{block_opened_by_operand, flat_operand_of}
+use Rattle.stl_codegen.specs.Passed.{passed_actual, passed_seen, passed_view, passings_from, actual_of_formal, with_index}
 use Rattle.stl_codegen.specs.Operations.{call_operation_of, end_operation_of, jump_operation_of, operation_for}
 use Rattle.sem_kept.proofs.accepted.CodedBits.{bits_small, constant_taken}
 use Rattle.sem_kept.proofs.accepted.CodedTables.{taken, operation_is_op}
-use Rattle.sem_kept.proofs.accepted.CodedViews.{IsFit, IsWord, PlaceFits, SeenFits, ViewFits, direct_fits, found_holds, payload_right, pointer_fits, seen_fits, word_fits}
+use Rattle.sem_kept.proofs.accepted.CodedViews.{IsFit, IsWord, SeenFits, ViewFits, direct_fits, found_holds, payload_right, pointer_fits, seen_fits, word_fits}
 use Rattle.sem_kept.specs.Coded.{HasBytes, OperandHasBytes, StatementHasBytes}
 use Rattle.sem_kept.proofs.accepted.OperandsOperations.{allowed}
 use Rattle.sem_kept.proofs.accepted.Shared.{call_form, no_call_constant, rule_callable, rule_there}
@@ -154,27 +146,11 @@ is_taken m (operand.Constant value) v j c e n is has fits allowed =
     (sym allowed.1) (by_constant m value is has allowed.0)
 is_taken m o v j c e n is has fits allowed = by_rule m o v j c e n fits allowed
 
--- what stands in the source
-seen_rule : (f : OperandRule) (s : Resolution) (v : ResolvedOperand) → s ≡ Resolved v → rule_seen f s ≡ None → rule_of_resolved_operand f v ≡ None
-seen_rule f s v e h = subst (λ (x : Resolution). rule_seen f x ≡ None) e h
-
-abbrev constant_by : Bool → Option ℕ
-constant_by b = if b then None else Some 25
-
-constant_rule : (b : Bool) → constant_by b ≡ None → b ≡ true
-constant_rule true h = refl
-constant_rule false h = absurd cc
-
-abbrev the_view : ResolvedOperand → Resolution → ResolvedOperand
-the_view d (Resolved v) = v
-the_view d _ = d
-
 allowed_by : (c : Context) (f : OperandRule) (o : Operand) (v : ResolvedOperand) → operand_rule c f o ≡ None
     → resolution_of c o ≡ Resolved v → IsAllowed f o v
 unfolding resolution_of
-allowed_by c f (operand.Constant value) v h e =
-    (constant_rule (takes_constant f value) h, sym (ap (the_view view.Constant) e))
-allowed_by c f o v h e = seen_rule f (resolution_of c o) v e h
+allowed_by c f (operand.Constant value) v h e = grind arith
+allowed_by c f o v h e = sym (ap (rule_seen f) e) ∙ h
 
 -- ---- one that opens a data block first
 
@@ -214,9 +190,7 @@ call_takes : (how : CallOperation) (k n m : ℕ)
     → (ltb k 256 && is_callable_number k) ≡ true → IsWord n → IsWord m
     → is_instruction (operation.Call how) (flat.Called k n m) ≡ true
 unfolding is_instruction admits
-call_takes how k n m h i j =
-    and_from (ltb k 256 && is_callable_number k) _ h
-    (and_from (ltb n 65536) (ltb m 65536) (word_fits n i) (word_fits m j))
+call_takes how k n m h i j = grind (arith, nat_tests)
 
 call_good : (how : CallOperation) (id : BlockId) (instance : Option ℕ) → is_callable_kind id.kind ≡ true
     → IsWord id.number → IfSome instance IsWord → IsGood (call_op how id instance)
@@ -243,7 +217,7 @@ record IsGoodPassing (most : ℕ) (ps : List Passing) : Type 0 where
 pass_takes : (index : ℕ) (a : Passed) → index < 256 → actual_fits a ≡ true
     → is_instruction operation.Pass (flat.Pass index a) ≡ true
 unfolding is_instruction admits passed_coding
-pass_takes index a lt fits = and_from (ltb index 256) (actual_fits a) (lt-ltb index 256 lt) fits
+pass_takes index a lt fits = grind (arith, nat_tests)
 
 pass_good : (index : ℕ) (a : Passed) → index < 256 → actual_fits a ≡ true
     → IsGoodPart (preparing_op operation.Pass (flat.Pass index a))

@@ -1,31 +1,22 @@
 -- The numbers of what operands name fit an op.
-use Rattle.std.proofs.Common.{◌≡◌, ℕ, zero, suc, ◌-◌, ◌/◌, ◌<◌, ◌≤◌, Bool, true, false, eqb, ltb, leb, ◌&&◌, cond, List, [], ◌∷◌, length, Option, Some, None, refl, ⊎_elim, arith}
+use Rattle.std.proofs.Common.{◌≡◌, ℕ, zero, suc, ◌<◌, ◌≤◌, Bool, true, false, ltb, List, [], ◌∷◌, length, Option, Some, refl, arith}
 use Rattle.std.specs.Prelude.{IfSome, slice_get, find, if◌then◌else◌}
 use Rattle.std.specs.List.{AllByRecursion}
-use Rattle.std.specs.Option.{option_map, option_and_then}
 use Rattle.std.proofs.lemmas.Bool.Decides.{nat_tests}
-use Rattle.std.proofs.lemmas.Bool.{and_from, le-leb, leb-true, lt-ltb}
+use Rattle.std.proofs.lemmas.Bool.{lt-ltb}
 use Rattle.std.proofs.lemmas.Option.{slice_get_within}
-use Rattle.plc_base.specs.Kinds.{is_system_function}
 use Rattle.plc_base.specs.declared.blocks.BlockId.{BlockId}
-use Rattle.plc_base.specs.declared.flags.Flag.{Flag}
-use Rattle.plc_base.specs.declared.flags.Flag.TheVariants as flags
 use Rattle.plc_base.specs.declared.places.Area.{Area}
 use Rattle.plc_base.specs.declared.places.Area.TheVariants as area
 use Rattle.plc_base.specs.declared.places.Place.{Place}
 use Rattle.plc_base.specs.declared.places.Width.{Width}
-use Rattle.plc_base.specs.declared.places.Width.TheVariants as width
-use Rattle.flat_code.specs.Forms.{is_crossing_area, direct_coding, holds_pointers, is_memory_area, payload_fits}
-use Rattle.flat_code.specs.Kinds.{condition_number}
+use Rattle.flat_code.specs.Forms.{direct_coding, holds_pointers, payload_fits}
 use Rattle.stl_ast.specs.Operands.{IsAnyName, IsBitOf, IsOperand, MayHoldPointer}
 use Rattle.stl_ast.specs.declared.blocks.Block.{Block}
 use Rattle.stl_ast.specs.declared.blocks.PathStep.{PathStep}
 use Rattle.stl_ast.specs.declared.declarations.Simple.{Simple}
 use Rattle.stl_ast.specs.declared.names.BlockName.{BlockName}
-use Rattle.stl_ast.specs.declared.names.BlockName.TheVariants as block_name
 use Rattle.stl_ast.specs.declared.operands.Letters.{Letters}
-use Rattle.stl_ast.specs.declared.operands.Letters.TheVariants as letters
-use Rattle.stl_ast.specs.declared.operands.Numbered.TheVariants as numbered
 use Rattle.stl_ast.specs.declared.operands.Operand.{Operand}
 use Rattle.stl_ast.specs.declared.operands.Operand.TheVariants as operand
 use Rattle.stl_ast.specs.declared.operands.PathHead.{PathHead}
@@ -34,28 +25,24 @@ use Rattle.plc_base.specs.Folding.{upper_case_name, is_same_name}
 use Rattle.stl_symbols.specs.Symbol.{Symbol, symbol_named}
 use Rattle.stl_symbols.specs.declared.targets.Target.{Target}
 use Rattle.stl_symbols.specs.declared.targets.Target.TheVariants as target
-use Rattle.block_layout.specs.Blocks.{block_of, named_block}
-use Rattle.block_layout.specs.Offsets.{place_at, elementary_place, width_of}
-use Rattle.block_layout.specs.Paths.{cells_at, elementary_at, folded_path, path_end_in_data_block, walked_local, whole_at, whole_block as whole_layout}
+use Rattle.block_layout.specs.Blocks.{named_block}
+use Rattle.block_layout.specs.Offsets.{elementary_place}
+use Rattle.block_layout.specs.Paths.{cells_at, folded_path, walked_local, whole_at}
 use Rattle.block_layout.specs.declared.blocks.BlockLayout.{BlockLayout}
 use Rattle.block_layout.specs.declared.cells.Cell.{Cell}
-use Rattle.block_layout.specs.declared.cells.Element.{Element}
-use Rattle.block_layout.specs.declared.cells.Element.TheVariants as element
 use Rattle.block_layout.specs.declared.walks.ComponentAt.{ComponentAt}
 use Rattle.block_layout.specs.declared.walks.PathEnd.{PathEnd}
-use Rattle.block_layout.specs.declared.walks.PathEnd.TheVariants as walk
-use Rattle.stl_types.specs.Addresses.{address_in_block, area_for_letters}
-use Rattle.stl_types.specs.Context.{Context, data_number, data_place, in_function, number_of_block, whole_place}
+use Rattle.stl_types.specs.Addresses.{area_for_letters}
+use Rattle.stl_types.specs.Context.{Context, data_number, in_function}
 use Rattle.stl_types.specs.Operands.{is_on_wrong_side}
-use Rattle.stl_types.specs.Resolution.{called_seen, direct_seen, id_at, instance_number, opened_seen, path_seen, resolution_of, symbol_seen, target_view, whole_called_block}
-use Rattle.stl_types.specs.Variables.{behind_others, composite_operand, data_at, data_path, data_variable, data_walked, date_or_composite, variable_in_area, is_temporary_variable, own_at, own_elementary, own_variable, own_walked, parameter_resolution, parameter_at, parameter_index}
+use Rattle.stl_types.specs.Resolution.{called_seen, direct_seen, instance_number, opened_seen, path_seen, resolution_of, target_view, whole_called_block}
+use Rattle.stl_types.specs.Variables.{composite_operand, data_variable, data_walked, variable_in_area, is_temporary_variable, own_elementary, own_walked, parameter_at, parameter_index}
 use Rattle.stl_types.specs.declared.forms.OperandRule.{OperandRule}
-use Rattle.stl_types.specs.declared.views.Register.TheVariants as register
 use Rattle.stl_types.specs.declared.views.Resolution.{Resolution}
 use Rattle.stl_types.specs.declared.views.Resolution.TheVariants.{Resolved}
 use Rattle.stl_types.specs.declared.views.ResolvedOperand.{ResolvedOperand}
 use Rattle.stl_types.specs.declared.views.ResolvedOperand.TheVariants as view
-use Rattle.stl_codegen.specs.Operands.{constant_bits, flat_operand_of, pointer_bits}
+use Rattle.stl_codegen.specs.Operands.{constant_bits, flat_operand_of}
 use Rattle.stl_parser.proofs.OptionLemmas.{both}
 use Rattle.sem_kept.specs.Coded.{OperandHasBytes}
 use Rattle.sem_kept.proofs.accepted.CodedBits.{bits_small}
