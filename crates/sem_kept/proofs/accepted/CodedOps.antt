@@ -1,14 +1,13 @@
 -- The ops of a statement are ops of the table, wherever its targets lead, and at most 64.
-use Rattle.std.proofs.Common.{◌≡◌, ℕ, suc, ◌+◌, ◌<◌, ◌≤◌, Bool, true, false, ltb, ◌&&◌, List, [], ◌∷◌, ◌++◌, length, length-append, take, drop, Option, Some, None, refl, sym, ap, subst, ◌∙◌, arith}
+use Rattle.std.proofs.Common.{◌≡◌, ℕ, suc, ◌+◌, ◌<◌, ◌≤◌, Bool, true, false, List, [], ◌∷◌, ◌++◌, length, length-append, take, drop, Option, Some, None, refl, sym, ap, subst, ◌∙◌, arith}
 use Rattle.std.specs.Prelude.{IfSome}
 use Rattle.std.specs.List.{AllByRecursion}
 use Rattle.std.specs.Str.{bytes_eq}
 use Rattle.std.proofs.lemmas.Bool.Decides.{nat_tests}
-use Rattle.std.proofs.lemmas.Bool.{and_from, lt-ltb}
+use Rattle.std.proofs.lemmas.Bool.{and_from}
 use Rattle.plc_base.specs.declared.blocks.BlockId.{BlockId}
-use Rattle.plc_base.specs.declared.blocks.BlockKind.{BlockKind}
-use Rattle.flat_code.specs.Forms.{passed_coding, actual_fits, is_callable_number, payload_fits}
-use Rattle.flat_code.specs.Instr.{Passing, Does, Calls, Returns}
+use Rattle.flat_code.specs.Forms.{passed_coding, actual_fits, payload_fits}
+use Rattle.flat_code.specs.Instr.{Passing, Does, Returns}
 use Rattle.flat_code.specs.Kinds.{jump_number}
 use Rattle.flat_code.specs.OpCodes.{op_code_of}
 use Rattle.flat_code.specs.Ops.{OpData, is_instruction, is_op}
@@ -21,7 +20,6 @@ use Rattle.flat_code.specs.declared.operations.CallOperation.{CallOperation}
 use Rattle.flat_code.specs.declared.operations.EndOperation.{EndOperation}
 use Rattle.flat_code.specs.declared.operations.Operation.{Operation}
 use Rattle.flat_code.specs.declared.operations.Operation.TheVariants as operation
-use Rattle.block_layout.specs.Fits.{bits_of}
 use Rattle.stl_ast.specs.Literals.{IsLiteral}
 use Rattle.stl_ast.specs.Operands.{IsOperand}
 use Rattle.stl_ast.specs.Statements.{AreActuals, IsStatement, is_empty_statement}
@@ -127,13 +125,7 @@ by_constant : (m : Mnemonic) (value : Literal) → IsLiteral value → HasBytes 
     → is_instruction (operation_for m (operand.Constant value) view.Constant)
     (flat_operand_of (operand.Constant value) view.Constant) ≡ true
 unfolding is_instruction flat_operand_of
-by_constant m value is has h =
-    let small = bits_small value is has in
-    and_from
-    (admits (takes_of_operation (operation_for m (operand.Constant value) view.Constant))
-    (flat.Literal (bits_of value)))
-    (ltb (bits_of value) 4294967296) (constant_taken m value is has h)
-    (lt-ltb (bits_of value) 4294967296 (omega (arith, small)))
+by_constant m value is has h = grind (arith, nat_tests, constant_taken m value is has h, bits_small value is has)
 
 is_taken : (m : Mnemonic) (o : Operand) (v : ResolvedOperand) → jump_operation_of m ≡ None → call_operation_of m ≡ None
     → end_operation_of m ≡ None → is_empty_statement m ≡ false → IsOperand o → OperandHasBytes o → ViewFits o v
@@ -165,7 +157,8 @@ opening_good n h = record {
 }
 
 opened_good : (use_db : Option ℕ) (w : Operation) (o : FlatOperand) → IfSome use_db IsWord
-    → IsGood (op_with_end_mark w o) → IsGoodStatement (use_db_ops use_db ++ op_with_end_mark w o ∷ [])
+    → IsGood (op_with_end_mark w o) → IsGoodStatement (ops_of (Does use_db w o))
+unfolding ops_of
 opened_good None w o h good = alone (op_with_end_mark w o) good refl
 opened_good (Some n) w o h good = record {
   front = use_db_ops (Some n);
@@ -179,26 +172,11 @@ opened_good (Some n) w o h good = record {
 
 -- ---- calls
 
-kind_called : (k : BlockKind) → is_callable_kind k ≡ true
-    → (ltb (kind_number k) 256 && is_callable_number (kind_number k)) ≡ true
-kind_called k h = grind arith
-
-instance_small : (instance : Option ℕ) → IfSome instance IsWord → IsWord (instance_number_or_zero instance)
-instance_small instance h = grind arith
-
-call_takes : (how : CallOperation) (k n m : ℕ)
-    → (ltb k 256 && is_callable_number k) ≡ true → IsWord n → IsWord m
-    → is_instruction (operation.Call how) (flat.Called k n m) ≡ true
+call_takes : (how : CallOperation) (id : BlockId) (instance : Option ℕ) → is_callable_kind id.kind ≡ true
+    → IsWord id.number → IfSome instance IsWord
+    → is_instruction (operation.Call how) (flat.Called (kind_number id.kind) id.number (instance_number_or_zero instance)) ≡ true
 unfolding is_instruction admits
-call_takes how k n m h i j = grind (arith, nat_tests)
-
-call_good : (how : CallOperation) (id : BlockId) (instance : Option ℕ) → is_callable_kind id.kind ≡ true
-    → IsWord id.number → IfSome instance IsWord → IsGood (call_op how id instance)
-call_good how id instance c h k =
-    still_good (operation.Call how) true
-    (flat.Called (kind_number id.kind) id.number (instance_number_or_zero instance)) (λ f. refl)
-    (call_takes how (kind_number id.kind) id.number (instance_number_or_zero instance)
-    (kind_called id.kind c) h (instance_small instance k))
+call_takes how id instance c h k = grind (arith, nat_tests)
 
 -- what is passed
 view_passed : (o : Operand) (v : ResolvedOperand) → ViewFits o v
@@ -236,13 +214,9 @@ passed_one c index None ps n lt h more = record { parts = more.parts; few = omeg
 passed_one c index (Some a) ps n lt h more =
     by (passed_seen a.value (resolution_of c a.value)) (seen_passed a.value (resolution_of c a.value) h)
   where
-    by : (p : Option Passed) → IfSome p (λ p. actual_fits p ≡ true)
-        → IsGoodPassing (suc n) (with_index index p ++ ps)
+    by : (p : Option Passed) → IfSome p (λ p. actual_fits p ≡ true) → IsGoodPassing (suc n) (with_index index p ++ ps)
     by None k = record { parts = more.parts; few = omega (arith, more.few) }
-    by (Some p) k = record {
-      parts = (pass_good index p lt k, more.parts);
-      few = omega (arith, more.few);
-    }
+    by (Some p) k = record { parts = (pass_good index p lt k, more.parts); few = omega (arith, more.few) }
 
 passed_good : (c : Context) (actuals : List Actual) (index : ℕ) (formals : List Formal)
     → AllByRecursion (IsActualOf c) actuals → index + length formals ≤ 256
@@ -271,25 +245,9 @@ passings_good : (c : Context) (s : Statement) (callee : Option Callee)
 passings_good c s None all few = record { parts = tt; few = omega arith }
 passings_good c s (Some callee) all few =
     let ordered = in_parameter_order (source_block_at c.blocks callee.place) callee.formals in
-    let same : length ordered ≡ length callee.formals =
-    in_order_length (source_block_at c.blocks callee.place) callee.formals in
-    let within : 0 + length ordered ≤ 256 = omega (arith, same, few) in
-    let good = passed_good c s.actuals 0 ordered all within in
+    let same = in_order_length (source_block_at c.blocks callee.place) callee.formals in
+    let good = passed_good c s.actuals 0 ordered all (omega (arith, same, few)) in
     record { parts = good.parts; few = omega (arith, good.few, same, few) }
-
-called_good : (how : CallOperation) (id : BlockId) (instance : Option ℕ) (ps : List Passing)
-    → is_callable_kind id.kind ≡ true → IsWord id.number → IfSome instance IsWord → IsGoodPassing 60 ps
-    → IsGoodStatement (ops_of (Calls how id instance ps))
-unfolding ops_of
-called_good how id instance ps c h k good = record {
-  front = pass_ops ps;
-  final = call_op how id instance;
-  whole = refl;
-  parts = good.parts;
-  few = omega (arith, good.few);
-  good = call_good how id instance c h k;
-  last = refl;
-}
 
 -- ---- statements
 
@@ -316,11 +274,6 @@ end_good how =
     alone (end_op how)
     (still_good (operation.End how) true flat.Nothing (λ f. refl) (end_takes how)) refl
 
-does_good : (use_db : Option ℕ) (w : Operation) (o : FlatOperand) → IfSome use_db IsWord
-    → IsGood (op_with_end_mark w o) → IsGoodStatement (ops_of (Does use_db w o))
-unfolding ops_of
-does_good use_db w o h good = opened_good use_db w o h good
-
 -- what a statement needs of its source
 pub record IsGoodSource (c : Context) (s : Statement) : Type 0 where
   pub formed : IsStatement s
@@ -333,23 +286,25 @@ actual_seen c [] fit are has = tt
 actual_seen c (a ∷ actuals) fit are has =
     (seen_fits c a.value fit are.0.value has.0, actual_seen c actuals fit are.1 has.1)
 
--- what is called can be
-abbrev CallsCallable : ResolvedOperand → Type 0
-CallsCallable (view.Called id instance) = is_callable_kind id.kind ≡ true
-CallsCallable _ = Unit {0}
-
-calls_callable : (v : ResolvedOperand) → rule_of_resolved_operand form.Calls v ≡ None → CallsCallable v
-calls_callable (view.Called id instance) h = rule_callable id instance h
-calls_callable _ h = tt
-
 call_view_good : (c : Context) (s : Statement) (how : CallOperation) (v : ResolvedOperand) → IsFit c
-    → IsGoodSource c s → ViewFits s.operand v → CallsCallable v
+    → IsGoodSource c s → ViewFits s.operand v → rule_of_resolved_operand form.Calls v ≡ None
     → IsGoodStatement (ops_of (call_instr c s how v))
-call_view_good c s how (view.Called id instance) fit good fits calls =
-    called_good how id instance (passings_to c s (callee_of c s.operand)) calls fits.0 fits.1
-    (passings_good c s (callee_of c s.operand)
-    (actual_seen c s.actuals fit good.formed.actuals good.has.actuals) good.callee)
-call_view_good c s how _ fit good fits calls = filler_good
+unfolding ops_of
+call_view_good c s how (view.Called id instance) fit good fits rule =
+    let passed = passings_good c s (callee_of c s.operand)
+    (actual_seen c s.actuals fit good.formed.actuals good.has.actuals) good.callee in
+    record {
+      front = pass_ops (passings_to c s (callee_of c s.operand));
+      final = call_op how id instance;
+      whole = refl;
+      parts = passed.parts;
+      few = omega (arith, passed.few);
+      good = still_good (operation.Call how) true
+          (flat.Called (kind_number id.kind) id.number (instance_number_or_zero instance)) (λ f. refl)
+          (call_takes how id instance (rule_callable id instance rule) fits.0 fits.1);
+      last = refl;
+    }
+call_view_good c s how _ fit good fits rule = filler_good
 
 view_good : (c : Context) (s : Statement) (v : ResolvedOperand) → IsFit c → IsGoodSource c s
     → is_empty_statement s.code ≡ false → jump_operation_of s.code ≡ None → statement_rule c s ≡ None
@@ -364,7 +319,7 @@ view_good c s v fit good some no_jump rule e = by (call_operation_of s.code) ref
         → IsGoodStatement (ops_of (end_instr s v end))
     ended (Some how) no_call is = end_good how
     ended None no_call is =
-        does_good (block_opened_by_operand v) (operation_for s.code s.operand v) (flat_operand_of s.operand v)
+        opened_good (block_opened_by_operand v) (operation_for s.code s.operand v) (flat_operand_of s.operand v)
         (opened_fits s.operand v fits)
         (still_good (operation_for s.code s.operand v) true (flat_operand_of s.operand v)
         (still_view s.operand v)
@@ -375,9 +330,8 @@ view_good c s v fit good some no_jump rule e = by (call_operation_of s.code) ref
         → IsGoodStatement (ops_of (view_instr c s v how))
     by (Some how) is =
         call_view_good c s how v fit good fits
-        (calls_callable v
         (rule_there c form.Calls s.operand v no_call_constant
-        (ap (λ (f : OperandRule). operand_rule c f s.operand) (sym (call_form s.code how is)) ∙ rule) e))
+        (ap (λ (f : OperandRule). operand_rule c f s.operand) (sym (call_form s.code how is)) ∙ rule) e)
     by None is = ended (end_operation_of s.code) is refl
 
 record IsResolved (c : Context) (s : Statement) (v : ResolvedOperand) : Type 0 where

@@ -1,12 +1,12 @@
 -- What surrounds the bodies of an accepted source fits: numbers, and the counts of parameters.
 use Rattle.std.proofs.Common.{◌≡◌, ℕ, suc, ◌+◌, ◌≤◌, Bool, true, false, eqb, List, [], ◌∷◌, ◌++◌, length, length-append, Option, refl, sym, ap, subst, ◌∙◌, arith}
-use Rattle.std.specs.Prelude.{IfSome, nat_eq, not, sum_by, cond, if◌then◌else◌}
+use Rattle.std.specs.Prelude.{IfSome, nat_eq, not, sum_by, cond}
 use Rattle.std.specs.List.{AllByRecursion, count_by}
 use Rattle.std.proofs.lemmas.Bool.Decides.{nat_tests}
 use Rattle.std.proofs.lemmas.Bool.{eq-eqb}
 use Rattle.std.proofs.lemmas.Grind.{flat_map-append}
 use Rattle.std.proofs.lemmas.List.Sums.{sum_by-cons}
-use Rattle.plc_base.specs.Kinds.{is_function, is_same_kind}
+use Rattle.plc_base.specs.Kinds.{is_function}
 use Rattle.plc_base.specs.declared.blocks.BlockId.{BlockId}
 use Rattle.plc_base.specs.declared.blocks.BlockKind.{BlockKind}
 use Rattle.plc_base.specs.declared.blocks.BlockKind.TheVariants as kinds
@@ -27,7 +27,7 @@ use Rattle.stl_ast.specs.declared.operands.Operand.{Operand}
 use Rattle.stl_ast.specs.declared.statements.Statement.{Statement}
 use Rattle.stl_symbols.specs.Symbol.{Symbol}
 use Rattle.block_layout.specs.Around.{Outside, of_sections, of_structure, declarations_before_next}
-use Rattle.block_layout.specs.Blocks.{id_of, named_block, of_kind}
+use Rattle.block_layout.specs.Blocks.{id_of}
 use Rattle.block_layout.specs.Cells.{cell_of, cells_of, components_of, is_temp, with_first_cell_opening, returned_cells, section_cells}
 use Rattle.block_layout.specs.Layouts.{block_layout, layouts_by, layouts_from, layouts_of}
 use Rattle.block_layout.specs.Measures.{types_of_source, with_all_bits, with_all_depths}
@@ -99,23 +99,16 @@ no_formals y o p before (d ∷ ds) h = rw (h, no_formals y o p (d ∷ before) ds
 section_formals : (y : Types) (o : Outside) (k : BlockKind) (before : List Declaration) (p : Part)
     → IsSection k p
     → length (formals_of (with_first_cell_opening (cells_of y o p.kind before p.items))) ≤ parameters_in_section p
-section_formals y o k before p section = by (is_parameter p.kind) refl
-  where
-    cells : List Cell
-    cells = cells_of y o p.kind before p.items
-
-    by : (b : Bool) → is_parameter p.kind ≡ b
-        → length (formals_of (with_first_cell_opening cells))
-        ≤ (if b then count_by (λ d. nat_eq d.level 0) p.items else 0)
-    by true e =
-        let same = ap length (formals_opened cells) in
-        let few = few_formals cells in
-        let count = cells_count y o p.kind before p.items in
-        let all = elementary_count k p.kind p.items e section.1 section.2 in
-        omega (arith, same, few, count, all)
-    by false e =
-        let same = ap length (formals_opened cells ∙ no_formals y o p.kind before p.items e) in
-        omega (arith, same)
+section_formals y o k before p section =
+    let cells = cells_of y o p.kind before p.items in
+    grind (
+      arith,
+      ap length (formals_opened cells),
+      few_formals cells,
+      cells_count y o p.kind before p.items,
+      (λ (is : is_parameter p.kind ≡ true). elementary_count k p.kind p.items is section.1 section.2),
+      (λ (is : is_parameter p.kind ≡ false). ap length (no_formals y o p.kind before p.items is)),
+    )
 
 sections_formals : (y : Types) (o : Outside) (k : BlockKind) (before : List Declaration)
     (parts : List Part) → AllByRecursion (IsSection k) parts
@@ -136,13 +129,15 @@ block_formals y b is =
     let result = returned_cells b.result in
     let sections = section_cells y (of_sections b) (λ p. not (is_temp p)) [] b.parts in
     let structure = cells_of y of_structure part.Static [] b.components in
-    let first = few_formals result in
-    let count = returned_count b.result in
-    let second = sections_formals y (of_sections b) b.kind [] b.parts is.sections.1 in
-    let third = ap length (no_formals y of_structure part.Static [] b.components refl) in
-    let outer = formals_append (result ++ sections) structure in
-    let inner = formals_append result sections in
-    omega (arith, first, count, second, third, outer, inner)
+    omega (
+      arith,
+      few_formals result,
+      returned_count b.result,
+      sections_formals y (of_sections b) b.kind [] b.parts is.sections.1,
+      ap length (no_formals y of_structure part.Static [] b.components refl),
+      formals_append (result ++ sections) structure,
+      formals_append result sections,
+    )
 
 -- ---- how many components a function has
 
@@ -161,12 +156,13 @@ section_count : (y : Types) (o : Outside) (before : List Declaration) (p : Part)
     → length (with_first_cell_opening (cells_of y o p.kind before p.items)) ≤ parameters_in_section p
 section_count y o before p section e =
     let is = function_section p.kind section.0 e in
-    let same = opened_count (cells_of y o p.kind before p.items) in
-    let count = cells_count y o p.kind before p.items in
-    let all = elementary_count kinds.Fc p.kind p.items is section.1 section.2 in
-    let here : parameters_in_section p ≡ count_by (λ d. nat_eq d.level 0) p.items =
-    ap (λ (b : Bool). if b then count_by (λ d. nat_eq d.level 0) p.items else 0) is in
-    omega (arith, same, count, all, here)
+    grind (
+      arith,
+      is,
+      opened_count (cells_of y o p.kind before p.items),
+      cells_count y o p.kind before p.items,
+      elementary_count kinds.Fc p.kind p.items is section.1 section.2,
+    )
 
 sections_count : (y : Types) (o : Outside) (before : List Declaration) (parts : List Part)
     → AllByRecursion (IsSection kinds.Fc) parts
@@ -177,13 +173,10 @@ sections_count y o before (p ∷ parts) h =
     let more = sections_count y o (declarations_before_next before p.items) parts h.1 in
     grind (arith, one, more, length-append {A = Cell}, sum_by-cons parameters_in_section p parts)
 
-is_fc : (k : BlockKind) → is_function k ≡ true → k ≡ kinds.Fc
-is_fc k h = grind arith
-
 function_count : (y : Types) (b : Block) → IsBlock b → is_function b.kind ≡ true
     → length (components_of y b) ≤ parameter_count b
 function_count y b is function =
-    let kind = is_fc b.kind function in
+    let kind : b.kind ≡ kinds.Fc = grind arith in
     let result = returned_cells b.result in
     let sections = section_cells y (of_sections b) (λ p. not (is_temp p)) [] b.parts in
     let structure = cells_of y of_structure part.Static [] b.components in
@@ -191,13 +184,15 @@ function_count y b is function =
     subst (λ (k : BlockKind). IsShapeOf k b.shape b.instance_of b.components) kind is.shaped in
     let parts : AllByRecursion (IsSection kinds.Fc) b.parts =
     subst (λ (k : BlockKind). AllByRecursion (IsSection k) b.parts) kind is.sections.1 in
-    let first = returned_count b.result in
-    let second = sections_count y (of_sections b) [] b.parts parts in
-    let third = cells_count y of_structure part.Static [] b.components in
-    let none = ap length shaped.2 in
-    let outer = length-append (result ++ sections) structure in
-    let inner = length-append result sections in
-    omega (arith, first, second, third, none, outer, inner)
+    omega (
+      arith,
+      returned_count b.result,
+      sections_count y (of_sections b) [] b.parts parts,
+      cells_count y of_structure part.Static [] b.components,
+      ap length shaped.2,
+      length-append (result ++ sections) structure,
+      length-append result sections,
+    )
 
 -- ---- layouts
 
@@ -212,15 +207,9 @@ measured_symbols : (symbols : List Symbol) (blocks : List Block)
 unfolding types_of_source with_all_bits with_all_depths
 measured_symbols symbols blocks = refl
 
-kind_holds : (test : BlockKind → Bool) (id : Option BlockId)
-    → IfSome id (λ id. IsWord id.number) → IfSome (of_kind test id) (λ id. IsWord id.number)
-kind_holds test id h = grind arith
-
 id_holds : (symbols : List Symbol) (b : Block) → AllByRecursion SymbolFits symbols → IsBlock b
     → IfSome (id_of symbols b) (λ id. IsWord id.number)
-id_holds symbols b fit is =
-    kind_holds (is_same_kind b.kind) (named_block symbols b.name)
-    (block_fits symbols b.name fit (any_head b.kind b.name is.named))
+id_holds symbols b fit is = grind (arith, block_fits symbols b.name fit (any_head b.kind b.name is.named))
 
 -- the layout of a block that has few parameters
 pub record IsFewLayout (l : BlockLayout) : Type 0 where
@@ -233,10 +222,7 @@ layout_few : (y : Types) (blocks before : List Block) (b : Block)
 unfolding block_layout
 layout_few y blocks before b fit is few = record {
   id = id_holds y.symbols b fit is;
-  formals =
-      let count = block_formals y b is in
-      let least = few_parameters b few in
-      omega (arith, count, least);
+  formals = omega (arith, block_formals y b is, few_parameters b few);
 }
 
 abbrev IsFewBlock : Block → Type 0
@@ -276,14 +262,11 @@ own_few symbols t k b l sound function =
     let y = types_of_source symbols t.blocks in
     let kind : is_function b.kind ≡ true =
     subst (λ (o : Option Block). is_of_function o ≡ true) sound.block_there function in
-    let count = function_count y b sound.well_formed kind in
-    let least = few_parameters b sound.head.by_52 in
     let cells : cells_at (layouts_of t symbols) k false ≡ components_of y b =
     ap (cells_in false) sound.layout_there
     ∙ ap (λ (x : BlockLayout). x.components) sound.layout
     ∙ laid_components y t.blocks sound.before b in
-    let same = ap length cells in
-    omega (arith, count, least, same)
+    omega (arith, function_count y b sound.well_formed kind, few_parameters b sound.head.by_52, ap length cells)
 
 -- ---- WHAT SURROUNDS A BODY FITS
 

@@ -11,8 +11,7 @@ use Rattle.plc_base.specs.declared.places.Area.TheVariants as area
 use Rattle.plc_base.specs.declared.places.Place.{Place}
 use Rattle.plc_base.specs.declared.places.Width.{Width}
 use Rattle.flat_code.specs.Forms.{direct_coding, holds_pointers, payload_fits}
-use Rattle.stl_ast.specs.Operands.{IsAnyName, IsBitOf, IsOperand, MayHoldPointer}
-use Rattle.stl_ast.specs.declared.blocks.Block.{Block}
+use Rattle.stl_ast.specs.Operands.{IsAnyName, IsBitOf, IsOperand}
 use Rattle.stl_ast.specs.declared.blocks.PathStep.{PathStep}
 use Rattle.stl_ast.specs.declared.declarations.Simple.{Simple}
 use Rattle.stl_ast.specs.declared.names.BlockName.{BlockName}
@@ -32,11 +31,10 @@ use Rattle.block_layout.specs.declared.blocks.BlockLayout.{BlockLayout}
 use Rattle.block_layout.specs.declared.cells.Cell.{Cell}
 use Rattle.block_layout.specs.declared.walks.ComponentAt.{ComponentAt}
 use Rattle.block_layout.specs.declared.walks.PathEnd.{PathEnd}
-use Rattle.stl_types.specs.Addresses.{area_for_letters}
 use Rattle.stl_types.specs.Context.{Context, data_number, in_function}
 use Rattle.stl_types.specs.Operands.{is_on_wrong_side}
-use Rattle.stl_types.specs.Resolution.{called_seen, direct_seen, instance_number, opened_seen, path_seen, resolution_of, target_view, whole_called_block}
-use Rattle.stl_types.specs.Variables.{composite_operand, data_variable, data_walked, variable_in_area, is_temporary_variable, own_elementary, own_walked, parameter_at, parameter_index}
+use Rattle.stl_types.specs.Resolution.{direct_seen, path_seen, resolution_of, whole_called_block}
+use Rattle.stl_types.specs.Variables.{composite_operand, data_variable, data_walked, variable_in_area, is_temporary_variable, own_elementary, own_walked, parameter_at}
 use Rattle.stl_types.specs.declared.forms.OperandRule.{OperandRule}
 use Rattle.stl_types.specs.declared.views.Resolution.{Resolution}
 use Rattle.stl_types.specs.declared.views.Resolution.TheVariants.{Resolved}
@@ -152,13 +150,9 @@ in_area_fits o kind a n bits h = grind (arith, nat_tests)
 composite_fits : (o : Operand) (found : Option Cell) → ViewFits o (composite_operand found)
 composite_fits o found = grind arith
 
-index_small : (count place : ℕ) (b : Option Block) → count ≤ 60 → place < count
-    → parameter_index count place b < 256
-index_small count place b few lt = grind arith
-
 parameter_holds : (c : Context) (o : Operand) (spot : ComponentAt) (kind : Simple)
     → length (cells_at c.layouts c.block false) ≤ 60 → SeenFits o (parameter_at c spot kind)
-parameter_holds c o spot kind few = grind (arith, index_small, slice_get_within {A = Cell})
+parameter_holds c o spot kind few = grind (arith, slice_get_within {A = Cell})
 
 own_elementary_fits : (c : Context) (o : Operand) (temporary : Bool) (spot : ComponentAt) (kind : Simple)
     → IsFit c → SeenFits o (own_elementary c temporary spot kind)
@@ -184,45 +178,22 @@ data_variable_fits c o name steps fit = grind (arith, data_walk_fits, data_fits 
 
 -- ---- operands
 
-target_fits : (o : Operand) (t : Target) → TargetFits t → ViewFits o (target_view t)
-target_fits o t h = grind arith
-
 path_fits : (c : Context) (o : Operand) (p : PathHead) (steps : List PathStep) → IsFit c
     → SeenFits o (path_seen c p steps)
 path_fits c o (head.Local name) steps fit =
     own_fits c o (is_temporary_variable c (upper_case_name name))
     (walked_local c.layouts c.block (upper_case_name name) (folded_path steps)) fit
 path_fits c o (head.InBlock name) steps fit = data_variable_fits c o name (folded_path steps) fit
-path_fits c o (head.Symbol name) steps fit = grind (arith, target_fits, symbol_fits name c.symbols fit.symbols)
-
-bit_small : (w : Width) (bit : ℕ) → IsBitOf w bit → bit ≤ 7
-bit_small w bit h = grind arith
+path_fits c o (head.Symbol name) steps fit = grind (arith, symbol_fits name c.symbols fit.symbols)
 
 direct_seen_fits : (c : Context) (o : Operand) (name : Option BlockName) (a : Letters) (w : Width)
     (byte bit : ℕ) → IsFit c → IsWord byte → IsBitOf w bit
     → SeenFits o (direct_seen c name a w byte bit)
-direct_seen_fits c o name a w byte bit fit k j =
-    grind (arith, bit_small, (λ (name : BlockName). data_fits c name fit))
-
-pointer_holds : (a : Letters) → MayHoldPointer a → holds_pointers (area_for_letters a) ≡ true
-pointer_holds a h = grind arith
-
-opened_fits : (c : Context) (o : Operand) (di : Bool) (n : Option ℕ) → IfSome n IsWord
-    → SeenFits o (opened_seen di n)
-opened_fits c o di n h = grind arith
+direct_seen_fits c o name a w byte bit fit k j = grind (arith, (λ (name : BlockName). data_fits c name fit))
 
 block_holds : (c : Context) (id : Option BlockId) → IfSome id (λ id. IsWord id.number)
     → IfSome (whole_called_block c id) (λ id. IsWord id.number)
 block_holds c id h = grind arith
-
-instance_fits : (c : Context) (name : Option BlockName) → IsFit c
-    → IfSome (instance_number c name) IsWord
-instance_fits c name fit = grind (arith, (λ (name : BlockName). data_fits c name fit))
-
-called_fits : (o : Operand) (id : Option BlockId) (name : Option BlockName) (instance : Option ℕ)
-    → IfSome id (λ id. IsWord id.number) → IfSome instance IsWord
-    → SeenFits o (called_seen id name instance)
-called_fits o id name instance h k = grind arith
 
 -- the numbers of what an operand names fit
 pub seen_fits : (c : Context) (o : Operand) → IsFit c → IsOperand o → OperandHasBytes o
@@ -232,11 +203,11 @@ seen_fits c (operand.Direct name a w byte bit) fit is has =
     direct_seen_fits c (operand.Direct name a w byte bit) name a w byte bit fit is.1 is.2
 seen_fits c (operand.Named path steps) fit is has = path_fits c (operand.Named path steps) path steps fit
 seen_fits c (operand.Constant value) fit is has = bits_small value is has
-seen_fits c (operand.OpenBlock di name) fit is has =
-    opened_fits c (operand.OpenBlock di name) di (data_number c name) (data_fits c name fit)
+seen_fits c (operand.OpenBlock di name) fit is has = grind (arith, data_fits c name fit)
 seen_fits c (operand.Called name instance) fit is has =
-    called_fits (operand.Called name instance) (whole_called_block c (named_block c.symbols name)) instance
-    (instance_number c instance)
-    (block_holds c (named_block c.symbols name) (block_fits c.symbols name fit.symbols is.0))
-    (instance_fits c instance fit)
-seen_fits c _ fit is has = grind (arith, pointer_holds)
+    grind (
+      arith,
+      block_holds c (named_block c.symbols name) (block_fits c.symbols name fit.symbols is.0),
+      (λ (name : BlockName). data_fits c name fit),
+    )
+seen_fits c _ fit is has = grind arith

@@ -1,5 +1,5 @@
 -- The names of a program: those of the symbols of a file, in the order of their bytes.
-use Rattle.std.proofs.Common.{◌≡◌, ℕ, suc, ◌-◌, ◌≤◌, ◌<◌, Bool, true, false, not, eqb, ltb, ◌&&◌, ◌||◌, List, [], ◌∷◌, ◌++◌, length, get_or, flat_map, Ok, refl, sym, ap, ◌∙◌, arith}
+use Rattle.std.proofs.Common.{◌≡◌, ℕ, suc, ◌-◌, ◌≤◌, ◌<◌, Bool, true, false, eqb, ltb, ◌||◌, List, [], ◌∷◌, ◌++◌, length, get_or, flat_map, Ok, refl, ap, ◌∙◌, arith}
 use Rattle.std.specs.Prelude.{if◌then◌else◌}
 use Rattle.std.specs.List.{AllByRecursion}
 use Rattle.std.specs.Char.{to_ascii_uppercase}
@@ -13,7 +13,7 @@ use Rattle.plc_base.specs.declared.places.Area.{Area}
 use Rattle.plc_base.specs.declared.places.Place.{Place}
 use Rattle.plc_base.specs.declared.places.Width.{Width}
 use Rattle.flat_code.specs.Checking.{good_names}
-use Rattle.flat_code.specs.Faults.{is_earlier_name, is_upper, ends_blank, is_in_range, field_fault, name_fault}
+use Rattle.flat_code.specs.Faults.{is_earlier_name, is_upper, ends_blank, field_fault, name_fault}
 use Rattle.flat_code.specs.Image.{bytes_fit, name_record, name_rows, name_len, name_area, name_bit, width_field, plain_u16, name_of_entry, number_of_area, after_name}
 use Rattle.flat_code.specs.Layout.{is_fine}
 use Rattle.flat_code.specs.Programs.{NameEntry}
@@ -123,24 +123,15 @@ record IsEntry (e : NameEntry) : Type 0 where
 
 upper_fits : (name : List ℕ) → OfBytes name → bytes_fit (upper_case_name name) ≡ true
 upper_fits [] h = refl
-upper_fits (b ∷ bs) h = and_from _ _ (here b h.0) (upper_fits bs h.1)
-  where
-    here : (b : ℕ) → b < 256 → ltb (to_ascii_uppercase b) 256 ≡ true
-    here b low = grind (arith, nat_tests)
+upper_fits (b ∷ bs) h = grind (arith, nat_tests, h.0, upper_fits bs h.1)
 
 upper_is : (name : List ℕ) → is_upper (upper_case_name name) ≡ true
 upper_is [] = refl
-upper_is (b ∷ bs) = and_from _ _ (here b) (upper_is bs)
-  where
-    here : (b : ℕ) → not (is_in_range 97 122 (to_ascii_uppercase b)) ≡ true
-    here b = grind (arith, nat_tests)
+upper_is (b ∷ bs) = grind (arith, nat_tests, upper_is bs)
 
 upper_ends : (name : List ℕ) → ends_blank (upper_case_name name) ≡ ends_blank name
 upper_ends [] = refl
-upper_ends (b ∷ []) = here b
-  where
-    here : (b : ℕ) → eqb (to_ascii_uppercase b) 32 ≡ eqb b 32
-    here b = grind (arith, nat_tests)
+upper_ends (b ∷ []) = grind (arith, nat_tests)
 upper_ends (b ∷ c ∷ bs) = upper_ends (c ∷ bs)
 
 entry_of : (s : Symbol) → IsNamed s → AllByRecursion IsEntry (name_entry s.name s.target)
@@ -162,12 +153,7 @@ alike [] (y ∷ ys) h k = absurd cc
 alike (x ∷ xs) [] h k = absurd cc
 alike (x ∷ xs) (y ∷ ys) h k =
     let same : x ≡ y = grind (arith, nat_tests) in
-    let less : is_earlier_name xs ys ≡ false = behind x y (is_earlier_name xs ys) same h in
-    let more : is_earlier_name ys xs ≡ false = behind y x (is_earlier_name ys xs) (sym same) k in
-    let rest : xs ≡ ys = alike xs ys less more in cc
-  where
-    behind : (x y : ℕ) (t : Bool) → x ≡ y → (ltb x y || eqb x y && t) ≡ false → t ≡ false
-    behind x y t same h = grind (arith, nat_tests)
+    let rest : xs ≡ ys = alike xs ys (grind (arith, nat_tests)) (grind (arith, nat_tests)) in cc
 
 apart_names : (a b : List ℕ) → bytes_eq b a ≡ false → (is_earlier_name a b || is_earlier_name b a) ≡ true
 apart_names a b other = grind (arith, (bytes_eq-Decides b a).1, (λ (p : is_earlier_name a b ≡ false) (q : is_earlier_name b a ≡ false). alike a b p q))
